@@ -1,0 +1,7 @@
+-- Equal numbers are of one identity.
+use Rattle.std.proofs.Common.{arith}
+use Rattle.i3c_base.proofs.NumberLaws.{same_number}
+use Rattle.i3c_base.proofs.identity.Identity.number.Goals as goal
+
+pub returns-clause-own : goal.returns-clause-own
+returns-clause-own c j b d e = same_number c.args.self j (omega arith) (omega arith) b d (omega (arith, e))

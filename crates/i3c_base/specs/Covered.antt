@@ -1,0 +1,29 @@
+-- A controller's table and the copies that devices keep of it, against the state.
+use Rattle.std.specs.Prelude.{◌≡◌, ◌≢◌, ℕ, Bool, true, List, map, Option, Some, option_map}
+use Rattle.i3c_base.specs.declared.device.Target.{Target}
+use Rattle.i3c_base.specs.declared.identity.Lvr.{Lvr}
+use Rattle.i3c_base.specs.Numbers.{is_capable}
+use Rattle.i3c_base.specs.State.{Device, Entry, State, device_at, unkept}
+
+-- a controller's table: the entries at their addresses, the LVRs of legacy targets at theirs, and whether its list is current
+pub record Table : Type 0 where
+  pub given : List (Option Entry)
+  pub legacy : List (Option Lvr)
+  pub listed : Bool
+
+-- the LVRs of the legacy targets
+abbrev pub lvrs : State → List (Option Lvr)
+lvrs st = map (option_map (λ (t : Target). t.lvr)) st.legacy
+
+-- the table of the active controller
+abbrev pub IsTable : State → Table → Type 0
+IsTable st table = (table.given ≡ st.given) × (table.legacy ≡ lvrs st) × (table.listed ≡ st.listed)
+
+-- a current copy of it, which keeps no address for an identity
+abbrev pub IsCopy : State → Table → Type 0
+IsCopy st table = (table.given ≡ map (option_map unkept) st.given) × (table.legacy ≡ lvrs st)
+
+-- the active controller's table covers the bus, and so does, while the list is current, each other controller's copy
+pub record IsCovered (table : Table) (copies : ℕ → Table) (st : State) : Type 0 where
+  pub whole : IsTable st table
+  pub copied : st.listed ≡ true → (s a : ℕ) (d : Device) → device_at st s ≡ Some d → d.address ≡ Some a → is_capable d.identity.bcr ≡ true → s ≢ st.active → IsCopy st (copies s)

@@ -1,0 +1,145 @@
+-- The frames' own parts: enabling, reset, list, handover and private transfers, with the bits that each sends.
+use Rattle.std.specs.Prelude.{◌≡◌, ℕ, ◌+◌, ◌*◌, ◌<◌, Bool, true, false, not, ◌&&◌, ◌||◌, ◌==◌, ◌⊎◌, List, ◌++◌, length, drop, slice_index, slice_set, count_by, Option, Some, None, if◌then◌else◌, is_some, option_map}
+use Rattle.i3c_base.specs.declared.answers.Answer.{Answer}
+use Rattle.i3c_base.specs.declared.device.Target.{Target}
+use Rattle.i3c_base.specs.State.{Device, State, IsTargetAt, change, device_at, each, forgotten, has_address, in_slot, target_at, unkept}
+use Rattle.i3c_base.specs.Places.{changed}
+use Rattle.i3c_base.specs.Numbers.{KindSet}
+use Rattle.i3c_base.specs.Cutting.{Lost}
+use Rattle.i3c_base.specs.Serve.{IsAnd, without_role}
+
+-- some device other than the active controller has the address
+abbrev pub AnyAt : State → ℕ → Type 0
+AnyAt st a = (s : ℕ) × (d : Device) × IsTargetAt st a s d
+
+-- each of them is lost (also where there is none)
+abbrev pub AllLostAt : State → ℕ → Lost → Type 0
+AllLostAt st a lost = (s : ℕ) (d : Device) → IsTargetAt st a s d → lost s ≡ true
+
+-- some of them isn't lost
+abbrev pub SomeLeftAt : State → ℕ → Lost → Type 0
+SomeLeftAt st a lost = (s : ℕ) × (d : Device) × IsTargetAt st a s d × (lost s ≡ false)
+
+-- whom an enabling or disabling reaches: all but the active controller, or those at one address
+abbrev pub reaches : State → Option ℕ → ℕ → Device → Bool
+reaches st None s d = not (s == st.active)
+reaches st (Some a) s d = not (s == st.active) && has_address a d
+
+-- the union of two sets of kinds
+abbrev pub with_kinds : KindSet → KindSet → KindSet
+with_kinds had more = record { interrupt = had.interrupt || more.interrupt; role = had.role || more.role; join = had.join || more.join }
+
+-- the difference of two sets of kinds
+abbrev pub without_kinds : KindSet → KindSet → KindSet
+without_kinds had less = record { interrupt = had.interrupt && not less.interrupt; role = had.role && not less.role; join = had.join && not less.join }
+
+-- the kinds of whom the command reaches, changed by f
+abbrev pub rekinded : Option ℕ → (KindSet → KindSet) → State → State
+rekinded to f st = each (λ s d. if reaches st to s d then record d { kinds = f d.kinds } else d) st
+
+-- the answers of ENEC and DISEC, and what each leaves
+abbrev pub Rekinds : Option ℕ → (KindSet → KindSet) → Answer → Lost → State → State → Type 0
+Rekinds None f answer lost mid done = (answer ≡ Answer.Done) × (done ≡ rekinded None f mid)
+Rekinds (Some a) f answer lost mid done =
+    ((answer ≡ Answer.Done) × AnyAt mid a × (done ≡ rekinded (Some a) f mid))
+    ⊎ ((answer ≡ Answer.NoAnswer a) × AllLostAt mid a lost × (done ≡ mid))
+
+-- the bits of ENEC and DISEC: two words, or a word, a header and after its ACK a word
+abbrev pub kinds_bits : Option ℕ → Answer → ℕ
+kinds_bits None answer = 18
+kinds_bits (Some a) (Answer.NoAnswer b) = 18
+kinds_bits (Some a) _ = 27
+
+-- the active controller has the address
+abbrev pub active_has : State → ℕ → Bool
+active_has st a = in_slot (has_address a) (device_at st st.active)
+
+-- RSTDAA: the active controller alone keeps its address and its entry; role wishes go too
+abbrev pub reset : State → State
+reset st = record (each (λ s d. record d { address = if s == st.active then d.address else None; role_wish = false }) st) {
+  given = changed (λ a place. if active_has st a then option_map unkept place else None) st.given;
+  listed = false;
+}
+
+-- DEFTGTS: the list is current
+abbrev pub list : State → State
+list st = record st { listed = true }
+
+-- the bits of a list: the code, the count, and four words for each entry
+abbrev pub list_bits : State → ℕ
+list_bits st = 9 * (2 + 4 * (count_by is_some st.given + count_by is_some st.legacy))
+
+-- a willing device at the address, other than the active controller
+abbrev pub IsWillingAt : State → ℕ → ℕ → Type 0
+IsWillingAt st a s = (d : Device) × IsTargetAt st a s d × (d.willing ≡ true)
+
+-- the role passes to slot s
+abbrev pub handed : ℕ → State → State
+handed s st = forgotten (record (change s without_role st) { active = s; listed = false })
+
+-- GETACCCR granted: the lowest slot with a willing device that isn't lost is active
+abbrev pub Hands : ℕ → Lost → State → State → Type 0
+Hands a lost mid done = (s : ℕ) × IsWillingAt mid a s × (lost s ≡ false) × ((t : ℕ) → t < s → IsWillingAt mid a t → lost t ≡ true) × (done ≡ handed s mid)
+
+-- GETACCCR not granted: each willing device at the address is lost
+abbrev pub KeepsRole : ℕ → Lost → State → State → Type 0
+KeepsRole a lost mid done = ((s : ℕ) → IsWillingAt mid a s → lost s ≡ true) × (done ≡ mid)
+
+-- a handover that isn't granted ends with the target's header, or with its byte where somebody willing was there
+abbrev pub IsRefusedBits : State → ℕ → ℕ → Type 0
+IsRefusedBits st a bits = (bits ≡ 18) ⊎ ((bits ≡ 27) × ((s : ℕ) × IsWillingAt st a s))
+
+-- slot s has the address, and v in register k
+abbrev pub DrivesRegister : State → ℕ → ℕ → ℕ → ℕ → Type 0
+DrivesRegister st a k s v = (d : Device) × IsTargetAt st a s d × (v ≡ slice_index d.registers k)
+
+-- what a read of the address gives: a legacy target's registers; of several devices the AND, free where some are lost
+abbrev pub IsReadOf : State → ℕ → Lost → List ℕ → Type 0
+IsReadOf st a lost bytes =
+    ((target : Target) × (target_at st a ≡ Some target) × (bytes ≡ target.registers))
+    ⊎ ((target_at st a ≡ None) × SomeLeftAt st a lost × (length bytes ≡ 16)
+    × (((s : ℕ) (d : Device) → IsTargetAt st a s d → lost s ≡ false)
+    → (k : ℕ) → k < 16 → IsAnd (slice_index bytes k) (DrivesRegister st a k)))
+
+-- nobody answers, or the answer breaks off: no legacy target is there, and each device is lost
+abbrev pub NobodyLeftAt : State → ℕ → Lost → Type 0
+NobodyLeftAt st a lost = (target_at st a ≡ None) × AllLostAt st a lost
+
+-- the answers of a read, which changes nothing
+abbrev pub Reads : ℕ → Answer → Lost → State → State → Type 0
+Reads a (Answer.Bytes bytes) lost mid done = IsReadOf mid a lost bytes × (done ≡ mid)
+Reads a (Answer.NoAnswer b) lost mid done = (b ≡ a) × NobodyLeftAt mid a lost × (done ≡ mid)
+Reads a Answer.NoEnd lost mid done = NobodyLeftAt mid a lost × AnyAt mid a × (done ≡ mid)
+Reads a Answer.Done lost mid done = ⊥
+
+-- the bits of a read: a header, and after its ACK sixteen words
+abbrev pub read_bits : Answer → ℕ
+read_bits (Answer.NoAnswer b) = 9
+read_bits _ = 153
+
+-- registers whose first ones are replaced
+abbrev pub overwritten : List ℕ → List ℕ → List ℕ
+overwritten bytes registers = bytes ++ drop (length bytes) registers
+
+-- a legacy target after a write
+abbrev pub target_written : List ℕ → Option Target → Option Target
+target_written bytes None = None
+target_written bytes (Some target) = Some (record target { registers = overwritten bytes target.registers })
+
+-- a write to the address: a legacy target there has its registers changed, and so has each device there
+abbrev pub written : ℕ → List ℕ → State → State
+written a bytes st = record (each (λ s d. if reaches st (Some a) s d then record d { registers = overwritten bytes d.registers } else d) st) {
+  legacy = slice_set st.legacy a (target_written bytes (target_at st a));
+}
+
+-- the answers of a write
+abbrev pub Writes : ℕ → List ℕ → Answer → Lost → State → State → Type 0
+Writes a bytes Answer.Done lost mid done = (((target : Target) × (target_at mid a ≡ Some target)) ⊎ AnyAt mid a) × (done ≡ written a bytes mid)
+Writes a bytes (Answer.NoAnswer b) lost mid done = (b ≡ a) × NobodyLeftAt mid a lost × (done ≡ mid)
+Writes a bytes Answer.NoEnd lost mid done = ⊥
+Writes a bytes (Answer.Bytes read) lost mid done = ⊥
+
+-- the bits of a write: a header, and after its ACK the words
+abbrev pub write_bits : List ℕ → Answer → ℕ
+write_bits bytes (Answer.NoAnswer b) = 9
+write_bits bytes _ = 9 + 9 * length bytes

@@ -1,0 +1,9 @@
+pub mod Numbers
+pub mod Places
+pub mod Cutting
+pub mod State
+pub mod Local
+pub mod Serve
+pub mod Frames
+pub mod Round
+pub mod Covered

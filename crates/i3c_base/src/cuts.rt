@@ -1,0 +1,71 @@
+use crate::range::{SLOTS, Slot};
+use std::marker::Model;
+
+/// The devices that lose power during one frame: for each cut slot, the bit from which it drives nothing.
+///
+/// Bits are counted from the ninth bit of the frame's first header, which is 0. A slot has one cut at most.
+#[derive(Clone, Drop)]
+pub struct Cuts {
+    // one bit for each slot: it is cut
+    cut: u16,
+    // the bit of the frame, 0 where the slot is not cut
+    bits: [u16; SLOTS],
+}
+
+impl Model for Cuts {
+    ghost use Rattle.std.specs.Prelude.{ℕ, ◌<◌, ◌^◌, List, Option};
+    ghost use Rattle.i3c_base.specs.Places.{masked_from};
+
+    ghost Value = { List (Option ℕ) };
+
+    ghost view = { λ c. masked_from 0 c.cut c.bits };
+
+    ghost invariant = { λ c. c.cut < 2 ^ 16 };
+}
+
+impl Cuts {
+    ghost use Rattle.std.specs.Prelude.{◌≡◌, ◌↔◌, IsTrue, Some, slice_set};
+    ghost use Rattle.i3c_base.specs.Cutting.{cut_of, earlier, no_cuts, IsUncut};
+
+    /// No cut.
+    pub fn new() -> Cuts
+        ensures { result ≡ no_cuts }
+    {
+        Cuts {
+            cut: 0,
+            bits: [0; SLOTS],
+        }
+    }
+
+    /// The bit at which a slot is cut, if it is.
+    pub fn at(&self, slot: Slot) -> Option<u16>
+        ensures { result ≡ cut_of self.now slot }
+    {
+        let index = slot.index();
+        if self.cut >> index & 1 == 1 {
+            Some(self.bits[index])
+        } else {
+            None
+        }
+    }
+
+    /// Cuts a slot at a bit. Of two cuts of one slot the earlier bit is kept.
+    pub fn add(&mut self, slot: Slot, bit: u16)
+        ensures { self.new ≡ slice_set self.old slot (Some (earlier (cut_of self.old slot) bit)) }
+    {
+        let first = match self.at(slot) {
+            Some(had) => had.min(bit),
+            None => bit,
+        };
+        let index = slot.index();
+        self.cut |= 1 << index;
+        self.bits[index] = first;
+    }
+
+    /// Whether no slot is cut.
+    pub fn is_empty(&self) -> bool
+        ensures { IsTrue result ↔ IsUncut self.now }
+    {
+        self.cut == 0
+    }
+}

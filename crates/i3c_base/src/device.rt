@@ -1,0 +1,28 @@
+use crate::identity::{Identity, Lvr};
+
+/// How many interrupts of a device may wait (this project's choice).
+pub const WAITING: usize = 8;
+
+/// How many registers a device has (this project's choice).
+pub const REGISTERS: usize = 16;
+
+/// What a device is when it is attached: its identity, and whether it takes the controller role when it is offered.
+#[derive(Clone, Copy, Debug, PartialEq, Eq)]
+pub struct Setup {
+    pub identity: Identity,
+    pub willing: bool,
+}
+
+/// An interrupt that waits: the number of its raise, and its mandatory byte.
+#[derive(Clone, Copy, Debug, PartialEq, Eq, Default, Drop)]
+pub struct Waiting {
+    pub number: u64,
+    pub byte: Option<u8>,
+}
+
+/// A legacy I2C target: its LVR and its registers.
+#[derive(Clone, Copy)]
+pub struct Target {
+    pub lvr: Lvr,
+    pub registers: [u8; REGISTERS],
+}

@@ -1,0 +1,24 @@
+//! The words of an I3C bus: addresses, identities, kinds of events, cuts, and what frames are asked and answer.
+//!
+//! `specs/` has the definitions that every contract above speaks in: the abstract bus, its local events, serving,
+//! assignment and the frames. They know no bits, headers, parity, rows or copies.
+#![tactic(auto)]
+
+mod answers;
+mod cuts;
+mod device;
+mod identity;
+mod kinds;
+mod range;
+mod requests;
+
+pub use answers::{Answer, RoundReply};
+pub use cuts::Cuts;
+pub use device::{REGISTERS, Setup, Target, WAITING, Waiting};
+pub use identity::{Bcr, Dcr, Identity, Lvr};
+pub use kinds::Kinds;
+pub use range::{ADDRESSES, Addr7, OutOfRange, Pid, SLOTS, Slot};
+pub use requests::{Fixed, Record, Request, Served, Verdict};
+
+#[cfg(test)]
+mod tests;

@@ -1,0 +1,53 @@
+use crate::range::{Addr7, Slot};
+
+/// What a device may drive into an arbitrable header (I3C Basic 5.1.6).
+#[derive(Clone, Copy, Debug, PartialEq, Eq)]
+pub enum Request {
+    /// Hot-Join, at `02`/W.
+    Join,
+    /// A request for the controller role, at the device's address with W.
+    Role(Addr7),
+    /// An in-band interrupt, at the device's address with R.
+    Interrupt(Addr7),
+}
+
+/// The controller's answer to a request: ACK or NACK.
+#[derive(Clone, Copy, Debug, PartialEq, Eq)]
+pub enum Verdict {
+    Accept,
+    Refuse,
+}
+
+/// A verdict for each kind of request: the policy that events carry.
+#[derive(Clone, Copy, Debug, PartialEq, Eq)]
+pub struct Fixed {
+    pub join: Verdict,
+    pub role: Verdict,
+    pub interrupt: Verdict,
+}
+
+/// What became of a frame's first request.
+#[derive(Clone, Copy, Debug, PartialEq, Eq)]
+pub enum Served {
+    /// Nobody asked.
+    Quiet,
+    /// An interrupt was accepted and recorded, as the record of this place from 1.
+    Recorded(usize),
+    /// The request was turned down, and stays as it was.
+    Refused,
+    /// An interrupt was accepted, and its mandatory byte was lost. Nothing is recorded.
+    Torn,
+    /// A Hot-Join was accepted.
+    Joining,
+    /// The role request of the device at this address was accepted.
+    WantsRole(Addr7),
+}
+
+/// A recorded interrupt: the slot and number of its raise, and the address and byte that the controller read.
+#[derive(Clone, Copy, Debug, PartialEq, Eq, Drop)]
+pub struct Record {
+    pub slot: Slot,
+    pub number: u64,
+    pub at: Addr7,
+    pub byte: Option<u8>,
+}
