@@ -1,12 +1,16 @@
 -- Identities and their numbers.
-use Rattle.std.proofs.Common.{◌≡◌, ◌<◌, arith}
+use Rattle.std.proofs.Common.{inl, inr, ◌≡◌, ◌<◌, arith}
 use Rattle.i3c_base.specs.declared.identity.Identity.{Identity}
-use Rattle.i3c_base.specs.Numbers.{number_of}
+use Rattle.i3c_base.specs.Numbers.{IsBelow, IsInRange, number_of}
 
 -- identities of one number are equal
-pub same_number : (i j : Identity) → i.bcr.0 < 256 → i.dcr.0 < 256 → j.bcr.0 < 256 → j.dcr.0 < 256 → number_of i ≡ number_of j → i ≡ j
-same_number i j a b c d e =
+pub same_number : (i j : Identity) → IsInRange i → IsInRange j → number_of i ≡ number_of j → i ≡ j
+same_number i j a b e =
     let dcr : i.dcr.0 ≡ j.dcr.0 = omega arith in
     let bcr : i.bcr.0 ≡ j.bcr.0 = omega arith in
     let pid : i.pid ≡ j.pid = omega arith in
     λ t. record { pid = pid t; bcr = record { 0 = bcr t }; dcr = record { 0 = dcr t } }
+
+-- the identity that is below another has the smaller number
+pub below_number : (i j : Identity) → IsInRange i → IsInRange j → IsBelow i j → number_of i < number_of j
+below_number i j a b h = elim h [ inl p ↦ omega arith | inr q ↦ elim q [ inl r ↦ omega arith | inr t ↦ omega arith ] ]

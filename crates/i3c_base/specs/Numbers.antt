@@ -1,5 +1,5 @@
 -- Identities, what the bits of a BCR say, and sets of event kinds.
-use Rattle.std.specs.Prelude.{◌≡◌, ℕ, ◌+◌, ◌*◌, ◌<◌, ◌/◌, ◌%◌, Bool, ◌&&◌, ◌==◌, ◌⊎◌}
+use Rattle.std.specs.Prelude.{◌≡◌, ℕ, ◌+◌, ◌*◌, ◌<◌, ◌^◌, ◌/◌, ◌%◌, Bool, ◌&&◌, ◌==◌, ◌⊎◌}
 use Rattle.i3c_base.specs.declared.identity.Bcr.{Bcr}
 use Rattle.i3c_base.specs.declared.identity.Identity.{Identity}
 use Rattle.i3c_base.specs.declared.kinds.Kinds.{Kinds}
@@ -7,6 +7,10 @@ use Rattle.i3c_base.specs.declared.kinds.Kinds.{Kinds}
 -- i wins a contest against j: the smaller PID, then BCR, then DCR
 abbrev pub IsBelow : Identity → Identity → Type 0
 IsBelow i j = (i.pid < j.pid) ⊎ ((i.pid ≡ j.pid) × (i.bcr.0 < j.bcr.0)) ⊎ ((i.pid ≡ j.pid) × (i.bcr.0 ≡ j.bcr.0) × (i.dcr.0 < j.dcr.0))
+
+-- a PID of 48 bits, and a BCR and a DCR of 8
+abbrev pub IsInRange : Identity → Type 0
+IsInRange i = (i.pid < 2 ^ 48) × (i.bcr.0 < 2 ^ 8) × (i.dcr.0 < 2 ^ 8)
 
 -- the identity as one number: the PID, then the BCR, then the DCR
 abbrev pub number_of : Identity → ℕ

@@ -7,13 +7,21 @@ use Rattle.i3c_base.specs.State.{Device, State, IsKept, IsPick, IsPickable, IsUn
 use Rattle.i3c_base.specs.Cutting.{CutList, Lost, lost_by}
 use Rattle.i3c_base.specs.Serve.{emptied}
 
+-- a device without an address hears the session that is opened
+abbrev pub hears : Device → Device
+hears d = if is_none d.address then record d { hearing = true } else d
+
+-- a device hears no session
+abbrev pub unhearing : Device → Device
+unhearing d = record d { hearing = false }
+
 -- ENTDAA: a session is open, which each device without an address hears
 abbrev pub opened : State → State
-opened st = record (each (λ s d. if is_none d.address then record d { hearing = true } else d) st) { in_session = true }
+opened st = record (each (λ s d. hears d) st) { in_session = true }
 
 -- the session ends, and nobody hears any more
 abbrev pub ended : State → State
-ended st = record (each (λ s d. record d { hearing = false }) st) { in_session = false }
+ended st = record (each (λ s d. unhearing d) st) { in_session = false }
 
 -- slot s holds device d, which hears the session
 abbrev pub IsHearer : State → ℕ → Device → Type 0
@@ -47,9 +55,13 @@ IsAddressFor st i a = IsKept st i a ⊎ (IsUnknown st i × IsPick st a)
 abbrev pub wins : Lost → Identity → ℕ → Device → Bool
 wins lost i s d = d.hearing && (not (lost s) && same_identity d.identity i)
 
+-- a winner: it has the address a, hears no more and has lost its join wish
+abbrev pub winner : ℕ → Device → Device
+winner a d = record d { address = Some a; hearing = false; join_wish = false }
+
 -- the winners have the address a, which enters the table and is kept for the identity
 abbrev pub assigned : Lost → Identity → ℕ → State → State
-assigned lost i a st = record (each (λ s d. if wins lost i s d then record d { address = Some a; hearing = false; join_wish = false } else d) st) {
+assigned lost i a st = record (each (λ s d. if wins lost i s d then winner a d else d) st) {
   given = slice_set st.given a (Some (kept_entry_of i));
   listed = false;
 }

@@ -29,7 +29,8 @@ impl Cuts {
 
     /// No cut.
     pub fn new() -> Cuts
-        ensures { result ≡ no_cuts }
+        ensures none { result ≡ no_cuts }
+        ensures uncut { IsUncut result }
     {
         Cuts {
             cut: 0,

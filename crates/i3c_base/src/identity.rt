@@ -49,16 +49,17 @@ impl Bcr {
 impl Identity {
     ghost use Rattle.std.specs.Prelude.{◌≡◌, ◌<◌, ◌^◌, ◌↔◌};
     ghost use Rattle.i3c_base.specs.declared.identity.Identity.{Identity as IdentityValue};
-    ghost use Rattle.i3c_base.specs.Numbers.{number_of, IsBelow};
+    ghost use Rattle.i3c_base.specs.Numbers.{number_of, IsBelow, IsInRange};
 
     /// The identity as one number of 64 bits: the smaller one wins a contest.
     pub fn number(self) -> u64
         ensures same { result ≡ number_of self }
         ensures fits { number_of self < 2 ^ 64 }
+        ensures in_range { IsInRange self }
 
-        // numbers are ordered as identities are: by PID, then BCR, then DCR
-        ensures ordered { (j : IdentityValue) → j.bcr.0 < 256 → j.dcr.0 < 256 → IsBelow self j ↔ (result < number_of j) }
-        ensures own { (j : IdentityValue) → j.bcr.0 < 256 → j.dcr.0 < 256 → result ≡ number_of j → self ≡ j }
+        // numbers are ordered as identities are, by PID, then BCR, then DCR, and each is of one identity
+        ensures ordered { (j : IdentityValue) → IsInRange j → IsBelow self j ↔ (result < number_of j) }
+        ensures own { (j : IdentityValue) → IsInRange j → result ≡ number_of j → self ≡ j }
     {
         self.pid.get() * 65536 + self.bcr.0 as u64 * 256 + self.dcr.0 as u64
     }
