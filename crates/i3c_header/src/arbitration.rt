@@ -1,0 +1,42 @@
+ghost use Rattle.std.specs.Prelude.{◌≡◌, ◌^◌, ◌<◌, ◌≤◌, [], length, All, MatchOption};
+ghost use Rattle.i3c_base.specs.declared.range.TheConstants.{SLOTS as SLOT_COUNT};
+ghost use Rattle.i3c_header.specs.Keys.{IsFirstOf, IsLawful};
+ghost use Rattle.i3c_header.specs.Keyed.{keyed};
+
+use crate::keys::key;
+use arrayvec::ArrayVec;
+use i3c_base::{Cuts, Request, SLOTS, Slot};
+use i3c_wires::contest;
+
+/// The bits of a header that are contested: seven of the address, and RnW.
+const KEY_BITS: u32 = 8;
+
+/// The key of each request, which contends under its place in the list.
+fn contenders(requests: &[Request]) -> ArrayVec<(Slot, u64), SLOTS>
+    requires { length requests.now ≤ SLOT_COUNT }
+    ensures keys { result.items ≡ keyed 0 requests.now }
+    ensures fit { All (λ e. e.1 < 2 ^ 8) result.items }
+{
+    let mut keys: ArrayVec<(Slot, u64), SLOTS> = ArrayVec::new();
+    for (index, request) in requests.iter().enumerate() {
+        let place = Slot::new(index as u8).unwrap();
+        keys.push((place, u64::from(key(*request))));
+    }
+    keys
+}
+
+/// The request that wins the header which these drive at once: a join before all else, then the lower address, then at
+/// one address the role request (I3C Basic 5.1.6.2). `None` only where there is none.
+pub fn arbitrate(requests: &[Request]) -> Option<Request>
+    requires few { length requests.now ≤ SLOT_COUNT }
+    requires lawful { All IsLawful requests.now }
+    ensures { MatchOption result (requests.now ≡ []) (IsFirstOf requests.now) }
+{
+    let keys = contenders(requests);
+    if keys.is_empty() {
+        return None;
+    }
+    let outcome = contest(&keys, KEY_BITS, &Cuts::new());
+    let winner = outcome.winners[0];
+    Some(requests[winner.index()])
+}

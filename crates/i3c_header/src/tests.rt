@@ -1,0 +1,51 @@
+ghost use Rattle.std.specs.Prelude.{◌≡◌, ◌<◌, ◌≤◌};
+ghost use Rattle.i3c_header.specs.Keys.{IsLawful};
+
+use crate::{Request, arbitrate, key};
+use i3c_base::Addr7;
+
+fn address(value: u8) -> Addr7
+    requires { value < 128 }
+    ensures { result ≡ value }
+{
+    Addr7::new(value).unwrap()
+}
+
+#[test]
+fn keys(rt: HostRuntime) {
+    assert_eq!(rt; key(Request::Join), 0x04);
+    assert_eq!(rt; key(Request::Role(address(0x09))), 0x12);
+    assert_eq!(rt; key(Request::Interrupt(address(0x09))), 0x13);
+}
+
+fn role(value: u8) -> Request
+    requires low { 8 ≤ value }
+    requires fits { value < 128 }
+    ensures { IsLawful result }
+{
+    Request::Role(address(value))
+}
+
+fn interrupt(value: u8) -> Request
+    requires low { 8 ≤ value }
+    requires fits { value < 128 }
+    ensures { IsLawful result }
+{
+    Request::Interrupt(address(value))
+}
+
+// A join before all else, then the lower address, then at one address the role request.
+#[test]
+fn first(rt: HostRuntime) {
+    assert_eq!(rt; arbitrate(&[]), None);
+    assert_eq!(rt; arbitrate(&[interrupt(0x09)]), Some(interrupt(0x09)));
+    assert_eq!(rt; arbitrate(&[interrupt(0x09), role(0x09)]), Some(role(0x09)));
+    assert_eq!(rt;
+        arbitrate(&[role(0x09), interrupt(0x08), interrupt(0x09)]),
+        Some(interrupt(0x08))
+    );
+    assert_eq!(rt;
+        arbitrate(&[interrupt(0x08), Request::Join, role(0x08)]),
+        Some(Request::Join)
+    );
+}
