@@ -1,0 +1,12 @@
+pub mod Maps
+pub mod Steps
+pub mod Lost
+pub mod Addresses
+pub mod Uniqueness
+pub mod Uncut
+pub mod Answering
+pub mod HearersLaws
+pub mod Stepping
+pub mod Seen
+pub mod Starting
+pub mod RunLaws

@@ -1,0 +1,118 @@
+-- What the bus's calls do to its parts, as steps of the state that it is seen as.
+use Rattle.std.proofs.Common.{◌≡◌, ℕ, Bool, true, false, List, Option, Some, None, option_map, is_some, set, get_or, MatchOption, is_none, if◌then◌else◌, ◌&&◌, length, ◌⊎◌, inl, inr, sym, refl, ap, subst, ◌∙◌, ◌<◌}
+use Rattle.std.proofs.lemmas.List.{get_or_default}
+use Rattle.i3c_base.specs.declared.identity.Identity.{Identity}
+use Rattle.i3c_base.specs.declared.answers.RoundReply.{RoundReply}
+use Rattle.i3c_base.specs.declared.requests.Record.{Record}
+use Rattle.i3c_base.specs.declared.requests.Served.{Served}
+use Rattle.i3c_base.specs.Places.{changed}
+use Rattle.i3c_base.specs.Cutting.{CutList, IsUncut}
+use Rattle.i3c_base.specs.Covered.{Table}
+use Rattle.i3c_base.specs.State.{Device, Held, State, IsKeptIn, IsPickIn, IsPickableIn, IsUnknownIn, kept_entry_of, no_raises, targets_of}
+use Rattle.std.proofs.lemmas.Bool.{false≢true}
+use Rattle.i3c_base.specs.Numbers.{same_identity}
+use Rattle.i3c_base.specs.Round.{IsAddressFor, hears, unhearing, winner}
+use Rattle.i3c_bus.specs.declared.events.Event.{Event}
+use Rattle.i3c_bus.specs.declared.replies.Reply.{Reply}
+use Rattle.i3c_bus.specs.Step.{Step}
+use Rattle.i3c_bus.specs.Hearers.{IsLeastHearing, NobodyHears}
+use Rattle.i3c_bus.specs.Idle.{AreIdle, IsIdle}
+use Rattle.i3c_bus.specs.Winning.{won}
+use Rattle.i3c_bus.proofs.Stepping.{assigned_step, done_step, idle_changed, no_address_step, open_step, pick_targets, pickable_lvrs, pickable_targets}
+
+-- the state of a bus, of its parts
+abbrev pub seen : List (Option Device) → ℕ → Table → Bool → List Record → State
+seen devices active table in_session records = record {
+  devices = devices;
+  raised = no_raises;
+  active = active;
+  legacy = targets_of table.legacy;
+  given = table.given;
+  in_session = in_session;
+  listed = table.listed;
+  records = records;
+}
+
+-- the bus, of its parts
+abbrev pub held : List (Option Device) → ℕ → Table → Bool → List Record → Bool → Held
+held devices active table in_session records room = record { state = seen devices active table in_session records; room = room }
+
+pub opened_seen : (now : Held) (devices more : List (Option Device)) (active : ℕ) (table : Table) (in_session room : Bool) (records : List Record) (cuts : CutList)
+    → held devices active table in_session records room ≡ now → IsUncut cuts → now.state.in_session ≡ false → AreIdle devices → more ≡ changed (λ s place. option_map hears place) devices
+    → Step now.state (Event.OpenDaa cuts) (Reply.Opened Served.Quiet) (seen more active table true records)
+opened_seen now devices more active table in_session room records cuts is uncut closed idle e =
+    subst (λ (h : Held). Step h.state (Event.OpenDaa cuts) (Reply.Opened Served.Quiet) (seen more active table true records)) is
+    (subst (λ ds. Step (seen devices active table in_session records) (Event.OpenDaa cuts) (Reply.Opened Served.Quiet) (seen ds active table true records)) (sym e)
+    (open_step (seen devices active table in_session records) cuts uncut (ap (λ (h : Held). h.state.in_session) is ∙ closed) idle))
+
+pub no_address_seen : (now : Held) (devices : List (Option Device)) (active : ℕ) (table : Table) (in_session room : Bool) (records : List Record) (cuts : CutList)
+    → held devices active table in_session records room ≡ now → IsUncut cuts → now.state.in_session ≡ true → ((a : ℕ) → ¬ IsPickableIn table.given table.legacy a)
+    → Step now.state (Event.Round cuts) (Reply.Round RoundReply.NoAddress) now.state
+no_address_seen now devices active table in_session room records cuts is uncut in_it none =
+    subst (λ (h : Held). Step h.state (Event.Round cuts) (Reply.Round RoundReply.NoAddress) h.state) is
+    (no_address_step (seen devices active table in_session records) cuts uncut (ap (λ (h : Held). h.state.in_session) is ∙ in_it) (λ a p. none a (pickable_lvrs table.given table.legacy a p)))
+
+pub done_seen : (now : Held) (devices : List (Option Device)) (active : ℕ) (table : Table) (in_session room : Bool) (records : List Record) (cuts : CutList) (a : ℕ)
+    → held devices active table in_session records room ≡ now → IsUncut cuts → now.state.in_session ≡ true → IsPickableIn table.given table.legacy a → NobodyHears devices
+    → Step now.state (Event.Round cuts) (Reply.Round RoundReply.Done) now.state
+done_seen now devices active table in_session room records cuts a is uncut in_it pickable none =
+    subst (λ (h : Held). Step h.state (Event.Round cuts) (Reply.Round RoundReply.Done) h.state) is
+    (done_step (seen devices active table in_session records) cuts a uncut (ap (λ (h : Held). h.state.in_session) is ∙ in_it) (pickable_targets table.given table.legacy a pickable) none)
+
+-- what the winner's address is: the kept one, or the pick
+pub chosen : (table : Table) (i : Identity) (free : ℕ) (known : Option ℕ) (a : ℕ) → MatchOption known (IsUnknownIn table.given i) (λ b. IsKeptIn table.given i b) → IsPickIn table.given table.legacy free
+    → ((known ≡ Some a) ⊎ ((known ≡ None) × (a ≡ free))) → IsKeptIn table.given i a ⊎ (IsUnknownIn table.given i × IsPickIn table.given table.legacy a)
+chosen table i free known a h pick which = elim which [
+  | inl e ↦ inl (subst (λ o. MatchOption o (IsUnknownIn table.given i) (λ b. IsKeptIn table.given i b)) e h)
+  | inr e ↦ inr (subst (λ o. MatchOption o (IsUnknownIn table.given i) (λ b. IsKeptIn table.given i b)) e.0 h, subst (λ b. IsPickIn table.given table.legacy b) (sym e.1) pick)
+]
+
+pub assigned_seen : (now : Held) (devices more : List (Option Device)) (active : ℕ) (table after : Table) (in_session room : Bool) (records : List Record) (cuts : CutList) (free a : ℕ) (i : Identity)
+    → held devices active table in_session records room ≡ now → IsUncut cuts → now.state.in_session ≡ true → IsPickIn table.given table.legacy free → IsLeastHearing devices i
+    → IsKeptIn table.given i a ⊎ (IsUnknownIn table.given i × IsPickIn table.given table.legacy a)
+    → more ≡ changed (λ s place. option_map (won i a) place) devices → after ≡ record table { given = set table.given a (Some (kept_entry_of i)); listed = false }
+    → Step now.state (Event.Round cuts) (Reply.Round (RoundReply.Assigned a i)) (seen more active after in_session records)
+assigned_seen now devices more active table after in_session room records cuts free a i is uncut in_it pick least for e f =
+    subst (λ (h : Held). Step h.state (Event.Round cuts) (Reply.Round (RoundReply.Assigned a i)) (seen more active after in_session records)) is
+    (subst (λ ds. Step (seen devices active table in_session records) (Event.Round cuts) (Reply.Round (RoundReply.Assigned a i)) (seen ds active after in_session records)) (sym e)
+    (subst (λ t. Step (seen devices active table in_session records) (Event.Round cuts) (Reply.Round (RoundReply.Assigned a i)) (seen (changed (λ s place. option_map (won i a) place) devices) active t in_session records)) (sym f)
+    (assigned_step (seen devices active table in_session records) cuts free a i uncut (ap (λ (h : Held). h.state.in_session) is ∙ in_it)
+    (pickable_targets table.given table.legacy free pick.0) least address)))
+  where
+    address : IsAddressFor (seen devices active table in_session records) i a
+    address = elim for [ inl k ↦ inl k | inr p ↦ inr (p.0, pick_targets table.given table.legacy a p.1) ]
+
+-- each change leaves idle devices idle
+pub idle_hears : (devices more : List (Option Device)) → AreIdle devices → more ≡ changed (λ s place. option_map hears place) devices → AreIdle more
+idle_hears devices more idle e = subst AreIdle (sym e) (idle_changed hears devices keep idle)
+  where
+    keep : (d : Device) → IsIdle d → IsIdle (hears d)
+    keep d h = go (is_none d.address)
+      where
+        go : (b : Bool) → IsIdle (if b then record d { hearing = true } else d)
+        go true = h
+        go false = h
+
+pub idle_unhearing : (devices more : List (Option Device)) → AreIdle devices → more ≡ changed (λ s place. option_map unhearing place) devices → AreIdle more
+idle_unhearing devices more idle e = subst AreIdle (sym e) (idle_changed unhearing devices (λ d h. h) idle)
+
+pub idle_won : (i : Identity) (a : ℕ) (devices more : List (Option Device)) → AreIdle devices → more ≡ changed (λ s place. option_map (won i a) place) devices → AreIdle more
+idle_won i a devices more idle e = subst AreIdle (sym e) (idle_changed (won i a) devices keep idle)
+  where
+    go : (b : Bool) (d : Device) → IsIdle d → IsIdle (if b then winner a d else d)
+    go true d h = (h.0, refl, h.2)
+    go false d h = h
+
+    keep : (d : Device) → IsIdle d → IsIdle (won i a d)
+    keep d h = go (d.hearing && same_identity d.identity i) d h
+
+-- whether a slot holds a device
+pub there_or_not : (devices : List (Option Device)) (s k : ℕ) (place : Option Device) → k ≡ s → s < length devices → (is_some (get_or devices k place) ≡ true → (d : Device) × (get_or devices s None ≡ Some d))
+    × ((d : Device) × (get_or devices s None ≡ Some d) → is_some (get_or devices k place) ≡ true)
+there_or_not devices s k place e l =
+    let same : get_or devices k place ≡ get_or devices s None = ap (λ j. get_or devices j place) e ∙ sym (get_or_default devices s None place l) in
+    (λ h. go (get_or devices s None) (ap is_some (sym same) ∙ h), λ h. ap is_some (same ∙ h.1))
+  where
+    go : (o : Option Device) → is_some o ≡ true → (d : Device) × (o ≡ Some d)
+    go None h = absurd (false≢true h)
+    go (Some d) h = (d, refl)

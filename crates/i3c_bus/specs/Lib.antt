@@ -1,0 +1,9 @@
+pub mod Step
+pub mod Runs
+pub mod Hands
+pub mod Replies
+pub mod Hearers
+pub mod Readings
+pub mod Laws
+pub mod Idle
+pub mod Winning

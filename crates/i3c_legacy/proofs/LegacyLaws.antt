@@ -1,0 +1,79 @@
+-- The declared targets, seen as the LVRs at their addresses.
+use Rattle.std.proofs.Common.{◌≡◌, ◌≢◌, ℕ, ◌<◌, Bool, true, false, not, List, [], ◌∷◌, ◌++◌, length, get_or, set, Option, Some, None, option_map, is_some, count_by, nat_le, sym, refl, ap, ◌∙◌, arith, if◌then◌else◌}
+use Rattle.std.specs.List.{All, HoldsAt}
+use Rattle.std.proofs.lemmas.Bool.{and_parts, le-leb, leb-true, lt-leb}
+use Rattle.i3c_base.specs.declared.range.TheConstants.{ADDRESSES}
+use Rattle.i3c_base.specs.declared.identity.Lvr.{Lvr}
+use Rattle.i3c_base.specs.State.{no_lvrs}
+use Rattle.i3c_legacy.specs.declared.faults.LegacyFault.{LegacyFault}
+use Rattle.i3c_legacy.specs.declared.faults.LegacyFault.TheVariants.{LegacyAddress, LegacyTwice, TooManyLegacy}
+use Rattle.i3c_legacy.specs.declared.legacies.Declared.{Declared}
+use Rattle.i3c_legacy.specs.declared.legacies.TheConstants.{LEGACIES}
+use Rattle.i3c_legacy.specs.Declaring.{first_fault, is_static}
+use Rattle.i3c_legacy.specs.Rows.{places, row_at, HasOwnAddresses}
+use Rattle.i3c_legacy.proofs.RowLaws.{length-places, no_rows, places-nil, places_at, places_push, row_here, row_none, row_missing, own_push, count-places}
+
+abbrev pub address_of : Declared → ℕ
+address_of d = d.address
+
+abbrev pub lvrs_of : List Declared → List (Option Lvr)
+lvrs_of rows = places address_of (λ d. d.lvr) rows
+
+-- no targets
+pub own_none : (rows : List Declared) → rows ≡ [] → HasOwnAddresses address_of rows
+own_none rows e = rw e (no_rows address_of)
+
+pub view_none : (rows : List Declared) → rows ≡ [] → lvrs_of rows ≡ no_lvrs
+unfolding no_lvrs
+view_none rows e = rw e (places-nil address_of (λ d. d.lvr))
+
+pub found : (rows : List Declared) (legacy : List (Option Lvr)) (i a : ℕ) (d : Declared) → HasOwnAddresses address_of rows → lvrs_of rows ≡ legacy → i < length rows → HoldsAt (λ r. r.address ≡ a) rows i → ◌≡◌ {A = Option Lvr} (Some (get_or rows i d).lvr) (get_or legacy a None)
+found rows legacy i a d own view l same =
+    let here = row_here address_of rows i d own.distinct l in
+    let at : row_at address_of rows a ≡ Some (get_or rows i d) = ap (row_at address_of rows) (sym (same d)) ∙ here in
+    ap (option_map (λ (r : Declared). r.lvr)) (sym at) ∙ (sym (places_at address_of (λ r. r.lvr) rows a own.in_range) ∙ ap (λ g. get_or g a None) view)
+
+pub missing : (rows : List Declared) (legacy : List (Option Lvr)) (a : ℕ) → HasOwnAddresses address_of rows → lvrs_of rows ≡ legacy → All (λ d. d.address ≢ a) rows → ◌≡◌ {A = Option Lvr} None (get_or legacy a None)
+missing rows legacy a own view none =
+    ap (option_map (λ (d : Declared). d.lvr)) (sym (row_none address_of rows a none)) ∙ (sym (places_at address_of (λ d. d.lvr) rows a own.in_range) ∙ ap (λ g. get_or g a None) view)
+
+pub long : (rows : List Declared) (legacy : List (Option Lvr)) → lvrs_of rows ≡ legacy → length legacy ≡ ADDRESSES
+long rows legacy view = ap length (sym view) ∙ length-places address_of (λ d. d.lvr) rows
+
+-- the tests before one more target is declared
+abbrev chosen : Bool → Bool → Bool → Option LegacyFault
+chosen static taken full = if not static then Some LegacyAddress else (if taken then Some LegacyTwice else (if full then Some TooManyLegacy else None))
+
+chosen_full : (static taken full : Bool) → static ≡ true → taken ≡ false → full ≡ true → chosen static taken full ≡ Some TooManyLegacy
+chosen_full static taken full s t f = rw (s, t, f) refl
+
+chosen_none : (static taken full : Bool) → static ≡ true → taken ≡ false → full ≡ false → chosen static taken full ≡ None
+chosen_none static taken full s t f = rw (s, t, f) refl
+
+pub counted : (rows : List Declared) (legacy : List (Option Lvr)) → HasOwnAddresses address_of rows → lvrs_of rows ≡ legacy → count_by is_some legacy ≡ length rows
+counted rows legacy own view = ap (count_by is_some) (sym view) ∙ count-places address_of (λ d. d.lvr) rows own
+
+pub no_room : (rows : List Declared) (legacy : List (Option Lvr)) (a : ℕ) → HasOwnAddresses address_of rows → lvrs_of rows ≡ legacy → is_static a ≡ true → is_some (get_or legacy a None) ≡ false → length rows ≡ LEGACIES → first_fault legacy a ≡ Some TooManyLegacy
+no_room rows legacy a own view s n f =
+    let many = counted rows legacy own view in
+    chosen_full (is_static a) (is_some (get_or legacy a None)) (nat_le LEGACIES (count_by is_some legacy)) s n (le-leb LEGACIES (count_by is_some legacy) (omega (arith, many, f)))
+
+pub no_fault : (rows : List Declared) (legacy : List (Option Lvr)) (a : ℕ) → HasOwnAddresses address_of rows → lvrs_of rows ≡ legacy → is_static a ≡ true → is_some (get_or legacy a None) ≡ false → length rows < LEGACIES → first_fault legacy a ≡ None
+no_fault rows legacy a own view s n f =
+    let many = counted rows legacy own view in
+    chosen_none (is_static a) (is_some (get_or legacy a None)) (nat_le LEGACIES (count_by is_some legacy)) s n (lt-leb LEGACIES (count_by is_some legacy) (omega (arith, many, f)))
+
+-- a static address is one of 7 bits
+static_below : (a : ℕ) → is_static a ≡ true → a < ADDRESSES
+static_below a s = let at_most = leb-true a 0x77 (and_parts (nat_le 0x08 a) (nat_le a 0x77) s).1 in omega arith
+
+none_there : (rows : List Declared) (legacy : List (Option Lvr)) (a : ℕ) → HasOwnAddresses address_of rows → lvrs_of rows ≡ legacy → is_some (get_or legacy a None) ≡ false → row_at address_of rows a ≡ None
+none_there rows legacy a own view n = row_missing address_of (λ d. d.lvr) rows a own.in_range (ap (λ g. is_some (get_or g a None)) view ∙ n)
+
+-- one more target
+pub own_more : (rows : List Declared) (legacy : List (Option Lvr)) (d : Declared) → HasOwnAddresses address_of rows → lvrs_of rows ≡ legacy → is_static d.address ≡ true → is_some (get_or legacy d.address None) ≡ false → HasOwnAddresses address_of (rows ++ d ∷ [])
+own_more rows legacy d own view s n = own_push address_of rows d own (static_below d.address s) (none_there rows legacy d.address own view n)
+
+pub view_more : (rows : List Declared) (legacy : List (Option Lvr)) (d : Declared) → HasOwnAddresses address_of rows → lvrs_of rows ≡ legacy → is_static d.address ≡ true → is_some (get_or legacy d.address None) ≡ false → lvrs_of (rows ++ d ∷ []) ≡ set legacy d.address (Some d.lvr)
+view_more rows legacy d own view s n =
+    places_push address_of (λ r. r.lvr) rows d (static_below d.address s) (none_there rows legacy d.address own view n) ∙ ap (λ g. set g d.address (Some d.lvr)) view

@@ -1,0 +1,119 @@
+ghost use Rattle.std.specs.Prelude.{◌≡◌, ◌≢◌, ◌<◌, ◌↔◌, IsTrue, All, HoldsAt, MatchOption, length};
+ghost use Rattle.i3c_legacy.specs.Declaring.{is_static};
+
+use crate::LegacyFault;
+use arrayvec::ArrayVec;
+use i3c_base::{Addr7, Lvr};
+use std::marker::Model;
+
+/// How many legacy targets a bus may have (this project's choice).
+pub const LEGACIES: usize = 16;
+
+// a legacy target, as it is declared
+#[derive(Clone, Copy, Default)]
+struct Declared {
+    address: Addr7,
+    lvr: Lvr,
+}
+
+/// The legacy I2C targets of a bus: their LVRs, by their static addresses (I3C Basic 5.1.1.2.3).
+///
+/// Clauses see a place for each of the 128 addresses.
+#[derive(Drop)]
+pub struct Legacies {
+    targets: ArrayVec<Declared, LEGACIES>,
+}
+
+impl Model for Legacies {
+    ghost use Rattle.std.specs.Prelude.{List, Option};
+    ghost use Rattle.i3c_base.specs.declared.identity.Lvr.{Lvr as LvrValue};
+
+    ghost Value = { List (Option LvrValue) };
+
+    ghost use Rattle.i3c_legacy.specs.Rows.{places, HasOwnAddresses};
+
+    ghost view = { λ l. places (λ d. d.address) (λ d. d.lvr) l.targets.items };
+
+    ghost invariant = { λ l. HasOwnAddresses (λ d. d.address) l.targets.items };
+}
+
+impl Legacies {
+    ghost use Rattle.std.specs.Prelude.{◌≡◌, ◌≤◌, ◌↔◌, IsTrue, count_by, is_some, None, Some, length, slice_set, slice_index_or, MatchOption, MatchResult, OnOk, OnErr};
+    ghost use Rattle.i3c_base.specs.declared.range.TheConstants.{ADDRESSES};
+    ghost use Rattle.i3c_base.specs.State.{no_lvrs};
+    ghost use Rattle.i3c_legacy.specs.declared.legacies.TheConstants.{LEGACIES};
+    ghost use Rattle.i3c_legacy.specs.Declaring.{first_fault};
+
+    /// No legacy target.
+    #[tactic(auto, using(crate::proofs::LegacyLaws::own_none, crate::proofs::LegacyLaws::view_none))]
+    pub fn new() -> Legacies
+        ensures { result ≡ no_lvrs }
+    {
+        Legacies {
+            targets: ArrayVec::new(),
+        }
+    }
+
+    /// The LVR of the target at a static address, if there is one.
+    pub fn lvr_at(&self, address: Addr7) -> Option<Lvr>
+        ensures same { result ≡ slice_index_or self.now address None }
+        ensures all_places { length self.now ≡ ADDRESSES }
+    {
+        let targets = self.targets.as_slice();
+        match index_of(targets, address) {
+            Some(index) => Some(targets[index].lvr),
+            None => None,
+        }
+    }
+
+    /// How many targets are declared.
+    pub fn len(&self) -> usize
+        ensures count { result ≡ count_by is_some self.now }
+        ensures few { result ≤ LEGACIES }
+    {
+        self.targets.len()
+    }
+
+    /// Whether none is declared.
+    pub fn is_empty(&self) -> bool
+        ensures { IsTrue result ↔ (count_by is_some self.now ≡ 0) }
+    {
+        self.len() == 0
+    }
+
+    /// Declares a target at a static address: one of `08` to `77`, where none stands, while there are fewer than
+    /// `LEGACIES`. What of this fails first is the fault, and then nothing has changed.
+    pub fn add(&mut self, address: Addr7, lvr: Lvr) -> Result<(), LegacyFault>
+        ensures fault { MatchResult result (λ _. first_fault self.old address ≡ None)
+            (λ fault. first_fault self.old address ≡ Some fault) }
+        ensures added { OnOk result (self.new ≡ slice_set self.old address (Some lvr)) }
+        ensures unchanged { OnErr result (self.new ≡ self.old) }
+    {
+        if !is_static(address) {
+            return Err(LegacyFault::LegacyAddress);
+        }
+        if self.lvr_at(address).is_some() {
+            return Err(LegacyFault::LegacyTwice);
+        }
+        if self.targets.is_full() {
+            return Err(LegacyFault::TooManyLegacy);
+        }
+        self.targets.push(Declared { address, lvr });
+        Ok(())
+    }
+}
+
+// Whether a legacy target may have the address: none of the reserved ones, `00` to `07` and `78` to `7F`.
+fn is_static(address: Addr7) -> bool
+    ensures { result ≡ is_static address }
+{
+    matches!(address.get(), 0x08..=0x77)
+}
+
+// The index of the target at an address.
+fn index_of(targets: &[Declared], address: Addr7) -> Option<usize>
+    ensures { MatchOption result (All (λ d. d.address ≢ address) targets.now)
+        (λ i. (i < length targets.now) × HoldsAt (λ d. d.address ≡ address) targets.now i) }
+{
+    targets.iter().position(|target| target.address == address)
+}

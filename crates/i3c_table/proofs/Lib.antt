@@ -1,0 +1,4 @@
+pub mod TableLaws
+pub mod Room
+pub mod Reset
+pub mod Known

@@ -1,0 +1,10 @@
+use Rattle.std.proofs.Common.{refl}
+use Rattle.i3c_table.proofs.Reset.{entries-nil}
+use Rattle.i3c_table.proofs.TableLaws.{tidy_nil}
+use Rattle.i3c_table.proofs.table.Table.new.Goals as goal
+
+pub invariant_of-result : goal.invariant_of-result
+invariant_of-result c = rw c.new.ensures tidy_nil
+
+pub returns : goal.returns
+returns c = rw (c.new.ensures, entries-nil) refl

@@ -1,0 +1,23 @@
+-- A table's rows, seen as the entries at their addresses.
+use Rattle.std.specs.Prelude.{ℕ, nat_eq, List, map, All, Option}
+use Rattle.std.specs.List.{IsDistinct}
+use Rattle.i3c_base.specs.State.{Entry, IsUsable}
+use Rattle.i3c_legacy.specs.Rows.{places}
+use Rattle.i3c_table.specs.declared.row.Row.{Row}
+
+-- what a row says of its address
+abbrev pub entry_of_row : Row → Entry
+entry_of_row row = record { bcr = row.bcr; dcr = row.dcr; kept = row.identity }
+
+-- the addresses of the rows
+abbrev pub addresses : List Row → List ℕ
+addresses rows = map (λ row. row.address) rows
+
+-- the entries of the rows, each at its address
+abbrev pub entries : List Row → List (Option Entry)
+entries rows = places (λ row. row.address) entry_of_row rows
+
+-- the rows have distinct addresses, which may be given to devices
+pub record IsTidy (rows : List Row) : Type 0 where
+  pub distinct : IsDistinct nat_eq (addresses rows)
+  pub usable : All IsUsable (addresses rows)
