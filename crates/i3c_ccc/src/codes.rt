@@ -1,0 +1,59 @@
+ghost use Rattle.std.specs.Prelude.{◌≡◌};
+ghost use Rattle.i3c_ccc.specs.Codes.{IsCodeOf, byte_of_code};
+
+/// A common command code (I3C Basic 5.1.9.3).
+#[derive(Clone, Copy, Debug, PartialEq, Eq)]
+pub enum Code {
+    /// Enable events, broadcast: `00`.
+    Enec,
+    /// Disable events, broadcast: `01`.
+    Disec,
+    /// Reset dynamic address assignment: `06`.
+    Rstdaa,
+    /// Enter dynamic address assignment: `07`.
+    Entdaa,
+    /// Define list of targets: `08`.
+    Deftgts,
+    /// Enable events, direct: `80`.
+    EnecDirect,
+    /// Disable events, direct: `81`.
+    DisecDirect,
+    /// Get accept controller role: `91`.
+    Getacccr,
+    /// A code that this engine doesn't use.
+    Other(u8),
+}
+
+/// The code of a byte: `Other` only where it is none of those known by name.
+pub fn code_of(byte: u8) -> Code
+    ensures { IsCodeOf byte result }
+{
+    match byte {
+        0x00 => Code::Enec,
+        0x01 => Code::Disec,
+        0x06 => Code::Rstdaa,
+        0x07 => Code::Entdaa,
+        0x08 => Code::Deftgts,
+        0x80 => Code::EnecDirect,
+        0x81 => Code::DisecDirect,
+        0x91 => Code::Getacccr,
+        other => Code::Other(other),
+    }
+}
+
+/// The byte of a code.
+pub fn byte_of(code: Code) -> u8
+    ensures { result ≡ byte_of_code code }
+{
+    match code {
+        Code::Enec => 0x00,
+        Code::Disec => 0x01,
+        Code::Rstdaa => 0x06,
+        Code::Entdaa => 0x07,
+        Code::Deftgts => 0x08,
+        Code::EnecDirect => 0x80,
+        Code::DisecDirect => 0x81,
+        Code::Getacccr => 0x91,
+        Code::Other(byte) => byte,
+    }
+}

@@ -1,0 +1,11 @@
+//! Common command codes, and the words that follow them after one header.
+#![tactic(auto)]
+
+mod codes;
+mod commands;
+
+pub use codes::{Code, byte_of, code_of};
+pub use commands::{CccFault, Command, read_command};
+
+#[cfg(test)]
+mod tests;
