@@ -1,0 +1,28 @@
+-- When a device may raise an interrupt.
+use Rattle.std.specs.Prelude.{ℕ, Bool, true, false, not, nat_le, List, [], ◌∷◌, length, Option, Some, None, is_none, is_some, if◌then◌else◌}
+use Rattle.i3c_base.specs.declared.device.TheConstants.{WAITING}
+use Rattle.i3c_base.specs.declared.device.Waiting.{Waiting}
+use Rattle.i3c_base.specs.Numbers.{can_interrupt, has_byte}
+use Rattle.i3c_base.specs.State.{Device}
+use Rattle.i3c_device.specs.declared.faults.RaiseFault.{RaiseFault}
+use Rattle.i3c_device.specs.declared.faults.RaiseFault.TheVariants.{NoAddress, NotCapable, ByteMismatch, Masked, Full}
+
+-- a test of equal truth values
+abbrev pub same_bool : Bool → Bool → Bool
+same_bool true b = b
+same_bool false b = not b
+
+-- the first fault of a raise with this byte: no address, no interrupts by its BCR, a byte where none is due or none
+-- where one is, interrupts disabled, or eight that wait
+abbrev pub raise_fault : Device → Option ℕ → Option RaiseFault
+raise_fault d byte =
+    if is_none d.address then Some NoAddress else
+    (if not (can_interrupt d.identity.bcr) then Some NotCapable else
+    (if not (same_bool (has_byte d.identity.bcr) (is_some byte)) then Some ByteMismatch else
+    (if not d.kinds.interrupt then Some Masked else
+    (if nat_le WAITING (length d.waiting) then Some Full else None))))
+
+-- the byte of the interrupt that waits at the front
+abbrev pub front_byte : List Waiting → Option ℕ
+front_byte [] = None
+front_byte (w ∷ ws) = w.byte

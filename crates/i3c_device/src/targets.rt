@@ -1,0 +1,226 @@
+use crate::faults::RaiseFault;
+use crate::kinds::{all, difference, may_ask_role, may_interrupt, may_join, named, union};
+use arrayvec::ArrayVec;
+use i3c_base::{Addr7, Identity, Kinds, REGISTERS, Request, Setup, WAITING, Waiting};
+use i3c_ccc::Code;
+use i3c_word::Word;
+use std::marker::Model;
+
+/// A device while it is attached.
+#[derive(Drop)]
+pub struct Device {
+    identity: Identity,
+    willing: bool,
+    address: Option<Addr7>,
+    kinds: Kinds,
+    waiting: ArrayVec<Waiting, WAITING>,
+    join_wish: bool,
+    role_wish: bool,
+    hearing: bool,
+    registers: [u8; REGISTERS],
+}
+
+impl Model for Device {
+    ghost use Rattle.i3c_base.specs.Numbers.{kind_set};
+    ghost use Rattle.i3c_base.specs.State.{Device as DeviceState};
+
+    ghost Value = { DeviceState };
+
+    ghost view = { λ d. record {
+      identity = d.identity;
+      willing = d.willing;
+      address = d.address;
+      kinds = kind_set d.kinds;
+      waiting = d.waiting.items;
+      join_wish = d.join_wish;
+      role_wish = d.role_wish;
+      hearing = d.hearing;
+      registers = d.registers;
+    } };
+}
+
+impl Device {
+    ghost use Rattle.std.specs.Prelude.{◌≡◌, ◌≤◌, ◌+◌, ◌++◌, ◌∷◌, [], ℕ, true, false, length, slice_get, MatchOption, MatchResult, OnErr, OnOk, Some, None};
+    ghost use Rattle.i3c_base.specs.declared.requests.Request.{Request as RequestValue};
+    ghost use Rattle.i3c_base.specs.State.{attached};
+    ghost use Rattle.i3c_base.specs.Serve.{asks, without_front, without_join, without_role};
+    ghost use Rattle.i3c_base.specs.Round.{unhearing, winner};
+    ghost use Rattle.i3c_device.specs.Hearing.{heard};
+    ghost use Rattle.i3c_device.specs.Raising.{front_byte, raise_fault};
+
+    /// A device that was just attached: all kinds of events are enabled, and its registers are `00`.
+    pub fn new(setup: Setup) -> Device
+        ensures { result ≡ attached setup }
+    {
+        Device {
+            identity: setup.identity,
+            willing: setup.willing,
+            address: None,
+            kinds: all(),
+            waiting: ArrayVec::new(),
+            join_wish: false,
+            role_wish: false,
+            hearing: false,
+            registers: [0; REGISTERS],
+        }
+    }
+
+    /// What the device is.
+    pub fn identity(&self) -> Identity
+        ensures { result ≡ self.now.identity }
+    {
+        self.identity
+    }
+
+    /// Whether it hears the open session.
+    pub fn is_hearing(&self) -> bool
+        ensures { result ≡ self.now.hearing }
+    {
+        self.hearing
+    }
+
+    /// Its address, if it has one.
+    pub fn address(&self) -> Option<Addr7>
+        ensures { result ≡ self.now.address }
+    {
+        self.address
+    }
+
+    /// How many of its interrupts wait.
+    pub fn waiting(&self) -> usize
+        ensures { result ≡ length self.now.waiting }
+    {
+        self.waiting.len()
+    }
+
+    /// Whether it takes the controller role when it is offered.
+    pub fn is_willing(&self) -> bool
+        ensures { result ≡ self.now.willing }
+    {
+        self.willing
+    }
+
+    /// What it does with a command and the words after its code (I3C Basic 5.1.9.3).
+    pub fn hear(&mut self, code: Code, words: &[Word])
+        ensures { self.new ≡ heard code words.now self.old }
+    {
+        match code {
+            Code::Enec | Code::EnecDirect => self.kinds = union(self.kinds, named(words)),
+            Code::Disec | Code::DisecDirect => self.kinds = difference(self.kinds, named(words)),
+            Code::Entdaa => {
+                if self.address.is_none() {
+                    self.hearing = true;
+                }
+            }
+            Code::Rstdaa | Code::Deftgts | Code::Getacccr | Code::Other(_) => {}
+        }
+    }
+
+    /// The session ends: it hears no more.
+    pub fn fall_silent(&mut self)
+        ensures { self.new ≡ unhearing self.old }
+    {
+        self.hearing = false;
+    }
+
+    /// The request that it drives into an arbitrable header: a join without an address, else the role request before
+    /// the interrupt, its choice only while that kind is enabled (I3C Basic 5.1.6).
+    pub fn wants(&self) -> Option<Request>
+        ensures { MatchOption result ((r : RequestValue) → asks self.now r ≡ false) (λ r. asks self.now r ≡ true) }
+    {
+        let Some(address) = self.address else {
+            return if self.join_wish && may_join(self.kinds) {
+                Some(Request::Join)
+            } else {
+                None
+            };
+        };
+        if self.role_wish {
+            return if may_ask_role(self.kinds) {
+                Some(Request::Role(address))
+            } else {
+                None
+            };
+        }
+        if !self.waiting.is_empty() && may_interrupt(self.kinds) {
+            Some(Request::Interrupt(address))
+        } else {
+            None
+        }
+    }
+
+    /// It has won this address, hears no more and has lost its join wish. No dynamic address is below `08`.
+    pub fn take_address(&mut self, address: Addr7)
+        requires { 8 ≤ address }
+        ensures { self.new ≡ winner address self.old }
+    {
+        self.address = Some(address);
+        self.hearing = false;
+        self.join_wish = false;
+    }
+
+    /// Raises an interrupt under this number: it waits as the last one. The first fault refuses it, and changes nothing.
+    pub fn raise(&mut self, number: u64, byte: Option<u8>) -> Result<(), RaiseFault>
+        ensures fault { MatchResult result (λ _. raise_fault self.old byte ≡ None) (λ fault. raise_fault self.old byte ≡ Some fault) }
+        ensures raised { OnOk result (self.new ≡ record self.old { waiting = self.old.waiting ++ record { number = number; byte = byte } ∷ [] }) }
+        ensures unchanged { OnErr result (self.new ≡ self.old) }
+    {
+        if self.address.is_none() {
+            return Err(RaiseFault::NoAddress);
+        }
+        if !self.identity.bcr.interrupts() {
+            return Err(RaiseFault::NotCapable);
+        }
+        if self.identity.bcr.has_byte() != byte.is_some() {
+            return Err(RaiseFault::ByteMismatch);
+        }
+        if !may_interrupt(self.kinds) {
+            return Err(RaiseFault::Masked);
+        }
+        if self.waiting.is_full() {
+            return Err(RaiseFault::Full);
+        }
+        self.waiting.push(Waiting { number, byte });
+        Ok(())
+    }
+
+    /// The interrupt that waits at the front.
+    pub fn front(&self) -> Option<Waiting>
+        ensures { result ≡ slice_get self.now.waiting 0 }
+    {
+        self.waiting.first().copied()
+    }
+
+    /// The mandatory byte that it answers with when its interrupt is accepted, if one is due.
+    pub fn answer_byte(&self) -> Option<u8>
+        ensures { result ≡ front_byte self.now.waiting }
+    {
+        match self.waiting.first() {
+            Some(front) => front.byte,
+            None => None,
+        }
+    }
+
+    /// Its interrupt was accepted: the front leaves its waiting list.
+    pub fn lose_front(&mut self)
+        ensures { self.new ≡ without_front self.old }
+    {
+        if !self.waiting.is_empty() {
+            self.waiting.remove(0);
+        }
+    }
+
+    /// Its join was accepted: the wish is gone.
+    pub fn lose_join_wish(&mut self)
+        ensures { self.new ≡ without_join self.old }
+    {
+        self.join_wish = false;
+    }
+
+    /// Its role request was accepted: the wish is gone.
+    pub fn lose_role_wish(&mut self)
+        ensures { self.new ≡ without_role self.old }
+    {
+        self.role_wish = false;
+    }
+}
