@@ -1,5 +1,5 @@
 -- What the bus's calls do to its parts, as steps of the state that it is seen as.
-use Rattle.std.proofs.Common.{◌≡◌, ℕ, Bool, true, false, List, Option, Some, None, option_map, is_some, set, get_or, MatchOption, is_none, if◌then◌else◌, ◌&&◌, length, ◌⊎◌, inl, inr, sym, refl, ap, subst, ◌∙◌, ◌<◌}
+use Rattle.std.proofs.Common.{◌≡◌, ℕ, Bool, true, false, List, Option, Some, None, option_map, is_some, set, get_or, MatchOption, is_none, if◌then◌else◌, ◌&&◌, length, ◌⊎◌, inl, inr, sym, refl, ap, subst, ◌∙◌, ◌<◌, map, ◌∷◌, []}
 use Rattle.std.proofs.lemmas.List.{get_or_default}
 use Rattle.i3c_base.specs.declared.identity.Identity.{Identity}
 use Rattle.i3c_base.specs.declared.answers.RoundReply.{RoundReply}
@@ -7,8 +7,10 @@ use Rattle.i3c_base.specs.declared.requests.Record.{Record}
 use Rattle.i3c_base.specs.declared.requests.Served.{Served}
 use Rattle.i3c_base.specs.Places.{changed}
 use Rattle.i3c_base.specs.Cutting.{CutList, IsUncut}
-use Rattle.i3c_base.specs.Covered.{Table}
-use Rattle.i3c_base.specs.State.{Device, Held, State, IsKeptIn, IsPickIn, IsPickableIn, IsUnknownIn, kept_entry_of, no_raises, targets_of}
+use Rattle.i3c_base.specs.declared.device.Target.{Target}
+use Rattle.i3c_base.specs.declared.identity.Lvr.{Lvr}
+use Rattle.i3c_base.specs.Covered.{IsTable, Table}
+use Rattle.i3c_base.specs.State.{Device, Held, State, IsKeptIn, IsPickIn, IsPickableIn, IsUnknownIn, kept_entry_of, no_raises, target_of, targets_of}
 use Rattle.std.proofs.lemmas.Bool.{false≢true}
 use Rattle.i3c_base.specs.Numbers.{same_identity}
 use Rattle.i3c_base.specs.Round.{IsAddressFor, hears, unhearing, winner}
@@ -116,3 +118,18 @@ there_or_not devices s k place e l =
     go : (o : Option Device) → is_some o ≡ true → (d : Device) × (o ≡ Some d)
     go None h = absurd (false≢true h)
     go (Some d) h = (d, refl)
+
+-- the LVRs of targets are those they were made of
+lvr_of-target_of : (o : Option Lvr) → option_map (λ (t : Target). t.lvr) (option_map target_of o) ≡ o
+lvr_of-target_of None = refl
+lvr_of-target_of (Some v) = refl
+
+pub lvrs-targets_of : (lvrs : List (Option Lvr)) → map (option_map (λ (t : Target). t.lvr)) (targets_of lvrs) ≡ lvrs
+lvrs-targets_of [] = refl
+lvrs-targets_of (o ∷ lvrs) = λ t. lvr_of-target_of o t ∷ lvrs-targets_of lvrs t
+
+-- the table covers the bus that it is part of
+pub covered_seen : (now : Held) (devices : List (Option Device)) (active : ℕ) (table : Table) (in_session room : Bool) (records : List Record)
+    → held devices active table in_session records room ≡ now → IsTable now.state table
+covered_seen now devices active table in_session room records is =
+    subst (λ (h : Held). IsTable h.state table) is (refl, sym (lvrs-targets_of table.legacy), refl)

@@ -80,6 +80,7 @@ impl Bus {
     ghost use Rattle.std.specs.Prelude.{◌≡◌, ◌↔◌, true, false, length, IfOk, IfErr, IsOk, IsTrue};
     ghost use Rattle.i3c_base.specs.Cutting.{IsUncut};
     ghost use Rattle.i3c_base.specs.Numbers.{is_capable};
+    ghost use Rattle.i3c_base.specs.Covered.{IsTable};
     ghost use Rattle.i3c_base.specs.State.{device_at, IsPresent, IsStart, targets_of};
     ghost use Rattle.i3c_bus.specs.Step.{Step, IsUncutEvent};
     ghost use Rattle.i3c_bus.specs.Hands.{HandFits};
@@ -168,6 +169,14 @@ impl Bus {
         ensures { result.now ≡ self.now.state.records }
     {
         self.records.as_slice()
+    }
+
+    /// The active controller's table. It covers the bus: its rows are what was given, its identities what is kept, its
+    /// legacy list the legacy targets.
+    pub fn table(&self) -> &Table
+        ensures { IsTable self.now.state result.now }
+    {
+        &self.table
     }
 
     /// Whether the list of DEFTGTS is current.
