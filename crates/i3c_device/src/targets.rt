@@ -23,6 +23,7 @@ pub struct Device {
 impl Model for Device {
     ghost use Rattle.i3c_base.specs.Numbers.{kind_set};
     ghost use Rattle.i3c_base.specs.State.{Device as DeviceState};
+    ghost use Rattle.i3c_device.specs.Addressing.{IsDynamic};
 
     ghost Value = { DeviceState };
 
@@ -37,14 +38,17 @@ impl Model for Device {
       hearing = d.hearing;
       registers = d.registers;
     } };
+
+    ghost invariant = { λ d. IsDynamic d.address };
 }
 
 impl Device {
-    ghost use Rattle.std.specs.Prelude.{◌≡◌, ◌≤◌, ◌+◌, ◌++◌, ◌∷◌, [], ℕ, true, false, length, slice_get, MatchOption, MatchResult, OnErr, OnOk, Some, None};
+    ghost use Rattle.std.specs.Prelude.{◌≡◌, ◌≤◌, ◌+◌, ◌++◌, ◌∷◌, [], ℕ, true, false, length, slice_get, IfSome, MatchOption, MatchResult, OnErr, OnOk, Some, None};
     ghost use Rattle.i3c_base.specs.declared.requests.Request.{Request as RequestValue};
     ghost use Rattle.i3c_base.specs.State.{attached};
     ghost use Rattle.i3c_base.specs.Serve.{asks, without_front, without_join, without_role};
     ghost use Rattle.i3c_base.specs.Round.{unhearing, winner};
+    ghost use Rattle.i3c_header.specs.Keys.{IsLawful};
     ghost use Rattle.i3c_device.specs.Hearing.{heard};
     ghost use Rattle.i3c_device.specs.Raising.{front_byte, raise_fault};
 
@@ -126,7 +130,9 @@ impl Device {
     /// The request that it drives into an arbitrable header: a join without an address, else the role request before
     /// the interrupt, its choice only while that kind is enabled (I3C Basic 5.1.6).
     pub fn wants(&self) -> Option<Request>
-        ensures { MatchOption result ((r : RequestValue) → asks self.now r ≡ false) (λ r. asks self.now r ≡ true) }
+        ensures asked { MatchOption result ((r : RequestValue) → asks self.now r ≡ false) (λ r. asks self.now r ≡ true) }
+        ensures alone { IfSome result (λ r. (q : RequestValue) → asks self.now q ≡ true → q ≡ r) }
+        ensures lawful { IfSome result IsLawful }
     {
         let Some(address) = self.address else {
             return if self.join_wish && may_join(self.kinds) {
@@ -199,6 +205,20 @@ impl Device {
             Some(front) => front.byte,
             None => None,
         }
+    }
+
+    /// It wishes to join.
+    pub fn wish_join(&mut self)
+        ensures { self.new ≡ record self.old { join_wish = true } }
+    {
+        self.join_wish = true;
+    }
+
+    /// It wishes for the controller role.
+    pub fn wish_role(&mut self)
+        ensures { self.new ≡ record self.old { role_wish = true } }
+    {
+        self.role_wish = true;
     }
 
     /// Its interrupt was accepted: the front leaves its waiting list.
