@@ -11,6 +11,13 @@ pub enum Request {
     Interrupt(Addr7),
 }
 
+/// A join, with which bounded lists of requests fill their unused places.
+impl Default for Request {
+    fn default() -> Request {
+        Request::Join
+    }
+}
+
 /// The controller's answer to a request: ACK or NACK.
 #[derive(Clone, Copy, Debug, PartialEq, Eq)]
 pub enum Verdict {

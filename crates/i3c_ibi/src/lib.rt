@@ -1,0 +1,17 @@
+//! Requests in an arbitrable header: who drives the first one, the policy that decides on it, and what is read of an
+//! accepted interrupt.
+#![tactic(auto)]
+
+mod drivers;
+mod firsts;
+mod policies;
+mod readings;
+
+pub use drivers::answer_drivers;
+pub use firsts::first_request;
+pub use i3c_base::{Fixed, Record, Served, Verdict};
+pub use policies::Policy;
+pub use readings::reading;
+
+#[cfg(test)]
+mod tests;

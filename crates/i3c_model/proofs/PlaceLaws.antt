@@ -1,0 +1,85 @@
+-- What a map has at its places, before and after a change.
+use Rattle.std.proofs.Common.{◌≡◌, ◌≢◌, ℕ, ◌≤◌, ◌<◌, false, [], map, length, get_or, set, replicate, Option, Some, None, option_map, sym, refl, ap, ◌∙◌, arith, inl, inr, zero-add, subst}
+use Rattle.std.specs.Ordering.{nat_cmp}
+use Rattle.std.specs.Cmp.{unsigned_tied}
+use Rattle.std.specs.List.{range_with_len}
+use Rattle.std.specs.Map.{lookup}
+use Rattle.std.specs.Option.{IsSome}
+use Rattle.std.specs.BTreeMap.{BTreeMap, Updates, get, is_at}
+use Rattle.std.proofs.lemmas.Bool.{cases_eq, cases_lt, ne_eqb}
+use Rattle.std.proofs.lemmas.List.{get_or-set_other, get_or-set_same, get_or_past, length-set, length-replicate, get_or-replicate}
+use Rattle.std.proofs.lemmas.List.FromFn.{length-map-range_with_len, get_or-map-range_with_len, fill_by_all}
+use Rattle.std.proofs.lemmas.Map.Made.{lookup-map_values}
+use Rattle.i3c_base.specs.Places.{changed}
+use Rattle.i3c_base.proofs.Lookups.{changed_at, length-changed}
+use Rattle.i3c_model.specs.Views.{IsKeyedBelow, places_of}
+
+-- two numbers that differ are different keys
+pub apart : (k q : ℕ) → k ≢ q → is_at (nat_cmp k) q ≡ false
+apart k q n = unsigned_tied k q ∙ ne_eqb k q n
+
+-- a key more
+pub below_put : {A : Type 0} (n : ℕ) (m new : BTreeMap ℕ A) (k : ℕ) (x : A) → IsKeyedBelow n m → k < n → Updates nat_cmp m new k (Some x) → IsKeyedBelow n new
+below_put n m new k x below l put q h = elim (cases_eq q k) [
+  | inl e ↦ rw e l
+  | inr other ↦ below q (subst IsSome (put.2 q (apart k q (λ e. other (sym e)))) h)
+]
+
+module _ {A B : Type 0} (n : ℕ) (value : A → B) where
+  pub length-places : (m : BTreeMap ℕ A) → length (places_of n value m) ≡ n
+  unfolding places_of
+  length-places m = length-map-range_with_len (λ k. option_map value (get nat_cmp m k)) 0 n
+
+  places_below : (m : BTreeMap ℕ A) (k : ℕ) → k < n → get_or (places_of n value m) k None ≡ option_map value (get nat_cmp m k)
+  unfolding places_of
+  places_below m k l = get_or-map-range_with_len (λ j. option_map value (get nat_cmp m j)) 0 n k k None l (zero-add k)
+
+  absent : (m : BTreeMap ℕ A) (k : ℕ) (o : Option A) → get nat_cmp m k ≡ o → IsKeyedBelow n m → n ≤ k → o ≡ None
+  absent m k None e within past = refl
+  absent m k (Some x) e within past = let small : k < n = within k (subst IsSome (sym e) refl) in absurd (omega arith)
+
+  -- at each place stands what the map has
+  pub places_at : (m : BTreeMap ℕ A) (k : ℕ) → IsKeyedBelow n m → get_or (places_of n value m) k None ≡ option_map value (get nat_cmp m k)
+  places_at m k within = elim (cases_lt k n) [
+    | inl l ↦ places_below m k l
+    | inr past ↦ get_or_past (places_of n value m) k None (rw (length-places m) past)
+        ∙ ap (option_map value) (sym (absent m k (get nat_cmp m k) refl within past))
+  ]
+
+  -- maps of the same entries
+  pub places_same : (m new : BTreeMap ℕ A) → new.entries ≡ m.entries → places_of n value new ≡ places_of n value m
+  unfolding places_of
+  places_same m new e = ap (λ es. map (λ k. option_map value (lookup (is_at (nat_cmp k)) es)) (range_with_len 0 n)) e
+
+  -- no entries
+  pub places_none : (m : BTreeMap ℕ A) → m.entries ≡ [] → places_of n value m ≡ replicate n None
+  unfolding places_of
+  places_none m e =
+      ap (λ es. map (λ k. option_map value (lookup (is_at (nat_cmp k)) es)) (range_with_len 0 n)) e
+      ∙ sym (fill_by_all (λ k. None) (replicate n None) n None (length-replicate {A = Option B} n None) (λ k l. get_or-replicate {A = Option B} n k None None l))
+
+  -- one key with a value put there
+  pub places_put : (m new : BTreeMap ℕ A) (k : ℕ) (x : A) → k < n → get nat_cmp new k ≡ Some x → ((q : ℕ) → is_at (nat_cmp k) q ≡ false → get nat_cmp new q ≡ get nat_cmp m q)
+      → places_of n value new ≡ set (places_of n value m) k (Some (value x))
+  unfolding places_of
+  places_put m new k x l here others =
+      sym (fill_by_all (λ q. option_map value (get nat_cmp new q)) (set (places_of n value m) k (Some (value x))) n None (length-set (places_of n value m) k (Some (value x)) ∙ length-places m) (λ q below. elim (cases_eq q k) [
+        | inl e ↦ rw e (get_or-set_same (places_of n value m) k (Some (value x)) None (rw (length-places m) l) ∙ ap (option_map value) (sym here))
+        | inr other ↦ get_or-set_other (places_of n value m) k q (Some (value x)) None other
+            ∙ (places_below m q below ∙ ap (option_map value) (sym (others q (apart k q (λ e. other (sym e))))))
+      ]))
+
+  change_each : (g : A → A) (h : B → B) → ((x : A) → value (g x) ≡ h (value x)) → (o : Option A) → option_map h (option_map value o) ≡ option_map value (option_map g o)
+  change_each g h same None = refl
+  change_each g h same (Some x) = ap Some (sym (same x))
+
+  -- each value changed
+  pub places_changed : (g : A → A) (h : B → B) → ((x : A) → value (g x) ≡ h (value x)) → (m new : BTreeMap ℕ A) → new.entries ≡ map (λ e. (e.0, g e.1)) m.entries
+      → places_of n value new ≡ changed (λ k place. option_map h place) (places_of n value m)
+  unfolding places_of
+  places_changed g h same m new e =
+      sym (fill_by_all (λ q. option_map value (get nat_cmp new q)) (changed (λ k place. option_map h place) (places_of n value m)) n None (length-changed (λ k place. option_map h place) (places_of n value m) ∙ length-places m) (λ q below.
+      changed_at (λ k place. option_map h place) (places_of n value m) q None refl
+      ∙ (ap (option_map h) (places_below m q below)
+      ∙ (change_each g h same (get nat_cmp m q)
+      ∙ ap (option_map value) (sym (ap (lookup (is_at (nat_cmp q))) e ∙ lookup-map_values g (is_at (nat_cmp q)) m.entries))))))

@@ -1,0 +1,125 @@
+-- A start: one address is left beside the legacy targets, and the main controller takes it.
+use Rattle.std.proofs.Common.{◌≡◌, ℕ, zero, suc, ◌+◌, ◌≤◌, ◌<◌, Bool, true, false, cond, not, ◌&&◌, ◌==◌, nat_le, nat_cmp, List, [], ◌∷◌, get_or, set, Option, Some, None, option_map, is_some, count_by, sym, refl, ap, ◌∙◌, subst, arith}
+use Rattle.std.specs.BTreeMap.{BTreeMap, Updates}
+use Rattle.std.specs.List.{range_with_len}
+use Rattle.std.proofs.lemmas.Bool.{and_parts, eqb-false, false≢true, leb-true}
+use Rattle.std.proofs.lemmas.List.Sums.{sum_by-cons}
+use Rattle.std.proofs.Math.ListN.{get_or-map}
+use Rattle.i3c_base.specs.declared.device.Setup.{Setup}
+use Rattle.i3c_base.specs.declared.identity.Lvr.{Lvr}
+use Rattle.i3c_base.specs.declared.range.TheConstants.{ADDRESSES, SLOTS}
+use Rattle.i3c_base.specs.declared.requests.Record.{Record}
+use Rattle.i3c_base.specs.State.{Device, IsPickIn, IsPickableIn, IsStart, IsUsable, attached, entry_of, no_devices, no_entries, no_raises, target_of, targets_of}
+use Rattle.i3c_base.proofs.Lookups.{no_entries_at}
+use Rattle.i3c_model.specs.declared.device.PlainDevice.{PlainDevice}
+use Rattle.i3c_model.specs.declared.device.PlainEntry.{PlainEntry}
+use Rattle.i3c_model.specs.Views.{device_of, entry_from, places_of}
+use Rattle.i3c_model.proofs.PlaceLaws.{places_none, places_put}
+
+-- the test of a usable address
+abbrev is_usable : ℕ → Bool
+is_usable a = nat_le 0x08 a && (nat_le a 0x77 && (not (a == 0x3E) && (not (a == 0x5E) && (not (a == 0x6E) && not (a == 0x76)))))
+
+not_true : (b : Bool) → not b ≡ true → b ≡ false
+not_true true h = sym h
+not_true false h = refl
+
+usable_if : (a : ℕ) → is_usable a ≡ true → IsUsable a
+usable_if a h =
+    let p = and_parts (nat_le 0x08 a) (nat_le a 0x77 && (not (a == 0x3E) && (not (a == 0x5E) && (not (a == 0x6E) && not (a == 0x76))))) h in
+    let q = and_parts (nat_le a 0x77) (not (a == 0x3E) && (not (a == 0x5E) && (not (a == 0x6E) && not (a == 0x76)))) p.1 in
+    let r = and_parts (not (a == 0x3E)) (not (a == 0x5E) && (not (a == 0x6E) && not (a == 0x76))) q.1 in
+    let s = and_parts (not (a == 0x5E)) (not (a == 0x6E) && not (a == 0x76)) r.1 in
+    let t = and_parts (not (a == 0x6E)) (not (a == 0x76)) s.1 in
+    (leb-true 0x08 a p.0, leb-true a 0x77 q.0, eqb-false a 0x3E (not_true (a == 0x3E) r.0), eqb-false a 0x5E (not_true (a == 0x5E) s.0), eqb-false a 0x6E (not_true (a == 0x6E) t.0), eqb-false a 0x76 (not_true (a == 0x76) t.1))
+
+count_cons : {A : Type 0} (p : A → Bool) (x : A) (xs : List A) → count_by p (x ∷ xs) ≡ cond (p x) 1 0 + count_by p xs
+count_cons p x xs = sum_by-cons (λ y. cond (p y) 1 0) x xs
+
+counted_if : {A : Type 0} (p : A → Bool) (q : ℕ → Bool) (x : A) (n : ℕ) → (q n ≡ true → p x ≡ true) → cond (q n) 1 0 ≤ cond (p x) 1 0
+counted_if p q x n h = go (p x) (q n) h
+  where
+    go : (b c : Bool) → (c ≡ true → b ≡ true) → cond c 1 0 ≤ cond b 1 0
+    go true true h = omega arith
+    go true false h = omega arith
+    go false true h = absurd (false≢true (h refl))
+    go false false h = omega arith
+
+-- as many places are taken as pass a test that no free place passes
+count_at_least : {A : Type 0} (q : ℕ → Bool) (m n : ℕ) (xs : List (Option A)) → ((k : ℕ) → k < m → q (n + k) ≡ true → is_some (get_or xs k None) ≡ true) → count_by q (range_with_len n m) ≤ count_by is_some xs
+count_at_least {A} q zero n xs h = omega arith
+count_at_least {A} q (suc m) n [] h =
+    let first : cond (q n) 1 0 ≤ 0 = counted_if {A = ℕ} (λ x. false) q 0 n (λ t. h 0 (omega arith) (ap q (let e : n + 0 ≡ n = omega arith in e) ∙ t)) in
+    let rest = count_at_least {A = A} q m (n + 1) [] (λ k l t. h (suc k) (omega arith) (ap q (let e : n + suc k ≡ n + 1 + k = omega arith in e) ∙ t)) in
+    omega (arith, first, rest, count_cons q n (range_with_len (n + 1) m))
+count_at_least {A} q (suc m) n (x ∷ xs) h =
+    let first = counted_if is_some q x n (λ t. h 0 (omega arith) (ap q (let e : n + 0 ≡ n = omega arith in e) ∙ t)) in
+    let rest = count_at_least q m (n + 1) xs (λ k l t. h (suc k) (omega arith) (ap q (let e : n + suc k ≡ n + 1 + k = omega arith in e) ∙ t)) in
+    omega (arith, first, rest, count_cons q n (range_with_len (n + 1) m), count_cons is_some x xs)
+
+usable_count : count_by is_usable (range_with_len 0 128) ≡ 108
+usable_count = refl
+
+-- no address is given in an empty table
+pub none_given : (t : BTreeMap ℕ PlainEntry) → t.entries ≡ [] → places_of ADDRESSES entry_from t ≡ no_entries
+unfolding no_entries
+none_given t e = places_none ADDRESSES entry_from t e
+
+-- few legacy targets leave an address
+pub one_is_left : (t : BTreeMap ℕ PlainEntry) (legacies : List (Option Lvr)) → t.entries ≡ [] → count_by is_some legacies ≤ 16 → ((a : ℕ) → IsPickableIn (places_of ADDRESSES entry_from t) (targets_of legacies) a → ⊥) → ⊥
+one_is_left t legacies e few none =
+    let many = count_at_least is_usable 128 0 legacies (λ k l u. taken k (ap is_usable (let z : k ≡ 0 + k = omega arith in z) ∙ u)) in
+    omega (arith, many, few, usable_count)
+  where
+    taken_by : (k : ℕ) (o : Option Lvr) → get_or legacies k None ≡ o → is_usable k ≡ true → is_some o ≡ true
+    taken_by k (Some v) is u = refl
+    taken_by k None is u =
+        absurd (none k (usable_if k u, ap (λ places. get_or places k None) (none_given t e) ∙ no_entries_at k, get_or-map (option_map target_of) legacies k None ∙ ap (option_map target_of) is))
+
+    taken : (k : ℕ) → is_usable k ≡ true → is_some (get_or legacies k None) ≡ true
+    taken k u = taken_by k (get_or legacies k None) refl u
+
+no_devices_from : (m : BTreeMap ℕ PlainDevice) → m.entries ≡ [] → places_of SLOTS device_of m ≡ no_devices
+unfolding no_devices
+no_devices_from m e = places_none SLOTS device_of m e
+
+-- the main controller alone, with its address
+seated : (main : Setup) (a : ℕ) → set no_devices 0 (Some (record (attached main) { address = Some a }))
+    ≡ set (set no_devices 0 (Some (attached main))) 0 (option_map (λ (d : Device). record d { address = Some a }) (get_or (set no_devices 0 (Some (attached main))) 0 None))
+unfolding no_devices
+seated main a = refl
+
+pub started : (main : Setup) (legacies : List (Option Lvr)) (m devices : BTreeMap ℕ PlainDevice) (t given : BTreeMap ℕ PlainEntry) (d : PlainDevice) (a active : ℕ) (records : List Record)
+    → m.entries ≡ [] → t.entries ≡ [] → records ≡ [] → active ≡ 0 → device_of d ≡ record (attached main) { address = Some a } → Updates nat_cmp m devices active (Some d)
+    → Updates nat_cmp t given a (Some (record { bcr = main.identity.bcr; dcr = main.identity.dcr; kept = None })) → IsPickIn (places_of ADDRESSES entry_from t) (targets_of legacies) a
+    → IsStart main (targets_of legacies) (record {
+      devices = places_of SLOTS device_of devices;
+      raised = no_raises;
+      active = active;
+      legacy = targets_of legacies;
+      given = places_of ADDRESSES entry_from given;
+      in_session = false;
+      listed = false;
+      records = records;
+    })
+started main legacies m devices t given d a active records no_device no_entry no_record zeroth same put entered pick =
+    let small : a < ADDRESSES = let usable = pick.0.0.1 in omega arith in
+    let first : active < SLOTS = omega (arith, zeroth) in
+    let devices_are = places_put SLOTS device_of m devices active d first put.1 put.2
+    ∙ (ap (λ places. set places active (Some (device_of d))) (no_devices_from m no_device)
+    ∙ (ap (λ s. set no_devices s (Some (device_of d))) zeroth ∙ (ap (λ x. set no_devices 0 (Some x)) same ∙ seated main a))) in
+    let given_are = places_put ADDRESSES entry_from t given a (record { bcr = main.identity.bcr; dcr = main.identity.dcr; kept = None }) small entered.1 entered.2
+    ∙ ap (λ places. set places a (Some (entry_of main.identity))) (none_given t no_entry) in (
+      a,
+      subst (λ places. IsPickIn places (targets_of legacies) a) (none_given t no_entry) pick,
+      λ k. record {
+        devices = devices_are k;
+        raised = no_raises;
+        active = zeroth k;
+        legacy = targets_of legacies;
+        given = given_are k;
+        in_session = false;
+        listed = false;
+        records = no_record k;
+      },
+    )

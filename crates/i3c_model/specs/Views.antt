@@ -1,0 +1,54 @@
+-- The machine's maps, seen as the abstract bus.
+use Rattle.std.specs.Prelude.{ℕ, ◌<◌, false, List, [], map, Option, option_map, IsSome}
+use Rattle.std.specs.Ordering.{nat_cmp}
+use Rattle.std.specs.List.{range_with_len}
+use Rattle.std.specs.BTreeMap.{BTreeMap, get}
+use Rattle.i3c_base.specs.declared.range.TheConstants.{ADDRESSES, SLOTS}
+use Rattle.i3c_base.specs.State.{Device, Entry, State, all_kinds, cleared_registers, no_raises, targets_of}
+use Rattle.i3c_model.specs.declared.device.PlainDevice.{PlainDevice}
+use Rattle.i3c_model.specs.declared.device.PlainEntry.{PlainEntry}
+use Rattle.i3c_model.specs.declared.plain.Plain.TheInside.{Inside}
+
+-- a device: what no event changes yet is as it was when the device was attached
+abbrev pub device_of : PlainDevice → Device
+device_of d = record {
+  identity = d.identity;
+  willing = d.willing;
+  address = d.address;
+  kinds = all_kinds;
+  waiting = [];
+  join_wish = false;
+  role_wish = false;
+  hearing = d.hearing;
+  registers = cleared_registers;
+}
+
+-- an entry of the table
+abbrev pub entry_from : PlainEntry → Entry
+entry_from e = record { bcr = e.bcr; dcr = e.dcr; kept = e.kept }
+
+-- what a map has at each number below n
+unfoldable pub places_of : {A B : Type 0} → ℕ → (A → B) → BTreeMap ℕ A → List (Option B)
+places_of n value m = map (λ k. option_map value (get nat_cmp m k)) (range_with_len 0 n)
+
+-- each key is below n
+abbrev pub IsKeyedBelow : {A : Type 0} → ℕ → BTreeMap ℕ A → Type 0
+IsKeyedBelow n m = (k : ℕ) → IsSome (get nat_cmp m k) → k < n
+
+-- each device is in a slot, and each entry at an address
+pub record IsWithinPlaces (p : Inside) : Type 0 where
+  pub slots : IsKeyedBelow SLOTS p.devices
+  pub addresses : IsKeyedBelow ADDRESSES p.given
+
+-- the abstract bus
+abbrev pub state_of : Inside → State
+state_of p = record {
+  devices = places_of SLOTS device_of p.devices;
+  raised = no_raises;
+  active = p.active;
+  legacy = targets_of p.legacies;
+  given = places_of ADDRESSES entry_from p.given;
+  in_session = p.in_session;
+  listed = p.listed;
+  records = p.records.items;
+}
