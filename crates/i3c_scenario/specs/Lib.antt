@@ -1,0 +1,4 @@
+pub mod Words
+pub mod InHand
+pub mod Reading
+pub mod Slots

@@ -1,0 +1,19 @@
+-- The forms of words.
+use Rattle.std.specs.Prelude.{◌≡◌, ℕ, ◌<◌, ◌≤◌, ◌⊎◌, List, length, All}
+use Rattle.std.specs.Int.{IsInRange}
+
+-- `0` to `9` or `A` to `F`
+abbrev pub IsHexDigit : ℕ → Type 0
+IsHexDigit byte = IsInRange 48 57 byte ⊎ IsInRange 65 70 byte
+
+-- so many hex digits
+abbrev pub IsHex : ℕ → List ℕ → Type 0
+IsHex digits word = (length word ≡ digits) × All IsHexDigit word
+
+-- `a` to `z` or `0` to `9`
+abbrev pub IsNameLetter : ℕ → Type 0
+IsNameLetter byte = IsInRange 97 122 byte ⊎ IsInRange 48 57 byte
+
+-- at least one letter, and no more than so many
+abbrev pub IsName : ℕ → List ℕ → Type 0
+IsName most word = (0 < length word) × (length word ≤ most) × All IsNameLetter word

@@ -1,0 +1,83 @@
+use crate::names::Name;
+use crate::words;
+use i3c_base::{Addr7, Bcr, Dcr, Identity, Lvr, Setup};
+use std::str::Split;
+
+/// The last word of a device that doesn't take the controller role.
+const DECLINE: &str = "decline";
+
+/// What a line asks for.
+#[derive(Drop)]
+pub(crate) enum Command {
+    /// `legacy NAME ADDR LVR`: a legacy target stands at a static address.
+    Legacy {
+        name: Name,
+        address: Addr7,
+        lvr: Lvr,
+    },
+    /// `main NAME PID BCR DCR [decline]`: the bus starts, with its main controller in slot 0.
+    Main {
+        name: Name,
+        setup: Setup,
+    },
+    /// `attach NAME PID BCR DCR [decline]`: a device enters the lowest free slot.
+    Attach {
+        name: Name,
+        setup: Setup,
+    },
+    /// `daa`: a whole session of dynamic address assignment.
+    Daa,
+    /// `show`: the bus as it is.
+    Show,
+}
+
+impl Command {
+    /// The command of a line, if the line has a form. Its words are parted by exactly one space.
+    pub fn parse(line: &str) -> Option<Command> {
+        let mut words = line.split(' ');
+        let command = match words.next()? {
+            "legacy" => parse_legacy(&mut words)?,
+            "main" => {
+                let (name, setup) = parse_device(&mut words)?;
+                Command::Main { name, setup }
+            }
+            "attach" => {
+                let (name, setup) = parse_device(&mut words)?;
+                Command::Attach { name, setup }
+            }
+            "daa" => Command::Daa,
+            "show" => Command::Show,
+            _ => return None,
+        };
+        match words.next() {
+            Some(_) => None,
+            None => Some(command),
+        }
+    }
+}
+
+/// The words of a line, after those that were read.
+type Words<'a> = Split<'a, char>;
+
+/// The words of `legacy`.
+fn parse_legacy(words: &mut Words<'_>) -> Option<Command> {
+    let name = Name::parse(words.next()?)?;
+    let address = words::address(words.next()?)?;
+    let lvr = Lvr(words::byte(words.next()?)?);
+    Some(Command::Legacy { name, address, lvr })
+}
+
+/// The words of a device: its name and its identity, and `decline` if it doesn't take the controller role.
+fn parse_device(words: &mut Words<'_>) -> Option<(Name, Setup)> {
+    let name = Name::parse(words.next()?)?;
+    let pid = words::pid(words.next()?)?;
+    let bcr = Bcr(words::byte(words.next()?)?);
+    let dcr = Dcr(words::byte(words.next()?)?);
+    let identity = Identity { pid, bcr, dcr };
+    let willing = match words.next() {
+        None => true,
+        Some(DECLINE) => false,
+        Some(_) => return None,
+    };
+    Some((name, Setup { identity, willing }))
+}

@@ -1,0 +1,122 @@
+ghost use Rattle.std.specs.Prelude.{◌≡◌};
+ghost use Rattle.i3c_scenario.specs.declared.faults.Refusal.TheVariants.{SlotTaken as taken, ActiveStays as stays};
+ghost use Rattle.i3c_scenario.specs.declared.faults.Stop.TheVariants.{Refused, Memory, Write};
+
+use i3c_bus::{ActiveStays, SlotTaken};
+use i3c_legacy::LegacyFault;
+use std::alloc::AllocError;
+use std::io;
+use thiserror::Error;
+
+/// Why a script's run ended early. The lines before it were run, and what they print was written.
+#[derive(Clone, Copy, Debug, PartialEq, Eq, Drop, Error)]
+pub enum ScriptFault {
+    /// There was no memory for a line, which printed nothing.
+    #[error("out of memory")]
+    Memory,
+    /// The reader failed.
+    #[error("the script can't be read")]
+    Read,
+    /// The writer failed, or took nothing.
+    #[error("the output can't be written")]
+    Write,
+    /// The script is longer than a script may be.
+    #[error("the script is too large")]
+    TooLarge,
+}
+
+/// Why a line was refused. A refused line changes nothing, and is printed by this name.
+#[derive(Clone, Copy, Debug, PartialEq, Eq, Drop, Error)]
+pub(crate) enum Refusal {
+    /// The line has no form.
+    #[error("BadLine")]
+    BadLine,
+    /// There is no bus before `main`.
+    #[error("NoBus")]
+    NoBus,
+    /// There is a bus already.
+    #[error("BusMade")]
+    BusMade,
+    /// A present device or a legacy target has this name.
+    #[error("NameTaken")]
+    NameTaken,
+    #[error("LegacyAddress")]
+    LegacyAddress,
+    #[error("LegacyTwice")]
+    LegacyTwice,
+    #[error("TooManyLegacy")]
+    TooManyLegacy,
+    #[error("NotCapable")]
+    NotCapable,
+    #[error("SlotTaken")]
+    SlotTaken,
+    #[error("SessionOpen")]
+    SessionOpen,
+    #[error("ActiveStays")]
+    ActiveStays,
+    /// No address is left to give.
+    #[error("NoAddress")]
+    NoAddress,
+}
+
+impl From<LegacyFault> for Refusal {
+    fn from(fault: LegacyFault) -> Refusal {
+        match fault {
+            LegacyFault::LegacyAddress => Refusal::LegacyAddress,
+            LegacyFault::LegacyTwice => Refusal::LegacyTwice,
+            LegacyFault::TooManyLegacy => Refusal::TooManyLegacy,
+        }
+    }
+}
+
+impl From<SlotTaken> for Refusal {
+    ghost from_gives = { λ _ refusal. refusal ≡ taken };
+
+    fn from(_taken: SlotTaken) -> Refusal {
+        Refusal::SlotTaken
+    }
+}
+
+impl From<ActiveStays> for Refusal {
+    ghost from_gives = { λ _ refusal. refusal ≡ stays };
+
+    fn from(_stays: ActiveStays) -> Refusal {
+        Refusal::ActiveStays
+    }
+}
+
+/// Why a line did not come to its end.
+#[derive(Clone, Copy, Debug, PartialEq, Eq, Drop)]
+pub(crate) enum Stop {
+    /// It was refused, and the next line is run.
+    Refused(Refusal),
+    /// There was no memory for it, and the run ends.
+    Memory,
+    /// What it prints could not be written, and the run ends.
+    Write,
+}
+
+impl From<Refusal> for Stop {
+    ghost from_gives = { λ refusal stop. stop ≡ Refused refusal };
+
+    fn from(refusal: Refusal) -> Stop {
+        Stop::Refused(refusal)
+    }
+}
+
+impl From<AllocError> for Stop {
+    ghost from_gives = { λ _ stop. stop ≡ Memory };
+
+    fn from(_error: AllocError) -> Stop {
+        Stop::Memory
+    }
+}
+
+// The errors of IO that reach a line are those of its writes.
+impl From<io::Error> for Stop {
+    ghost from_gives = { λ _ stop. stop ≡ Write };
+
+    fn from(_error: io::Error) -> Stop {
+        Stop::Write
+    }
+}

@@ -1,0 +1,165 @@
+ghost use Rattle.std.specs.Prelude.{◌≡◌, ◌≢◌, ◌<◌, ◌≤◌, length, IfErr, IfSome, OnOk};
+ghost use Rattle.std.specs.Io.KnownBytes.{IsAtEnd};
+
+use crate::faults::{ScriptFault, Stop};
+use crate::line::Line;
+use crate::names::Names;
+use crate::stage::Stage;
+use std::alloc::Global;
+use std::io::{Read, Write};
+use std::mem;
+
+/// How many bytes a script may have.
+const SCRIPT_LENGTH: usize = 1 << 20;
+
+/// How many bytes are read at once.
+const CHUNK: usize = 8192;
+
+/// What ends a line.
+const LINE_FEED: u8 = b'\n';
+
+/// What is known of a script that was run to its end.
+#[derive(Clone, Copy, Debug, PartialEq, Eq)]
+pub struct Tally {
+    /// How many lines were refused.
+    pub refused: u64,
+}
+
+/// Runs a script: its lines in order, as they are read, each of which prints its own. After a refused line the next
+/// is run.
+///
+/// A script has at most 1,048,576 bytes. Where more come, or where the reader fails, each line whose line feed came
+/// before that is run. At the end an open session is ended, and the bus retired.
+pub fn run_script<R: Read, W: Write>(
+    alloc: Global,
+    reader: &mut R,
+    writer: &mut W,
+) -> Result<Tally, ScriptFault>
+    // an `Ok` comes after the whole of a script that isn't too large
+    ensures whole { OnOk result (IsAtEnd (R.remaining reader.new)) }
+    ensures fits { OnOk result (IfSome (R.remaining reader.old) (λ bytes. length bytes ≤ SCRIPT_LENGTH)) }
+    ensures large { result ≡ Err ScriptFault.TooLarge → IfSome (R.remaining reader.old) (λ bytes. SCRIPT_LENGTH < length bytes) }
+{
+    let Ok(mut chunk) = vec![in alloc; 0u8; CHUNK] else {
+        return Err(ScriptFault::Memory);
+    };
+    let mut script = Script::new(alloc);
+    let outcome = script.read_all(reader, &mut chunk, writer);
+    let refused = script.retire();
+    match outcome {
+        Ok(()) => Ok(Tally { refused }),
+        Err(fault) => Err(fault),
+    }
+}
+
+/// A script that runs: what its lines led to, and the line that is read.
+struct Script {
+    alloc: Global,
+    stage: Stage,
+    names: Names,
+    line: Line,
+    refused: u64,
+}
+
+impl Script {
+    /// A script of which nothing was read.
+    fn new(alloc: Global) -> Script {
+        Script {
+            alloc,
+            stage: Stage::new(),
+            names: Names::new(alloc),
+            line: Line::new(),
+            refused: 0,
+        }
+    }
+
+    /// Reads the script to its end, by chunks, and runs its lines.
+    fn read_all<R: Read, W: Write>(
+        &mut self,
+        reader: &mut R,
+        chunk: &mut [u8],
+        out: &mut W,
+    ) -> Result<(), ScriptFault>
+        requires { 0 < length chunk.old }
+        ensures whole { OnOk result (IsAtEnd (R.remaining reader.new)) }
+        ensures fits { OnOk result (IfSome (R.remaining reader.old) (λ bytes. length bytes ≤ SCRIPT_LENGTH)) }
+        ensures large { result ≡ Err ScriptFault.TooLarge → IfSome (R.remaining reader.old) (λ bytes. SCRIPT_LENGTH < length bytes) }
+    {
+        let mut left = SCRIPT_LENGTH;
+        for _ in 0..u64::MAX {
+            let Ok(count) = reader.read(chunk) else {
+                return Err(ScriptFault::Read);
+            };
+            if count == 0 {
+                // the last line may lack its line feed
+                return self.run_line(out);
+            }
+            let taken = count.min(left);
+            self.take(&chunk[..taken], out)?;
+            if count > left {
+                return Err(ScriptFault::TooLarge);
+            }
+            left -= taken;
+        }
+        unreachable!()
+    }
+
+    /// Takes bytes as they were read, and runs each line that they end.
+    fn take<W: Write>(&mut self, bytes: &[u8], out: &mut W) -> Result<(), ScriptFault>
+        ensures { IfErr result (λ fault. fault ≢ ScriptFault.TooLarge) }
+    {
+        for byte in bytes {
+            if *byte == LINE_FEED {
+                self.run_line(out)?;
+            } else {
+                self.line.push(*byte);
+            }
+        }
+        Ok(())
+    }
+
+    /// Runs the line that was read, and begins the next. A refusal is printed and counted.
+    fn run_line<W: Write>(&mut self, out: &mut W) -> Result<(), ScriptFault>
+        ensures { IfErr result (λ fault. fault ≢ ScriptFault.TooLarge) }
+    {
+        let line = mem::replace(&mut self.line, Line::new());
+        let Err(stop) = self.obey(&line, out) else {
+            return Ok(());
+        };
+        match stop {
+            Stop::Memory => Err(ScriptFault::Memory),
+            Stop::Write => Err(ScriptFault::Write),
+            Stop::Refused(refusal) => {
+                self.refused = self.refused.saturating_add(1);
+                match writeln!(out, "refused {refusal}") {
+                    Ok(()) => Ok(()),
+                    Err(_) => Err(ScriptFault::Write),
+                }
+            }
+        }
+    }
+
+    /// Runs the command of a line, if it has one.
+    fn obey<W: Write>(&mut self, line: &Line, out: &mut W) -> Result<(), Stop> {
+        let Some(command) = line.command()? else {
+            return Ok(());
+        };
+        let stage = mem::replace(&mut self.stage, Stage::new());
+        let (stage, outcome) = stage.run(self.alloc, &mut self.names, command, out);
+        mem::replace(&mut self.stage, stage).retire();
+        outcome
+    }
+
+    /// Takes the script apart, with its bus, and tells how many lines were refused.
+    fn retire(self) -> u64 {
+        let Script {
+            alloc: _,
+            stage,
+            names: _,
+            line: _,
+            refused,
+        } = self;
+        stage.retire();
+        refused
+    }
+}

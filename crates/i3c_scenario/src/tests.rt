@@ -1,0 +1,390 @@
+use crate::{ScriptFault, Tally, run_script};
+use std::alloc::Global;
+use std::io::{ErrorKind, Read, Write};
+use std::process::Abort;
+use std::test::Fail;
+use std::{io, str};
+
+/// How many bytes a script may have.
+const SCRIPT_LENGTH: usize = 1_048_576;
+
+/// The main controller that most scripts begin with.
+const HUB: &str = "main hub 020400000001 46 C0\n";
+
+/// What it prints.
+const HUB_LINE: &str = "hub slot 0 at 08\n";
+
+/// Runs a script over memory, and gives what it printed and how it ended.
+fn run(alloc: Global, script: &[u8]) -> (Vec<u8>, Result<Tally, ScriptFault>) {
+    let mut reader = script;
+    let mut printed = Vec::new(alloc);
+    let outcome = run_script(alloc, &mut reader, &mut printed);
+    (printed, outcome)
+}
+
+/// A script prints this, and so many of its lines are refused.
+fn prints(rt: &impl Abort, alloc: Global, script: &str, wanted: &str, refused: u64) {
+    let (printed, outcome) = run(alloc, script.as_bytes());
+    let printed = str::from_utf8(&printed).unwrap_or("no text");
+    assert_eq!(rt; printed, wanted, "by {script:?}");
+    assert_eq!(rt; outcome, Ok(Tally { refused }), "by {script:?}");
+}
+
+/// A script that follows the main controller's line prints this after its line.
+fn goes_on(
+    rt: &impl Abort,
+    alloc: Global,
+    script: &str,
+    wanted: &str,
+    refused: u64,
+) -> Result<(), Fail> {
+    let script = format!(in alloc; "{HUB}{script}")?;
+    let wanted = format!(in alloc; "{HUB_LINE}{wanted}")?;
+    prints(rt, alloc, script.as_str(), wanted.as_str(), refused);
+    Ok(())
+}
+
+#[test]
+fn devices_get_addresses(rt: HostRuntime) -> Result<(), Fail> {
+    let alloc = rt.alloc();
+    let cases = [
+        ("daa\n", "done\n"),
+        (
+            "attach t 020400000010 06 44\ndaa\nshow\n",
+            "t slot 1\nassigned 09 020400000010 06 44\ndone\n\
+             active 08\nhub 08 waiting 0\nt 09 waiting 0\nrecords 0\n",
+        ),
+        // identities that differ in their last bit: the lesser is first, whichever came first
+        (
+            "attach v 020400000010 06 45\nattach t 020400000010 06 44\nshow\ndaa\nshow\n",
+            "v slot 1\nt slot 2\n\
+             active 08\nhub 08 waiting 0\nv -- waiting 0\nt -- waiting 0\nrecords 0\n\
+             assigned 09 020400000010 06 44\nassigned 0A 020400000010 06 45\ndone\n\
+             active 08\nhub 08 waiting 0\nv 0A waiting 0\nt 09 waiting 0\nrecords 0\n",
+        ),
+        // devices of one identity take one address together
+        (
+            "attach t 020400000010 06 44\nattach u 020400000010 06 44\ndaa\nshow\n",
+            "t slot 1\nu slot 2\nassigned 09 020400000010 06 44\ndone\n\
+             active 08\nhub 08 waiting 0\nt 09 waiting 0\nu 09 waiting 0\nrecords 0\n",
+        ),
+        // a second session assigns only whom the first did not, and keeps an identity's address
+        (
+            "attach t FFFFFFFFFFFF FF 44 decline\ndaa\nattach u 000000000000 00 00\ndaa\n\
+             attach w FFFFFFFFFFFF FF 44\ndaa\n",
+            "t slot 1\nassigned 09 FFFFFFFFFFFF FF 44\ndone\nu slot 2\n\
+             assigned 0A 000000000000 00 00\ndone\nw slot 3\n\
+             assigned 09 FFFFFFFFFFFF FF 44\ndone\n",
+        ),
+    ];
+    for (script, wanted) in cases {
+        goes_on(&rt, alloc, script, wanted, 0)?;
+    }
+    Ok(())
+}
+
+#[test]
+fn legacy_targets_keep_their_addresses(rt: HostRuntime) {
+    let alloc = rt.alloc();
+    let script = "legacy eep 09 20\nlegacy clock 77 40\nlegacy adc 10 00\n\
+        main hub 020400000001 46 C0 decline\nattach t 020400000010 06 44\ndaa\nshow\n";
+    let wanted = "eep legacy at 09\nclock legacy at 77\nadc legacy at 10\n\
+        hub slot 0 at 08\nt slot 1\nassigned 0A 020400000010 06 44\ndone\n\
+        active 08\nhub 08 waiting 0\nt 0A waiting 0\n\
+        eep 09 legacy\nadc 10 legacy\nclock 77 legacy\nrecords 0\n";
+    prints(&rt, alloc, script, wanted, 0);
+    let script = "legacy eep 08 20\nmain hub 020400000001 46 C0\n";
+    prints(
+        &rt,
+        alloc,
+        script,
+        "eep legacy at 08\nhub slot 0 at 09\n",
+        0,
+    );
+}
+
+// A main device that is refused leaves no name, and the legacy targets stand with theirs.
+#[test]
+fn the_main_device_must_be_capable(rt: HostRuntime) {
+    let script = "legacy eep 09 20\nmain p 020400000030 00 44\nmain eep 020400000001 46 C0\nshow\n\
+        legacy eep 0A 20\nmain p 020400000001 46 C0\nshow\n";
+    let wanted = "eep legacy at 09\nrefused NotCapable\nrefused NameTaken\nrefused NoBus\n\
+        refused NameTaken\np slot 0 at 08\n\
+        active 08\np 08 waiting 0\neep 09 legacy\nrecords 0\n";
+    prints(&rt, rt.alloc(), script, wanted, 4);
+}
+
+#[test]
+fn refusals_come_in_order(rt: HostRuntime) -> Result<(), Fail> {
+    let alloc = rt.alloc();
+    let script = "daa\nshow\nattach t 020400000010 06 44\n\
+        legacy eep 07 20\nlegacy eep 78 20\nlegacy eep 08 20\nlegacy rom 08 20\n\
+        legacy eep 07 20\nmain eep 020400000030 00 44\n";
+    let wanted = "refused NoBus\nrefused NoBus\nrefused NoBus\n\
+        refused LegacyAddress\nrefused LegacyAddress\neep legacy at 08\nrefused LegacyTwice\n\
+        refused NameTaken\nrefused NameTaken\n";
+    prints(&rt, alloc, script, wanted, 8);
+    let script = "main hub 020400000001 46 C0\nmain p 020400000030 00 44\nlegacy hub 07 20\n\
+        attach hub 020400000010 06 44\ndaa\n";
+    let wanted = "refused BusMade\nrefused BusMade\nrefused BusMade\nrefused NameTaken\ndone\n";
+    goes_on(&rt, alloc, script, wanted, 4)
+}
+
+// There are 16 slots and 16 legacy targets, and a name that is taken is told first.
+#[test]
+fn places_are_limited(rt: HostRuntime) -> Result<(), Fail> {
+    let alloc = rt.alloc();
+    let mut script = String::new(alloc);
+    let mut wanted = String::new(alloc);
+    for number in 0..16 {
+        writeln!(script, "legacy l{number} {:02X} 00", number + 16)?;
+        writeln!(wanted, "l{number} legacy at {:02X}", number + 16)?;
+    }
+    writeln!(script, "legacy l16 20 00")?;
+    writeln!(wanted, "refused TooManyLegacy")?;
+    script.push_str(HUB)?;
+    wanted.push_str(HUB_LINE)?;
+    for number in 1..16 {
+        writeln!(script, "attach d{number} 0204000000{number:02X} 00 00")?;
+        writeln!(wanted, "d{number} slot {number}")?;
+    }
+    script.push_str("attach d16 020400000010 00 00\nattach l3 020400000010 00 00\ndaa\n")?;
+    wanted.push_str("refused SlotTaken\nrefused NameTaken\n")?;
+    // the addresses from 09 on, but those of the legacy targets, 10 to 1F
+    for number in 1..16 {
+        let address = if number < 8 { number + 8 } else { number + 24 };
+        writeln!(
+            wanted,
+            "assigned {address:02X} 0204000000{number:02X} 00 00"
+        )?;
+    }
+    wanted.push_str("done\n")?;
+    prints(&rt, alloc, script.as_str(), wanted.as_str(), 3);
+    Ok(())
+}
+
+#[test]
+fn lines_without_a_form(rt: HostRuntime) -> Result<(), Fail> {
+    let lines = [
+        // words
+        "attach",
+        "attach t",
+        "dab",
+        "DAA",
+        "daa daa",
+        "show t",
+        "main",
+        "legacy eep 09",
+        "legacy eep 09 20 00",
+        "attach t 020400000010 06",
+        "attach t 020400000010 06 44 44",
+        "attach t 020400000010 06 44 declined",
+        "attach t 020400000010 06 44 decline decline",
+        // spaces
+        " ",
+        " daa",
+        "daa ",
+        "attach  t 020400000010 06 44",
+        "attach t 020400000010 06 44 ",
+        "attach\tt 020400000010 06 44",
+        "attach t\t020400000010 06 44",
+        "daa\r",
+        "attach t 020400000010 06 44\r",
+        " # no comment",
+        // numbers
+        "attach t 02040000001a 06 44",
+        "attach t 020400000010 0a 44",
+        "attach t 020400000010 06 4",
+        "attach t 020400000010 006 44",
+        "attach t 02040000001 06 44",
+        "attach t 0204000000100 06 44",
+        "attach t 02040000001G 06 44",
+        "attach t 02040000001: 06 44",
+        "attach t 02040000001@ 06 44",
+        "attach t +20400000010 06 44",
+        "attach t 020400000010 06 4/",
+        "attach t 0x0400000010 06 44",
+        // addresses
+        "legacy eep 80 20",
+        "legacy eep FF 20",
+        "legacy eep 9 20",
+        "legacy eep 009 20",
+        "legacy eep 09 2g",
+        // names
+        "attach T 020400000010 06 44",
+        "attach t_u 020400000010 06 44",
+        "attach  020400000010 06 44",
+        "attach abcdefghijklmnopq 020400000010 06 44",
+        "attach é 020400000010 06 44",
+        "attach t` 020400000010 06 44",
+        "attach t{ 020400000010 06 44",
+        "attach t: 020400000010 06 44",
+        "daa\0",
+        "é",
+    ];
+    for line in lines {
+        let script = format!(in rt.alloc(); "{line}\ndaa\n")?;
+        goes_on(
+            &rt,
+            rt.alloc(),
+            script.as_str(),
+            "refused BadLine\ndone\n",
+            1,
+        )?;
+    }
+    Ok(())
+}
+
+// Its form comes first: a line without one is told so before there is a bus, and after.
+#[test]
+fn skipped_lines(rt: HostRuntime) {
+    let alloc = rt.alloc();
+    let script =
+        "\n# é\t\r\0\n#\n\n\nattach t\nmain abcdefghijklm012 020400000001 46 C0\n#daa\ndaa";
+    let wanted = "refused BadLine\nabcdefghijklm012 slot 0 at 08\ndone\n";
+    prints(&rt, alloc, script, wanted, 1);
+    prints(&rt, alloc, "", "", 0);
+    let (printed, outcome) = run(alloc, b"#\xFF\x80\ndaa\xFF\n\xC0");
+    assert_eq!(rt;
+        printed.as_slice(),
+        b"refused BadLine\nrefused BadLine\n".as_slice()
+    );
+    assert_eq!(rt; outcome, Ok(Tally { refused: 2 }));
+}
+
+// A line has at most 256 bytes, a comment too.
+#[test]
+fn long_lines(rt: HostRuntime) -> Result<(), Fail> {
+    for (first, length, wanted) in [
+        ('#', 256, ""),
+        ('#', 257, "refused BadLine\n"),
+        ('#', 10_000, "refused BadLine\n"),
+        ('d', 256, "refused BadLine\n"),
+        ('d', 257, "refused BadLine\n"),
+    ] {
+        let mut script = String::new(rt.alloc());
+        script.push(first)?;
+        for _ in 1..length {
+            script.push('a')?;
+        }
+        let (printed, _) = run(rt.alloc(), script.as_bytes());
+        assert_eq!(rt; printed.as_slice(), wanted.as_bytes(), "{first} {length}");
+        script.push_str("\ndaa\n")?;
+        let (printed, _) = run(rt.alloc(), script.as_bytes());
+        let wanted = format!(in rt.alloc(); "{wanted}refused NoBus\n")?;
+        assert_eq!(rt; printed.as_slice(), wanted.as_bytes(), "{first} {length}");
+    }
+    Ok(())
+}
+
+/// A script of so many bytes: comments, and at last a line of four bytes.
+fn long_script(alloc: Global, length: usize) -> Result<Vec<u8>, Fail> {
+    let mut script = Vec::new(alloc);
+    for _ in 0..length {
+        if script.len() + 4 >= length {
+            break;
+        }
+        script.extend_from_slice(b"#\n")?;
+    }
+    script.extend_from_slice(b"daa\n")?;
+    Ok(script)
+}
+
+// The line that ends with the last byte that a script may have is run, and one that ends later isn't.
+#[test]
+fn large_scripts(rt: HostRuntime) -> Result<(), Fail> {
+    let mut script = long_script(rt.alloc(), SCRIPT_LENGTH)?;
+    assert_eq!(rt; script.len(), SCRIPT_LENGTH);
+    let (printed, outcome) = run(rt.alloc(), &script);
+    assert_eq!(rt; printed.as_slice(), b"refused NoBus\n".as_slice());
+    assert_eq!(rt; outcome, Ok(Tally { refused: 1 }));
+    script.push(b'#')?;
+    let (printed, outcome) = run(rt.alloc(), &script);
+    assert_eq!(rt; printed.as_slice(), b"refused NoBus\n".as_slice());
+    assert_eq!(rt; outcome, Err(ScriptFault::TooLarge));
+    script.remove(0);
+    script.extend_from_slice(b"daa\n")?;
+    let (printed, outcome) = run(rt.alloc(), &script);
+    assert_eq!(rt; printed.as_slice(), b"refused NoBus\n".as_slice());
+    assert_eq!(rt; outcome, Err(ScriptFault::TooLarge));
+    Ok(())
+}
+
+/// A reader of these bytes, a few at a time, that fails where they end.
+#[derive(Drop)]
+struct FailingReader<'a> {
+    rest: &'a [u8],
+    kind: ErrorKind,
+}
+
+impl Read for FailingReader<'_> {
+    fn read(&mut self, buf: &mut [u8]) -> io::Result<usize> {
+        if self.rest.is_empty() {
+            return Err(io::Error::from(self.kind));
+        }
+        let count = self.rest.len().min(buf.len()).min(5);
+        buf[..count].copy_from_slice(&self.rest[..count]);
+        self.rest = &self.rest[count..];
+        Ok(count)
+    }
+}
+
+// The lines before a failure are run, and the one that it cuts isn't. An interrupted read is a failure too.
+#[test]
+fn a_reader_fails(rt: HostRuntime) {
+    for kind in [ErrorKind::Other, ErrorKind::Interrupted] {
+        let mut reader = FailingReader {
+            rest: b"main hub 020400000001 46 C0\ndaa\ndaa",
+            kind,
+        };
+        let mut printed = Vec::new(rt.alloc());
+        let outcome = run_script(rt.alloc(), &mut reader, &mut printed);
+        assert_eq!(rt; printed.as_slice(), b"hub slot 0 at 08\ndone\n".as_slice());
+        assert_eq!(rt; outcome, Err(ScriptFault::Read));
+    }
+}
+
+/// A writer that takes so many bytes, and then fails or takes nothing.
+#[derive(Drop)]
+struct FullWriter {
+    printed: Vec<u8>,
+    room: usize,
+    fails: bool,
+}
+
+impl Write for FullWriter {
+    fn write(&mut self, buf: &[u8]) -> io::Result<usize> {
+        if self.room == 0 && self.fails {
+            return Err(io::Error::from(ErrorKind::Other));
+        }
+        let count = self.room.min(buf.len());
+        self.printed.extend_from_slice(&buf[..count])?;
+        self.room -= count;
+        Ok(count)
+    }
+
+    fn flush(&mut self) -> io::Result<()> {
+        Ok(())
+    }
+}
+
+#[test]
+fn a_writer_fails(rt: HostRuntime) -> Result<(), Fail> {
+    let script =
+        b"main hub 020400000001 46 C0\nattach t 020400000010 06 44\nattach t 0\ndaa\nshow\n";
+    let whole = run(rt.alloc(), script).0;
+    for room in 0..whole.len() {
+        for fails in [false, true] {
+            let mut reader = script.as_slice();
+            let mut writer = FullWriter {
+                printed: Vec::new(rt.alloc()),
+                room,
+                fails,
+            };
+            let outcome = run_script(rt.alloc(), &mut reader, &mut writer);
+            assert_eq!(rt; outcome, Err(ScriptFault::Write), "with room for {room}");
+            assert_eq!(rt; writer.printed.as_slice(), &whole[..room]);
+        }
+    }
+    Ok(())
+}

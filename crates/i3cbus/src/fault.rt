@@ -1,0 +1,46 @@
+use i3c_scenario::ScriptFault;
+use std::alloc::AllocError;
+use thiserror::Error;
+
+/// Why the program gives up, as standard error is told.
+#[derive(Debug, Drop, Error)]
+pub(crate) enum Fault {
+    /// The words of the command line mean nothing, or ask for help: the parser's own text, line feeds and all.
+    #[error("{0}")]
+    Usage(clap::Error),
+    #[error("i3cbus: cannot read\n")]
+    Read,
+    #[error("i3cbus: write failed\n")]
+    Write,
+    #[error("i3cbus: too large\n")]
+    TooLarge,
+    #[error("i3cbus: memory\n")]
+    Memory,
+}
+
+impl From<ScriptFault> for Fault {
+    fn from(fault: ScriptFault) -> Fault {
+        match fault {
+            ScriptFault::Memory => Fault::Memory,
+            ScriptFault::Read => Fault::Read,
+            ScriptFault::Write => Fault::Write,
+            ScriptFault::TooLarge => Fault::TooLarge,
+        }
+    }
+}
+
+impl From<AllocError> for Fault {
+    fn from(_error: AllocError) -> Fault {
+        Fault::Memory
+    }
+}
+
+// The parser's want of memory isn't told in its words.
+impl From<clap::Error> for Fault {
+    fn from(error: clap::Error) -> Fault {
+        match error.kind() {
+            clap::error::ErrorKind::OutOfMemory => Fault::Memory,
+            _ => Fault::Usage(error),
+        }
+    }
+}

@@ -1,0 +1,16 @@
+//! `i3cbus run FILE` runs a script over an I3C bus, and prints what came of its lines.
+//!
+//! It ends with 0, with 1 if a line was refused, or with 2 and a line on standard error if the script wasn't run to
+//! its end.
+#![tactic(auto)]
+
+mod fault;
+mod run;
+mod status;
+mod words;
+
+use std::process::ExitCode;
+
+fn main(rt: HostRuntime) -> ExitCode {
+    ExitCode::from(run::run(&rt))
+}

@@ -1,0 +1,61 @@
+use crate::fault::Fault;
+use crate::status::{FAULT, status_of};
+use crate::words::{STANDARD_INPUT, file_named};
+use i3c_scenario::{Tally, run_script};
+use std::io::{BufWriter, ErrorKind, Read, Write};
+use std::rt::{Env, Files};
+use std::{env, fs, io};
+
+/// Runs the program, tells standard error why it gave up, if it did, and gives its exit status.
+pub(crate) fn run<R: Env + Files + Input + Print + Eprint + AllocGlobal>(rt: &R) -> u8 {
+    match run_named(rt) {
+        Ok(tally) => status_of(tally),
+        Err(fault) => {
+            let _ = rt.eprint(&fault);
+            FAULT
+        }
+    }
+}
+
+/// Runs the script that the command line names. Its words are judged before its file is opened.
+fn run_named<R: Env + Files + Input + Print + AllocGlobal>(rt: &R) -> Result<Tally, Fault> {
+    let words = words_given(rt)?;
+    let file = file_named(rt.alloc(), &words)?;
+    if file == STANDARD_INPUT {
+        return run_from(rt, &mut rt.reader());
+    }
+    match fs::open(rt, file) {
+        Ok(mut script) => run_from(rt, &mut script),
+        Err(error) => Err(reading_fault(&error)),
+    }
+}
+
+/// The words of the command line, without the program's name.
+fn words_given<R: Env + AllocGlobal>(rt: &R) -> Result<Vec<String>, Fault> {
+    match env::args(rt) {
+        Ok(words) => Ok(words.skip(1).collect(rt.alloc())?),
+        Err(error) => Err(reading_fault(&error)),
+    }
+}
+
+/// What failed where something couldn't be read: memory, or the reading itself.
+fn reading_fault(error: &io::Error) -> Fault {
+    match error.kind() {
+        ErrorKind::OutOfMemory => Fault::Memory,
+        _ => Fault::Read,
+    }
+}
+
+/// Runs the script of a reader. What it printed is written out on a fault too, and the first fault is told.
+fn run_from<R: Print + AllocGlobal, S: Read>(rt: &R, script: &mut S) -> Result<Tally, Fault> {
+    let Ok(mut printed) = BufWriter::new(rt.alloc(), io::writer(rt)) else {
+        return Err(Fault::Memory);
+    };
+    let outcome = run_script(rt.alloc(), script, &mut printed);
+    let flushed = printed.flush();
+    let tally = outcome?;
+    match flushed {
+        Ok(()) => Ok(tally),
+        Err(_) => Err(Fault::Write),
+    }
+}

@@ -1,0 +1,43 @@
+ghost use Rattle.std.specs.Prelude.{◌≡◌, length, codes, IsOkAnd};
+
+use crate::fault::Fault;
+use clap::{Arg, Command};
+use std::alloc::Global;
+
+/// The program's name.
+const PROGRAM: &str = "i3cbus";
+
+/// The file that stands for standard input.
+pub(crate) const STANDARD_INPUT: &str = "-";
+
+/// The command that runs a script.
+const RUN: &str = "run";
+
+/// Its argument.
+const FILE: &str = "FILE";
+
+/// The file that the command line's words name, which come without the program's. No words at all mean `run -`.
+pub(crate) fn file_named<'a>(alloc: Global, words: &'a [String]) -> Result<&'a str, Fault>
+    ensures none { length words.now ≡ 0 → IsOkAnd result (λ file. file.now ≡ codes "-") }
+{
+    if words.is_empty() {
+        return Ok(STANDARD_INPUT);
+    }
+    let file = Arg::new(alloc, FILE)
+        .required(true)
+        .help("The script, or - for standard input");
+    let run = Command::new(alloc, RUN).about("Runs a script").arg(file)?;
+    let command = Command::new(alloc, PROGRAM)
+        .bin_name(PROGRAM)?
+        .about("Runs scripts over an I3C bus")
+        .no_binary_name(true)
+        .subcommand_required(true)
+        .subcommand(run)?;
+    let matches = command.try_get_matches_from(words)?;
+    // the parser requires both the command and its argument
+    let file = match matches.subcommand_matches(RUN) {
+        Some(run) => run.get_str(FILE),
+        None => None,
+    };
+    Ok(file.unwrap_or(STANDARD_INPUT))
+}
