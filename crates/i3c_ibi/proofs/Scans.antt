@@ -5,7 +5,7 @@ use Rattle.std.proofs.lemmas.Nat.Bits.{bit_at-lt, bit_at_and}
 use Rattle.std.proofs.lemmas.Option.{none-some, same_Some}
 use Rattle.std.specs.Int.{bit_at}
 use Rattle.std.specs.Int.Bits.{bit_and}
-use Rattle.std.proofs.Common.{◌≡◌, ℕ, ◌+◌, ◌<◌, ◌≤◌, Bool, true, false, not, ◌&&◌, ◌==◌, List, [], ◌∷◌, ◌++◌, length, length-append, get_or, Option, Some, None, MatchOption, ◌⊎◌, inl, inr, sym, refl, ap, ◌∙◌, subst, arith}
+use Rattle.std.proofs.Common.{◌≡◌, ℕ, ◌+◌, ◌<◌, ◌≤◌, Bool, true, false, not, ◌&&◌, ◌==◌, List, [], ◌∷◌, ◌++◌, length, length-append, get_or, Option, Some, None, MatchOption, inl, inr, sym, refl, ap, ◌∙◌, subst, arith}
 use Rattle.i3c_base.specs.declared.requests.Request.{Request}
 use Rattle.i3c_base.specs.State.{Device, State, device_at}
 use Rattle.i3c_base.specs.Serve.{drives, rank}
@@ -26,31 +26,31 @@ driven_none active devices = record { driven = All-nil _; lawful = All-nil IsLaw
 pub driven_skip : (active : ℕ) (devices : List (Option Device)) (n : ℕ) (place : Option Device) (requests : List Request) → AreDriven active devices n requests → n < length devices → place ≡ get_or devices n place
     → ((q : Request) → drives_at active n place q ≡ false) → AreDriven active devices (n + 1) requests
 driven_skip active devices n place requests h low at none =
-  let there : get_or devices n None ≡ place = get_or_default devices n None place low ∙ sym at in record {
-    driven = h.driven;
-    lawful = h.lawful;
-    among = λ s q l d. elim (cases_eq s n) [
-      | inl e ↦ absurd (both_ways _ (none q) (ap (λ o. drives_at active n o q) (sym there) ∙ subst (λ k. drives_at active k (get_or devices k None) q ≡ true) e d))
-      | inr ne ↦ h.among s q (omega arith) d
-    ];
-    few = omega (arith, h.few);
-  }
+    let there : get_or devices n None ≡ place = get_or_default devices n None place low ∙ sym at in record {
+      driven = h.driven;
+      lawful = h.lawful;
+      among = λ s q l d. elim (cases_eq s n) [
+        | inl e ↦ absurd (both_ways _ (none q) (ap (λ o. drives_at active n o q) (sym there) ∙ subst (λ k. drives_at active k (get_or devices k None) q ≡ true) e d))
+        | inr ne ↦ h.among s q (omega arith) d
+      ];
+      few = omega (arith, h.few);
+    }
 
 -- one slot more, which drives r
 pub driven_more : (active : ℕ) (devices : List (Option Device)) (n : ℕ) (place : Option Device) (requests more : List Request) (r : Request) → AreDriven active devices n requests → n < length devices → place ≡ get_or devices n place
     → drives_at active n place r ≡ true → ((q : Request) → drives_at active n place q ≡ true → q ≡ r) → IsLawful r → more ≡ requests ++ r ∷ [] → AreDriven active devices (n + 1) more
 driven_more active devices n place requests more r h low at d alone lawful e =
-  let there : get_or devices n None ≡ place = get_or_default devices n None place low ∙ sym at in record {
-    driven = subst (All (λ q. (s : ℕ) × (drives_at active s (get_or devices s None) q ≡ true))) (sym e)
-      (All-append (λ q. (s : ℕ) × (drives_at active s (get_or devices s None) q ≡ true)) requests (r ∷ []) h.driven
-        (All-cons (λ q. (s : ℕ) × (drives_at active s (get_or devices s None) q ≡ true)) r [] (n, ap (λ o. drives_at active n o r) there ∙ d) (All-nil (λ q. (s : ℕ) × (drives_at active s (get_or devices s None) q ≡ true)))));
-    lawful = subst (All IsLawful) (sym e) (All-append IsLawful requests (r ∷ []) h.lawful (All-cons IsLawful r [] lawful (All-nil IsLawful)));
-    among = λ s q l dq. subst (λ rs. Contains rs q) (sym e) (elim (cases_eq s n) [
-      | inl same ↦ subst (λ x. Contains (requests ++ r ∷ []) x) (sym (alone q (ap (λ o. drives_at active n o q) (sym there) ∙ subst (λ k. drives_at active k (get_or devices k None) q ≡ true) same dq))) (Contains-push requests r)
-      | inr ne ↦ Contains-append_left requests (r ∷ []) q (h.among s q (omega arith) dq)
-    ]);
-    few = let l = ap length e in omega (arith, l, length-append requests (r ∷ []), h.few);
-  }
+    let there : get_or devices n None ≡ place = get_or_default devices n None place low ∙ sym at in record {
+      driven = subst (All (λ q. (s : ℕ) × (drives_at active s (get_or devices s None) q ≡ true))) (sym e)
+          (All-append (λ q. (s : ℕ) × (drives_at active s (get_or devices s None) q ≡ true)) requests (r ∷ []) h.driven
+          (All-cons (λ q. (s : ℕ) × (drives_at active s (get_or devices s None) q ≡ true)) r [] (n, ap (λ o. drives_at active n o r) there ∙ d) (All-nil (λ q. (s : ℕ) × (drives_at active s (get_or devices s None) q ≡ true)))));
+      lawful = subst (All IsLawful) (sym e) (All-append IsLawful requests (r ∷ []) h.lawful (All-cons IsLawful r [] lawful (All-nil IsLawful)));
+      among = λ s q l dq. subst (λ rs. Contains rs q) (sym e) (elim (cases_eq s n) [
+        | inl same ↦ subst (λ x. Contains (requests ++ r ∷ []) x) (sym (alone q (ap (λ o. drives_at active n o q) (sym there) ∙ subst (λ k. drives_at active k (get_or devices k None) q ≡ true) same dq))) (Contains-push requests r)
+        | inr ne ↦ Contains-append_left requests (r ∷ []) q (h.among s q (omega arith) dq)
+      ]);
+      few = let l = ap length e in omega (arith, l, length-append requests (r ∷ []), h.few);
+    }
 
 -- past the last slot nobody drives
 drives_none : (s active : ℕ) (o : Option Device) (q : Request) → o ≡ None → drives_at active s o q ≡ true → ⊥
@@ -79,8 +79,8 @@ pub first_seen : (st : State) (devices : List (Option Device)) (active : ℕ) (r
     → AreDriven active devices (length devices) requests → now ≡ requests → MatchOption first (now ≡ []) (IsFirstIn now) → IsFirstOf st first
 first_seen st devices active requests now first d a h n m =
     first_of st requests first
-      (subst (λ ds. AreDriven st.active ds (length ds) requests) (sym d) (subst (λ k. AreDriven k devices (length devices) requests) (sym a) h))
-      (subst (λ rs. MatchOption first (rs ≡ []) (IsFirstIn rs)) n m)
+    (subst (λ ds. AreDriven st.active ds (length ds) requests) (sym d) (subst (λ k. AreDriven k devices (length devices) requests) (sym a) h))
+    (subst (λ rs. MatchOption first (rs ≡ []) (IsFirstIn rs)) n m)
 
 -- what a scan sees of a slot
 pub seen : (st : State) (devices : List (Option Device)) (active s : ℕ) (place : Option Device) (q : Request) → st.devices ≡ devices → st.active ≡ active

@@ -7,7 +7,7 @@ use Rattle.i3c_base.specs.declared.requests.Request.{Request}
 use Rattle.i3c_base.specs.declared.requests.Request.TheVariants.{Interrupt, Join, Role}
 use Rattle.i3c_header.specs.Keys.{IsLawful}
 use Rattle.i3c_base.specs.State.{Device, State, in_slot}
-use Rattle.i3c_base.specs.Serve.{IsFirst, IsFront, IsLowestDriver, IsRead, NoneAsks, asks, drives, rank, without_front, without_join, without_role}
+use Rattle.i3c_base.specs.Serve.{IsFirst, IsFront, IsLowestDriver, IsRead, NoneAsks, asks, without_front, without_join, without_role}
 
 -- the first request of a bus, if there is one
 abbrev pub IsFirstOf : State → Option Request → Type 0

@@ -1,5 +1,4 @@
 -- Policies: a verdict for each kind of request.
-use Rattle.std.specs.Prelude.{◌≡◌}
 use Rattle.i3c_base.specs.declared.requests.Fixed.{Fixed}
 use Rattle.i3c_base.specs.declared.requests.Request.{Request}
 use Rattle.i3c_base.specs.declared.requests.Request.TheVariants.{Join, Role, Interrupt}

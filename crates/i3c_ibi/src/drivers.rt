@@ -2,10 +2,9 @@ ghost use Rattle.std.specs.Prelude.{◌≡◌};
 ghost use Rattle.i3c_base.specs.Places.{changed};
 ghost use Rattle.i3c_ibi.specs.Driving.{answered, drives_at};
 
+use crate::firsts::driven;
 use i3c_base::{Request, Slot};
 use i3c_device::Device;
-
-use crate::firsts::driven;
 
 /// Whether what stands in this slot drives this request.
 pub(crate) fn drives(place: &Option<Device>, index: usize, active: Slot, request: &Request) -> bool

@@ -4,10 +4,9 @@ ghost use Rattle.i3c_base.specs.declared.requests.Request.{Request as RequestVal
 ghost use Rattle.i3c_base.specs.State.{State};
 ghost use Rattle.i3c_ibi.specs.Driving.{IsFrontOf, IsLowest, IsReading, Together, UndrivenBelow, byte_beside, drives_at};
 
+use crate::drivers::drives;
 use i3c_base::{Addr7, Record, Request, Slot, Waiting};
 use i3c_device::Device;
-
-use crate::drivers::drives;
 
 /// The front of what stands in this slot, if it drives an interrupt at this address.
 fn front_driven(place: &Option<Device>, index: usize, active: Slot, at: Addr7) -> Option<Waiting>

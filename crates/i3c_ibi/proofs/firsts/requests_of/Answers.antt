@@ -1,7 +1,7 @@
 -- One slot more.
-use Rattle.std.proofs.Common.{arith, subst, sym, ◌≡◌, length}
+use Rattle.std.proofs.Common.{arith, subst, ◌≡◌, length}
 use Rattle.i3c_ibi.specs.Driving.{AreDriven}
-use Rattle.i3c_ibi.proofs.Scans.{driven_more, driven_none, driven_skip}
+use Rattle.i3c_ibi.proofs.Scans.{driven_more, driven_skip}
 use Rattle.i3c_ibi.proofs.firsts.requests_of.Goals as goal
 use Rattle.i3c_ibi.proofs.firsts.requests_of.Goals.{in-Some, in_default}
 
@@ -13,7 +13,7 @@ loop-index-preserved c =
     elim c.match-driven.branch [
       | in-Some w ↦ rw w.requests-is
           (driven_more c.args.active c.args.devices.now c.loop-index.index c.index-devices-index.result c.loop-index.requests.items w.push.new.self.items w.in-Some.request
-            c.loop-index.invariant c.loop-index-test.true c.index-devices-index.is w.in-Some.ensures.asked w.in-Some.ensures.alone w.in-Some.ensures.lawful w.push.ensures.items)
+          c.loop-index.invariant c.loop-index-test.true c.index-devices-index.is w.in-Some.ensures.asked w.in-Some.ensures.alone w.in-Some.ensures.lawful w.push.ensures.items)
       | in_default w ↦ rw w.requests-is
           (driven_skip c.args.active c.args.devices.now c.loop-index.index c.index-devices-index.result c.loop-index.requests.items c.loop-index.invariant c.loop-index-test.true c.index-devices-index.is w.in_default.ensures.asked)
     ]
