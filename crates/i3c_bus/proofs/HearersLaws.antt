@@ -1,24 +1,27 @@
 -- The contenders of a round: each is a hearer with its number, and each hearer is among them.
-use Rattle.std.proofs.Common.{◌≡◌, ℕ, ◌+◌, ◌<◌, ◌≤◌, ◌^◌, inl, inr, true, false, List, [], ◌∷◌, ◌++◌, length, Option, None, Some, refl, ap, sym, subst, ◌∙◌, arith, get_or, cond, map, ◌==◌}
+use Rattle.std.proofs.Common.{◌≡◌, ℕ, ◌+◌, ◌<◌, ◌≤◌, ◌^◌, inl, inr, true, false, List, [], ◌∷◌, ◌++◌, length, Option, None, Some, refl, ap, sym, subst, ◌∙◌, arith, get_or, cond, map, ◌==◌, take, suc}
 use Rattle.std.specs.List.{All, AllByRecursion, Contains, filter}
 use Rattle.std.proofs.lemmas.List.Elements.{All-append, All-nil, All-cons, All-contains, All-get_or, All-from_recursion, recursion_from_All, Contains-append_left, Contains-push}
 use Rattle.std.proofs.lemmas.Bool.{cases_eq, cases_lt, eqb-true}
-use Rattle.std.proofs.lemmas.List.{get_or_past, get_or_default}
+use Rattle.std.proofs.lemmas.List.{get_or_past, get_or_default, append-nil, append_assoc, length-take-le, take_more}
+use Rattle.std.proofs.Math.Nat.{add-zero, zero-add}
 use Rattle.std.proofs.lemmas.Option.{none-some, same_Some}
 use Rattle.i3c_base.specs.State.{Device}
 use Rattle.i3c_base.specs.Numbers.{IsInRange, number_of}
 use Rattle.i3c_base.proofs.NumberLaws.{below_number}
 use Rattle.i3c_wires.specs.Contest.{holders}
-use Rattle.i3c_bus.specs.Hearers.{contender, IsContenderKey, IsLeastHearing, NobodyHears}
+use Rattle.i3c_bus.specs.Hearers.{contender, contenders_from, IsContenderKey, IsLeastHearing, NobodyHears}
 
 -- the contenders among the first slots
 pub record ContendersSoFar (devices : List (Option Device)) (upto : ℕ) (keys : List (ℕ × ℕ)) : Type 0 where
+  pub exact : keys ≡ contenders_from 0 (take upto devices)
   pub short : length keys ≤ upto
   pub sound : All (IsContenderKey devices) keys
   pub complete : (s : ℕ) (d : Device) → s < upto → get_or devices s None ≡ Some d → d.hearing ≡ true → Contains keys (s, number_of d.identity)
 
 pub contenders_none : (devices : List (Option Device)) → ContendersSoFar devices 0 []
-contenders_none devices = record { short = omega arith; sound = All-nil (IsContenderKey devices); complete = λ s d l. absurd (omega (arith, l)) }
+unfolding contenders_from
+contenders_none devices = record { exact = refl; short = omega arith; sound = All-nil (IsContenderKey devices); complete = λ s d l. absurd (omega (arith, l)) }
 
 -- the contender of one place
 new_sound : (devices : List (Option Device)) (s : ℕ) (place : Option Device) → get_or devices s None ≡ place
@@ -36,10 +39,30 @@ entered devices s keys d there hearing =
     let is : contender s (get_or devices s None) ≡ (s, number_of d.identity) ∷ [] = ap (contender s) there ∙ ap (λ b. cond b ((s, number_of d.identity) ∷ []) []) hearing in
     subst (λ ks. Contains (keys ++ ks) (s, number_of d.identity)) (sym is) (Contains-push keys (s, number_of d.identity))
 
+-- the contenders of one place more
+from_push : (places : List (Option Device)) (place : Option Device) (slot : ℕ) → contenders_from slot (places ++ place ∷ []) ≡ contenders_from slot places ++ contender (slot + length places) place
+unfolding contenders_from
+from_push [] place slot = append-nil (contender slot place) ∙ ap (λ k. contender k place) (sym (add-zero slot))
+from_push (p ∷ places) place slot =
+    ap (λ ks. contender slot p ++ ks) (from_push places place (suc slot) ∙ ap (λ k. contenders_from (suc slot) places ++ contender k place) (omega arith))
+    ∙ sym (append_assoc (contender slot p) (contenders_from (suc slot) places) (contender (slot + suc (length places)) place))
+
+exact_more : (devices : List (Option Device)) (upto : ℕ) (place : Option Device) (keys now : List (ℕ × ℕ)) → upto < length devices → get_or devices upto None ≡ place
+    → keys ≡ contenders_from 0 (take upto devices) → now ≡ keys ++ contender upto place → now ≡ contenders_from 0 (take (upto + 1) devices)
+exact_more devices upto place keys now l at e is =
+    let n : 0 + length (take upto devices) ≡ upto = zero-add (length (take upto devices)) ∙ length-take-le upto devices (omega (arith, l)) in
+    is ∙ ap (λ ks. ks ++ contender upto place) e
+    ∙ sym (
+    ap (contenders_from 0) (take_more devices upto None l ∙ ap (λ p. take upto devices ++ p ∷ []) at)
+    ∙ from_push (take upto devices) place 0
+    ∙ ap (λ k. contenders_from 0 (take upto devices) ++ contender k place) n
+    )
+
 -- one place more
-pub contenders_more : (devices : List (Option Device)) (upto : ℕ) (place : Option Device) (keys now : List (ℕ × ℕ)) → ContendersSoFar devices upto keys → get_or devices upto None ≡ place
+pub contenders_more : (devices : List (Option Device)) (upto : ℕ) (place : Option Device) (keys now : List (ℕ × ℕ)) → upto < length devices → ContendersSoFar devices upto keys → get_or devices upto None ≡ place
     → now ≡ keys ++ contender upto place → length now ≤ upto + 1 → ((d : Device) → place ≡ Some d → d.hearing ≡ true → IsInRange d.identity) → ContendersSoFar devices (upto + 1) now
-contenders_more devices upto place keys now h at is l r = record {
+contenders_more devices upto place keys now inside h at is l r = record {
+  exact = exact_more devices upto place keys now inside at h.exact is;
   short = l;
   sound = subst (All (IsContenderKey devices)) (sym is) (All-append (IsContenderKey devices) keys (contender upto place) h.sound (new_sound devices upto place at r));
   complete = λ s d b there hearing. subst (λ ks. Contains ks (s, number_of d.identity)) (sym (is ∙ ap (λ p. keys ++ contender upto p) (sym at))) (elim (cases_eq s upto) [

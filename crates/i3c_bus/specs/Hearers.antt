@@ -1,13 +1,23 @@
 -- Who contends in a round, and with which number.
-use Rattle.std.specs.Prelude.{ℕ, ◌≡◌, true, List, [], ◌∷◌, Option, None, Some, if◌then◌else◌, slice_index_or}
+use Rattle.std.specs.Prelude.{ℕ, suc, ◌≡◌, true, List, [], ◌∷◌, ◌++◌, Option, None, Some, if◌then◌else◌, slice_index_or}
 use Rattle.i3c_base.specs.State.{Device}
 use Rattle.i3c_base.specs.declared.identity.Identity.{Identity}
 use Rattle.i3c_base.specs.Numbers.{IsBelow, IsInRange, number_of}
+use Rattle.i3c_wires.specs.Contest.{EachBit}
 
 -- the contender of a slot, if its device hears
 abbrev pub contender : ℕ → Option Device → List (ℕ × ℕ)
 contender slot None = []
 contender slot (Some d) = if d.hearing then (slot, number_of d.identity) ∷ [] else []
+
+-- those who hear among the places from this slot on, each with its number
+unfoldable pub contenders_from : ℕ → List (Option Device) → List (ℕ × ℕ)
+contenders_from slot [] = []
+contenders_from slot (place ∷ places) = contender slot place ++ contenders_from (suc slot) places
+
+-- the 64 bits that are read where all who hear drive their numbers at once
+abbrev pub IsContested : List (Option Device) → ℕ → Type 0
+IsContested devices bits = EachBit (contenders_from 0 devices) 64 bits
 
 -- the device in the key's slot hears, and the key is its number
 pub record IsContenderKey (devices : List (Option Device)) (key : ℕ × ℕ) : Type 0 where

@@ -7,3 +7,4 @@ pub mod Readings
 pub mod Laws
 pub mod Idle
 pub mod Winning
+pub mod Wire

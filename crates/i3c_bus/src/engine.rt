@@ -6,10 +6,12 @@ ghost use Rattle.i3c_bus.specs.Winning.{won};
 
 use crate::device::Device;
 use crate::events::Event;
-use crate::hearers::winning_identity;
+use crate::hearers::{has_target, who_wins};
 use crate::replies::{ActiveStays, Refusal, Reply, SlotTaken, StartFault};
 use crate::tokens::{Hand, Role, Session};
+use crate::wire::{tell_assigned, tell_done, tell_open};
 use i3c_base::{Addr7, Cuts, Identity, Record, RoundReply, SLOTS, Served, Setup, Slot};
+use i3c_frame::{Symbol, Tap};
 use i3c_legacy::{LEGACIES, Legacies};
 use i3c_picker::pick;
 use i3c_table::{Row, Table};
@@ -89,6 +91,7 @@ impl Bus {
     ghost use Rattle.i3c_bus.specs.declared.events.Event.{Event};
     ghost use Rattle.i3c_bus.specs.declared.tokens.Hand.{Hand};
     ghost use Rattle.i3c_bus.specs.declared.replies.Reply.{Reply};
+    ghost use Rattle.i3c_bus.specs.Wire.{IsWire, Tells};
 
     /// A bus with its main controller, in slot 0 at the least pickable address, beside these legacy targets.
     /// It answers `NotCapable` where the main device's BCR isn't a controller's.
@@ -208,18 +211,21 @@ impl Bus {
 
     /// Opens a session (ENTDAA, I3C Basic 5.1.4.2): each device without an address hears it. Requests are turned down.
     /// Until drop-offs inside a frame come, nothing may be cut.
-    pub fn open_daa(
+    pub fn open_daa<T: Tap>(
         &mut self,
         role: Role,
+        tap: &mut T,
         cuts: &Cuts,
     ) -> Result<(Session, Served), (Role, ActiveStays)>
         requires fits { HandFits (Hand.Role role) self.old.state }
         requires uncut { IsUncut cuts.now }
         ensures step { Step self.old.state (Event.OpenDaa cuts.now) (opened_reply result) self.new.state }
+        ensures told { Tells T.note_gives tap.old tap.new (IsWire self.old.state (opened_reply result)) }
         ensures fits { IfOk result (λ opened. HandFits (Hand.Session opened.0) self.new.state) }
         ensures kept { IfErr result (λ refused. (refused.0 ≡ role) × HandFits (Hand.Role refused.0) self.new.state) }
         ensures room { self.new.room ≡ self.old.room }
     {
+        tell_open(tap, has_target(&self.devices, self.active));
         hear_all(&mut self.devices);
         self.in_session = true;
         let Role { holder } = role;
@@ -227,10 +233,11 @@ impl Bus {
     }
 
     /// One round of the open session.
-    pub(crate) fn round(&mut self, cuts: &Cuts) -> RoundReply
+    pub(crate) fn round<T: Tap>(&mut self, tap: &mut T, cuts: &Cuts) -> RoundReply
         requires open { self.old.state.in_session ≡ true }
         requires uncut { IsUncut cuts.now }
         ensures step { Step self.old.state (Event.Round cuts.now) (Reply.Round result) self.new.state }
+        ensures told { Tells T.note_gives tap.old tap.new (IsWire self.old.state (Reply.Round result)) }
         ensures active { self.new.state.active ≡ self.old.state.active }
         ensures open { self.new.state.in_session ≡ true }
         ensures room { self.new.room ≡ self.old.room }
@@ -238,13 +245,16 @@ impl Bus {
         let Some(free) = pick(&self.table) else {
             return RoundReply::NoAddress;
         };
-        let Some(identity) = winning_identity(&self.devices, cuts) else {
+        let Some(won) = who_wins(&self.devices, cuts) else {
+            tell_done(tap);
             return RoundReply::Done;
         };
+        let identity = won.identity;
         let address = match self.table.address_known(&identity) {
             Some(known) => known,
             None => free,
         };
+        tell_assigned(tap, won.bits, address);
         give_all(&mut self.devices, address, &identity);
         self.table.put(Row {
             address,
@@ -256,23 +266,26 @@ impl Bus {
     }
 
     /// The session ends.
-    pub(crate) fn end(&mut self)
+    pub(crate) fn end<T: Tap>(&mut self, tap: &mut T)
         requires { self.old.state.in_session ≡ true }
         ensures step { Step self.old.state Event.EndDaa Reply.Ended self.new.state }
+        ensures told { Tells T.note_gives tap.old tap.new (IsWire self.old.state Reply.Ended) }
         ensures active { self.new.state.active ≡ self.old.state.active }
         ensures ended { self.new.state.in_session ≡ false }
         ensures room { self.new.room ≡ self.old.room }
     {
+        tap.note(Symbol::Stop);
         silence_all(&mut self.devices);
         self.in_session = false;
     }
 
     /// Carries out one event, or refuses it: a frame other than a round or an end while a session is open is
     /// `SessionOpen`, a round or end without one `NoSession`. Until drop-offs inside a frame come, nothing may be cut.
-    pub fn step(&mut self, hand: Hand, event: &Event) -> (Hand, Reply)
+    pub fn step<T: Tap>(&mut self, hand: Hand, event: &Event, tap: &mut T) -> (Hand, Reply)
         requires fits { HandFits hand self.old.state }
         requires uncut { IsUncutEvent event.now }
         ensures step { Step self.old.state event.now result.1 self.new.state }
+        ensures told { Tells T.note_gives tap.old tap.new (IsWire self.old.state result.1) }
         ensures fits { HandFits result.0 self.new.state }
         ensures room { self.new.room ≡ self.old.room }
     {
@@ -282,7 +295,7 @@ impl Bus {
                 Err(SlotTaken) => (hand, Reply::Refused(Refusal::SlotTaken)),
             },
             Event::OpenDaa(cuts) => match hand {
-                Hand::Role(role) => self.step_open(role, cuts),
+                Hand::Role(role) => self.step_open(role, tap, cuts),
                 Hand::Session(session) => (
                     Hand::Session(session),
                     Reply::Refused(Refusal::SessionOpen),
@@ -291,26 +304,27 @@ impl Bus {
             Event::Round(cuts) => match hand {
                 Hand::Role(role) => (Hand::Role(role), Reply::Refused(Refusal::NoSession)),
                 Hand::Session(session) => {
-                    let answer = self.round(cuts);
+                    let answer = self.round(tap, cuts);
                     (Hand::Session(session), Reply::Round(answer))
                 }
             },
             Event::EndDaa => match hand {
                 Hand::Role(role) => (Hand::Role(role), Reply::Refused(Refusal::NoSession)),
-                Hand::Session(session) => (Hand::Role(session.end(self)), Reply::Ended),
+                Hand::Session(session) => (Hand::Role(session.end(self, tap)), Reply::Ended),
             },
         }
     }
 
     /// Opens a session, as an event.
-    fn step_open(&mut self, role: Role, cuts: &Cuts) -> (Hand, Reply)
+    fn step_open<T: Tap>(&mut self, role: Role, tap: &mut T, cuts: &Cuts) -> (Hand, Reply)
         requires fits { HandFits (Hand.Role role) self.old.state }
         requires uncut { IsUncut cuts.now }
         ensures step { Step self.old.state (Event.OpenDaa cuts.now) result.1 self.new.state }
+        ensures told { Tells T.note_gives tap.old tap.new (IsWire self.old.state result.1) }
         ensures fits { HandFits result.0 self.new.state }
         ensures room { self.new.room ≡ self.old.room }
     {
-        match self.open_daa(role, cuts) {
+        match self.open_daa(role, tap, cuts) {
             Ok((session, served)) => (Hand::Session(session), Reply::Opened(served)),
             Err((role, ActiveStays)) => (Hand::Role(role), Reply::Refused(Refusal::ActiveStays)),
         }

@@ -12,6 +12,7 @@ mod laws;
 mod replies;
 mod runs;
 mod tokens;
+mod wire;
 
 pub use engine::{Bus, Records};
 pub use events::Event;

@@ -11,6 +11,7 @@ use crate::events::Event;
 use crate::replies::{Reply, RunFault};
 use crate::tokens::Hand;
 use i3c_base::Setup;
+use i3c_frame::Silent;
 use i3c_legacy::Legacies;
 use std::alloc::Global;
 
@@ -42,7 +43,7 @@ pub fn run_events(
     let mut hand = Hand::Role(role);
     let mut replies = Vec::new(alloc);
     for event in events {
-        let (next, reply) = bus.step(hand, event);
+        let (next, reply) = bus.step(hand, event, &mut Silent);
         hand = next;
         let Ok(()) = replies.push(reply) else {
             let _records = bus.retire(hand);

@@ -1,11 +1,16 @@
-ghost use Rattle.std.specs.Prelude.{◌<◌, ◌^◌};
+ghost use Rattle.std.specs.Prelude.{◌≡◌, ◌<◌, ◌^◌, ◌⊎◌, [], ◌∷◌, ◌++◌};
+ghost use Rattle.std.specs.List.{All};
+ghost use Rattle.i3c_bus.specs.Hands.{HandFits};
 ghost use Rattle.i3c_bus.specs.Step.{IsUncutEvent};
 
 use crate::{
     Bus, Event, Hand, Outcome, Refusal, Reply, RunFault, SlotTaken, StartFault, run_events,
 };
 use i3c_base::{Addr7, Bcr, Cuts, Dcr, Identity, Pid, RoundReply, Served, Setup, Slot};
+use i3c_frame::{Silent, Symbol, Tap};
 use i3c_legacy::Legacies;
+use i3c_word::Word;
+use std::alloc::Global;
 use std::mem::size_of;
 use std::test::Fail;
 
@@ -130,11 +135,11 @@ fn typed_calls(rt: HostRuntime) -> Result<(), Fail> {
     };
     let attached = bus.attach(slot(1), thermometer());
     let taken = bus.attach(slot(1), thermometer());
-    match bus.open_daa(role, &Cuts::new()) {
+    match bus.open_daa(role, &mut Silent, &Cuts::new()) {
         Ok((session, served)) => {
-            let answer = session.round(&mut bus, &Cuts::new());
+            let answer = session.round(&mut bus, &mut Silent, &Cuts::new());
             let holder = session.holder();
-            let role = session.end(&mut bus);
+            let role = session.end(&mut bus, &mut Silent);
             assert_eq!(rt; role.holder(), holder);
             let _records = bus.retire(Hand::Role(role));
             assert_eq!(rt; attached, Ok(()));
@@ -254,4 +259,97 @@ fn one_identity(rt: HostRuntime) -> Result<(), Fail> {
     );
     assert!(rt; both == (Some(address(0x09)), Some(address(0x09))));
     Ok(())
+}
+
+/// A tap that keeps what it is told.
+struct Told {
+    symbols: Vec<Symbol>,
+}
+
+impl Tap for Told {
+    ghost note_gives = { λ old symbol new. (new.symbols.items ≡ old.symbols.items ++ symbol ∷ []) ⊎ (new.symbols.items ≡ old.symbols.items) };
+
+    fn note(&mut self, symbol: Symbol) {
+        let _ = self.symbols.push(symbol);
+    }
+}
+
+/// A header of the broadcast address.
+fn broadcast(read: bool, ack: bool) -> Symbol {
+    let address = address(0x7E);
+    Symbol::Header { address, read, ack }
+}
+
+/// Runs events on a bus, and gives the symbols that its tap was told.
+fn wire_of(alloc: Global, events: &[Event]) -> Vec<Symbol>
+    requires { All IsUncutEvent events.now }
+{
+    let mut told = Told {
+        symbols: Vec::new(alloc),
+    };
+    if let Ok((mut bus, role)) = Bus::new(alloc, hub(), Legacies::new()) {
+        let mut hand = Hand::Role(role);
+        for event in events {
+            let (next, _) = bus.step(hand, event, &mut told);
+            hand = next;
+        }
+        let _records = bus.retire(hand);
+    }
+    let Told { symbols } = told;
+    symbols
+}
+
+/// The code of ENTDAA, with odd parity.
+const ENTDAA: Symbol = Symbol::Word(Word {
+    byte: 0x07,
+    t: false,
+});
+
+// What a tap is told of an assignment, and that nothing that is refused or local puts a symbol on the wire.
+#[test]
+fn wire_of_an_assignment(rt: HostRuntime) {
+    let events = [
+        attach(1, thermometer()),
+        attach(1, other()),
+        round(),
+        open(),
+        open(),
+        round(),
+        round(),
+        Event::EndDaa,
+        Event::EndDaa,
+    ];
+    let expected = [
+        Symbol::Start,
+        broadcast(false, true),
+        ENTDAA,
+        Symbol::Repeated,
+        broadcast(true, true),
+        Symbol::Identity(0x0204_0000_0010_0644),
+        Symbol::AddressByte {
+            byte: 0x13,
+            ack: true,
+        },
+        Symbol::Repeated,
+        broadcast(true, false),
+        Symbol::Stop,
+    ];
+    let wire = wire_of(rt.alloc(), &events);
+    assert!(rt; wire.as_slice() == expected.as_slice());
+}
+
+// Nobody acknowledges where the main controller is alone.
+#[test]
+fn wire_of_a_lone_controller(rt: HostRuntime) {
+    let events = [open(), round(), Event::EndDaa];
+    let expected = [
+        Symbol::Start,
+        broadcast(false, false),
+        ENTDAA,
+        Symbol::Repeated,
+        broadcast(true, false),
+        Symbol::Stop,
+    ];
+    let wire = wire_of(rt.alloc(), &events);
+    assert!(rt; wire.as_slice() == expected.as_slice());
 }

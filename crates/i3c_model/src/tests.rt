@@ -1,8 +1,13 @@
+ghost use Rattle.std.specs.Prelude.{IfOk};
+ghost use Rattle.std.specs.List.{All};
+ghost use Rattle.i3c_bus.specs.Step.{IsUncutEvent};
+
 use crate::{Choice, Plain, PlainFault};
 use i3c_base::{Addr7, Bcr, Cuts, Dcr, Identity, Lvr, Pid, RoundReply, Served, Setup, Slot};
-use i3c_bus::{Event, Refusal, Reply};
+use i3c_bus::{Event, Outcome, Refusal, Reply, run_events};
 use i3c_legacy::Legacies;
 use std::alloc::Global;
+use std::process::Abort;
 use std::test::Fail;
 
 // The identity of these bits: 48 of a PID, 8 of a BCR and 8 of a DCR.
@@ -139,6 +144,83 @@ fn starts(rt: HostRuntime) -> Result<(), Fail> {
     match Plain::new(rt.alloc(), thermometer, Legacies::new()) {
         Ok(_plain) => assert!(rt; false, "it can't be a controller"),
         Err(fault) => assert_eq!(rt; fault, PlainFault::NotCapable),
+    }
+    Ok(())
+}
+
+// No legacy targets, or one at this address.
+fn beside(legacy: Option<u8>) -> Result<Legacies, Fail> {
+    let mut legacies = Legacies::new();
+    if let Some(address) = legacy {
+        legacies.add(Addr7::new(address)?, Lvr(0x20))?;
+    }
+    Ok(legacies)
+}
+
+fn attached(slot: u8, bits: u64) -> Result<Event, Fail>
+    ensures { IfOk result IsUncutEvent }
+{
+    Ok(Event::Attach(Slot::new(slot)?, setup(bits)?))
+}
+
+fn opening() -> Event
+    ensures { IsUncutEvent result }
+{
+    Event::OpenDaa(Cuts::new())
+}
+
+fn a_round() -> Event
+    ensures { IsUncutEvent result }
+{
+    Event::Round(Cuts::new())
+}
+
+// The bus and the plain machine answer each of these events alike, beside the same legacy target.
+fn answer_alike(
+    rt: &impl Abort,
+    alloc: Global,
+    legacy: Option<u8>,
+    events: &[Event],
+) -> Result<(), Fail>
+    requires { All IsUncutEvent events.now }
+{
+    let main = setup(0x0204_0000_0001_46C0)?;
+    let Outcome { bus, hand, replies } = run_events(alloc, main, beside(legacy)?, events)?;
+    let _records = bus.retire(hand);
+    let mut plain = Plain::new(alloc, main, beside(legacy)?)?;
+    assert_eq!(rt; replies.len(), events.len());
+    for (event, reply) in events.iter().zip(replies.as_slice()) {
+        assert_eq!(rt; plain.step(event, Choice::Heard)?, *reply);
+    }
+    Ok(())
+}
+
+// Assignments, refusals, equal identities, a kept address, and a full session, beside legacy targets and without.
+#[test]
+fn the_bus_and_the_plain_machine_answer_alike(rt: HostRuntime) -> Result<(), Fail> {
+    let events = [
+        a_round(),
+        attached(0, 0x0204_0000_0010_0644)?,
+        attached(1, 0x0204_0000_0010_0645)?,
+        attached(2, 0x0204_0000_0010_0644)?,
+        attached(3, 0x0204_0000_0010_0644)?,
+        opening(),
+        opening(),
+        a_round(),
+        attached(4, 0x0000_0000_0000_0000)?,
+        a_round(),
+        a_round(),
+        Event::EndDaa,
+        Event::EndDaa,
+        attached(5, 0x0204_0000_0010_0645)?,
+        opening(),
+        a_round(),
+        a_round(),
+        a_round(),
+        Event::EndDaa,
+    ];
+    for legacy in [None, Some(0x08), Some(0x09), Some(0x50)] {
+        answer_alike(&rt, rt.alloc(), legacy, &events)?;
     }
     Ok(())
 }

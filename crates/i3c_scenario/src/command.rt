@@ -29,6 +29,8 @@ pub(crate) enum Command {
     Daa,
     /// `show`: the bus as it is.
     Show,
+    /// `symbols`: the last symbols of the wire.
+    Symbols,
 }
 
 impl Command {
@@ -47,6 +49,7 @@ impl Command {
             }
             "daa" => Command::Daa,
             "show" => Command::Show,
+            "symbols" => Command::Symbols,
             _ => return None,
         };
         match words.next() {

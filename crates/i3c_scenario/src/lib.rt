@@ -12,6 +12,7 @@ mod running;
 mod script;
 mod show;
 mod stage;
+mod wires;
 mod words;
 
 pub use faults::ScriptFault;

@@ -9,14 +9,16 @@ use crate::command::Command;
 use crate::faults::{Refusal, Stop};
 use crate::names::{Name, Names, Place};
 use crate::show::show;
+use crate::wires::Wires;
 use i3c_base::{Cuts, RoundReply, SLOTS, Setup, Slot};
 use i3c_bus::{ActiveStays, Bus, Hand, Role, Session};
 use std::io::Write;
 
-/// A bus, and its role or session.
+/// A bus, its role or session, and the last symbols of its wire.
 pub(crate) struct Running {
     pub bus: Bus,
     pub hand: Hand,
+    pub wires: Wires,
     ghost holder: { holder_of hand ≡ bus.state.active },
     ghost session: { is_session hand ≡ bus.state.in_session },
 }
@@ -29,22 +31,31 @@ impl Running {
         command: Command,
         out: &mut W,
     ) -> (Running, Result<(), Stop>) {
-        let Running { mut bus, hand } = self;
+        let Running {
+            mut bus,
+            hand,
+            mut wires,
+        } = self;
         let (hand, outcome) = match command {
             Command::Legacy { .. } | Command::Main { .. } => (hand, Err(Refusal::BusMade.into())),
             Command::Attach { name, setup } => {
                 let outcome = attach(&mut bus, names, name, setup, out);
                 (hand, outcome)
             }
-            Command::Daa => daa(&mut bus, hand, out),
+            Command::Daa => daa(&mut bus, hand, &mut wires, out),
             Command::Show => (hand, show(&bus, names, out).map_err(Stop::from)),
+            Command::Symbols => (hand, wires.show(out).map_err(Stop::from)),
         };
-        (Running { bus, hand }, outcome)
+        (Running { bus, hand, wires }, outcome)
     }
 
     /// Takes the bus apart. A session that is open ends so.
     pub fn retire(self) {
-        let Running { bus, hand } = self;
+        let Running {
+            bus,
+            hand,
+            wires: _,
+        } = self;
         let _records = bus.retire(hand);
     }
 }
@@ -98,41 +109,59 @@ fn attach<W: Write>(
 }
 
 /// `daa`: opens a session, runs its rounds and ends it.
-fn daa<W: Write>(bus: &mut Bus, hand: Hand, out: &mut W) -> (Hand, Result<(), Stop>)
+fn daa<W: Write>(
+    bus: &mut Bus,
+    hand: Hand,
+    wires: &mut Wires,
+    out: &mut W,
+) -> (Hand, Result<(), Stop>)
     requires { HandFits hand bus.old.state }
     ensures { HandFits result.0 bus.new.state }
 {
     match hand {
         Hand::Session(session) => (Hand::Session(session), Err(Refusal::SessionOpen.into())),
         Hand::Role(role) => {
-            let (role, outcome) = assign_all(bus, role, out);
+            let (role, outcome) = assign_all(bus, role, wires, out);
             (Hand::Role(role), outcome)
         }
     }
 }
 
 /// A whole session. What its opening served is `quiet` as long as nobody asks, and isn't printed.
-fn assign_all<W: Write>(bus: &mut Bus, role: Role, out: &mut W) -> (Role, Result<(), Stop>)
+fn assign_all<W: Write>(
+    bus: &mut Bus,
+    role: Role,
+    wires: &mut Wires,
+    out: &mut W,
+) -> (Role, Result<(), Stop>)
     requires { HandFits (Hand.Role role) bus.old.state }
     ensures { HandFits (Hand.Role result.0) bus.new.state }
 {
-    match bus.open_daa(role, &Cuts::new()) {
+    match bus.open_daa(role, wires, &Cuts::new()) {
         Ok((session, _served)) => {
-            let outcome = rounds(bus, &session, out);
-            (session.end(bus), outcome)
+            let outcome = rounds(bus, &session, wires, out);
+            (session.end(bus, wires), outcome)
         }
         Err((role, ActiveStays)) => (role, Err(Refusal::ActiveStays.into())),
     }
 }
 
 /// Runs the rounds of a session, and prints each, until nobody hears it any more or no address is left.
-fn rounds<W: Write>(bus: &mut Bus, session: &Session, out: &mut W) -> Result<(), Stop>
+fn rounds<W: Write>(
+    bus: &mut Bus,
+    session: &Session,
+    wires: &mut Wires,
+    out: &mut W,
+) -> Result<(), Stop>
     requires { HandFits (Hand.Session session.now) bus.old.state }
     ensures { HandFits (Hand.Session session.now) bus.new.state }
 {
     // every other round takes a hearer away, so `done` comes after `SLOTS` of them at most
     for _ in 0..u64::MAX {
-        match session.round(bus, &Cuts::new()).map_err(Refusal::from)? {
+        match session
+            .round(bus, wires, &Cuts::new())
+            .map_err(Refusal::from)?
+        {
             RoundReply::Assigned(address, identity) => {
                 let (pid, bcr, dcr) = (identity.pid.get(), identity.bcr.0, identity.dcr.0);
                 writeln!(

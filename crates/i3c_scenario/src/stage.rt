@@ -6,6 +6,7 @@ use crate::faults::{Refusal, Stop};
 use crate::names::{Name, Names, Place};
 use crate::running::Running;
 use crate::show::ShownAddress;
+use crate::wires::Wires;
 use i3c_base::{Addr7, Bcr, Lvr, Setup, Slot};
 use i3c_bus::{Bus, Hand};
 use i3c_legacy::Legacies;
@@ -67,7 +68,7 @@ fn before<W: Write>(
             (Stage::Before(declared), outcome)
         }
         Command::Main { name, setup } => start(alloc, legacies, names, name, setup, out),
-        Command::Attach { .. } | Command::Daa | Command::Show => {
+        Command::Attach { .. } | Command::Daa | Command::Show | Command::Symbols => {
             (Stage::Before(legacies), Err(Refusal::NoBus.into()))
         }
     }
@@ -118,6 +119,9 @@ fn start<W: Write>(
     if let Err(stop) = admit(names, name, setup.identity.bcr) {
         return (Stage::Before(legacies), Err(stop));
     }
+    let Ok(wires) = Wires::new(alloc) else {
+        return (Stage::Before(legacies), Err(Stop::Memory));
+    };
     let Ok((bus, role)) = Bus::new(alloc, setup, legacies) else {
         unreachable!();
     };
@@ -125,5 +129,5 @@ fn start<W: Write>(
     let address = ShownAddress(bus.address(slot));
     let outcome = writeln!(out, "{name} slot {} at {address}", slot.index()).map_err(Stop::from);
     let hand = Hand::Role(role);
-    (Stage::Running(Running { bus, hand }), outcome)
+    (Stage::Running(Running { bus, hand, wires }), outcome)
 }

@@ -83,6 +83,56 @@ fn devices_get_addresses(rt: HostRuntime) -> Result<(), Fail> {
     Ok(())
 }
 
+// The last symbols of the wire, on one line.
+#[test]
+fn symbols_of_the_wire(rt: HostRuntime) -> Result<(), Fail> {
+    let alloc = rt.alloc();
+    let cases = [
+        ("symbols\n", "\n"),
+        // a bus that the main controller has to itself
+        ("daa\nsymbols\n", "done\nS 7E/W- 07.0 Sr 7E/R- P\n"),
+        (
+            "attach t 020400000010 06 44\ndaa\nsymbols\n",
+            "t slot 1\nassigned 09 020400000010 06 44\ndone\n\
+             S 7E/W+ 07.0 Sr 7E/R+ =0204000000100644 @13+ Sr 7E/R- P\n",
+        ),
+        // the second frame follows the first, whose device hears no more but acknowledges the broadcast
+        (
+            "attach t 020400000010 06 44\ndaa\ndaa\nsymbols\n",
+            "t slot 1\nassigned 09 020400000010 06 44\ndone\ndone\n\
+             S 7E/W+ 07.0 Sr 7E/R+ =0204000000100644 @13+ Sr 7E/R- P S 7E/W+ 07.0 Sr 7E/R- P\n",
+        ),
+    ];
+    for (script, wanted) in cases {
+        goes_on(&rt, alloc, script, wanted, 0)?;
+    }
+    // a legacy target acknowledges no broadcast, and there is no wire before the bus
+    let legacy = "symbols\nlegacy eep 50 20\nmain hub 020400000001 46 C0\ndaa\nsymbols\n";
+    let wanted =
+        "refused NoBus\neep legacy at 50\nhub slot 0 at 08\ndone\nS 7E/W- 07.0 Sr 7E/R- P\n";
+    prints(&rt, alloc, legacy, wanted, 1);
+    Ok(())
+}
+
+// The wire of a session that nobody hears is six symbols; of 43 of them the last 256 are kept.
+#[test]
+fn the_last_symbols_are_kept(rt: HostRuntime) -> Result<(), Fail> {
+    let alloc = rt.alloc();
+    let mut script = String::new(alloc);
+    let mut wanted = String::new(alloc);
+    for _ in 0..43 {
+        script.push_str("daa\n")?;
+        wanted.push_str("done\n")?;
+    }
+    script.push_str("symbols\n")?;
+    wanted.push_str("07.0 Sr 7E/R- P")?;
+    for _ in 0..42 {
+        wanted.push_str(" S 7E/W- 07.0 Sr 7E/R- P")?;
+    }
+    wanted.push_str("\n")?;
+    goes_on(&rt, alloc, script.as_str(), wanted.as_str(), 0)
+}
+
 #[test]
 fn legacy_targets_keep_their_addresses(rt: HostRuntime) {
     let alloc = rt.alloc();

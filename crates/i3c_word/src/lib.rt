@@ -7,7 +7,7 @@ ghost use Rattle.i3c_word.specs.Parity.{HasOddParity, IsAddressByte};
 use i3c_base::Addr7;
 use thiserror::Error;
 
-/// A written word: eight bits, and the T bit that follows them (I3C Basic 5.1.2.3.1).
+/// A written word: eight bits, and the T bit that follows them (I3C Basic 5.1.2.3).
 #[derive(Clone, Copy, Debug, PartialEq, Eq, Default)]
 pub struct Word {
     pub byte: u8,
@@ -19,7 +19,7 @@ pub struct Word {
 #[error("wrong parity")]
 pub struct Parity;
 
-/// The word that is written for a byte: its T bit makes the number of ones odd (I3C Basic 5.1.2.3.2).
+/// The word that is written for a byte: its T bit makes the number of ones odd (I3C Basic 5.1.2.3).
 pub fn write_word(byte: u8) -> Word
     ensures byte { result.byte ≡ byte }
     ensures odd { HasOddParity result }
@@ -43,7 +43,7 @@ pub fn read_word(word: Word) -> Result<u8, Parity>
 }
 
 /// The T bit after a word that is read from a target: 1 where more follow, 0 where the data ends
-/// (I3C Basic 5.1.2.3.4).
+/// (I3C Basic 5.1.2.3).
 pub fn end_bit(more: bool) -> bool
     ensures { result ≡ more }
 {

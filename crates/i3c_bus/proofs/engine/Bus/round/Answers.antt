@@ -5,27 +5,27 @@ use Rattle.i3c_bus.proofs.engine.Bus.round.Goals as goal
 use Rattle.i3c_bus.proofs.engine.Bus.round.Goals.{in-Some-address_known, in-None}
 
 pub returns-in_default-clause-step : goal.returns-in_default-clause-step
-returns-in_default-clause-step c =
+returns-in_default-clause-step g c =
     no_address_seen c.args.self.now c.self.inside.devices c.self.inside.active c.self.inside.table c.self.inside.in_session _ c.self.inside.records.items c.args.cuts.now
     c.self.view_is c.requires.uncut c.requires.open c.in_default.ensures
 
-pub returns-in_default-winning_identity-clause-step : goal.returns-in_default-winning_identity-clause-step
-returns-in_default-winning_identity-clause-step c =
+pub returns-in_default-who_wins-clause-step : goal.returns-in_default-who_wins-clause-step
+returns-in_default-who_wins-clause-step g c =
     done_seen c.args.self.now c.self.inside.devices c.self.inside.active c.self.inside.table c.self.inside.in_session _ c.self.inside.records.items c.args.cuts.now c.in-Some.free
-    c.self.view_is c.requires.uncut c.requires.open c.in-Some.ensures.0 c.in_default-winning_identity.ensures
+    c.self.view_is c.requires.uncut c.requires.open c.in-Some.ensures.0 c.in_default-who_wins.ensures.least
 
 pub invariant_of-self : goal.invariant_of-self
-invariant_of-self c = idle_won c.in-Some-winning_identity.identity c.match-address_known.address c.self.inside.devices c.give_all.new.devices c.self.invariant c.give_all.ensures
+invariant_of-self g c = idle_won c.in-Some-who_wins.won.identity c.match-address_known.address c.self.inside.devices c.give_all.new.devices c.self.invariant c.give_all.ensures
 
 pub returns-clause-step : goal.returns-clause-step
-returns-clause-step c =
+returns-clause-step g c =
     let which : (c.address_known.result ≡ Some c.match-address_known.address) ⊎ ((c.address_known.result ≡ None) × (c.match-address_known.address ≡ c.in-Some.free)) =
     elim c.match-address_known.branch [
       | in-Some-address_known w ↦ inl (w.in-Some-address_known.is ∙ ap Some (sym w.address-is))
       | in-None w ↦ inr (w.in-None.is, w.address-is)
     ] in
     assigned_seen c.args.self.now c.self.inside.devices c.give_all.new.devices c.self.inside.active c.self.inside.table c.put.new.self c.self.inside.in_session _ c.self.inside.records.items
-    c.args.cuts.now c.in-Some.free c.match-address_known.address c.in-Some-winning_identity.identity
-    c.self.view_is c.requires.uncut c.requires.open c.in-Some.ensures c.in-Some-winning_identity.ensures
-    (chosen c.self.inside.table c.in-Some-winning_identity.identity c.in-Some.free c.address_known.result c.match-address_known.address c.address_known.ensures c.in-Some.ensures which)
+    c.args.cuts.now c.in-Some.free c.match-address_known.address c.in-Some-who_wins.won.identity
+    c.self.view_is c.requires.uncut c.requires.open c.in-Some.ensures c.in-Some-who_wins.ensures.least
+    (chosen c.self.inside.table c.in-Some-who_wins.won.identity c.in-Some.free c.address_known.result c.match-address_known.address c.address_known.ensures c.in-Some.ensures which)
     c.give_all.ensures c.put.ensures

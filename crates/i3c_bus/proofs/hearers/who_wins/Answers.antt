@@ -6,8 +6,8 @@ use Rattle.std.proofs.lemmas.Grind.{common_steps}
 use Rattle.i3c_base.specs.declared.identity.Identity.{Identity}
 use Rattle.i3c_bus.specs.Hearers.{IsContenderKey, IsLeastHearing}
 use Rattle.i3c_bus.proofs.HearersLaws.{winner_hears, in_range_of, least_of, found}
-use Rattle.i3c_bus.proofs.hearers.winning_identity.Goals as goal
-use Rattle.i3c_bus.proofs.hearers.winning_identity.Goals.{After-index}
+use Rattle.i3c_bus.proofs.hearers.who_wins.Goals as goal
+use Rattle.i3c_bus.proofs.hearers.who_wins.Goals.{After-index}
 
 -- the winner's slot has a hearer whose number was read
 first_winner : (c : After-index) → IsContenderKey c.args.devices.now (c.index.result, c.contest-outcome.result.bits)
@@ -23,9 +23,9 @@ unreachable-requires c =
     let w = first_winner (goal.at.unreachable-requires c).After-index in
     none-some w.device (sym (get_or_default c.args.devices.now c.index.result None c.index-devices-index.result (in_range_of _ _ _ w.there) ∙ (sym c.index-devices-index.is ∙ c.in-None.is)) ∙ w.there)
 
-pub returns : goal.returns
-returns c =
-    let w = first_winner (goal.at.returns c).After-index in
+pub returns-clause-least : goal.returns-clause-least
+returns-clause-least c =
+    let w = first_winner (goal.at.returns-clause-least c).After-index in
     let there = found c.args.devices.now c.index.result c.index-devices-index.result c.in-Some.device (in_range_of _ _ _ w.there) c.index-devices-index.is c.in-Some.is in
     subst (λ (i : Identity). IsLeastHearing c.args.devices.now i) (sym c.identity.ensures)
     (least_of c.args.devices.now c.contest-outcome.result.bits c.contenders-keys.result.items c.in-Some.device c.index.result c.contenders-keys.ensures.sound c.contenders-keys.ensures.complete c.contest-outcome.ensures.least w there)

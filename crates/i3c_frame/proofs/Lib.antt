@@ -1,0 +1,6 @@
+pub mod DigitLaws
+pub mod TapLaws
+pub mod TextLaws
+pub mod PartLaws
+pub mod TraceLaws
+pub mod PrintLaws

@@ -1,0 +1,5 @@
+pub mod Laws
+pub mod Parts
+pub mod Taps
+pub mod Texts
+pub mod Traces

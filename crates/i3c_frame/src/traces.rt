@@ -1,0 +1,95 @@
+ghost use Rattle.std.specs.Prelude.{◌≡◌, ◌⊎◌, List, All, IfErr, IfOk, MatchResult, map};
+ghost use Rattle.i3c_frame.specs.declared.symbols.Symbol.{Symbol as SymbolValue};
+ghost use Rattle.i3c_frame.specs.Parts.{parts};
+ghost use Rattle.i3c_frame.specs.Texts.{IsInRange, text_of};
+ghost use Rattle.i3c_frame.specs.Traces.{IsFirstFault, IsTrace, after, misplaced};
+
+use crate::parts::Parts;
+use crate::symbols::{Symbol, read_symbol};
+use std::alloc::Global;
+use thiserror::Error;
+
+/// Why a text is no trace. Symbols are counted from 1.
+#[derive(Clone, Copy, Debug, PartialEq, Eq, Drop, Error)]
+pub enum TraceFault {
+    /// This one is no symbol, or no header though it follows a START.
+    #[error("symbol {0} is bad")]
+    BadSymbol(usize),
+    /// A symbol other than START stands outside a frame.
+    #[error("a frame has no START")]
+    NoStart,
+    /// A frame ends without STOP: a START or the end of the text stands inside it.
+    #[error("a frame has no STOP")]
+    NoStop,
+    /// There was no memory for the symbols.
+    #[error("out of memory")]
+    OutOfMemory,
+}
+
+/// Where a wire stands between two symbols.
+#[derive(Clone, Copy)]
+pub(crate) enum Place {
+    /// Outside a frame, where only START may stand.
+    Outside,
+    /// After START or repeated START, where a header must follow.
+    Opened,
+    /// Inside a frame, after a header.
+    Inside,
+}
+
+/// The place after a symbol, if the symbol may stand there.
+fn after(place: &Place, symbol: &Symbol) -> Option<Place>
+    ensures { result ≡ after place.now symbol.now }
+{
+    match (place, symbol) {
+        (Place::Outside, Symbol::Start) => Some(Place::Opened),
+        (Place::Opened, Symbol::Header { .. }) => Some(Place::Inside),
+        (Place::Outside | Place::Opened, _) | (Place::Inside, Symbol::Start) => None,
+        (Place::Inside, Symbol::Repeated) => Some(Place::Opened),
+        (Place::Inside, Symbol::Stop) => Some(Place::Outside),
+        (Place::Inside, _) => Some(Place::Inside),
+    }
+}
+
+/// The fault of a symbol that may not stand at a place.
+fn misplaced(place: &Place, number: usize) -> TraceFault
+    ensures { result ≡ misplaced place.now number }
+{
+    match place {
+        Place::Outside => TraceFault::NoStart,
+        Place::Opened => TraceFault::BadSymbol(number),
+        Place::Inside => TraceFault::NoStop,
+    }
+}
+
+/// Reads a trace: symbols parted by spaces and line feeds, which may also stand at both ends. Each frame begins with a
+/// START and ends with a STOP, and a header follows each START and each repeated START. Fails with the first fault.
+pub fn read_trace(alloc: Global, text: &str) -> Result<Vec<Symbol>, TraceFault>
+    ensures sound { IfOk result (λ trace. IsTrace trace.items × (map text_of trace.items ≡ parts text.now)) }
+    ensures range { IfOk result (λ trace. All IsInRange trace.items) }
+    ensures fault { IfErr result (λ fault.
+        (fault ≡ TraceFault.OutOfMemory) ⊎ IsFirstFault (parts text.now) fault) }
+    ensures complete { (symbols : List SymbolValue) → All IsInRange symbols → IsTrace symbols
+        → map text_of symbols ≡ parts text.now
+        → MatchResult result (λ trace. trace.items ≡ symbols) (λ fault. fault ≡ TraceFault.OutOfMemory) }
+{
+    let mut symbols = Vec::new(alloc);
+    let mut place = Place::Outside;
+    for part in Parts::new(text.as_bytes()) {
+        let number = symbols.len() + 1;
+        let Some(symbol) = read_symbol(part) else {
+            return Err(TraceFault::BadSymbol(number));
+        };
+        let Some(next) = after(&place, &symbol) else {
+            return Err(misplaced(&place, number));
+        };
+        place = next;
+        if symbols.push(symbol).is_err() {
+            return Err(TraceFault::OutOfMemory);
+        }
+    }
+    match place {
+        Place::Outside => Ok(symbols),
+        Place::Opened | Place::Inside => Err(TraceFault::NoStop),
+    }
+}
