@@ -13,10 +13,8 @@ const WIRE: &str = "S 7E/W+ 07.0 Sr 7E/R+ =0204000000100644 @13+ Sr 7E/R- P";
 
 /// A text is no trace, for this fault.
 fn fails(rt: &impl Abort, alloc: Global, text: &str, fault: TraceFault) {
-    match read_trace(alloc, text) {
-        Ok(trace) => assert_eq!(rt; trace.len(), 0, "{text:?} is a trace"),
-        Err(found) => assert_eq!(rt; found, fault, "of {text:?}"),
-    }
+    let outcome = read_trace(alloc, text).map(|trace| trace.len());
+    assert_eq!(rt; outcome, Err(fault), "of {text:?}");
 }
 
 /// The symbols of a trace, printed with a space after each.

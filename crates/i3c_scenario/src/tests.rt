@@ -143,14 +143,12 @@ fn legacy_targets_keep_their_addresses(rt: HostRuntime) {
         active 08\nhub 08 waiting 0\nt 0A waiting 0\n\
         eep 09 legacy\nadc 10 legacy\nclock 77 legacy\nrecords 0\n";
     prints(&rt, alloc, script, wanted, 0);
-    let script = "legacy eep 08 20\nmain hub 020400000001 46 C0\n";
-    prints(
-        &rt,
-        alloc,
-        script,
-        "eep legacy at 08\nhub slot 0 at 09\n",
-        0,
-    );
+    // one at the least address of all moves the main controller too
+    let script =
+        "legacy eep 08 20\nmain hub 020400000001 46 C0\nattach t 020400000010 06 44\ndaa\n";
+    let wanted = "eep legacy at 08\nhub slot 0 at 09\nt slot 1\n\
+        assigned 0A 020400000010 06 44\ndone\n";
+    prints(&rt, alloc, script, wanted, 0);
 }
 
 // A main device that is refused leaves no name, and the legacy targets stand with theirs.
