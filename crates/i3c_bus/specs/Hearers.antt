@@ -1,5 +1,5 @@
 -- Who contends in a round, and with which number.
-use Rattle.std.specs.Prelude.{ℕ, suc, ◌≡◌, true, List, [], ◌∷◌, ◌++◌, Option, None, Some, if◌then◌else◌, slice_index_or}
+use Rattle.std.specs.Prelude.{ℕ, suc, ◌≡◌, ◌<◌, ◌^◌, true, List, [], ◌∷◌, ◌++◌, Option, None, Some, if◌then◌else◌, slice_index_or}
 use Rattle.i3c_base.specs.State.{Device}
 use Rattle.i3c_base.specs.declared.identity.Identity.{Identity}
 use Rattle.i3c_base.specs.Numbers.{IsBelow, IsInRange, number_of}
@@ -17,7 +17,7 @@ contenders_from slot (place ∷ places) = contender slot place ++ contenders_fro
 
 -- the 64 bits that are read where all who hear drive their numbers at once
 abbrev pub IsContested : List (Option Device) → ℕ → Type 0
-IsContested devices bits = EachBit (contenders_from 0 devices) 64 bits
+IsContested devices bits = (bits < 2 ^ 64) × EachBit (contenders_from 0 devices) 64 bits
 
 -- the device in the key's slot hears, and the key is its number
 pub record IsContenderKey (devices : List (Option Device)) (key : ℕ × ℕ) : Type 0 where

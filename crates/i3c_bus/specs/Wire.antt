@@ -1,4 +1,4 @@
--- What an event puts on the wire, for whoever taps it.
+-- What an event puts on the wire, for whoever taps it, as long as nobody asks for anything and nothing is cut.
 use Rattle.std.specs.Prelude.{◌≡◌, ◌≢◌, ◌↔◌, ℕ, Bool, true, false, List, [], ◌∷◌}
 use Rattle.i3c_base.specs.declared.answers.RoundReply.{RoundReply}
 use Rattle.i3c_base.specs.State.{IsPresent, State}

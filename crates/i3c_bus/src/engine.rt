@@ -174,8 +174,8 @@ impl Bus {
         self.records.as_slice()
     }
 
-    /// The active controller's table. It covers the bus: its rows are what was given, its identities what is kept, its
-    /// legacy list the legacy targets.
+    /// The active controller's table: its rows are what was given, its identities what is kept, its legacy list the
+    /// legacy targets.
     pub fn table(&self) -> &Table
         ensures { IsTable self.now.state result.now }
     {

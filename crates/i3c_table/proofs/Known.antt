@@ -1,17 +1,17 @@
 -- The least address among the rows that are kept for an identity.
-use Rattle.std.proofs.Common.{◌≡◌, ◌≢◌, ℕ, ◌+◌, ◌≤◌, ◌<◌, List, length, get_or, min, take, Option, Some, None, option_map, MatchOption, sym, refl, ap, ◌∙◌, inl, inr, arith, subst}
+use Rattle.std.proofs.Common.{◌≡◌, ◌≢◌, ℕ, ◌+◌, ◌≤◌, ◌<◌, List, length, get_or, min, take, Option, Some, None, option_map, MatchOption, IfSome, sym, refl, ap, ◌∙◌, inl, inr, arith, subst}
 use Rattle.std.specs.List.{All, Contains}
 use Rattle.std.proofs.lemmas.Bool.{cases_lt}
 use Rattle.std.proofs.lemmas.List.{take_all}
 use Rattle.std.proofs.lemmas.Option.{none-some}
 use Rattle.std.proofs.lemmas.List.Elements.{All-contains, All-more}
 use Rattle.i3c_base.specs.declared.identity.Identity.{Identity}
-use Rattle.i3c_base.specs.State.{Entry, entry_in, kept_of, IsKeptIn, IsUnknownIn}
+use Rattle.i3c_base.specs.State.{Entry, entry_in, kept_of, IsKeptIn, IsUnknownIn, IsUsable}
 use Rattle.i3c_legacy.specs.Rows.{row_at}
 use Rattle.i3c_legacy.proofs.RowLaws.{row_from, row_here}
 use Rattle.i3c_table.specs.declared.row.Row.{Row}
 use Rattle.i3c_table.specs.Rows.{entries, entry_of_row, IsTidy}
-use Rattle.i3c_table.proofs.TableLaws.{address_of, entry_at_row}
+use Rattle.i3c_table.proofs.TableLaws.{address_of, all_usable, entry_at_row}
 
 -- a row is kept for the identity i at the address a
 abbrev pub HasKept : Identity → List Row → ℕ → Type 0
@@ -78,3 +78,9 @@ kept_address i rows given n (Some a) tidy view past h = (
       let there = it.3 in
       omega (arith, least, there, below),
 )
+
+-- it is usable, as every address of a table is
+pub kept_usable : (i : Identity) (rows : List Row) (n : ℕ) (least : Option ℕ) → IsTidy rows → IsLeastKept i rows n least → IfSome least IsUsable
+kept_usable i rows n None tidy h = tt
+kept_usable i rows n (Some a) tidy h =
+    let P : ℕ → Type 0 = IsUsable in subst P h.0.3 (All-contains (λ (row : Row). IsUsable row.address) rows h.0.0 (all_usable rows tidy.usable) h.0.1)

@@ -20,15 +20,15 @@ abbrev pub address_of : Row → ℕ
 address_of row = row.address
 
 -- what holds of each address
-All-from_map : (rows : List Row) → All IsUsable (addresses rows) → All (λ row. IsUsable row.address) rows
-All-from_map rows h k d l =
+pub all_usable : (rows : List Row) → All IsUsable (addresses rows) → All (λ row. IsUsable row.address) rows
+all_usable rows h k d l =
     let long : k < length (addresses rows) = omega (arith, l, length-map rows address_of) in
     let usable : IsUsable (get_or (addresses rows) k d.address) = h k d.address long in
     rw (get_or-map address_of rows k d d.address l) at usable
 
 pub below : (rows : List Row) → IsTidy rows → All (λ row. address_of row < ADDRESSES) rows
 below rows tidy k d l =
-    let usable = All-from_map rows tidy.usable k d l in
+    let usable = all_usable rows tidy.usable k d l in
     let at_most = usable.1 in
     omega (arith, at_most)
 
@@ -91,7 +91,7 @@ usable_at rows given a entry tidy view stands = usable_row (row_at address_of ro
     usable_row None e h = absurd (none-some entry h)
     usable_row (Some row) e h =
         let at = row_from address_of rows a row e in
-        let usable : IsUsable row.address = All-contains (λ (r : Row). IsUsable r.address) rows row (All-from_map rows tidy.usable) at.1 in
+        let usable : IsUsable row.address = All-contains (λ (r : Row). IsUsable r.address) rows row (all_usable rows tidy.usable) at.1 in
         rw (sym at.0) usable
 
 -- a row at a new address comes to a pickable one

@@ -33,9 +33,9 @@ impl Model for Table {
 }
 
 impl Table {
-    ghost use Rattle.std.specs.Prelude.{◌≡◌, None, Some, false, length, slice_index_or, MatchOption};
+    ghost use Rattle.std.specs.Prelude.{◌≡◌, None, Some, false, length, slice_index_or, IfSome, MatchOption};
     ghost use Rattle.i3c_base.specs.declared.range.TheConstants.{ADDRESSES};
-    ghost use Rattle.i3c_base.specs.State.{entry_in, no_entries, IsFree, IsKeptIn, IsUnknownIn};
+    ghost use Rattle.i3c_base.specs.State.{entry_in, no_entries, IsFree, IsKeptIn, IsUnknownIn, IsUsable};
     ghost use Rattle.i3c_table.specs.Rows.{entry_of_row};
     ghost use Rattle.i3c_table.specs.Putting.{cleared, with_row, MayPut};
 
@@ -65,8 +65,9 @@ impl Table {
 
     /// The address that is kept for an identity, if one is: the least, were there several.
     pub fn address_known(&self, identity: &Identity) -> Option<Addr7>
-        ensures { MatchOption result (IsUnknownIn self.now.given identity.now)
+        ensures kept { MatchOption result (IsUnknownIn self.now.given identity.now)
             (λ a. IsKeptIn self.now.given identity.now a) }
+        ensures usable { IfSome result IsUsable }
     {
         let mut least: Option<Addr7> = None;
         for row in self.rows.iter() {

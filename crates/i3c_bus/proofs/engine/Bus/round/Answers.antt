@@ -27,5 +27,5 @@ returns-clause-step g c =
     assigned_seen c.args.self.now c.self.inside.devices c.give_all.new.devices c.self.inside.active c.self.inside.table c.put.new.self c.self.inside.in_session _ c.self.inside.records.items
     c.args.cuts.now c.in-Some.free c.match-address_known.address c.in-Some-who_wins.won.identity
     c.self.view_is c.requires.uncut c.requires.open c.in-Some.ensures c.in-Some-who_wins.ensures.least
-    (chosen c.self.inside.table c.in-Some-who_wins.won.identity c.in-Some.free c.address_known.result c.match-address_known.address c.address_known.ensures c.in-Some.ensures which)
+    (chosen c.self.inside.table c.in-Some-who_wins.won.identity c.in-Some.free c.address_known.result c.match-address_known.address c.address_known.ensures.kept c.in-Some.ensures which)
     c.give_all.ensures c.put.ensures

@@ -1,5 +1,5 @@
 use Rattle.std.proofs.Common.{ap, refl}
-use Rattle.i3c_table.proofs.Known.{kept_address, least_more, least_same}
+use Rattle.i3c_table.proofs.Known.{kept_address, kept_usable, least_more, least_same}
 use Rattle.i3c_table.proofs.table.Table.address_known.Goals as goal
 use Rattle.i3c_table.proofs.table.Table.address_known.Goals.{then-is_kept_for, else-is_kept_for}
 
@@ -11,6 +11,9 @@ loop-row-preserved c = elim c.if-is_kept_for.branch [
       c.loop-row-test.true c.row-item.is c.loop-row.invariant (λ same. let no = w.if-is_kept_for.ensures.1 same in cc))
 ]
 
-pub returns : goal.returns
-returns c = kept_address c.args.identity.now c.self.inside.rows.items c.args.self.now.given c.loop-row.row-index c.loop-row.least c.self.invariant (ap (λ t. t.given) c.self.view_is)
+pub returns-clause-kept : goal.returns-clause-kept
+returns-clause-kept c = kept_address c.args.identity.now c.self.inside.rows.items c.args.self.now.given c.loop-row.row-index c.loop-row.least c.self.invariant (ap (λ t. t.given) c.self.view_is)
     (rw c.deref-row-items.ensures.0 at c.loop-row-test.false) (rw c.deref-row-items.ensures.0 at c.loop-row.invariant)
+
+pub returns-clause-usable : goal.returns-clause-usable
+returns-clause-usable c = kept_usable c.args.identity.now c.self.inside.rows.items c.loop-row.row-index c.loop-row.least c.self.invariant (rw c.deref-row-items.ensures.0 at c.loop-row.invariant)
