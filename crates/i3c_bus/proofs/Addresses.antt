@@ -1,12 +1,12 @@
 -- The invariant on addresses, and that each step keeps it.
 use Rattle.std.proofs.lemmas.Bool.{and_parts, cases_eq, cases_lt, cond-false, cond-true, eq-eqb, eqb-true, ne_eqb}
 use Rattle.std.proofs.lemmas.List.{get_or_past, length-set}
-use Rattle.std.proofs.Common.{◌≡◌, ℕ, ◌∷◌, [], Bool, true, false, not, ◌&&◌, ◌==◌, if◌then◌else◌, List, length, get_or, ◌≤◌, ◌<◌, arith, Option, Some, None, ◌⊎◌, inl, inr, sym, refl, ap, ◌∙◌, subst}
+use Rattle.std.proofs.Common.{◌≡◌, ℕ, ◌∷◌, [], ◌++◌, suc, Bool, true, false, not, ◌&&◌, ◌==◌, if◌then◌else◌, List, length, get_or, ◌≤◌, ◌<◌, arith, Option, Some, None, ◌⊎◌, inl, inr, sym, refl, ap, ◌∙◌, subst}
 use Rattle.std.proofs.lemmas.Option.{none-some, same_Some}
 use Rattle.i3c_base.specs.declared.identity.Identity.{Identity}
 use Rattle.i3c_base.specs.Cutting.{CutList, Lost, lost_by}
 use Rattle.i3c_bus.specs.declared.events.Event.{Event}
-use Rattle.i3c_bus.specs.declared.events.Event.TheVariants.{Attach, OpenDaa, Round, EndDaa}
+use Rattle.i3c_bus.specs.declared.events.Event.TheVariants.{Attach, Raise, Serve, Enec, Disec, OpenDaa, Round, EndDaa}
 use Rattle.i3c_base.specs.declared.requests.Fixed.{Fixed}
 use Rattle.i3c_base.specs.declared.requests.Request.{Request}
 use Rattle.i3c_bus.specs.declared.replies.Reply.{Reply}
@@ -16,30 +16,19 @@ use Rattle.i3c_base.specs.declared.requests.Served.TheVariants.{Quiet, Recorded,
 use Rattle.i3c_base.specs.declared.device.Setup.{Setup}
 use Rattle.i3c_base.specs.declared.device.Target.{Target}
 use Rattle.i3c_base.specs.Numbers.{same_identity}
-use Rattle.i3c_base.specs.State.{Device, Entry, State, IsStart, addressed, attached, change, device_at, each, entry_at, entry_of, kept_entry_of, kept_of, no_devices, no_entries, target_at, unaddressed, unkept}
+use Rattle.i3c_base.specs.State.{Device, Entry, State, IsStart, addressed, attached, change, device_at, each, entry_at, entry_of, kept_entry_of, kept_of, no_devices, no_entries, raised_at, target_at, unaddressed, unkept}
 use Rattle.i3c_base.specs.declared.range.TheConstants.{ADDRESSES}
-use Rattle.i3c_base.specs.Local.{attach}
+use Rattle.i3c_base.specs.Local.{attach, raise}
+use Rattle.i3c_base.specs.Frames.{Rekinds, reaches, rekinded}
+use Rattle.i3c_base.specs.Numbers.{KindSet}
+use Rattle.i3c_base.specs.declared.answers.Answer.{Answer}
 use Rattle.i3c_base.specs.Serve.{Frame, Serves, drives, each_driver, emptied, without_front, without_join, without_role}
 use Rattle.i3c_base.specs.Round.{IsAddressFor, Rounds, assigned, ended, opened, winner, wins}
 use Rattle.i3c_bus.specs.Step.{Acts, Becomes, Step}
-use Rattle.i3c_bus.specs.Runs.{IsRun}
+use Rattle.i3c_bus.specs.Sound.{Addresses, IsFor}
 use Rattle.i3c_bus.proofs.Steps.{step_cases}
 use Rattle.i3c_base.proofs.Lookups.{attach_from, change_from, each_from, emptied_from, length-no_entries, no_devices_at, no_entries_at, set_from, set_in}
 use Rattle.i3c_bus.proofs.Maps.{cond_some_from, cond_kept_from, same_identity-true}
-
--- the entry says what the identity's device is, and is kept for no other identity
-pub record IsFor (i : Identity) (e : Entry) : Type 0 where
-  pub bcr : e.bcr ≡ i.bcr
-  pub dcr : e.dcr ≡ i.dcr
-  pub kept : (j : Identity) → e.kept ≡ Some j → j ≡ i
-
--- each address in use stands in the table under its device's identity and is kept for no other, devices of one address
--- have one identity, and no address of the table is a legacy target's
-pub record Addresses (st : State) : Type 0 where
-  pub used : (s a : ℕ) (d : Device) → device_at st s ≡ Some d → d.address ≡ Some a → (e : Entry) × (entry_at st a ≡ Some e) × IsFor d.identity e
-  pub alike : (s t a : ℕ) (d e : Device) → device_at st s ≡ Some d → device_at st t ≡ Some e → d.address ≡ Some a → e.address ≡ Some a → d.identity ≡ e.identity
-  pub free : (a : ℕ) (e : Entry) → entry_at st a ≡ Some e → target_at st a ≡ None
-  pub long : length st.given ≡ ADDRESSES
 
 -- device d had its identity and address in the same slot before
 pub record WasThere (old : State) (s a : ℕ) (d : Device) : Type 0 where
@@ -157,6 +146,25 @@ NoneNew-opened st = NoneNew-from st (opened st)
 pub NoneNew-ended : (st : State) → NoneNew st (ended st)
 NoneNew-ended st = NoneNew-from st (ended st)
     (WasThere-each (λ s d. record d { hearing = false }) st (λ s d. record { identity = refl; address = λ a p. p })) refl (λ a l. l)
+
+-- a raise brings no address
+pub NoneNew-raise : (s : ℕ) (byte : Option ℕ) (st : State) → NoneNew st (raise s byte st)
+NoneNew-raise s byte st =
+    let more : Device → Device = λ d. record d { waiting = d.waiting ++ record { number = suc (raised_at st s); byte = byte } ∷ [] } in
+    NoneNew-from st (raise s byte st) (NoneNew-change s more st (λ d. record { identity = refl; address = λ a p. p })).devices refl (λ a l. l)
+
+-- nor do enabled kinds
+NoneNew-rekinded : (to : Option ℕ) (f : KindSet → KindSet) (st : State) → NoneNew st (rekinded to f st)
+NoneNew-rekinded to f st =
+    NoneNew-each (λ s d. if reaches st to s d then record d { kinds = f d.kinds } else d) st
+    (λ s d. IsSteady-if (reaches st to s d) d (record d { kinds = f d.kinds }) (record { identity = refl; address = λ a p. p }))
+
+pub NoneNew-rekinds : (to : Option ℕ) (f : KindSet → KindSet) (answer : Answer) (lost : Lost) (mid done : State) → Rekinds to f answer lost mid done → NoneNew mid done
+NoneNew-rekinds None f answer lost mid done h = subst (NoneNew mid) (sym h.1) (NoneNew-rekinded None f mid)
+NoneNew-rekinds (Some a) f answer lost mid done h = elim h [
+  | inl e ↦ subst (NoneNew mid) (sym e.2) (NoneNew-rekinded (Some a) f mid)
+  | inr e ↦ subst (NoneNew mid) (sym e.2) (NoneNew-refl mid)
+]
 
 pub NoneNew-driver : (r : Request) (f : Device → Device) (st : State) → ((d : Device) → IsSteady (f d) d) → NoneNew st (each_driver r f st)
 NoneNew-driver r f st steady = NoneNew-each (λ s d. if drives st r s then f d else d) st (λ s d. IsSteady-if (drives st r s) d (f d) (steady d))
@@ -286,13 +294,18 @@ NoneNew-becomes f h lost mid done e = subst (NoneNew mid) (sym e) (h mid)
 -- each event that acts keeps the invariant
 Addresses-acts : (old : State) (event : Event) (reply : Reply) (new : State) → Acts old event reply new → Addresses old → Addresses new
 Addresses-acts old (Attach s setup) reply new h inv = subst Addresses (sym h.1) (Addresses-none_new old _ (NoneNew-attach s setup old) inv)
+Addresses-acts old (Raise s byte) reply new h inv = subst Addresses (sym h.1) (Addresses-none_new old _ (NoneNew-raise s byte old) inv)
+Addresses-acts old (Serve policy cuts) reply new h inv =
+    Addresses-frame old policy cuts _ _ _ new (λ lost mid done e. subst (NoneNew mid) (sym e) (NoneNew-refl mid)) h.2 inv
+Addresses-acts old (Enec to kinds policy cuts) reply new h inv = Addresses-frame old policy cuts _ _ _ new (NoneNew-rekinds to _ _) h.2 inv
+Addresses-acts old (Disec to kinds policy cuts) reply new h inv = Addresses-frame old policy cuts _ _ _ new (NoneNew-rekinds to _ _) h.2 inv
 Addresses-acts old (OpenDaa cuts) reply new h inv = Addresses-frame old _ cuts _ _ _ new (NoneNew-becomes opened NoneNew-opened) h.2 inv
 Addresses-acts old (Round cuts) reply new h inv = Addresses-round old cuts h.0 new h.2 inv
 Addresses-acts old EndDaa reply new h inv = subst Addresses (sym h.1) (Addresses-none_new old _ (NoneNew-ended old) inv)
 
 -- each step keeps it
 pub Addresses-step : (old : State) (event : Event) (reply : Reply) (new : State) → Step old event reply new → Addresses old → Addresses new
-Addresses-step old event reply new h inv = step_cases old event reply new h (λ why r e. subst Addresses (sym e) inv) (λ e acts. Addresses-acts old event reply new acts inv)
+Addresses-step old event reply new h inv = step_cases old event reply new h (λ idle e. subst Addresses (sym e) inv) (λ e acts. Addresses-acts old event reply new acts inv)
 
 -- the start's only device, and its only entry
 pub start_device : (main : Setup) (legacy : List (Option Target)) (a s : ℕ) (d : Device) → device_at (addressed 0 a main.identity (unaddressed main legacy)) s ≡ Some d
@@ -323,10 +336,3 @@ Addresses-start main legacy start h = subst Addresses (sym h.2) (record {
     from : (s b : ℕ) (d : Device) → device_at (addressed 0 h.0 main.identity (unaddressed main legacy)) s ≡ Some d → d.address ≡ Some b → (d.identity ≡ main.identity) × (b ≡ h.0)
     from s b d p q = let e = (start_device main legacy h.0 s d p).1 in
         (ap (λ (x : Device). x.identity) e, sym (same_Some h.0 b (ap (λ (x : Device). x.address) (sym e) ∙ q)))
-
--- over a whole run
-pub Addresses-run : (old : State) (events : List Event) (replies : List Reply) (new : State) → IsRun old events replies new → Addresses old → Addresses new
-Addresses-run old [] [] new run inv = subst Addresses (sym run) inv
-Addresses-run old (event ∷ events) (reply ∷ replies) new run inv = Addresses-run run.0 events replies new run.2 (Addresses-step old event reply run.0 run.1 inv)
-Addresses-run old [] (reply ∷ replies) new run inv = absurd run
-Addresses-run old (event ∷ events) [] new run inv = absurd run

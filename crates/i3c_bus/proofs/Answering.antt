@@ -7,7 +7,9 @@ use Rattle.i3c_base.specs.State.{HasDistinctIdentities, HasUniqueAnswers, State,
 use Rattle.i3c_bus.specs.declared.events.Event.{Event}
 use Rattle.i3c_bus.specs.declared.replies.Reply.{Reply}
 use Rattle.i3c_bus.specs.Runs.{IsLegalRun}
-use Rattle.i3c_bus.proofs.Addresses.{Addresses, Addresses-run, Addresses-start}
+use Rattle.i3c_bus.specs.Sound.{Addresses}
+use Rattle.i3c_bus.proofs.Addresses.{Addresses-start, Addresses-step}
+use Rattle.i3c_bus.proofs.Kept.{run_keeps}
 
 -- the invariant and distinct identities leave one party for an address
 unique_answers : (st : State) → Addresses st → HasDistinctIdentities st → HasUniqueAnswers st
@@ -19,4 +21,4 @@ unique_answers st inv distinct a (legacy_at b) (legacy_at c) h k = ap legacy_at 
 pub unique_along : (main : Setup) (legacy : List (Option Target)) (events : List Event) (replies : List Reply) (new : State)
     → IsLegalRun main legacy events replies new → HasDistinctIdentities new → HasUniqueAnswers new
 unique_along main legacy events replies new run distinct =
-    unique_answers new (Addresses-run run.0 events replies new run.2 (Addresses-start main legacy run.0 run.1)) distinct
+    unique_answers new (run_keeps Addresses Addresses-step run.0 events replies new run.2 (Addresses-start main legacy run.0 run.1)) distinct

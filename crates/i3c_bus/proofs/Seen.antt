@@ -1,5 +1,5 @@
 -- What the bus's calls do to its parts, as steps of the state that it is seen as.
-use Rattle.std.proofs.Common.{◌≡◌, ℕ, Bool, true, false, List, Option, Some, None, option_map, is_some, set, get_or, MatchOption, is_none, if◌then◌else◌, ◌&&◌, length, ◌⊎◌, inl, inr, sym, refl, ap, subst, ◌∙◌, ◌<◌, map, ◌∷◌, []}
+use Rattle.std.proofs.Common.{◌≡◌, ℕ, Bool, true, false, List, Option, Some, None, option_map, is_some, set, get_or, MatchOption, length, ◌⊎◌, inl, inr, sym, refl, ap, subst, ◌∙◌, ◌<◌, map, ◌∷◌, []}
 use Rattle.std.proofs.lemmas.List.{get_or_default}
 use Rattle.i3c_base.specs.declared.identity.Identity.{Identity}
 use Rattle.i3c_base.specs.declared.answers.RoundReply.{RoundReply}
@@ -10,56 +10,49 @@ use Rattle.i3c_base.specs.Cutting.{CutList, IsUncut}
 use Rattle.i3c_base.specs.declared.device.Target.{Target}
 use Rattle.i3c_base.specs.declared.identity.Lvr.{Lvr}
 use Rattle.i3c_base.specs.Covered.{IsTable, Table}
-use Rattle.i3c_base.specs.State.{Device, Held, State, IsKeptIn, IsPickIn, IsPickableIn, IsUnknownIn, kept_entry_of, no_raises, target_of, targets_of}
+use Rattle.i3c_base.specs.State.{Device, Held, State, IsKeptIn, IsPickIn, IsPickableIn, IsUnknownIn, kept_entry_of, target_of, targets_of}
 use Rattle.std.proofs.lemmas.Bool.{false≢true}
-use Rattle.i3c_base.specs.Numbers.{same_identity}
-use Rattle.i3c_base.specs.Round.{IsAddressFor, hears, unhearing, winner}
+use Rattle.i3c_base.specs.Serve.{Serves, refuse_all}
+use Rattle.i3c_base.specs.Round.{IsAddressFor, hears, opened}
+use Rattle.i3c_bus.proofs.Lost.{nobody}
 use Rattle.i3c_bus.specs.declared.events.Event.{Event}
 use Rattle.i3c_bus.specs.declared.replies.Reply.{Reply}
 use Rattle.i3c_bus.specs.Step.{Step}
 use Rattle.i3c_bus.specs.Hearers.{IsLeastHearing, NobodyHears}
-use Rattle.i3c_bus.specs.Idle.{AreIdle, IsIdle}
+use Rattle.i3c_bus.specs.declared.engine.Bus.TheInside.{Inside}
+use Rattle.i3c_bus.specs.Parts.{state_of}
 use Rattle.i3c_bus.specs.Winning.{won}
-use Rattle.i3c_bus.proofs.Stepping.{assigned_step, done_step, idle_changed, no_address_step, open_step, pick_targets, pickable_lvrs, pickable_targets}
+use Rattle.i3c_bus.proofs.Stepping.{assigned_step, done_step, no_address_step, open_step, pick_targets, pickable_lvrs, pickable_targets}
 
--- the state of a bus, of its parts
-abbrev pub seen : List (Option Device) → ℕ → Table → Bool → List Record → State
-seen devices active table in_session records = record {
-  devices = devices;
-  raised = no_raises;
-  active = active;
-  legacy = targets_of table.legacy;
-  given = table.given;
-  in_session = in_session;
-  listed = table.listed;
-  records = records;
-}
+-- the state that a bus's fields are seen as
+abbrev pub seen : Inside → State
+seen b = state_of b.devices b.raised b.active b.table b.in_session b.records.items
 
 -- the bus, of its parts
-abbrev pub held : List (Option Device) → ℕ → Table → Bool → List Record → Bool → Held
-held devices active table in_session records room = record { state = seen devices active table in_session records; room = room }
+abbrev pub held : List (Option Device) → List ℕ → ℕ → Table → Bool → List Record → Bool → Held
+held devices raised active table in_session records room = record { state = state_of devices raised active table in_session records; room = room }
 
-pub opened_seen : (now : Held) (devices more : List (Option Device)) (active : ℕ) (table : Table) (in_session room : Bool) (records : List Record) (cuts : CutList)
-    → held devices active table in_session records room ≡ now → IsUncut cuts → now.state.in_session ≡ false → AreIdle devices → more ≡ changed (λ s place. option_map hears place) devices
-    → Step now.state (Event.OpenDaa cuts) (Reply.Opened Served.Quiet) (seen more active table true records)
-opened_seen now devices more active table in_session room records cuts is uncut closed idle e =
-    subst (λ (h : Held). Step h.state (Event.OpenDaa cuts) (Reply.Opened Served.Quiet) (seen more active table true records)) is
-    (subst (λ ds. Step (seen devices active table in_session records) (Event.OpenDaa cuts) (Reply.Opened Served.Quiet) (seen ds active table true records)) (sym e)
-    (open_step (seen devices active table in_session records) cuts uncut (ap (λ (h : Held). h.state.in_session) is ∙ closed) idle))
+pub opened_seen : (now : Held) (devices more : List (Option Device)) (raised : List ℕ) (active : ℕ) (table : Table) (in_session room : Bool) (records : List Record) (cuts : CutList) (served : Served)
+    → held devices raised active table in_session records room ≡ now → IsUncut cuts → now.state.in_session ≡ false → Serves now.state refuse_all nobody served now.state
+    → more ≡ changed (λ s place. option_map hears place) devices → Step now.state (Event.OpenDaa cuts) (Reply.Opened served) (state_of more raised active table true records)
+opened_seen now devices more raised active table in_session room records cuts served is uncut closed serves e =
+    subst (λ st. Step now.state (Event.OpenDaa cuts) (Reply.Opened served) st)
+    (λ k. record (opened (sym is k).state) { devices = (sym (ap (λ (h : Held). changed (λ s place. option_map hears place) h.state.devices) is) ∙ sym e) k })
+    (open_step now.state cuts served uncut closed serves)
 
-pub no_address_seen : (now : Held) (devices : List (Option Device)) (active : ℕ) (table : Table) (in_session room : Bool) (records : List Record) (cuts : CutList)
-    → held devices active table in_session records room ≡ now → IsUncut cuts → now.state.in_session ≡ true → ((a : ℕ) → ¬ IsPickableIn table.given table.legacy a)
+pub no_address_seen : (now : Held) (devices : List (Option Device)) (raised : List ℕ) (active : ℕ) (table : Table) (in_session room : Bool) (records : List Record) (cuts : CutList)
+    → held devices raised active table in_session records room ≡ now → IsUncut cuts → now.state.in_session ≡ true → ((a : ℕ) → ¬ IsPickableIn table.given table.legacy a)
     → Step now.state (Event.Round cuts) (Reply.Round RoundReply.NoAddress) now.state
-no_address_seen now devices active table in_session room records cuts is uncut in_it none =
+no_address_seen now devices raised active table in_session room records cuts is uncut in_it none =
     subst (λ (h : Held). Step h.state (Event.Round cuts) (Reply.Round RoundReply.NoAddress) h.state) is
-    (no_address_step (seen devices active table in_session records) cuts uncut (ap (λ (h : Held). h.state.in_session) is ∙ in_it) (λ a p. none a (pickable_lvrs table.given table.legacy a p)))
+    (no_address_step (state_of devices raised active table in_session records) cuts uncut (ap (λ (h : Held). h.state.in_session) is ∙ in_it) (λ a p. none a (pickable_lvrs table.given table.legacy a p)))
 
-pub done_seen : (now : Held) (devices : List (Option Device)) (active : ℕ) (table : Table) (in_session room : Bool) (records : List Record) (cuts : CutList) (a : ℕ)
-    → held devices active table in_session records room ≡ now → IsUncut cuts → now.state.in_session ≡ true → IsPickableIn table.given table.legacy a → NobodyHears devices
+pub done_seen : (now : Held) (devices : List (Option Device)) (raised : List ℕ) (active : ℕ) (table : Table) (in_session room : Bool) (records : List Record) (cuts : CutList) (a : ℕ)
+    → held devices raised active table in_session records room ≡ now → IsUncut cuts → now.state.in_session ≡ true → IsPickableIn table.given table.legacy a → NobodyHears devices
     → Step now.state (Event.Round cuts) (Reply.Round RoundReply.Done) now.state
-done_seen now devices active table in_session room records cuts a is uncut in_it pickable none =
+done_seen now devices raised active table in_session room records cuts a is uncut in_it pickable none =
     subst (λ (h : Held). Step h.state (Event.Round cuts) (Reply.Round RoundReply.Done) h.state) is
-    (done_step (seen devices active table in_session records) cuts a uncut (ap (λ (h : Held). h.state.in_session) is ∙ in_it) (pickable_targets table.given table.legacy a pickable) none)
+    (done_step (state_of devices raised active table in_session records) cuts a uncut (ap (λ (h : Held). h.state.in_session) is ∙ in_it) (pickable_targets table.given table.legacy a pickable) none)
 
 -- what the winner's address is: the kept one, or the pick
 pub chosen : (table : Table) (i : Identity) (free : ℕ) (known : Option ℕ) (a : ℕ) → MatchOption known (IsUnknownIn table.given i) (λ b. IsKeptIn table.given i b) → IsPickIn table.given table.legacy free
@@ -69,44 +62,20 @@ chosen table i free known a h pick which = elim which [
   | inr e ↦ inr (subst (λ o. MatchOption o (IsUnknownIn table.given i) (λ b. IsKeptIn table.given i b)) e.0 h, subst (λ b. IsPickIn table.given table.legacy b) (sym e.1) pick)
 ]
 
-pub assigned_seen : (now : Held) (devices more : List (Option Device)) (active : ℕ) (table after : Table) (in_session room : Bool) (records : List Record) (cuts : CutList) (free a : ℕ) (i : Identity)
-    → held devices active table in_session records room ≡ now → IsUncut cuts → now.state.in_session ≡ true → IsPickIn table.given table.legacy free → IsLeastHearing devices i
+pub assigned_seen : (now : Held) (devices more : List (Option Device)) (raised : List ℕ) (active : ℕ) (table after : Table) (in_session room : Bool) (records : List Record) (cuts : CutList) (free a : ℕ) (i : Identity)
+    → held devices raised active table in_session records room ≡ now → IsUncut cuts → now.state.in_session ≡ true → IsPickIn table.given table.legacy free → IsLeastHearing devices i
     → IsKeptIn table.given i a ⊎ (IsUnknownIn table.given i × IsPickIn table.given table.legacy a)
     → more ≡ changed (λ s place. option_map (won i a) place) devices → after ≡ record table { given = set table.given a (Some (kept_entry_of i)); listed = false }
-    → Step now.state (Event.Round cuts) (Reply.Round (RoundReply.Assigned a i)) (seen more active after in_session records)
-assigned_seen now devices more active table after in_session room records cuts free a i is uncut in_it pick least for e f =
-    subst (λ (h : Held). Step h.state (Event.Round cuts) (Reply.Round (RoundReply.Assigned a i)) (seen more active after in_session records)) is
-    (subst (λ ds. Step (seen devices active table in_session records) (Event.Round cuts) (Reply.Round (RoundReply.Assigned a i)) (seen ds active after in_session records)) (sym e)
-    (subst (λ t. Step (seen devices active table in_session records) (Event.Round cuts) (Reply.Round (RoundReply.Assigned a i)) (seen (changed (λ s place. option_map (won i a) place) devices) active t in_session records)) (sym f)
-    (assigned_step (seen devices active table in_session records) cuts free a i uncut (ap (λ (h : Held). h.state.in_session) is ∙ in_it)
+    → Step now.state (Event.Round cuts) (Reply.Round (RoundReply.Assigned a i)) (state_of more raised active after in_session records)
+assigned_seen now devices more raised active table after in_session room records cuts free a i is uncut in_it pick least for e f =
+    subst (λ (h : Held). Step h.state (Event.Round cuts) (Reply.Round (RoundReply.Assigned a i)) (state_of more raised active after in_session records)) is
+    (subst (λ ds. Step (state_of devices raised active table in_session records) (Event.Round cuts) (Reply.Round (RoundReply.Assigned a i)) (state_of ds raised active after in_session records)) (sym e)
+    (subst (λ t. Step (state_of devices raised active table in_session records) (Event.Round cuts) (Reply.Round (RoundReply.Assigned a i)) (state_of (changed (λ s place. option_map (won i a) place) devices) raised active t in_session records)) (sym f)
+    (assigned_step (state_of devices raised active table in_session records) cuts free a i uncut (ap (λ (h : Held). h.state.in_session) is ∙ in_it)
     (pickable_targets table.given table.legacy free pick.0) least address)))
   where
-    address : IsAddressFor (seen devices active table in_session records) i a
+    address : IsAddressFor (state_of devices raised active table in_session records) i a
     address = elim for [ inl k ↦ inl k | inr p ↦ inr (p.0, pick_targets table.given table.legacy a p.1) ]
-
--- each change leaves idle devices idle
-pub idle_hears : (devices more : List (Option Device)) → AreIdle devices → more ≡ changed (λ s place. option_map hears place) devices → AreIdle more
-idle_hears devices more idle e = subst AreIdle (sym e) (idle_changed hears devices keep idle)
-  where
-    keep : (d : Device) → IsIdle d → IsIdle (hears d)
-    keep d h = go (is_none d.address)
-      where
-        go : (b : Bool) → IsIdle (if b then record d { hearing = true } else d)
-        go true = h
-        go false = h
-
-pub idle_unhearing : (devices more : List (Option Device)) → AreIdle devices → more ≡ changed (λ s place. option_map unhearing place) devices → AreIdle more
-idle_unhearing devices more idle e = subst AreIdle (sym e) (idle_changed unhearing devices (λ d h. h) idle)
-
-pub idle_won : (i : Identity) (a : ℕ) (devices more : List (Option Device)) → AreIdle devices → more ≡ changed (λ s place. option_map (won i a) place) devices → AreIdle more
-idle_won i a devices more idle e = subst AreIdle (sym e) (idle_changed (won i a) devices keep idle)
-  where
-    go : (b : Bool) (d : Device) → IsIdle d → IsIdle (if b then winner a d else d)
-    go true d h = (h.0, refl, h.2)
-    go false d h = h
-
-    keep : (d : Device) → IsIdle d → IsIdle (won i a d)
-    keep d h = go (d.hearing && same_identity d.identity i) d h
 
 -- whether a slot holds a device
 pub there_or_not : (devices : List (Option Device)) (s k : ℕ) (place : Option Device) → k ≡ s → s < length devices → (is_some (get_or devices k place) ≡ true → (d : Device) × (get_or devices s None ≡ Some d))
@@ -129,7 +98,11 @@ lvrs-targets_of [] = refl
 lvrs-targets_of (o ∷ lvrs) = λ t. lvr_of-target_of o t ∷ lvrs-targets_of lvrs t
 
 -- the table covers the bus that it is part of
-pub covered_seen : (now : Held) (devices : List (Option Device)) (active : ℕ) (table : Table) (in_session room : Bool) (records : List Record)
-    → held devices active table in_session records room ≡ now → IsTable now.state table
-covered_seen now devices active table in_session room records is =
+pub covered_seen : (now : Held) (devices : List (Option Device)) (raised : List ℕ) (active : ℕ) (table : Table) (in_session room : Bool) (records : List Record)
+    → held devices raised active table in_session records room ≡ now → IsTable now.state table
+covered_seen now devices raised active table in_session room records is =
     subst (λ (h : Held). IsTable h.state table) is (refl, sym (lvrs-targets_of table.legacy), refl)
+
+-- the place that was read is the slot's
+pub place_is : (devices : List (Option Device)) (s k : ℕ) (place : Option Device) → k ≡ s → s < length devices → place ≡ get_or devices k place → get_or devices s None ≡ place
+place_is devices s k place e l at = get_or_default devices s None place l ∙ (ap (λ j. get_or devices j place) (sym e) ∙ sym at)

@@ -1,17 +1,16 @@
 -- The start: an address is free for the main controller, and what is made is the start's state.
-use Rattle.std.proofs.Common.{◌≡◌, ℕ, zero, suc, ◌+◌, ◌≤◌, ◌<◌, true, false, List, [], ◌∷◌, get_or, set, length, cond, count_by, Option, Some, None, is_some, sym, refl, ap, ◌∙◌, arith, replicate}
+use Rattle.std.proofs.Common.{◌≡◌, ℕ, zero, suc, ◌+◌, ◌≤◌, ◌<◌, true, false, List, [], ◌∷◌, get_or, set, length, cond, count_by, Option, Some, None, is_some, refl, ap, arith, replicate}
 use Rattle.std.proofs.lemmas.List.Sums.{sum_by-cons}
-use Rattle.std.proofs.lemmas.Option.{none-some}
 use Rattle.std.proofs.lemmas.Bool.{false≢true}
+use Rattle.i3c_base.specs.declared.range.TheConstants.{SLOTS}
 use Rattle.i3c_base.specs.declared.device.Setup.{Setup}
 use Rattle.i3c_base.specs.declared.identity.Lvr.{Lvr}
 use Rattle.i3c_base.specs.Covered.{Table}
-use Rattle.i3c_base.specs.State.{Device, IsPickIn, IsPickableIn, IsStart, attached, entry_of, no_devices, no_entries, targets_of}
+use Rattle.i3c_base.specs.State.{Device, IsPickIn, IsPickableIn, IsStart, attached, entry_of, no_devices, no_entries, no_raises, targets_of}
 use Rattle.i3c_base.specs.Round.{winner}
-use Rattle.i3c_base.proofs.Lookups.{no_devices_at, no_entries_at}
-use Rattle.i3c_bus.proofs.Seen.{seen}
-use Rattle.i3c_bus.specs.Idle.{AreIdle}
-use Rattle.i3c_bus.proofs.Stepping.{idle_set, pick_targets}
+use Rattle.i3c_base.proofs.Lookups.{no_entries_at}
+use Rattle.i3c_bus.specs.Parts.{state_of}
+use Rattle.i3c_bus.proofs.Stepping.{pick_targets}
 
 count_cons : {A : Type 0} (x : Option A) (xs : List (Option A)) → count_by is_some (x ∷ xs) ≡ cond (is_some x) 1 0 + count_by is_some xs
 count_cons x xs = sum_by-cons (λ o. cond (is_some o) 1 0) x xs
@@ -40,13 +39,13 @@ some_free lvrs few none =
     taken (Some v) h = refl
 
 -- what is made at the pick is a start
-pub start_seen : (main : Setup) (lvrs : List (Option Lvr)) (a : ℕ) (devices : List (Option Device)) (d : Device) (table : Table) → IsPickIn no_entries lvrs a → devices ≡ no_devices → d ≡ winner a (attached main)
-    → table ≡ record { given = set no_entries a (Some (entry_of main.identity)); legacy = lvrs; listed = false } → IsStart main (targets_of lvrs) (seen (set devices 0 (Some d)) 0 table false [])
-unfolding no_devices
-start_seen main lvrs a devices d table pick none is at = (
+pub start_seen : (main : Setup) (lvrs : List (Option Lvr)) (a : ℕ) (devices : List (Option Device)) (raised : List ℕ) (d : Device) (table : Table) → IsPickIn no_entries lvrs a → devices ≡ no_devices → raised ≡ no_raises → d ≡ winner a (attached main)
+    → table ≡ record { given = set no_entries a (Some (entry_of main.identity)); legacy = lvrs; listed = false } → IsStart main (targets_of lvrs) (state_of (set devices 0 (Some d)) raised 0 table false [])
+unfolding no_devices no_raises
+start_seen main lvrs a devices raised d table pick none zeros is at = (
   a,
   pick_targets no_entries lvrs a pick,
-  λ t. seen (set (none t) 0 (Some (is t))) 0 (at t) false [],
+  λ t. state_of (set (none t) 0 (Some (is t))) (zeros t) 0 (at t) false [],
 )
 
 -- places that are all empty
@@ -56,6 +55,7 @@ all_none [] (suc n) l h = absurd (omega arith)
 all_none (x ∷ xs) zero l h = absurd (omega arith)
 all_none (x ∷ xs) (suc n) l h = let rest = all_none xs n (omega arith) (λ k m. h (suc k) (omega arith)) in λ t. h zero (omega arith) t ∷ rest t
 
--- the main controller is idle at the start
-pub idle_start : (main : Setup) (a : ℕ) → AreIdle (set no_devices 0 (Some (winner a (attached main))))
-idle_start main a = idle_set no_devices 0 (winner a (attached main)) (refl, refl, refl) (λ s d p. absurd (none-some d (sym (no_devices_at s) ∙ p)))
+-- no raises, slot by slot
+pub zeros : replicate SLOTS 0 ≡ no_raises
+unfolding no_raises
+zeros = refl

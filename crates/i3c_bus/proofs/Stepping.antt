@@ -1,25 +1,31 @@
 -- What a call has done is a step, where nothing is cut.
-use Rattle.std.proofs.Common.{◌≡◌, ℕ, zero, suc, Bool, true, false, not, ◌&&◌, ◌==◌, if◌then◌else◌, List, [], ◌∷◌, map, set, get_or, Option, Some, None, option_map, is_some, is_none, MatchOption, inl, inr, sym, refl, ap, subst, ◌∙◌}
+use Rattle.std.proofs.Common.{◌≡◌, ℕ, zero, suc, ◌+◌, Bool, true, false, not, if◌then◌else◌, List, [], ◌∷◌, ◌++◌, map, set, get_or, Option, Some, None, option_map, is_some, MatchOption, ◌⊎◌, inl, inr, sym, refl, ap, subst, ◌∙◌}
 use Rattle.std.proofs.lemmas.Option.{none-some, same_Some}
+use Rattle.i3c_base.specs.declared.answers.Answer.{Answer}
+use Rattle.i3c_base.specs.declared.answers.RoundReply.{RoundReply}
 use Rattle.i3c_base.specs.declared.identity.Identity.{Identity}
 use Rattle.i3c_base.specs.declared.identity.Lvr.{Lvr}
-use Rattle.i3c_base.specs.declared.answers.RoundReply.{RoundReply}
-use Rattle.i3c_base.specs.declared.requests.Request.{Request}
-use Rattle.i3c_base.specs.declared.requests.Request.TheVariants.{Join, Role, Interrupt}
+use Rattle.i3c_base.specs.declared.kinds.Kinds.{Kinds}
+use Rattle.i3c_base.specs.declared.requests.Fixed.{Fixed}
 use Rattle.i3c_base.specs.declared.requests.Served.{Served}
+use Rattle.i3c_base.specs.declared.requests.Served.TheVariants.{Quiet, Recorded, Refused, Torn, Joining, WantsRole}
 use Rattle.i3c_base.specs.Numbers.{IsBelow}
 use Rattle.i3c_base.specs.Places.{changed}
-use Rattle.i3c_base.specs.Cutting.{CutList, IsUncut, lost_by}
-use Rattle.i3c_base.specs.State.{Device, Entry, State, IsFree, IsPickIn, IsPickable, IsPickableIn, device_at, has_address, in_slot, kept_entry_of, target_of, targets_of}
-use Rattle.i3c_base.specs.Serve.{NoneAsks, asks, emptied, is_empty}
-use Rattle.i3c_base.specs.Round.{IsAddressFor, IsWinner, assigned, opened}
-use Rattle.i3c_base.proofs.Lookups.{changed_at, changed_none, option_map_from, set_from}
+use Rattle.i3c_base.specs.Cutting.{CutList, IsUncut, Lost, lost_by}
+use Rattle.i3c_base.specs.State.{Entry, State, IsFree, IsPickIn, IsPickable, IsPickableIn, kept_entry_of, target_of, targets_of}
+use Rattle.i3c_base.specs.Serve.{Frame, IsWordBits, Serves, emptied, refuse_all}
+use Rattle.i3c_base.specs.Frames.{Rekinds}
+use Rattle.i3c_base.specs.Round.{IsAddressFor, IsWinner, assigned, ended, opened}
+use Rattle.i3c_base.proofs.Lookups.{changed_none}
+use Rattle.i3c_events.specs.declared.words.Change.{Change}
+use Rattle.i3c_events.specs.declared.words.Change.TheVariants.{Enable, Disable}
+use Rattle.i3c_events.specs.Hearing.{changed_kinds}
 use Rattle.i3c_bus.specs.declared.events.Event.{Event}
 use Rattle.i3c_bus.specs.declared.replies.Refusal.{Refusal}
 use Rattle.i3c_bus.specs.declared.replies.Reply.{Reply}
-use Rattle.i3c_bus.specs.Step.{Acts, Step, checks, cuts_active, first_refusal}
+use Rattle.i3c_bus.specs.Commands.{kinds_event}
+use Rattle.i3c_bus.specs.Step.{Acts, IsShort, Step, checks, cuts_active, first_refusal, frame_checks, is_no_target, may_want_memory, target_checks}
 use Rattle.i3c_bus.specs.Hearers.{IsLeastHearing, NobodyHears}
-use Rattle.i3c_bus.specs.Idle.{AreIdle, IsIdle}
 use Rattle.i3c_bus.specs.Winning.{won}
 use Rattle.i3c_bus.proofs.Lost.{lost_nobody, nobody}
 
@@ -27,9 +33,25 @@ use Rattle.i3c_bus.proofs.Lost.{lost_nobody, nobody}
 pub step_acts : (old : State) (event : Event) (reply : Reply) (new : State) → first_refusal (checks old event) ≡ None → Acts old event reply new → Step old event reply new
 step_acts old event reply new none acts = go (first_refusal (checks old event)) none
   where
-    go : (o : Option Refusal) → o ≡ None → MatchOption o (Acts old event reply new) (λ why. (reply ≡ Reply.Refused why) × (new ≡ old))
-    go None e = acts
+    go : (o : Option Refusal) → o ≡ None → MatchOption o (IsShort old event reply new ⊎ Acts old event reply new) (λ why. (reply ≡ Reply.Refused why) × (new ≡ old))
+    go None e = inr acts
     go (Some why) e = absurd (none-some why (sym e))
+
+-- one that no test refuses and that is short of memory
+pub step_short : (old : State) (event : Event) (new : State) → first_refusal (checks old event) ≡ None → may_want_memory event ≡ true → new ≡ old → Step old event Reply.OutOfMemory new
+step_short old event new none wants same = go (first_refusal (checks old event)) none
+  where
+    go : (o : Option Refusal) → o ≡ None → MatchOption o (IsShort old event Reply.OutOfMemory new ⊎ Acts old event Reply.OutOfMemory new) (λ why. (Reply.OutOfMemory ≡ Reply.Refused why) × (new ≡ old))
+    go None e = inl (wants, refl, same)
+    go (Some why) e = absurd (none-some why (sym e))
+
+-- one that a test refuses
+pub step_refused : (old : State) (event : Event) (why : Refusal) (new : State) → first_refusal (checks old event) ≡ Some why → new ≡ old → Step old event (Reply.Refused why) new
+step_refused old event why new some same = go (first_refusal (checks old event)) some
+  where
+    go : (o : Option Refusal) → o ≡ Some why → MatchOption o (IsShort old event (Reply.Refused why) new ⊎ Acts old event (Reply.Refused why) new) (λ w. (Reply.Refused why ≡ Reply.Refused w) × (new ≡ old))
+    go None e = absurd (none-some why e)
+    go (Some w) e = (ap Reply.Refused (sym (same_Some w why e)), same)
 
 -- a frame's tests, where the first fails and nothing is cut
 tests_fail : (st : State) (cuts : CutList) (t : Bool) (first second : Refusal) → IsUncut cuts → t ≡ false → first_refusal ((t, first) ∷ (cuts_active st cuts, second) ∷ []) ≡ None
@@ -41,64 +63,81 @@ tests_fail st cuts t first second uncut fails =
 pub emptied_nobody : (st : State) → emptied nobody st ≡ st
 emptied_nobody st = ap (λ devices. record st { devices = devices }) (changed_none (λ s place. if nobody s then None else place) st.devices (λ s place. refl))
 
--- nobody asks on an idle bus
-idle_asks : (d : Device) (r : Request) → IsIdle d → asks d r ≡ false
-idle_asks d Join h = go (is_none d.address) d.join_wish d.kinds.join h.1
-  where
-    go : (a b c : Bool) → b ≡ false → (a && (b && c)) ≡ false
-    go true b c e = ap (λ x. x && c) e
-    go false b c e = refl
-idle_asks d (Role a) h = go (has_address a d) d.role_wish d.kinds.role h.2
-  where
-    go : (a b c : Bool) → b ≡ false → (a && (b && c)) ≡ false
-    go true b c e = ap (λ x. x && c) e
-    go false b c e = refl
-idle_asks d (Interrupt a) h = go (has_address a d) (not d.role_wish) (is_empty d.waiting) d.kinds.interrupt (ap is_empty h.0)
-  where
-    go : (a b c k : Bool) → c ≡ true → (a && (b && (not c && k))) ≡ false
-    go true true c k e = ap (λ x. not x && k) e
-    go true false c k e = refl
-    go false b c k e = refl
+-- the mandatory word of what was served
+word_of : (st : State) (policy : Fixed) (lost : Lost) (served : Served) (new : State) → Serves st policy lost served new → (word : ℕ) × IsWordBits st served word
+word_of st policy lost Quiet new h = (0, refl)
+word_of st policy lost Refused new h = (0, refl)
+word_of st policy lost Joining new h = (0, refl)
+word_of st policy lost (WantsRole a) new h = (0, refl)
+word_of st policy lost (Recorded place) new h = (_, (h.at, h.first, refl))
+word_of st policy lost Torn new h = (9, refl)
 
-and_false : (b : Bool) → (b && false) ≡ false
-and_false true = refl
-and_false false = refl
+-- a frame in which nobody is lost: it serves, and does its own part
+pub uncut_frame : (old : State) (policy : Fixed) (cuts : CutList) (served : Served) (rest : ℕ) (Own : Lost → State → State → Type 0) (mid done : State)
+    → IsUncut cuts → Serves old policy nobody served mid → Own nobody mid done → Frame old policy cuts served rest Own done
+uncut_frame old policy cuts served rest Own mid done uncut serves own =
+    let word = word_of old policy nobody served mid serves in
+    let none : lost_by cuts (word.0 + rest) ≡ nobody = lost_nobody cuts uncut (word.0 + rest) in
+    record {
+      word = word.0;
+      mid = mid;
+      done = done;
+      sent = word.1;
+      serves = subst (λ l. Serves old policy l served mid) (sym none) serves;
+      own = subst (λ l. Own l mid done) (sym none) own;
+      left = sym (ap (λ l. emptied l done) none ∙ emptied_nobody done);
+    }
 
-pub idle_none : (st : State) → AreIdle st.devices → NoneAsks st
-idle_none st idle s r = go (device_at st s) (idle s)
-  where
-    go : (o : Option Device) → ((d : Device) → o ≡ Some d → IsIdle d) → (not (s == st.active) && in_slot (λ d. asks d r) o) ≡ false
-    go None h = and_false (not (s == st.active))
-    go (Some d) h = ap (λ b. not (s == st.active) && b) (idle_asks d r (h d refl)) ∙ and_false (not (s == st.active))
+-- the tests of a frame under the role, where nothing is cut and no session is open
+pub frame_tests : (old : State) (cuts : CutList) → IsUncut cuts → old.in_session ≡ false → first_refusal (frame_checks old cuts) ≡ None
+frame_tests old cuts uncut closed = tests_fail old cuts old.in_session _ _ uncut closed
 
--- changes that leave idle devices idle
-pub idle_changed : (f : Device → Device) (devices : List (Option Device)) → ((d : Device) → IsIdle d → IsIdle (f d)) → AreIdle devices → AreIdle (changed (λ s place. option_map f place) devices)
-idle_changed f devices keep idle s d p =
-    let from = option_map_from f (get_or devices s None) d (sym (changed_at (λ t place. option_map f place) devices s None refl) ∙ p) in
-    subst IsIdle from.2 (keep from.0 (idle s from.0 from.1))
+-- a serve
+pub serve_step : (old : State) (policy : Fixed) (cuts : CutList) (served : Served) (new : State) → IsUncut cuts → old.in_session ≡ false → Serves old policy nobody served new
+    → Step old (Event.Serve policy cuts) (Reply.Served served) new
+serve_step old policy cuts served new uncut closed serves =
+    step_acts old (Event.Serve policy cuts) _ new (frame_tests old cuts uncut closed) (served, refl, uncut_frame old policy cuts served _ _ new new uncut serves refl)
 
-pub idle_set : (devices : List (Option Device)) (s : ℕ) (d : Device) → IsIdle d → AreIdle devices → AreIdle (set devices s (Some d))
-idle_set devices s d new idle t e p = elim (set_from devices s t (Some d) e p) [
-  | inl h ↦ subst IsIdle (same_Some d e h.1) new
-  | inr h ↦ idle t e h
-]
+-- a session that is opened
+pub open_step : (old : State) (cuts : CutList) (served : Served) → IsUncut cuts → old.in_session ≡ false → Serves old refuse_all nobody served old → Step old (Event.OpenDaa cuts) (Reply.Opened served) (opened old)
+open_step old cuts served uncut closed serves =
+    step_acts old (Event.OpenDaa cuts) _ (opened old) (frame_tests old cuts uncut closed) (served, refl, uncut_frame old refuse_all cuts served _ _ old (opened old) uncut serves refl)
 
--- a session that is opened on an idle bus
-pub open_step : (old : State) (cuts : CutList) → IsUncut cuts → old.in_session ≡ false → AreIdle old.devices → Step old (Event.OpenDaa cuts) (Reply.Opened Served.Quiet) (opened old)
-open_step old cuts uncut closed idle =
-    step_acts old (Event.OpenDaa cuts) _ (opened old) (tests_fail old cuts old.in_session _ _ uncut closed) (
-      Served.Quiet,
-      refl,
-      record {
-        word = 0;
-        mid = old;
-        done = opened old;
-        sent = refl;
-        serves = (idle_none old idle, refl);
-        own = refl;
-        left = sym (ap (λ l. emptied l (opened old)) (lost_nobody cuts uncut 9) ∙ emptied_nobody (opened old));
-      },
-    )
+-- the tests of a command to some or all, where it isn't refused
+target_tests : (old : State) (cuts : CutList) (to : Option ℕ) → IsUncut cuts → old.in_session ≡ false → ((a : ℕ) → to ≡ Some a → is_no_target old a ≡ false) → first_refusal (frame_checks old cuts ++ target_checks old to) ≡ None
+target_tests old cuts None uncut closed fits = frame_tests old cuts uncut closed
+target_tests old cuts (Some a) uncut closed fits =
+    ap (λ b. first_refusal ((b, Refusal.SessionOpen) ∷ (cuts_active old cuts, Refusal.ActiveStays) ∷ (is_no_target old a, Refusal.NoAnswer a) ∷ [])) closed
+    ∙ (ap (λ o. first_refusal ((is_some o, Refusal.ActiveStays) ∷ (is_no_target old a, Refusal.NoAnswer a) ∷ [])) (uncut old.active)
+    ∙ ap (λ b. first_refusal ((b, Refusal.NoAnswer a) ∷ [])) (fits a refl))
+
+-- and where nobody is at the address
+no_target_tests : (old : State) (cuts : CutList) (a : ℕ) → IsUncut cuts → old.in_session ≡ false → is_no_target old a ≡ true → first_refusal (frame_checks old cuts ++ target_checks old (Some a)) ≡ Some (Refusal.NoAnswer a)
+no_target_tests old cuts a uncut closed none =
+    ap (λ b. first_refusal ((b, Refusal.SessionOpen) ∷ (cuts_active old cuts, Refusal.ActiveStays) ∷ (is_no_target old a, Refusal.NoAnswer a) ∷ [])) closed
+    ∙ (ap (λ o. first_refusal ((is_some o, Refusal.ActiveStays) ∷ (is_no_target old a, Refusal.NoAnswer a) ∷ [])) (uncut old.active)
+    ∙ ap (λ b. first_refusal ((b, Refusal.NoAnswer a) ∷ [])) none)
+
+-- ENEC and DISEC: refused, short of memory, and carried out
+pub kinds_refused : (change : Change) (old : State) (a : ℕ) (kinds : Kinds) (policy : Fixed) (cuts : CutList) (new : State) → IsUncut cuts → old.in_session ≡ false → is_no_target old a ≡ true → new ≡ old
+    → Step old (kinds_event change (Some a) kinds policy cuts) (Reply.Refused (Refusal.NoAnswer a)) new
+kinds_refused Enable old a kinds policy cuts new uncut closed none same = step_refused old (Event.Enec (Some a) kinds policy cuts) _ new (no_target_tests old cuts a uncut closed none) same
+kinds_refused Disable old a kinds policy cuts new uncut closed none same = step_refused old (Event.Disec (Some a) kinds policy cuts) _ new (no_target_tests old cuts a uncut closed none) same
+
+pub kinds_short : (change : Change) (old : State) (to : Option ℕ) (kinds : Kinds) (policy : Fixed) (cuts : CutList) (new : State) → IsUncut cuts → old.in_session ≡ false
+    → ((a : ℕ) → to ≡ Some a → is_no_target old a ≡ false) → new ≡ old → Step old (kinds_event change to kinds policy cuts) Reply.OutOfMemory new
+kinds_short Enable old to kinds policy cuts new uncut closed fits same = step_short old (Event.Enec to kinds policy cuts) new (target_tests old cuts to uncut closed fits) refl same
+kinds_short Disable old to kinds policy cuts new uncut closed fits same = step_short old (Event.Disec to kinds policy cuts) new (target_tests old cuts to uncut closed fits) refl same
+
+pub kinds_step : (change : Change) (old : State) (to : Option ℕ) (kinds : Kinds) (policy : Fixed) (cuts : CutList) (served : Served) (answer : Answer) (mid new : State) → IsUncut cuts → old.in_session ≡ false
+    → ((a : ℕ) → to ≡ Some a → is_no_target old a ≡ false) → Serves old policy nobody served mid → Rekinds to (changed_kinds change kinds) answer nobody mid new
+    → Step old (kinds_event change to kinds policy cuts) (Reply.Framed (record { served = served; answer = answer })) new
+kinds_step Enable old to kinds policy cuts served answer mid new uncut closed fits serves rekinds =
+    step_acts old (Event.Enec to kinds policy cuts) _ new (target_tests old cuts to uncut closed fits)
+    (record { served = served; answer = answer }, refl, uncut_frame old policy cuts served _ (Rekinds to (changed_kinds Enable kinds) answer) mid new uncut serves rekinds)
+kinds_step Disable old to kinds policy cuts served answer mid new uncut closed fits serves rekinds =
+    step_acts old (Event.Disec to kinds policy cuts) _ new (target_tests old cuts to uncut closed fits)
+    (record { served = served; answer = answer }, refl, uncut_frame old policy cuts served _ (Rekinds to (changed_kinds Disable kinds) answer) mid new uncut serves rekinds)
 
 -- rounds
 open_tests : (old : State) (cuts : CutList) → IsUncut cuts → old.in_session ≡ true → first_refusal (checks old (Event.Round cuts)) ≡ None
@@ -162,3 +201,7 @@ pickable_lvrs given lvrs a h = (h.0, h.1, free_lvrs lvrs a h.2)
 
 pub pick_targets : (given : List (Option Entry)) (lvrs : List (Option Lvr)) (a : ℕ) → IsPickIn given lvrs a → IsPickIn given (targets_of lvrs) a
 pick_targets given lvrs a h = (pickable_targets given lvrs a h.0, λ b l p. h.1 b l (pickable_lvrs given lvrs b p))
+
+-- a session that ends
+pub end_step : (old new : State) → old.in_session ≡ true → new ≡ ended old → Step old Event.EndDaa Reply.Ended new
+end_step old new session is = step_acts old Event.EndDaa Reply.Ended new (ap (λ b. first_refusal ((not b, Refusal.NoSession) ∷ [])) session) (refl, is)

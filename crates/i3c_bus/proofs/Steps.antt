@@ -1,22 +1,28 @@
 -- The cases of a step.
 use Rattle.std.proofs.lemmas.Bool.{both_ways}
 use Rattle.std.proofs.lemmas.Option.{none-some}
-use Rattle.std.proofs.Common.{◌≡◌, Bool, false, [], ◌∷◌, Option, Some, None, is_some, MatchOption, sym, refl, ℕ, zero, suc, true}
+use Rattle.std.proofs.Common.{◌≡◌, Bool, false, [], ◌∷◌, Option, Some, None, is_some, MatchOption, ◌⊎◌, inl, inr, sym, refl, ℕ, zero, suc, true}
 use Rattle.i3c_bus.specs.declared.events.Event.{Event}
 use Rattle.i3c_bus.specs.declared.replies.Reply.{Reply}
 use Rattle.i3c_bus.specs.declared.replies.Refusal.{Refusal}
 use Rattle.i3c_base.specs.State.{State}
 use Rattle.i3c_base.specs.Cutting.{CutList, cut_of, is_by, lost_by}
-use Rattle.i3c_bus.specs.Step.{Acts, Checks, Step, checks, cuts_active, first_refusal}
+use Rattle.i3c_bus.specs.Step.{Acts, Checks, IsShort, Step, checks, cuts_active, first_refusal}
+
+-- the reply of an event that changed nothing: refused, or short of memory
+pub data IsIdle (reply : Reply) : Type 0 where
+  refused : (why : Refusal) → reply ≡ Reply.Refused why → IsIdle reply
+  short : reply ≡ Reply.OutOfMemory → IsIdle reply
 
 -- a step changes nothing, or is no refusal and acts
 pub step_cases : {P : Type 0} (old : State) (event : Event) (reply : Reply) (new : State) → Step old event reply new
-    → ((why : Refusal) → reply ≡ Reply.Refused why → new ≡ old → P) → (first_refusal (checks old event) ≡ None → Acts old event reply new → P) → P
+    → (IsIdle reply → new ≡ old → P) → (first_refusal (checks old event) ≡ None → Acts old event reply new → P) → P
 step_cases {P} old event reply new h same acts = go (first_refusal (checks old event)) refl h
   where
-    go : (o : Option Refusal) → first_refusal (checks old event) ≡ o → MatchOption o (Acts old event reply new) (λ why. (reply ≡ Reply.Refused why) × (new ≡ old)) → P
-    go None e k = acts e k
-    go (Some why) e k = same why k.0 k.1
+    go : (o : Option Refusal) → first_refusal (checks old event) ≡ o
+        → MatchOption o (IsShort old event reply new ⊎ Acts old event reply new) (λ why. (reply ≡ Reply.Refused why) × (new ≡ old)) → P
+    go None e k = elim k [ inl m ↦ same (short m.1) m.2 | inr a ↦ acts e a ]
+    go (Some why) e k = same (refused why k.0) k.1
 
 -- where there is no refusal, the first test fails, and there is none among the rest
 pub refusal-none : (t : Bool) (why : Refusal) (rest : Checks) → first_refusal ((t, why) ∷ rest) ≡ None → (t ≡ false) × (first_refusal rest ≡ None)

@@ -1,11 +1,14 @@
 -- Without cuts a step is a function of the state and the event.
-use Rattle.std.proofs.lemmas.Bool.{both_ways}
-use Rattle.std.proofs.Common.{◌≡◌, ℕ, ◌+◌, true, Option, Some, None, MatchOption, ◌⊎◌, inl, inr, sym, refl, ap, ◌∙◌, subst}
+use Rattle.std.proofs.lemmas.Bool.{both_ways, false≢true}
+use Rattle.std.proofs.Common.{◌≡◌, ◌≢◌, ℕ, ◌+◌, true, Option, Some, None, MatchOption, ◌⊎◌, inl, inr, sym, refl, ap, ◌∙◌, subst}
 use Rattle.i3c_base.specs.declared.requests.Fixed.{Fixed}
 use Rattle.i3c_base.specs.declared.identity.Identity.{Identity}
 use Rattle.i3c_base.specs.declared.answers.RoundReply.{RoundReply}
 use Rattle.i3c_base.specs.declared.requests.Served.{Served}
 use Rattle.i3c_base.specs.State.{State}
+use Rattle.i3c_base.specs.declared.answers.Answer.{Answer}
+use Rattle.i3c_base.specs.Numbers.{KindSet}
+use Rattle.i3c_base.specs.Frames.{AllLostAt, AnyAt, Rekinds}
 use Rattle.i3c_base.specs.Cutting.{CutList, Lost, IsUncut, lost_by}
 use Rattle.i3c_base.specs.Serve.{Frame, Serves, emptied}
 use Rattle.i3c_base.specs.Round.{Rounds, assigned}
@@ -13,10 +16,10 @@ use Rattle.std.specs.Prelude.{⊤}
 use Rattle.i3c_base.specs.Serve.{refuse_all}
 use Rattle.i3c_base.specs.Round.{AllHearersLost, AnyHears, IsAddressFor, IsBeatenByLost, IsContender}
 use Rattle.i3c_bus.specs.declared.events.Event.{Event}
-use Rattle.i3c_bus.specs.declared.events.Event.TheVariants.{Attach, OpenDaa, Round, EndDaa}
+use Rattle.i3c_bus.specs.declared.events.Event.TheVariants.{Attach, Raise, Serve, Enec, Disec, OpenDaa, Round, EndDaa}
 use Rattle.i3c_bus.specs.declared.replies.Refusal.{Refusal}
 use Rattle.i3c_bus.specs.declared.replies.Reply.{Reply}
-use Rattle.i3c_bus.specs.Step.{Acts, Step, checks, cuts_in, first_refusal}
+use Rattle.i3c_bus.specs.Step.{Acts, IsShort, RekindsBy, Step, checks, cuts_in, disabling, enabling, first_refusal}
 use Rattle.i3c_bus.proofs.Lost.{lost_nobody, nobody, unlost}
 use Rattle.i3c_bus.proofs.Uniqueness.{address_unique, serves_unique, winner_unique}
 
@@ -32,6 +35,25 @@ frames_agree old policy cuts served other rest more Own Next new next Q uncut ag
     let next_own : Next nobody f.mid g.done = subst (λ m. Next nobody m g.done) (sym served_same.1) (subst (λ l. Next l g.mid g.done) q g.own) in
     let r = agree f.mid f.done g.done own next_own in
     (served_same.0, r.0, f.left ∙ (ap (λ l. emptied l f.done) p ∙ (ap (emptied nobody) r.1 ∙ (ap (λ l. emptied l g.done) (sym q) ∙ sym g.left))))
+
+-- without losses ENEC and DISEC have one answer
+nobody_lost : (st : State) (a : ℕ) → AnyAt st a → AllLostAt st a nobody → ⊥
+nobody_lost st a any all = false≢true (all any.0 any.1 any.2)
+
+rekinds_unique : (to : Option ℕ) (f : KindSet → KindSet) (answer other : Answer) (mid done last : State)
+    → Rekinds to f answer nobody mid done → Rekinds to f other nobody mid last → (answer ≡ other) × (done ≡ last)
+rekinds_unique None f answer other mid done last h k = (h.0 ∙ sym k.0, h.1 ∙ sym k.1)
+rekinds_unique (Some a) f answer other mid done last h k = elim h [
+  | inl x ↦ elim k [ inl y ↦ (x.0 ∙ sym y.0, x.2 ∙ sym y.2) | inr y ↦ absurd (nobody_lost mid a x.1 y.1) ]
+  | inr x ↦ elim k [ inl y ↦ absurd (nobody_lost mid a y.1 x.1) | inr y ↦ (x.0 ∙ sym y.0, x.2 ∙ sym y.2) ]
+]
+
+rekinds_by_unique : (old : State) (to : Option ℕ) (f : KindSet → KindSet) (policy : Fixed) (cuts : CutList) (reply other : Reply) (new next : State) → IsUncut cuts
+    → RekindsBy old to f policy cuts reply new → RekindsBy old to f policy cuts other next → (reply ≡ other) × (new ≡ next)
+rekinds_by_unique old to f policy cuts reply other new next u h k =
+    let r = frames_agree old policy cuts h.0.served k.0.served _ _ _ _ new next (h.0.answer ≡ k.0.answer) u (rekinds_unique to f h.0.answer k.0.answer) h.2 k.2 in
+    let framed : h.0 ≡ k.0 = λ t. record { served = r.0 t; answer = r.1 t } in
+    (h.1 ∙ (ap Reply.Framed framed ∙ sym k.1), r.2)
 
 -- without losses each reply of a round is its only one
 nobody_beats : (st : State) (cuts : CutList) → IsUncut cuts → (last s : ℕ) → lost_by cuts last s ≡ true → ⊥
@@ -76,6 +98,12 @@ rounds_unique old cuts (RoundReply.Assigned a i) (RoundReply.Assigned b j) new n
 acts_unique : (old : State) (event : Event) (reply other : Reply) (new next : State) → MatchOption (cuts_in event) ⊤ IsUncut
     → Acts old event reply new → Acts old event other next → (reply ≡ other) × (new ≡ next)
 acts_unique old (Attach s setup) reply other new next u h k = (h.0 ∙ sym k.0, h.1 ∙ sym k.1)
+acts_unique old (Raise s byte) reply other new next u h k = (h.0 ∙ sym k.0, h.1 ∙ sym k.1)
+acts_unique old (Serve policy cuts) reply other new next u h k =
+    let r = frames_agree old policy cuts h.0 k.0 _ _ _ _ new next ⊤ u (λ mid done last x y. (tt, x ∙ sym y)) h.2 k.2 in
+    (h.1 ∙ (ap Reply.Served r.0 ∙ sym k.1), r.2)
+acts_unique old (Enec to kinds policy cuts) reply other new next u h k = rekinds_by_unique old to (enabling kinds) policy cuts reply other new next u h k
+acts_unique old (Disec to kinds policy cuts) reply other new next u h k = rekinds_by_unique old to (disabling kinds) policy cuts reply other new next u h k
 acts_unique old (OpenDaa cuts) reply other new next u h k =
     let r = frames_agree old refuse_all cuts h.0 k.0 _ _ _ _ new next ⊤ u (λ mid done last x y. (tt, x ∙ sym y)) h.2 k.2 in
     (h.1 ∙ (ap Reply.Opened r.0 ∙ sym k.1), r.2)
@@ -83,14 +111,17 @@ acts_unique old (Round cuts) reply other new next u h k =
     let r = rounds_unique old cuts h.0 k.0 new next u h.2 k.2 in (h.1 ∙ (ap Reply.Round r.0 ∙ sym k.1), r.1)
 acts_unique old EndDaa reply other new next u h k = (h.0 ∙ sym k.0, h.1 ∙ sym k.1)
 
--- without cuts a step is a function
+-- without cuts a step is a function, where there is memory
 pub uncut_is_function : (old : State) (event : Event) (reply other : Reply) (new next : State) → MatchOption (cuts_in event) ⊤ IsUncut
-    → Step old event reply new → Step old event other next → (reply ≡ other) × (new ≡ next)
-uncut_is_function old event reply other new next u h k = go (first_refusal (checks old event)) h k
+    → Step old event reply new → Step old event other next → reply ≢ Reply.OutOfMemory → other ≢ Reply.OutOfMemory → (reply ≡ other) × (new ≡ next)
+uncut_is_function old event reply other new next u h k ample also = go (first_refusal (checks old event)) h k
   where
     go : (o : Option Refusal)
-        → MatchOption o (Acts old event reply new) (λ why. (reply ≡ Reply.Refused why) × (new ≡ old))
-        → MatchOption o (Acts old event other next) (λ why. (other ≡ Reply.Refused why) × (next ≡ old))
+        → MatchOption o (IsShort old event reply new ⊎ Acts old event reply new) (λ why. (reply ≡ Reply.Refused why) × (new ≡ old))
+        → MatchOption o (IsShort old event other next ⊎ Acts old event other next) (λ why. (other ≡ Reply.Refused why) × (next ≡ old))
         → (reply ≡ other) × (new ≡ next)
-    go None x y = acts_unique old event reply other new next u x y
+    go None x y = elim x [
+      | inl m ↦ absurd (ample m.1)
+      | inr p ↦ elim y [ inl m ↦ absurd (also m.1) | inr q ↦ acts_unique old event reply other new next u p q ]
+    ]
     go (Some why) x y = (x.0 ∙ sym y.0, x.1 ∙ sym y.1)

@@ -146,7 +146,7 @@ kind_of st policy Torn mid h = absurd (false≢true (h.gone h.first.driven.0 h.f
 nobody_asks : (st : State) (r : Request) → NoneAsks st → IsFirst st r → ⊥
 nobody_asks st r none first = both_ways _ (none first.driven.0 r) first.driven.1
 
-accept≢refuse : Accept ≡ Refuse → ⊥
+pub accept≢refuse : Accept ≡ Refuse → ⊥
 accept≢refuse e = cc
 
 accepted_unique : (st : State) (policy : Fixed) (r : Request) (served other : Served) (mid last : State)

@@ -1,12 +1,21 @@
 -- What holds over every legal run.
-use Rattle.std.specs.Prelude.{◌≡◌, List, Option}
+use Rattle.std.specs.Prelude.{◌≡◌, ◌≢◌, ℕ, true, false, List, ◌++◌, Option, Some}
 use Rattle.i3c_base.specs.declared.device.Setup.{Setup}
 use Rattle.i3c_base.specs.declared.device.Target.{Target}
-use Rattle.i3c_base.specs.State.{HasDistinctIdentities, HasUniqueAnswers, State}
+use Rattle.i3c_base.specs.declared.requests.Fixed.{Fixed}
+use Rattle.i3c_base.specs.declared.requests.Request.{Request}
+use Rattle.i3c_base.specs.declared.requests.Served.{Served}
+use Rattle.i3c_base.specs.declared.requests.Verdict.{Verdict}
+use Rattle.i3c_base.specs.Cutting.{Lost}
+use Rattle.i3c_base.specs.Serve.{IsFirst, Serves, drives, verdict}
+use Rattle.i3c_base.specs.State.{Device, HasDistinctIdentities, HasUniqueAnswers, IsPresent, IsStart, State, device_at}
 use Rattle.i3c_bus.specs.declared.events.Event.{Event}
 use Rattle.i3c_bus.specs.declared.replies.Reply.{Reply}
 use Rattle.i3c_bus.specs.Step.{IsUncutEvent, Step}
-use Rattle.i3c_bus.specs.Runs.{IsLegalRun}
+use Rattle.i3c_bus.specs.Runs.{IsLegalRun, IsRun}
+use Rattle.i3c_bus.specs.History.{AllDistinct, History, IsLegal, events_of, reached, replies_of}
+use Rattle.i3c_bus.specs.Records.{HasFaithfulRecords}
+use Rattle.i3c_bus.specs.Stays.{accepted_in_stay, recorded_in_stay}
 
 -- No two devices answer to one address, legacy targets included, in a state that a legal run leads to
 -- and in which devices present together have distinct identities.
@@ -14,7 +23,35 @@ abbrev pub AddressesAreUnique : Type 0
 AddressesAreUnique = (main : Setup) (legacy : List (Option Target)) (events : List Event) (replies : List Reply) (new : State)
     → IsLegalRun main legacy events replies new → HasDistinctIdentities new → HasUniqueAnswers new
 
--- Without cuts the bus is a machine: the state and the event determine the reply and the next state.
+-- In each state that a legal run leads to, a device is in the active slot. (The state names one slot, so no other is active.)
+abbrev pub OneIsActive : Type 0
+OneIsActive = (main : Setup) (legacy : List (Option Target)) (events : List Event) (replies : List Reply) (new : State)
+    → IsLegalRun main legacy events replies new → IsPresent new new.active
+
+-- Each run is a legal history, with the states between, so what holds of histories holds of runs.
+abbrev pub RunsAreHistories : Type 0
+RunsAreHistories = (start : State) (events : List Event) (replies : List Reply) (new : State) → IsRun start events replies new
+    → (h : History) × IsLegal start h × (reached start h ≡ new) × (events_of h ≡ events) × (replies_of h ≡ replies)
+
+-- Each accepted interrupt is recorded once, under the address of the device that raised it while enabled, where
+-- devices present together always had distinct identities.
+abbrev pub InterruptsAreRecordedOnce : Type 0
+InterruptsAreRecordedOnce = (main : Setup) (legacy : List (Option Target)) (start : State) (h : History)
+    → IsStart main legacy start → IsLegal start h → AllDistinct start h → HasFaithfulRecords start h
+
+-- Serving records an interrupt whose verdict is Accept, and that some device drives which the frame doesn't lose.
+abbrev pub AcceptedInterruptsAreRecorded : Type 0
+AcceptedInterruptsAreRecorded = (old : State) (policy : Fixed) (lost : Lost) (served : Served) (mid : State) (a s : ℕ)
+    → Serves old policy lost served mid → IsFirst old (Request.Interrupt a) → verdict old policy (Request.Interrupt a) ≡ Verdict.Accept
+    → drives old (Request.Interrupt a) s ≡ true → lost s ≡ false → (place : ℕ) × (served ≡ Served.Recorded place)
+
+-- Of a present device's stay, the accepted raises are the recorded ones and then those that wait, in order.
+abbrev pub RaisesStayInOrder : Type 0
+RaisesStayInOrder = (main : Setup) (legacy : List (Option Target)) (start : State) (h : History)
+    → IsStart main legacy start → IsLegal start h → AllDistinct start h
+    → (s : ℕ) (d : Device) → device_at (reached start h) s ≡ Some d → accepted_in_stay start h s ≡ recorded_in_stay start h s ++ d.waiting
+
+-- Without cuts, and where there is memory, the bus is a machine: the state and the event determine the reply and the next state.
 abbrev pub UncutStepsAreDetermined : Type 0
 UncutStepsAreDetermined = (old : State) (event : Event) (reply other : Reply) (new next : State)
-    → IsUncutEvent event → Step old event reply new → Step old event other next → (reply ≡ other) × (new ≡ next)
+    → IsUncutEvent event → Step old event reply new → Step old event other next → reply ≢ Reply.OutOfMemory → other ≢ Reply.OutOfMemory → (reply ≡ other) × (new ≡ next)

@@ -1,12 +1,24 @@
--- What an event puts on the wire, for whoever taps it, as long as nobody asks for anything and nothing is cut.
-use Rattle.std.specs.Prelude.{◌≡◌, ◌≢◌, ◌↔◌, ℕ, Bool, true, false, List, [], ◌∷◌}
+-- What an event puts on the wire, for whoever taps it, as long as nothing is cut.
+use Rattle.std.specs.Prelude.{◌≡◌, ◌≢◌, ◌↔◌, ℕ, Bool, true, false, List, [], ◌∷◌, ◌++◌, Option, Some, None, is_some}
+use Rattle.i3c_base.specs.declared.answers.Answer.{Answer}
 use Rattle.i3c_base.specs.declared.answers.RoundReply.{RoundReply}
-use Rattle.i3c_base.specs.State.{IsPresent, State}
+use Rattle.i3c_base.specs.declared.kinds.Kinds.{Kinds}
+use Rattle.i3c_base.specs.declared.requests.Record.{Record}
+use Rattle.i3c_base.specs.declared.requests.Request.{Request}
+use Rattle.i3c_base.specs.declared.requests.Request.TheVariants.{Join, Role, Interrupt}
+use Rattle.i3c_base.specs.declared.requests.Served.{Served}
+use Rattle.i3c_base.specs.Numbers.{kind_set}
+use Rattle.i3c_base.specs.State.{IsPresent, State, entry_at}
+use Rattle.i3c_base.specs.Serve.{IsFirst, byte_due}
 use Rattle.i3c_word.specs.declared.Word.{Word}
 use Rattle.i3c_word.specs.Parity.{HasOddParity, IsAddressByte}
+use Rattle.i3c_events.specs.declared.words.Change.{Change}
+use Rattle.i3c_events.specs.Words.{code_byte, kinds_byte}
 use Rattle.i3c_frame.specs.declared.symbols.Symbol.{Symbol}
 use Rattle.i3c_frame.specs.declared.symbols.Symbol.TheVariants.{Start, Repeated, Stop, Header, AddressByte}
 use Rattle.i3c_frame.specs.Taps.{NotesAll}
+use Rattle.i3c_bus.specs.declared.events.Event.{Event}
+use Rattle.i3c_bus.specs.declared.events.Event.TheVariants.{Enec, Disec}
 use Rattle.i3c_bus.specs.declared.replies.Reply.{Reply}
 use Rattle.i3c_bus.specs.Hearers.{IsContested}
 
@@ -18,10 +30,71 @@ AnyTarget st = (s : ℕ) × IsPresent st s × (s ≢ st.active)
 abbrev pub IsWord : ℕ → Word → Type 0
 IsWord byte word = (word.byte ≡ byte) × HasOddParity word
 
--- ENTDAA: START, the broadcast header, acknowledged where there is a target, and the code 07
-abbrev pub IsOpenWire : State → List Symbol → Type 0
-IsOpenWire st wire =
-    (ack : Bool) × (code : Word) × ((ack ≡ true) ↔ AnyTarget st) × IsWord 0x07 code × (wire ≡ Start ∷ Header 0x7E false ack ∷ Symbol.Word code ∷ [])
+-- the header of a request, with the controller's answer: a join at 02 and a role request write, an interrupt reads
+abbrev pub request_header : Request → Bool → Symbol
+request_header Join ack = Header 0x02 false ack
+request_header (Role a) ack = Header a false ack
+request_header (Interrupt a) ack = Header a true ack
+
+-- the mandatory byte as it was read, with T 0, if there was one
+abbrev pub byte_word : Option ℕ → List Symbol
+byte_word None = []
+byte_word (Some byte) = Symbol.Word (record { byte = byte; t = false }) ∷ []
+
+-- an accepted interrupt: its header, and the mandatory byte where one is due, as the new record says
+abbrev pub IsRecordedWire : State → State → List Symbol → Type 0
+IsRecordedWire old new wire =
+    (r : Record) × (new.records ≡ old.records ++ r ∷ []) × (is_some r.byte ≡ byte_due (entry_at old r.at))
+    × (wire ≡ Start ∷ request_header (Interrupt r.at) true ∷ byte_word r.byte)
+
+-- the beginning of a frame by what it served: START, the header of the broadcast or of who won it, and what was read
+abbrev pub IsBegun : State → Served → State → List Symbol → Type 0
+IsBegun old Served.Quiet new wire = (ack : Bool) × ((ack ≡ true) ↔ AnyTarget old) × (wire ≡ Start ∷ Header 0x7E false ack ∷ [])
+IsBegun old Served.Refused new wire = (r : Request) × IsFirst old r × (wire ≡ Start ∷ request_header r false ∷ [])
+IsBegun old Served.Joining new wire = wire ≡ Start ∷ request_header Join true ∷ []
+IsBegun old (Served.WantsRole a) new wire = wire ≡ Start ∷ request_header (Role a) true ∷ []
+IsBegun old (Served.Recorded place) new wire = IsRecordedWire old new wire
+IsBegun old Served.Torn new wire = ⊥
+
+-- how a frame goes on to its own part: at once where nobody asked, else after a repeated START and the broadcast header
+abbrev pub goes_on : Served → Bool → List Symbol
+goes_on Served.Quiet ack = []
+goes_on Served.Refused ack = Repeated ∷ Header 0x7E false ack ∷ []
+goes_on Served.Joining ack = Repeated ∷ Header 0x7E false ack ∷ []
+goes_on (Served.WantsRole a) ack = Repeated ∷ Header 0x7E false ack ∷ []
+goes_on (Served.Recorded place) ack = Repeated ∷ Header 0x7E false ack ∷ []
+goes_on Served.Torn ack = Repeated ∷ Header 0x7E false ack ∷ []
+
+-- a frame: its beginning, the way to its own part, and its own part
+abbrev pub IsFrameWire : State → Served → State → (List Symbol → Type 0) → List Symbol → Type 0
+IsFrameWire old served new IsOwn wire =
+    (begun : List Symbol) × (ack : Bool) × (own : List Symbol)
+    × IsBegun old served new begun × ((ack ≡ true) ↔ AnyTarget old) × IsOwn own × (wire ≡ begun ++ goes_on served ack ++ own)
+
+-- ENEC or DISEC: to all, the code and the kinds; to one address, the code, a header, and where it was acknowledged the kinds
+abbrev pub IsKindsWire : Change → Option ℕ → Kinds → Answer → List Symbol → Type 0
+IsKindsWire change None kinds answer wire =
+    (code : Word) × (byte : Word) × IsWord (code_byte change None) code × IsWord (kinds_byte (kind_set kinds)) byte
+    × (wire ≡ Symbol.Word code ∷ Symbol.Word byte ∷ Stop ∷ [])
+IsKindsWire change (Some a) kinds (Answer.NoAnswer b) wire =
+    (code : Word) × IsWord (code_byte change (Some a)) code × (wire ≡ Symbol.Word code ∷ Repeated ∷ Header a false false ∷ Stop ∷ [])
+IsKindsWire change (Some a) kinds answer wire =
+    (code : Word) × (byte : Word) × IsWord (code_byte change (Some a)) code × IsWord (kinds_byte (kind_set kinds)) byte
+    × (wire ≡ Symbol.Word code ∷ Repeated ∷ Header a false true ∷ Symbol.Word byte ∷ Stop ∷ [])
+
+-- the own part of a frame that is answered, by its event
+abbrev pub IsOwnWire : Event → Answer → List Symbol → Type 0
+IsOwnWire (Enec to kinds policy cuts) answer wire = IsKindsWire Change.Enable to kinds answer wire
+IsOwnWire (Disec to kinds policy cuts) answer wire = IsKindsWire Change.Disable to kinds answer wire
+IsOwnWire _ answer wire = ⊥
+
+-- ENTDAA: the code 07. The session goes on with its rounds
+abbrev pub IsOpenWire : List Symbol → Type 0
+IsOpenWire wire = (code : Word) × IsWord 0x07 code × (wire ≡ Symbol.Word code ∷ [])
+
+-- a serve: its beginning, and STOP
+abbrev pub IsServeWire : State → Served → State → List Symbol → Type 0
+IsServeWire old served new wire = (begun : List Symbol) × IsBegun old served new begun × (wire ≡ begun ++ Stop ∷ [])
 
 -- a round that somebody heard: a repeated START, the header that reads, the identity that was contested, and the address byte
 abbrev pub IsRoundWire : State → ℕ → Bool → List Symbol → Type 0
@@ -36,13 +109,18 @@ IsRoundWireOf st RoundReply.Done wire = wire ≡ Repeated ∷ Header 0x7E true f
 IsRoundWireOf st RoundReply.Nobody wire = (a : ℕ) × IsRoundWire st a false wire
 IsRoundWireOf st (RoundReply.Assigned a i) wire = IsRoundWire st a true wire
 
--- the wire of an event from this state, by its reply: a refused event sends nothing, and so does an attachment
-abbrev pub IsWire : State → Reply → List Symbol → Type 0
-IsWire st (Reply.Refused why) wire = wire ≡ []
-IsWire st Reply.Attached wire = wire ≡ []
-IsWire st (Reply.Opened served) wire = IsOpenWire st wire
-IsWire st (Reply.Round answer) wire = IsRoundWireOf st answer wire
-IsWire st Reply.Ended wire = wire ≡ Stop ∷ []
+-- the wire of an event that leads from one state to another, by its reply: one that is refused or short of memory
+-- sends nothing, and so do attachments and raises
+abbrev pub IsWire : State → Event → Reply → State → List Symbol → Type 0
+IsWire old event (Reply.Refused why) new wire = wire ≡ []
+IsWire old event Reply.OutOfMemory new wire = wire ≡ []
+IsWire old event Reply.Attached new wire = wire ≡ []
+IsWire old event (Reply.Raised number) new wire = wire ≡ []
+IsWire old event (Reply.Served served) new wire = IsServeWire old served new wire
+IsWire old event (Reply.Framed framed) new wire = IsFrameWire old framed.served new (IsOwnWire event framed.answer) wire
+IsWire old event (Reply.Opened served) new wire = IsFrameWire old served new IsOpenWire wire
+IsWire old event (Reply.Round answer) new wire = IsRoundWireOf old answer wire
+IsWire old event Reply.Ended new wire = wire ≡ Stop ∷ []
 
 -- from the one state to the other a tap was told, in order, symbols that are such a wire
 abbrev pub Tells : {T : Type 0} → (T → Symbol → T → Type 0) → T → T → (List Symbol → Type 0) → Type 0

@@ -1,21 +1,15 @@
-ghost use Rattle.std.specs.Prelude.{◌≡◌, option_map};
-ghost use Rattle.i3c_base.specs.Places.{changed};
+ghost use Rattle.std.specs.Prelude.{◌≡◌, MatchResult, OnOk, OnErr, ◌<◌, suc, length, Some, None, option_map, slice_index_or, slice_set};
 ghost use Rattle.i3c_base.specs.State.{no_devices};
-ghost use Rattle.i3c_base.specs.Round.{hears, unhearing};
-ghost use Rattle.i3c_bus.specs.Winning.{won};
+ghost use Rattle.i3c_bus.specs.Raises.{next_fault, place_fault, with_raise};
 
-use crate::device::Device;
-use crate::events::Event;
-use crate::hearers::{has_target, who_wins};
-use crate::replies::{ActiveStays, Refusal, Reply, SlotTaken, StartFault};
+use crate::replies::{RaiseRefusal, SlotTaken, StartFault};
 use crate::tokens::{Hand, Role, Session};
-use crate::wire::{tell_assigned, tell_done, tell_open};
-use i3c_base::{Addr7, Cuts, Identity, Record, RoundReply, SLOTS, Served, Setup, Slot};
-use i3c_frame::{Symbol, Tap};
+use i3c_base::{Addr7, Record, SLOTS, Setup, Slot};
+use i3c_device::{Device, RaiseFault};
 use i3c_legacy::{LEGACIES, Legacies};
 use i3c_picker::pick;
 use i3c_table::{Row, Table};
-use std::alloc::Global;
+use std::alloc::{AllocError, Global};
 use std::marker::Model;
 
 /// The recorded interrupts of a bus, in order.
@@ -46,52 +40,42 @@ impl Records {
 
 /// A bus: devices in their slots, the active controller's table, and what was recorded.
 pub struct Bus {
-    devices: [Option<Device>; SLOTS],
-    active: Slot,
-    table: Table,
-    in_session: bool,
-    records: Vec<Record>,
+    pub(crate) devices: [Option<Device>; SLOTS],
+    raised: [u64; SLOTS],
+    pub(crate) active: Slot,
+    pub(crate) table: Table,
+    pub(crate) in_session: bool,
+    pub(crate) records: Vec<Record>,
 }
 
 impl Model for Bus {
     ghost use Rattle.std.specs.Prelude.{nat_lt, vec_len, vec_capacity};
-    ghost use Rattle.i3c_base.specs.State.{Held, no_raises, targets_of};
-    ghost use Rattle.i3c_bus.specs.Idle.{AreIdle};
+    ghost use Rattle.i3c_base.specs.State.{Held};
+    ghost use Rattle.i3c_bus.specs.Parts.{state_of};
+    ghost use Rattle.i3c_bus.specs.Sound.{IsSound};
 
     ghost Value = { Held };
 
     ghost view = { λ b. record {
-      state = record {
-        devices = b.devices;
-        raised = no_raises;
-        active = b.active;
-        legacy = targets_of b.table.legacy;
-        given = b.table.given;
-        in_session = b.in_session;
-        listed = b.table.listed;
-        records = b.records.items;
-      };
+      state = state_of b.devices b.raised b.active b.table b.in_session b.records.items;
       room = nat_lt (vec_len b.records) (vec_capacity b.records);
     } };
 
-    // nobody asks, until interrupts and wishes come
-    ghost invariant = { λ b. AreIdle b.devices };
+    ghost invariant = { λ b. IsSound (state_of b.devices b.raised b.active b.table b.in_session b.records.items) };
 }
 
 impl Bus {
-    ghost use Rattle.std.specs.Prelude.{◌≡◌, ◌↔◌, true, false, length, IfOk, IfErr, IsOk, IsTrue};
-    ghost use Rattle.i3c_base.specs.Cutting.{IsUncut};
+    ghost use Rattle.std.specs.Prelude.{◌≡◌, ◌↔◌, true, false, length, IfOk, IsOk, IsTrue, OnOk, OnErr};
     ghost use Rattle.i3c_base.specs.Numbers.{is_capable};
     ghost use Rattle.i3c_base.specs.Covered.{IsTable};
     ghost use Rattle.i3c_base.specs.State.{device_at, IsPresent, IsStart, targets_of};
-    ghost use Rattle.i3c_bus.specs.Step.{Step, IsUncutEvent};
+    ghost use Rattle.i3c_bus.specs.Step.{Step};
+    ghost use Rattle.i3c_bus.specs.Sound.{IsSound};
     ghost use Rattle.i3c_bus.specs.Hands.{HandFits};
     ghost use Rattle.i3c_bus.specs.Readings.{address_of, waiting_of};
-    ghost use Rattle.i3c_bus.specs.Replies.{attached_reply, opened_reply};
+    ghost use Rattle.i3c_bus.specs.Replies.{attached_reply, raised_reply};
     ghost use Rattle.i3c_bus.specs.declared.events.Event.{Event};
     ghost use Rattle.i3c_bus.specs.declared.tokens.Hand.{Hand};
-    ghost use Rattle.i3c_bus.specs.declared.replies.Reply.{Reply};
-    ghost use Rattle.i3c_bus.specs.Wire.{IsWire, Tells};
 
     /// A bus with its main controller, in slot 0 at the least pickable address, beside these legacy targets.
     /// It answers `NotCapable` where the main device's BCR isn't a controller's.
@@ -125,6 +109,7 @@ impl Bus {
         let holder = Slot::default();
         let bus = Bus {
             devices,
+            raised: [0; SLOTS],
             active: holder,
             table,
             in_session: false,
@@ -196,137 +181,58 @@ impl Bus {
         self.in_session
     }
 
+    /// Whether there is room for one more record.
+    pub fn has_room(&self) -> bool
+        ensures { result ≡ self.now.room }
+    {
+        self.records.len() < self.records.capacity()
+    }
+
+    /// Makes room for one more record. While there is room no frame is short of memory, and only a record that is
+    /// appended ends it. It answers `AllocError` where there is no memory, and changes nothing then.
+    pub fn make_room(&mut self) -> Result<(), AllocError>
+        ensures state { self.new.state ≡ self.old.state }
+        ensures made { OnOk result (self.new.room ≡ true) }
+        ensures short { OnErr result (self.old.room ≡ false) }
+        ensures kept { self.old.room ≡ true → IsOk result }
+    {
+        self.records.reserve(1)
+    }
+
     /// A device enters a slot, without an address. It answers `SlotTaken` where the slot holds one.
     pub fn attach(&mut self, slot: Slot, setup: Setup) -> Result<(), SlotTaken>
         ensures step { Step self.old.state (Event.Attach slot setup) (attached_reply result) self.new.state }
+        ensures active { self.new.state.active ≡ self.old.state.active }
+        ensures session { self.new.state.in_session ≡ self.old.state.in_session }
         ensures room { self.new.room ≡ self.old.room }
     {
-        let place = &mut self.devices[slot.index()];
-        if place.is_some() {
+        let index = slot.index();
+        if self.devices[index].is_some() {
             return Err(SlotTaken);
         }
-        *place = Some(Device::new(setup));
+        self.devices[index] = Some(Device::new(setup));
         Ok(())
     }
 
-    /// Opens a session (ENTDAA, I3C Basic 5.1.4.2): each device without an address hears it. Requests are turned down.
-    /// Until drop-offs inside a frame come, nothing may be cut.
-    pub fn open_daa<T: Tap>(
-        &mut self,
-        role: Role,
-        tap: &mut T,
-        cuts: &Cuts,
-    ) -> Result<(Session, Served), (Role, ActiveStays)>
-        requires fits { HandFits (Hand.Role role) self.old.state }
-        requires uncut { IsUncut cuts.now }
-        ensures step { Step self.old.state (Event.OpenDaa cuts.now) (opened_reply result) self.new.state }
-        ensures told { Tells T.note_gives tap.old tap.new (IsWire self.old.state (opened_reply result)) }
-        ensures fits { IfOk result (λ opened. HandFits (Hand.Session opened.0) self.new.state) }
-        ensures kept { IfErr result (λ refused. (refused.0 ≡ role) × HandFits (Hand.Role refused.0) self.new.state) }
-        ensures room { self.new.room ≡ self.old.room }
-    {
-        tell_open(tap, has_target(&self.devices, self.active));
-        hear_all(&mut self.devices);
-        self.in_session = true;
-        let Role { holder } = role;
-        Ok((Session { holder }, Served::Quiet))
-    }
-
-    /// One round of the open session.
-    pub(crate) fn round<T: Tap>(&mut self, tap: &mut T, cuts: &Cuts) -> RoundReply
-        requires open { self.old.state.in_session ≡ true }
-        requires uncut { IsUncut cuts.now }
-        ensures step { Step self.old.state (Event.Round cuts.now) (Reply.Round result) self.new.state }
-        ensures told { Tells T.note_gives tap.old tap.new (IsWire self.old.state (Reply.Round result)) }
+    /// The slot's device raises an interrupt, with its mandatory byte where one is due (I3C Basic 5.1.6.2). It answers
+    /// the raise's number: those of a slot count from 1 over the life of the bus.
+    pub fn raise(&mut self, slot: Slot, byte: Option<u8>) -> Result<u64, RaiseRefusal>
+        ensures step { Step self.old.state (Event.Raise slot byte) (raised_reply result) self.new.state }
         ensures active { self.new.state.active ≡ self.old.state.active }
-        ensures open { self.new.state.in_session ≡ true }
+        ensures session { self.new.state.in_session ≡ self.old.state.in_session }
         ensures room { self.new.room ≡ self.old.room }
     {
-        let Some(free) = pick(&self.table) else {
-            return RoundReply::NoAddress;
-        };
-        let Some(won) = who_wins(&self.devices, cuts) else {
-            tell_done(tap);
-            return RoundReply::Done;
-        };
-        let identity = won.identity;
-        let address = match self.table.address_known(&identity) {
-            Some(known) => known,
-            None => free,
-        };
-        tell_assigned(tap, won.bits, address);
-        give_all(&mut self.devices, address, &identity);
-        self.table.put(Row {
-            address,
-            bcr: identity.bcr,
-            dcr: identity.dcr,
-            identity: Some(identity),
-        });
-        RoundReply::Assigned(address, identity)
-    }
-
-    /// The session ends.
-    pub(crate) fn end<T: Tap>(&mut self, tap: &mut T)
-        requires { self.old.state.in_session ≡ true }
-        ensures step { Step self.old.state Event.EndDaa Reply.Ended self.new.state }
-        ensures told { Tells T.note_gives tap.old tap.new (IsWire self.old.state Reply.Ended) }
-        ensures active { self.new.state.active ≡ self.old.state.active }
-        ensures ended { self.new.state.in_session ≡ false }
-        ensures room { self.new.room ≡ self.old.room }
-    {
-        tap.note(Symbol::Stop);
-        silence_all(&mut self.devices);
-        self.in_session = false;
-    }
-
-    /// Carries out one event, or refuses it: a frame other than a round or an end while a session is open is
-    /// `SessionOpen`, a round or end without one `NoSession`. Until drop-offs inside a frame come, nothing may be cut.
-    pub fn step<T: Tap>(&mut self, hand: Hand, event: &Event, tap: &mut T) -> (Hand, Reply)
-        requires fits { HandFits hand self.old.state }
-        requires uncut { IsUncutEvent event.now }
-        ensures step { Step self.old.state event.now result.1 self.new.state }
-        ensures told { Tells T.note_gives tap.old tap.new (IsWire self.old.state result.1) }
-        ensures fits { HandFits result.0 self.new.state }
-        ensures room { self.new.room ≡ self.old.room }
-    {
-        match event {
-            Event::Attach(slot, setup) => match self.attach(*slot, *setup) {
-                Ok(()) => (hand, Reply::Attached),
-                Err(SlotTaken) => (hand, Reply::Refused(Refusal::SlotTaken)),
-            },
-            Event::OpenDaa(cuts) => match hand {
-                Hand::Role(role) => self.step_open(role, tap, cuts),
-                Hand::Session(session) => (
-                    Hand::Session(session),
-                    Reply::Refused(Refusal::SessionOpen),
-                ),
-            },
-            Event::Round(cuts) => match hand {
-                Hand::Role(role) => (Hand::Role(role), Reply::Refused(Refusal::NoSession)),
-                Hand::Session(session) => {
-                    let answer = self.round(tap, cuts);
-                    (Hand::Session(session), Reply::Round(answer))
-                }
-            },
-            Event::EndDaa => match hand {
-                Hand::Role(role) => (Hand::Role(role), Reply::Refused(Refusal::NoSession)),
-                Hand::Session(session) => (Hand::Role(session.end(self, tap)), Reply::Ended),
-            },
+        let index = slot.index();
+        if self.devices[index].is_some() && slot == self.active {
+            return Err(RaiseRefusal::IsActive);
         }
-    }
-
-    /// Opens a session, as an event.
-    fn step_open<T: Tap>(&mut self, role: Role, tap: &mut T, cuts: &Cuts) -> (Hand, Reply)
-        requires fits { HandFits (Hand.Role role) self.old.state }
-        requires uncut { IsUncut cuts.now }
-        ensures step { Step self.old.state (Event.OpenDaa cuts.now) result.1 self.new.state }
-        ensures told { Tells T.note_gives tap.old tap.new (IsWire self.old.state result.1) }
-        ensures fits { HandFits result.0 self.new.state }
-        ensures room { self.new.room ≡ self.old.room }
-    {
-        match self.open_daa(role, tap, cuts) {
-            Ok((session, served)) => (Hand::Session(session), Reply::Opened(served)),
-            Err((role, ActiveStays)) => (Hand::Role(role), Reply::Refused(Refusal::ActiveStays)),
+        let raised = self.raised[index];
+        match raise_in(&mut self.devices, index, raised, byte) {
+            Ok(number) => {
+                self.raised[index] = number;
+                Ok(number)
+            }
+            Err(why) => Err(why),
         }
     }
 
@@ -341,6 +247,7 @@ impl Bus {
         }
         let Bus {
             devices: _,
+            raised: _,
             active: _,
             table: _,
             in_session: _,
@@ -357,58 +264,37 @@ fn empty_slots() -> [Option<Device>; SLOTS]
     std::array::from_fn(|_| None)
 }
 
-/// Each device without an address hears.
-fn hear_all(devices: &mut [Option<Device>])
-    ensures { devices.new ≡ changed (λ s place. option_map hears place) devices.old }
+/// The device raises the interrupt after this many of its slot. A count that can't grow is `Full` too.
+fn raise_next(device: &mut Device, raised: u64, byte: Option<u8>) -> Result<u64, RaiseFault>
+    ensures fault { MatchResult result (λ number. (number ≡ suc raised) × (next_fault device.old byte raised ≡ None)) (λ fault. next_fault device.old byte raised ≡ Some fault) }
+    ensures raised { OnOk result (device.new ≡ with_raise (suc raised) byte device.old) }
+    ensures unchanged { OnErr result (device.new ≡ device.old) }
 {
-    for place in devices.iter_mut() {
-        hear(place);
-    }
+    let Some(number) = raised.checked_add(1) else {
+        device.may_raise(byte)?;
+        return Err(RaiseFault::Full);
+    };
+    device.raise(number, byte)?;
+    Ok(number)
 }
 
-/// The device of a place, if there is one, as a session is opened.
-fn hear(place: &mut Option<Device>)
-    ensures { place.new ≡ option_map hears place.old }
+/// What stands in this place raises the interrupt after this many of its slot.
+fn raise_in(
+    devices: &mut [Option<Device>],
+    index: usize,
+    raised: u64,
+    byte: Option<u8>,
+) -> Result<u64, RaiseRefusal>
+    requires { index < length devices.old }
+    ensures fault { MatchResult result (λ number. (number ≡ suc raised) × (place_fault (slice_index_or devices.old index None) byte raised ≡ None)) (λ why. place_fault (slice_index_or devices.old index None) byte raised ≡ Some why) }
+    ensures raised { OnOk result (devices.new ≡ slice_set devices.old index (option_map (with_raise (suc raised) byte) (slice_index_or devices.old index None))) }
+    ensures unchanged { OnErr result (devices.new ≡ devices.old) }
 {
-    if let Some(device) = place {
-        device.hear();
-    }
-}
-
-/// Nobody hears any more.
-fn silence_all(devices: &mut [Option<Device>])
-    ensures { devices.new ≡ changed (λ s place. option_map unhearing place) devices.old }
-{
-    for place in devices.iter_mut() {
-        silence(place);
-    }
-}
-
-/// The device of a place, if there is one, as a session ends.
-fn silence(place: &mut Option<Device>)
-    ensures { place.new ≡ option_map unhearing place.old }
-{
-    if let Some(device) = place {
-        device.fall_silent();
-    }
-}
-
-/// Whoever hears and has this identity takes the address.
-fn give_all(devices: &mut [Option<Device>], address: Addr7, identity: &Identity)
-    ensures { devices.new ≡ changed (λ s place. option_map (won identity.now address) place) devices.old }
-{
-    for place in devices.iter_mut() {
-        give(place, address, identity);
-    }
-}
-
-/// The device of a place, if it hears and has this identity, takes the address.
-fn give(place: &mut Option<Device>, address: Addr7, identity: &Identity)
-    ensures { place.new ≡ option_map (won identity.now address) place.old }
-{
-    if let Some(device) = place {
-        if device.is_hearing() && device.identity() == *identity {
-            device.take_address(address);
-        }
+    let Some(device) = &mut devices[index] else {
+        return Err(RaiseRefusal::NoDevice);
+    };
+    match raise_next(device, raised, byte) {
+        Ok(number) => Ok(number),
+        Err(fault) => Err(RaiseRefusal::from(fault)),
     }
 }

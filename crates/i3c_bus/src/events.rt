@@ -1,10 +1,19 @@
-use i3c_base::{Cuts, Setup, Slot};
+use i3c_base::{Addr7, Cuts, Fixed, Kinds, Setup, Slot};
 
-/// What may happen on a bus. A frame carries its cuts.
+/// What may happen on a bus. A frame carries its policy on requests, and its cuts.
 #[derive(Drop)]
 pub enum Event {
     /// A device enters a slot.
     Attach(Slot, Setup),
+    /// The slot's device raises an interrupt, with its mandatory byte where one is due (I3C Basic 5.1.6.2).
+    Raise(Slot, Option<u8>),
+    /// The active controller serves the first request, and nothing else.
+    Serve(Fixed, Cuts),
+    /// Kinds of events are enabled (ENEC, I3C Basic 5.1.9.3.1): of the devices at an address, or without one of all
+    /// but the active controller.
+    Enec(Option<Addr7>, Kinds, Fixed, Cuts),
+    /// Kinds of events are disabled (DISEC, I3C Basic 5.1.9.3.1), of the same.
+    Disec(Option<Addr7>, Kinds, Fixed, Cuts),
     /// The active controller opens a session of dynamic address assignment (ENTDAA, I3C Basic 5.1.4.2).
     OpenDaa(Cuts),
     /// One round of the open session.

@@ -6,9 +6,9 @@ ghost use Rattle.i3c_base.specs.Cutting.{IsUncut};
 ghost use Rattle.i3c_base.specs.Numbers.{IsInRange, number_of};
 ghost use Rattle.i3c_bus.specs.Hearers.{contender, contenders_from, IsContenderKey, IsContested, IsLeastHearing, NobodyHears};
 
-use crate::device::Device;
 use arrayvec::ArrayVec;
 use i3c_base::{Cuts, Identity, SLOTS, Slot};
+use i3c_device::Device;
 use i3c_wires::contest;
 
 /// The bits of an identity.

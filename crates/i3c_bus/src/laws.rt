@@ -1,4 +1,4 @@
-ghost use Rattle.i3c_bus.specs.Laws.{AddressesAreUnique, UncutStepsAreDetermined};
+ghost use Rattle.i3c_bus.specs.Laws.{AcceptedInterruptsAreRecorded, AddressesAreUnique, InterruptsAreRecordedOnce, OneIsActive, RaisesStayInOrder, RunsAreHistories, UncutStepsAreDetermined};
 
 /// Over every legal run: where devices that are present together have distinct identities, no two devices answer to
 /// one address, legacy targets included.
@@ -6,7 +6,34 @@ pub fn addresses_are_unique()
     ensures { AddressesAreUnique }
 {}
 
-/// Where nothing is cut, the state and the event determine the reply and the next state.
+/// Over every legal run a device is in the active slot.
+pub fn one_is_active()
+    ensures { OneIsActive }
+{}
+
+/// Each legal run is a legal history, of which the laws on records and raises speak.
+pub fn runs_are_histories()
+    ensures { RunsAreHistories }
+{}
+
+/// Over every legal history: each accepted interrupt is recorded once, under the address of the device that raised it
+/// while its interrupts were enabled.
+pub fn interrupts_are_recorded_once()
+    ensures { InterruptsAreRecordedOnce }
+{}
+
+/// A frame that accepts an interrupt of a device which it doesn't lose records it.
+pub fn accepted_interrupts_are_recorded()
+    ensures { AcceptedInterruptsAreRecorded }
+{}
+
+/// Over every legal history: of a present device's stay, the accepted raises are the recorded ones and then those that
+/// wait, in order.
+pub fn raises_stay_in_order()
+    ensures { RaisesStayInOrder }
+{}
+
+/// Where nothing is cut and there is memory, the state and the event determine the reply and the next state.
 pub fn uncut_steps_are_determined()
     ensures { UncutStepsAreDetermined }
 {}

@@ -4,21 +4,30 @@
 //! and the functions of `laws` state what holds over every run.
 #![tactic(auto)]
 
-mod device;
+mod dispatch;
 mod engine;
 mod events;
+mod frames;
 mod hearers;
 mod laws;
 mod replies;
 mod runs;
+mod sessions;
 mod tokens;
 mod wire;
 
 pub use engine::{Bus, Records};
 pub use events::Event;
-pub use i3c_base::{RoundReply, Served};
-pub use laws::{addresses_are_unique, uncut_steps_are_determined};
-pub use replies::{ActiveStays, Refusal, Reply, RunFault, SlotTaken, StartFault};
+pub use i3c_base::{Answer, RoundReply, Served};
+pub use i3c_ibi::{Fixed, Policy, Record, Verdict};
+pub use laws::{
+    accepted_interrupts_are_recorded, addresses_are_unique, interrupts_are_recorded_once,
+    one_is_active, raises_stay_in_order, runs_are_histories, uncut_steps_are_determined,
+};
+pub use replies::{
+    ActiveStays, FrameFault, Framed, RaiseRefusal, Refusal, Reply, RunFault, SlotTaken, StartFault,
+    TargetFault,
+};
 pub use runs::{Outcome, run_events};
 pub use tokens::{Hand, Role, Session};
 

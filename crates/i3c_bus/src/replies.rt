@@ -1,4 +1,5 @@
-use i3c_base::{RoundReply, Served};
+use i3c_base::{Addr7, Answer, RoundReply, Served};
+use i3c_device::RaiseFault;
 use thiserror::Error;
 
 /// Why an event is refused. It changes nothing then.
@@ -12,13 +13,43 @@ pub enum Refusal {
     ActiveStays,
     /// The slot holds a device.
     SlotTaken,
+    /// The slot holds no device.
+    NoDevice,
+    /// The slot's device is the active controller.
+    IsActive,
+    /// The device has no address.
+    NoAddress,
+    /// The device can't do this by its BCR.
+    NotCapable,
+    /// A mandatory byte is due by the device's BCR and lacks, or is given and isn't due.
+    ByteMismatch,
+    /// The device's events of this kind are disabled.
+    Masked,
+    /// No more interrupts of the slot may wait or be counted.
+    Full,
+    /// No device of the active controller's table has this address, or it is the active controller's own.
+    NoAnswer(Addr7),
+}
+
+/// What a frame served, and the answer to its own part.
+#[derive(Clone, Copy, Debug, PartialEq, Eq)]
+pub struct Framed {
+    pub served: Served,
+    pub answer: Answer,
 }
 
 /// The reply to an event.
 #[derive(Clone, Copy, Debug, PartialEq, Eq)]
 pub enum Reply {
     Refused(Refusal),
+    /// There was no memory for a record, before the frame's first bit. Nothing changed.
+    OutOfMemory,
     Attached,
+    /// The number of the raise: those of a slot count from 1, over all its stays.
+    Raised(u64),
+    /// The frame served this, and nothing else.
+    Served(Served),
+    Framed(Framed),
     /// A session is open; the frame served this.
     Opened(Served),
     Round(RoundReply),
@@ -42,6 +73,122 @@ pub struct SlotTaken;
 #[derive(Clone, Copy, Debug, PartialEq, Eq, Drop, Error)]
 #[error("the active controller stays")]
 pub struct ActiveStays;
+
+/// Why a slot raises no interrupt.
+#[derive(Clone, Copy, Debug, PartialEq, Eq, Drop, Error)]
+pub enum RaiseRefusal {
+    /// The slot holds no device.
+    #[error("the slot holds no device")]
+    NoDevice,
+    /// The slot's device is the active controller.
+    #[error("the device is the active controller")]
+    IsActive,
+    /// The device has no address.
+    #[error("the device has no address")]
+    NoAddress,
+    /// The device's BCR says that it can't interrupt.
+    #[error("the device can't interrupt")]
+    NotCapable,
+    /// A mandatory byte is due by the device's BCR and lacks, or is given and isn't due.
+    #[error("the mandatory byte and the device's BCR differ")]
+    ByteMismatch,
+    /// The device's interrupts are disabled.
+    #[error("the device's interrupts are disabled")]
+    Masked,
+    /// Eight interrupts wait already, or the slot's raises can't be counted further.
+    #[error("no more interrupts may wait")]
+    Full,
+}
+
+impl From<RaiseFault> for RaiseRefusal {
+    ghost use Rattle.std.specs.Prelude.{◌≡◌};
+    ghost use Rattle.i3c_bus.specs.Replies.{of_device};
+
+    ghost from_gives = { λ fault why. why ≡ of_device fault };
+
+    fn from(fault: RaiseFault) -> RaiseRefusal {
+        match fault {
+            RaiseFault::NoAddress => RaiseRefusal::NoAddress,
+            RaiseFault::NotCapable => RaiseRefusal::NotCapable,
+            RaiseFault::ByteMismatch => RaiseRefusal::ByteMismatch,
+            RaiseFault::Masked => RaiseRefusal::Masked,
+            RaiseFault::Full => RaiseRefusal::Full,
+        }
+    }
+}
+
+impl From<RaiseRefusal> for Refusal {
+    ghost use Rattle.std.specs.Prelude.{◌≡◌};
+    ghost use Rattle.i3c_bus.specs.Replies.{raise_refusal};
+
+    ghost from_gives = { λ why refusal. refusal ≡ raise_refusal why };
+
+    fn from(why: RaiseRefusal) -> Refusal {
+        match why {
+            RaiseRefusal::NoDevice => Refusal::NoDevice,
+            RaiseRefusal::IsActive => Refusal::IsActive,
+            RaiseRefusal::NoAddress => Refusal::NoAddress,
+            RaiseRefusal::NotCapable => Refusal::NotCapable,
+            RaiseRefusal::ByteMismatch => Refusal::ByteMismatch,
+            RaiseRefusal::Masked => Refusal::Masked,
+            RaiseRefusal::Full => Refusal::Full,
+        }
+    }
+}
+
+/// Why a frame to nobody in particular is not sent.
+#[derive(Clone, Copy, Debug, PartialEq, Eq, Drop, Error)]
+pub enum FrameFault {
+    /// The active controller can't be cut.
+    #[error("the active controller stays")]
+    ActiveStays,
+    /// There was no memory for a record.
+    #[error("out of memory")]
+    OutOfMemory,
+}
+
+impl From<FrameFault> for Reply {
+    ghost use Rattle.std.specs.Prelude.{◌≡◌};
+    ghost use Rattle.i3c_bus.specs.Replies.{frame_fault_reply};
+
+    ghost from_gives = { λ fault reply. reply ≡ frame_fault_reply fault };
+
+    fn from(fault: FrameFault) -> Reply {
+        match fault {
+            FrameFault::ActiveStays => Reply::Refused(Refusal::ActiveStays),
+            FrameFault::OutOfMemory => Reply::OutOfMemory,
+        }
+    }
+}
+
+/// Why a frame to one address is not sent.
+#[derive(Clone, Copy, Debug, PartialEq, Eq, Drop, Error)]
+pub enum TargetFault {
+    /// The active controller can't be cut.
+    #[error("the active controller stays")]
+    ActiveStays,
+    /// No device of the active controller's table has this address, or it is the active controller's own.
+    #[error("no device answers to the address")]
+    NoAnswer(Addr7),
+    /// There was no memory for a record.
+    #[error("out of memory")]
+    OutOfMemory,
+}
+
+impl From<TargetFault> for Reply {
+    ghost use Rattle.std.specs.Prelude.{◌≡◌};
+    ghost use Rattle.i3c_bus.specs.Replies.{target_fault_reply};
+
+    ghost from_gives = { λ fault reply. reply ≡ target_fault_reply fault };
+
+    fn from(fault: TargetFault) -> Reply {
+        match fault {
+            TargetFault::ActiveStays => Reply::Refused(Refusal::ActiveStays),
+            TargetFault::NoAnswer(address) => Reply::Refused(Refusal::NoAnswer(address)),
+            TargetFault::OutOfMemory => Reply::OutOfMemory,
+        }
+    }
+}
 
 /// Why a run gave no outcome.
 #[derive(Clone, Copy, Debug, PartialEq, Eq, Drop, Error)]

@@ -12,6 +12,7 @@ use i3c_legacy::Legacies;
 use i3c_word::Word;
 use std::alloc::Global;
 use std::mem::size_of;
+use std::process::Abort;
 use std::test::Fail;
 
 fn slot(value: u8) -> Slot
@@ -89,7 +90,7 @@ const DONE: Reply = Reply::Round(RoundReply::Done);
 fn sizes(rt: HostRuntime) -> Result<(), Fail> {
     println!(rt; "Event {} Reply {}", size_of::<Event>(), size_of::<Reply>())?;
     assert!(rt; size_of::<Event>() <= 64);
-    assert!(rt; size_of::<Reply>() <= 32);
+    assert!(rt; size_of::<Reply>() <= 48);
     Ok(())
 }
 
@@ -353,3 +354,5 @@ fn wire_of_a_lone_controller(rt: HostRuntime) {
     let wire = wire_of(rt.alloc(), &events);
     assert!(rt; wire.as_slice() == expected.as_slice());
 }
+
+mod serving;

@@ -77,7 +77,7 @@ impl Session {
         requires fits { HandFits (Hand.Session self.now) bus.old.state }
         requires uncut { IsUncut cuts.now }
         ensures step { Step bus.old.state (Event.Round cuts.now) (rounded_reply result) bus.new.state }
-        ensures told { Tells T.note_gives tap.old tap.new (IsWire bus.old.state (rounded_reply result)) }
+        ensures told { Tells T.note_gives tap.old tap.new (IsWire bus.old.state (Event.Round cuts.now) (rounded_reply result) bus.new.state) }
         ensures fits { HandFits (Hand.Session self.now) bus.new.state }
         ensures room { bus.new.room ≡ bus.old.room }
     {
@@ -88,7 +88,7 @@ impl Session {
     pub fn end<T: Tap>(self, bus: &mut Bus, tap: &mut T) -> Role
         requires fits { HandFits (Hand.Session self) bus.old.state }
         ensures step { Step bus.old.state Event.EndDaa Reply.Ended bus.new.state }
-        ensures told { Tells T.note_gives tap.old tap.new (IsWire bus.old.state Reply.Ended) }
+        ensures told { Tells T.note_gives tap.old tap.new (IsWire bus.old.state Event.EndDaa Reply.Ended bus.new.state) }
         ensures fits { HandFits (Hand.Role result) bus.new.state }
         ensures room { bus.new.room ≡ bus.old.room }
     {

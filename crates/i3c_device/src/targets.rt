@@ -165,11 +165,9 @@ impl Device {
         self.join_wish = false;
     }
 
-    /// Raises an interrupt under this number: it waits as the last one. The first fault refuses it, and changes nothing.
-    pub fn raise(&mut self, number: u64, byte: Option<u8>) -> Result<(), RaiseFault>
-        ensures fault { MatchResult result (λ _. raise_fault self.old byte ≡ None) (λ fault. raise_fault self.old byte ≡ Some fault) }
-        ensures raised { OnOk result (self.new ≡ record self.old { waiting = self.old.waiting ++ record { number = number; byte = byte } ∷ [] }) }
-        ensures unchanged { OnErr result (self.new ≡ self.old) }
+    /// Whether it may raise an interrupt with this byte now: the first fault, if there is one.
+    pub fn may_raise(&self, byte: Option<u8>) -> Result<(), RaiseFault>
+        ensures { MatchResult result (λ _. raise_fault self.now byte ≡ None) (λ fault. raise_fault self.now byte ≡ Some fault) }
     {
         if self.address.is_none() {
             return Err(RaiseFault::NoAddress);
@@ -186,6 +184,16 @@ impl Device {
         if self.waiting.is_full() {
             return Err(RaiseFault::Full);
         }
+        Ok(())
+    }
+
+    /// Raises an interrupt under this number: it waits as the last one. The first fault refuses it, and changes nothing.
+    pub fn raise(&mut self, number: u64, byte: Option<u8>) -> Result<(), RaiseFault>
+        ensures fault { MatchResult result (λ _. raise_fault self.old byte ≡ None) (λ fault. raise_fault self.old byte ≡ Some fault) }
+        ensures raised { OnOk result (self.new ≡ record self.old { waiting = self.old.waiting ++ record { number = number; byte = byte } ∷ [] }) }
+        ensures unchanged { OnErr result (self.new ≡ self.old) }
+    {
+        self.may_raise(byte)?;
         self.waiting.push(Waiting { number, byte });
         Ok(())
     }

@@ -45,6 +45,7 @@ fn the_first_fault_refuses(rt: HostRuntime) -> Result<(), Fail> {
     let mask = [write_word(0x01)];
     let mut device = attached(0x04)?;
     device.hear(Code::Disec, &mask);
+    assert_eq!(rt; device.may_raise(None), Err(RaiseFault::NoAddress));
     assert_eq!(rt; device.raise(1, None), Err(RaiseFault::NoAddress));
     device.take_address(Addr7::new(0x09)?);
     assert_eq!(rt; device.raise(1, None), Err(RaiseFault::NotCapable));
@@ -64,9 +65,11 @@ fn the_first_fault_refuses(rt: HostRuntime) -> Result<(), Fail> {
 fn eight_interrupts_wait_and_a_ninth_is_refused(rt: HostRuntime) -> Result<(), Fail> {
     let mut device = addressed(0x02, 0x09)?;
     for number in 1..9 {
+        assert_eq!(rt; device.may_raise(None), Ok(()));
         assert_eq!(rt; device.raise(number, None), Ok(()));
     }
     assert_eq!(rt; device.waiting(), 8);
+    assert_eq!(rt; device.may_raise(None), Err(RaiseFault::Full));
     assert_eq!(rt; device.raise(9, None), Err(RaiseFault::Full));
     assert_eq!(rt; device.waiting(), 8);
     device.lose_front();

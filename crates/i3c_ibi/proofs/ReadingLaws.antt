@@ -1,6 +1,6 @@
 -- What is read behind an accepted interrupt.
 use Rattle.std.specs.Int.{bit_at}
-use Rattle.std.proofs.lemmas.Bool.{and_parts, cases_eq, cond-true, eqb-false, ne_eqb, not-true}
+use Rattle.std.proofs.lemmas.Bool.{and_parts, both_ways, cases_eq, cond-true, eqb-false, ne_eqb, not-true}
 use Rattle.std.proofs.lemmas.Option.{none-some, same_Some}
 use Rattle.std.proofs.Common.{◌≡◌, ℕ, ◌<◌, Bool, true, false, not, ◌&&◌, ◌==◌, if◌then◌else◌, List, [], ◌∷◌, length, get_or, Option, Some, None, is_some, option_and_then, inl, inr, sym, refl, ap, ◌∙◌, subst}
 use Rattle.i3c_base.specs.declared.requests.Request.{Request}
@@ -8,7 +8,9 @@ use Rattle.i3c_base.specs.declared.requests.Request.TheVariants.{Interrupt}
 use Rattle.i3c_base.specs.declared.device.Waiting.{Waiting}
 use Rattle.i3c_base.specs.State.{Device, State, device_at}
 use Rattle.i3c_base.specs.Serve.{DrivesByte, IsFront, drives}
-use Rattle.i3c_ibi.specs.Driving.{IsFrontOf, IsLowest, IsReading, Together, byte_beside, front_byte, front_of}
+use Rattle.i3c_base.specs.declared.requests.Record.{Record}
+use Rattle.i3c_device.specs.Raising.{front_byte}
+use Rattle.i3c_ibi.specs.Driving.{HaveBytes, IsFrontOf, IsLowest, IsReading, Together, byte_beside}
 use Rattle.i3c_ibi.proofs.Scans.{drives_in}
 
 and_join : (a b : Bool) → a ≡ true → b ≡ true → (a && b) ≡ true
@@ -17,15 +19,18 @@ and_join a b p q = ap (λ x. x && b) p ∙ q
 not_false : (b : Bool) → b ≡ false → not b ≡ true
 not_false b e = ap not e
 
--- the front's byte, there and back
-front_byte_of : (o : Option Device) (w : Waiting) (v : ℕ) → IsFrontOf o w → w.byte ≡ Some v → front_byte o ≡ Some v
-front_byte_of o w v f e = ap front_byte f.2 ∙ (ap (λ ws. option_and_then (λ (x : Waiting). x.byte) (front_of ws)) f.3 ∙ e)
+-- the byte that what stands in a slot answers with, there and back
+abbrev answer_byte : Option Device → Option ℕ
+answer_byte place = option_and_then (λ d. front_byte d.waiting) place
 
-front_byte_from : (o : Option Device) (v : ℕ) → front_byte o ≡ Some v → (w : Waiting) × IsFrontOf o w × (w.byte ≡ Some v)
-front_byte_from None v e = absurd (none-some v e)
-front_byte_from (Some d) v e = go d.waiting refl e
+answer_byte_of : (o : Option Device) (w : Waiting) (v : ℕ) → IsFrontOf o w → w.byte ≡ Some v → answer_byte o ≡ Some v
+answer_byte_of o w v f e = ap answer_byte f.2 ∙ (ap front_byte f.3 ∙ e)
+
+answer_byte_from : (o : Option Device) (v : ℕ) → answer_byte o ≡ Some v → (w : Waiting) × IsFrontOf o w × (w.byte ≡ Some v)
+answer_byte_from None v e = absurd (none-some v e)
+answer_byte_from (Some d) v e = go d.waiting refl e
   where
-    go : (ws : List Waiting) → d.waiting ≡ ws → option_and_then (λ (x : Waiting). x.byte) (front_of ws) ≡ Some v → (w : Waiting) × IsFrontOf (Some d) w × (w.byte ≡ Some v)
+    go : (ws : List Waiting) → d.waiting ≡ ws → front_byte ws ≡ Some v → (w : Waiting) × IsFrontOf (Some d) w × (w.byte ≡ Some v)
     go [] is k = absurd (none-some v k)
     go (w ∷ ws) is k = (w, (d, ws, refl, is), k)
 
@@ -39,20 +44,20 @@ one_front o v w f g =
 -- the byte beside the lowest slot's, there and back
 beside_of : (st : State) (r : Request) (slot s v : ℕ) (w : Waiting) → (s ≡ slot → ⊥) → drives st r s ≡ true → IsFront st s w → w.byte ≡ Some v → byte_beside st.active r slot s (device_at st s) ≡ Some v
 beside_of st r slot s v w ne d f e =
-    cond-true (not (s == slot) && drives st r s) _ None (and_join _ _ (not_false _ (ne_eqb s slot ne)) d) ∙ front_byte_of (device_at st s) w v f e
+    cond-true (not (s == slot) && drives st r s) _ None (and_join _ _ (not_false _ (ne_eqb s slot ne)) d) ∙ answer_byte_of (device_at st s) w v f e
 
 beside_from : (st : State) (r : Request) (slot s v : ℕ) → byte_beside st.active r slot s (device_at st s) ≡ Some v → DrivesByte st r s v
 beside_from st r slot s v e = go (not (s == slot) && drives st r s) refl e
   where
-    go : (b : Bool) → (not (s == slot) && drives st r s) ≡ b → (if b then front_byte (device_at st s) else None) ≡ Some v → DrivesByte st r s v
-    go true is k = ((and_parts (not (s == slot)) (drives st r s) is).1, front_byte_from (device_at st s) v k)
+    go : (b : Bool) → (not (s == slot) && drives st r s) ≡ b → (if b then answer_byte (device_at st s) else None) ≡ Some v → DrivesByte st r s v
+    go true is k = ((and_parts (not (s == slot)) (drives st r s) is).1, answer_byte_from (device_at st s) v k)
     go false is k = absurd (none-some v k)
 
 -- where only the lowest slot drives, there is none beside it
 beside_none : (st : State) (r : Request) (slot s : ℕ) → ((t : ℕ) → drives st r t ≡ true → t ≡ slot) → byte_beside st.active r slot s (device_at st s) ≡ None
 beside_none st r slot s h = go (not (s == slot) && drives st r s) refl
   where
-    go : (b : Bool) → (not (s == slot) && drives st r s) ≡ b → (if b then front_byte (device_at st s) else None) ≡ None
+    go : (b : Bool) → (not (s == slot) && drives st r s) ≡ b → (if b then answer_byte (device_at st s) else None) ≡ None
     go true is = let p = and_parts (not (s == slot)) (drives st r s) is in absurd (eqb-false s slot (not-true _ p.0) (h s p.1))
     go false is = refl
 
@@ -126,3 +131,15 @@ scanned_some st devices active at slot front index own both d a h e same tog low
     subst (λ s. IsReading s at (record { slot = slot; number = front.number; at = at; byte = Some both })) (moved_to st devices active d a)
     (reading_some (record st { devices = devices; active = active }) at slot front own both h.0 h.1 e
     (subst (λ k. Together (λ s. byte_beside active (Interrupt at) k s (get_or devices s None)) own (length devices) both) same tog) low)
+
+-- the byte that was read is there exactly where one is due
+pub due_byte : (devices : List (Option Device)) (active at : ℕ) (due : Bool) (r : Record) → HaveBytes active devices at due
+    → ((st : State) → st.devices ≡ devices → st.active ≡ active → IsReading st at r) → is_some r.byte ≡ due
+due_byte devices active at due r fitting read =
+    let st : State = record { devices = devices; raised = []; active = active; legacy = []; given = []; in_session = false; listed = false; records = [] } in
+    let h : IsReading st at r = read st refl refl in
+    h.read.present ∙ fitting r.slot h.front h.lowest.0 h.fronted
+
+pub no_byte : (o : Option ℕ) → is_some o ≡ false → o ≡ None
+no_byte None e = refl
+no_byte (Some v) e = absurd (both_ways _ e refl)

@@ -1,5 +1,5 @@
 -- Who drives the first request, and what is read behind it.
-use Rattle.std.specs.Prelude.{◌≡◌, ℕ, ◌<◌, ◌≤◌, ◌↔◌, Bool, true, false, not, ◌&&◌, ◌==◌, if◌then◌else◌, List, [], ◌∷◌, Option, Some, MatchOption, option_and_then, option_map, None, slice_index_or, All, Contains, length}
+use Rattle.std.specs.Prelude.{◌≡◌, ℕ, ◌<◌, ◌≤◌, ◌↔◌, Bool, true, false, not, ◌&&◌, ◌==◌, if◌then◌else◌, List, ◌∷◌, Option, Some, MatchOption, option_and_then, option_map, None, slice_index_or, All, Contains, length, is_some}
 use Rattle.std.specs.Int.{bit_at}
 use Rattle.i3c_base.specs.declared.requests.Record.{Record}
 use Rattle.i3c_base.specs.declared.device.Waiting.{Waiting}
@@ -8,6 +8,7 @@ use Rattle.i3c_base.specs.declared.requests.Request.TheVariants.{Interrupt, Join
 use Rattle.i3c_header.specs.Keys.{IsLawful}
 use Rattle.i3c_base.specs.State.{Device, State, in_slot}
 use Rattle.i3c_base.specs.Serve.{IsFirst, IsFront, IsLowestDriver, IsRead, NoneAsks, asks, without_front, without_join, without_role}
+use Rattle.i3c_device.specs.Raising.{front_byte}
 
 -- the first request of a bus, if there is one
 abbrev pub IsFirstOf : State → Option Request → Type 0
@@ -46,17 +47,14 @@ IsLowest active r devices s = (drives_at active s (slice_index_or devices s None
 abbrev pub IsFrontOf : Option Device → Waiting → Type 0
 IsFrontOf place w = (d : Device) × (rest : List Waiting) × (place ≡ Some d) × (d.waiting ≡ w ∷ rest)
 
--- the front of a list, and its byte
-abbrev pub front_of : List Waiting → Option Waiting
-front_of [] = None
-front_of (w ∷ ws) = Some w
-
-abbrev pub front_byte : Option Device → Option ℕ
-front_byte place = option_and_then (λ d. option_and_then (λ (w : Waiting). w.byte) (front_of d.waiting)) place
+-- each front of those who drive an interrupt at the address `at` has a mandatory byte exactly where one is due
+abbrev pub HaveBytes : ℕ → List (Option Device) → ℕ → Bool → Type 0
+HaveBytes active devices at due =
+    (s : ℕ) (w : Waiting) → drives_at active s (slice_index_or devices s None) (Interrupt at) ≡ true → IsFrontOf (slice_index_or devices s None) w → is_some w.byte ≡ due
 
 -- the byte that slot s drives behind the request r, beside the one of slot `lowest`
 abbrev pub byte_beside : ℕ → Request → ℕ → ℕ → Option Device → Option ℕ
-byte_beside active r lowest s place = if not (s == lowest) && drives_at active s place r then front_byte place else None
+byte_beside active r lowest s place = if not (s == lowest) && drives_at active s place r then option_and_then (λ d. front_byte d.waiting) place else None
 
 -- `both` is the AND of `own` and the bytes of the slots below n
 pub record Together (bytes : ℕ → Option ℕ) (own n both : ℕ) : Type 0 where

@@ -10,8 +10,8 @@ mod readings;
 pub use drivers::answer_drivers;
 pub use firsts::first_request;
 pub use i3c_base::{Fixed, Record, Served, Verdict};
-pub use policies::Policy;
-pub use readings::reading;
+pub use policies::{Policy, decide};
+pub use readings::{byte_is_due, reading};
 
 #[cfg(test)]
 mod tests;

@@ -1,12 +1,14 @@
-ghost use Rattle.std.specs.Prelude.{◌≡◌, ◌≢◌, ℕ, ◌<◌, ◌≤◌, false, true, length, MatchOption, None, slice_index_or};
+ghost use Rattle.std.specs.Prelude.{◌≡◌, ◌≢◌, ℕ, ◌<◌, ◌≤◌, false, true, length, is_some, MatchOption, None, slice_index_or};
 ghost use Rattle.i3c_base.specs.declared.range.TheConstants.{SLOTS as SLOT_COUNT};
 ghost use Rattle.i3c_base.specs.declared.requests.Request.{Request as RequestValue};
-ghost use Rattle.i3c_base.specs.State.{State};
-ghost use Rattle.i3c_ibi.specs.Driving.{IsFrontOf, IsLowest, IsReading, Together, UndrivenBelow, byte_beside, drives_at};
+ghost use Rattle.i3c_base.specs.State.{State, entry_in};
+ghost use Rattle.i3c_base.specs.Serve.{byte_due};
+ghost use Rattle.i3c_ibi.specs.Driving.{HaveBytes, IsFrontOf, IsLowest, IsReading, Together, UndrivenBelow, byte_beside, drives_at};
 
 use crate::drivers::drives;
 use i3c_base::{Addr7, Record, Request, Slot, Waiting};
 use i3c_device::Device;
+use i3c_table::Table;
 
 /// The front of what stands in this slot, if it drives an interrupt at this address.
 fn front_driven(place: &Option<Device>, index: usize, active: Slot, at: Addr7) -> Option<Waiting>
@@ -48,9 +50,7 @@ fn byte_beside(
 {
     if index != lowest && drives(place, index, active, request) {
         if let Some(device) = place {
-            if let Some(front) = device.front() {
-                return front.byte;
-            }
+            return device.answer_byte();
         }
     }
     None
@@ -78,8 +78,8 @@ fn together(
     both
 }
 
-/// What is recorded of the accepted interrupt at this address, which some device drives.
-pub fn reading(devices: &[Option<Device>], active: Slot, at: Addr7) -> Record
+/// What the drivers of the interrupt at this address, of whom there is one, have at their fronts.
+fn fronts_read(devices: &[Option<Device>], active: Slot, at: Addr7) -> Record
     requires slots { length devices.now ≤ SLOT_COUNT }
     requires driven { (s : ℕ) × (drives_at active s (slice_index_or devices.now s None) (RequestValue.Interrupt at) ≡ true) }
     ensures { (st : State) → st.devices ≡ devices.now → st.active ≡ active → IsReading st at result }
@@ -97,5 +97,31 @@ pub fn reading(devices: &[Option<Device>], active: Slot, at: Addr7) -> Record
         number: front.number,
         at,
         byte,
+    }
+}
+
+/// Whether the interrupts at this address have a mandatory byte, by the BCR in the controller's table.
+pub fn byte_is_due(table: &Table, at: Addr7) -> bool
+    ensures { result ≡ byte_due (entry_in table.now.given at) }
+{
+    match table.row_of(at) {
+        Some(row) => row.bcr.has_byte(),
+        None => false,
+    }
+}
+
+/// What is recorded of the accepted interrupt at this address, which some device drives: the controller reads the
+/// mandatory byte where one is due (I3C Basic 5.1.6.2).
+pub fn reading(devices: &[Option<Device>], active: Slot, at: Addr7, due: bool) -> Record
+    requires slots { length devices.now ≤ SLOT_COUNT }
+    requires driven { (s : ℕ) × (drives_at active s (slice_index_or devices.now s None) (RequestValue.Interrupt at) ≡ true) }
+    ensures read { HaveBytes active devices.now at due → (st : State) → st.devices ≡ devices.now → st.active ≡ active → IsReading st at result }
+    ensures due { HaveBytes active devices.now at due → is_some result.byte ≡ due }
+    ensures unread { due ≡ false → result.byte ≡ None }
+{
+    let read = fronts_read(devices, active, at);
+    Record {
+        byte: if due { read.byte } else { None },
+        ..read
     }
 }

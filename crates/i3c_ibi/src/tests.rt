@@ -1,10 +1,13 @@
-ghost use Rattle.std.specs.Prelude.{◌≤◌, length};
+ghost use Rattle.std.specs.Prelude.{⊤, ◌≤◌, length};
 ghost use Rattle.i3c_base.specs.declared.range.TheConstants.{SLOTS as SLOT_COUNT};
 
 use crate::drivers::drives;
-use crate::{Fixed, Policy, Record, Verdict, answer_drivers, first_request, reading};
+use crate::{
+    Fixed, Policy, Record, Verdict, answer_drivers, byte_is_due, decide, first_request, reading,
+};
 use i3c_base::{Addr7, Bcr, Dcr, Identity, Pid, Request, Setup, Slot};
 use i3c_device::Device;
+use i3c_table::{Legacies, Row, Table};
 use std::process::Abort;
 use std::test::Fail;
 
@@ -44,13 +47,20 @@ fn joining() -> Result<Device, Fail> {
 }
 
 // What is recorded of the interrupt at this address, which this slot drives.
-fn read(rt: &impl Abort, devices: &[Option<Device>], active: Slot, at: Addr7, slot: Slot) -> Record
+fn read(
+    rt: &impl Abort,
+    devices: &[Option<Device>],
+    active: Slot,
+    at: Addr7,
+    slot: Slot,
+    due: bool,
+) -> Record
     requires { length devices.now ≤ SLOT_COUNT }
 {
     let index = slot.index();
     assert!(rt; index < devices.len());
     assert!(rt; drives(&devices[index], index, active, &Request::Interrupt(at)));
-    reading(devices, active, at)
+    reading(devices, active, at, due)
 }
 
 #[test]
@@ -171,7 +181,7 @@ fn one_devices_byte_is_read(rt: HostRuntime) -> Result<(), Fail> {
     ];
     let (first, second) = (Slot::new(1)?, Slot::new(2)?);
     assert_eq!(rt;
-        read(&rt, &devices, active, high, first),
+        read(&rt, &devices, active, high, first, true),
         Record {
             slot: first,
             number: 7,
@@ -180,7 +190,7 @@ fn one_devices_byte_is_read(rt: HostRuntime) -> Result<(), Fail> {
         }
     );
     assert_eq!(rt;
-        read(&rt, &devices, active, low, second),
+        read(&rt, &devices, active, low, second, false),
         Record {
             slot: second,
             number: 5,
@@ -206,7 +216,7 @@ fn bytes_at_one_address_are_and(rt: HostRuntime) -> Result<(), Fail> {
     ];
     for driver in [lowest, Slot::new(3)?, Slot::new(4)?] {
         assert_eq!(rt;
-            read(&rt, &devices, active, at, driver),
+            read(&rt, &devices, active, at, driver, true),
             Record {
                 slot: lowest,
                 number: 2,
@@ -216,4 +226,77 @@ fn bytes_at_one_address_are_and(rt: HostRuntime) -> Result<(), Fail> {
         );
     }
     Ok(())
+}
+
+// A table with one row, of this BCR.
+fn table(rt: &impl Abort, value: u8, bcr: u8) -> Result<Table, Fail> {
+    let mut table = Table::new(Legacies::new());
+    let address = Addr7::new(value)?;
+    assert!(rt; matches!(address.get(), 0x08..0x3E));
+    assert!(rt; table.row_of(address).is_none());
+    assert!(rt; table.lvr_at(address).is_none());
+    table.put(Row {
+        address,
+        bcr: Bcr(bcr),
+        dcr: Dcr(0x44),
+        identity: None,
+    });
+    Ok(table)
+}
+
+// The controller's own table says whether a byte is due.
+#[test]
+fn bytes_are_due_by_the_table(rt: HostRuntime) -> Result<(), Fail> {
+    let at = Addr7::new(0x09)?;
+    assert!(rt; byte_is_due(&table(&rt, 0x09, 0x06)?, at));
+    assert!(rt; !byte_is_due(&table(&rt, 0x09, 0x02)?, at));
+    assert!(rt; !byte_is_due(&table(&rt, 0x0A, 0x06)?, at));
+    Ok(())
+}
+
+// A request at an address that the table doesn't know is refused, and the policy isn't asked.
+#[test]
+fn unknown_requests_are_refused_unasked(rt: HostRuntime) -> Result<(), Fail> {
+    let at = Addr7::new(0x09)?;
+    let known = table(&rt, 0x09, 0x06)?;
+    let mut policy = Counting { asked: 0 };
+    assert_eq!(rt;
+        decide(&known, &mut policy, &Request::Interrupt(at)),
+        Verdict::Accept
+    );
+    assert_eq!(rt;
+        decide(&known, &mut policy, &Request::Role(at)),
+        Verdict::Accept
+    );
+    assert_eq!(rt;
+        decide(&known, &mut policy, &Request::Join),
+        Verdict::Accept
+    );
+    assert_eq!(rt; policy.asked, 3);
+    let unknown = table(&rt, 0x0A, 0x06)?;
+    assert_eq!(rt;
+        decide(&unknown, &mut policy, &Request::Interrupt(at)),
+        Verdict::Refuse
+    );
+    assert_eq!(rt;
+        decide(&unknown, &mut policy, &Request::Role(at)),
+        Verdict::Refuse
+    );
+    assert_eq!(rt; policy.asked, 3);
+    Ok(())
+}
+
+/// A policy that accepts all, and counts how often it is asked.
+#[derive(Drop)]
+struct Counting {
+    asked: u8,
+}
+
+impl Policy for Counting {
+    ghost verdict_gives = { λ old request verdict new. ⊤ };
+
+    fn verdict(&mut self, _request: Request) -> Verdict {
+        self.asked = self.asked.wrapping_add(1);
+        Verdict::Accept
+    }
 }

@@ -1,6 +1,9 @@
 pub mod PlaceLaws
+pub mod KindLaws
 pub mod States
 pub mod Stepping
 pub mod Hearing
 pub mod Keeping
 pub mod Starting
+pub mod Requests
+pub mod Readings

@@ -1,15 +1,16 @@
 -- What a map has at its places, before and after a change.
-use Rattle.std.proofs.Common.{◌≡◌, ◌≢◌, ℕ, ◌≤◌, ◌<◌, false, [], map, length, get_or, set, replicate, Option, Some, None, option_map, sym, refl, ap, ◌∙◌, arith, inl, inr, zero-add, subst}
+use Rattle.std.proofs.Common.{◌≡◌, ◌≢◌, ℕ, ◌≤◌, ◌<◌, Bool, true, false, cond, List, [], ◌∷◌, map, length, get_or, set, replicate, Option, Some, None, option_map, sym, refl, ap, ◌∙◌, arith, inl, inr, zero-add, subst}
 use Rattle.std.specs.Ordering.{nat_cmp}
 use Rattle.std.specs.Cmp.{unsigned_tied}
 use Rattle.std.specs.List.{range_with_len}
 use Rattle.std.specs.Map.{lookup}
+use Rattle.std.specs.Map.Calls.{RetainsPairs}
 use Rattle.std.specs.Option.{IsSome}
-use Rattle.std.specs.BTreeMap.{BTreeMap, Updates, get, is_at}
-use Rattle.std.proofs.lemmas.Bool.{cases_eq, cases_lt, ne_eqb}
+use Rattle.std.specs.BTreeMap.{BTreeMap, Updates, WritesThrough, get, is_at}
+use Rattle.std.proofs.lemmas.Bool.{cases_eq, cases_lt, eqb-true, ne_eqb}
 use Rattle.std.proofs.lemmas.List.{get_or-set_other, get_or-set_same, get_or_past, length-set, length-replicate, get_or-replicate}
 use Rattle.std.proofs.lemmas.List.FromFn.{length-map-range_with_len, get_or-map-range_with_len, fill_by_all}
-use Rattle.std.proofs.lemmas.Map.Made.{lookup-map_values}
+use Rattle.std.proofs.lemmas.Map.Steps.{set_value_same}
 use Rattle.i3c_base.specs.Places.{changed}
 use Rattle.i3c_base.proofs.Lookups.{changed_at, length-changed}
 use Rattle.i3c_model.specs.Views.{IsKeyedBelow, places_of}
@@ -18,12 +19,38 @@ use Rattle.i3c_model.specs.Views.{IsKeyedBelow, places_of}
 pub apart : (k q : ℕ) → k ≢ q → is_at (nat_cmp k) q ≡ false
 apart k q n = unsigned_tied k q ∙ ne_eqb k q n
 
+-- a look-up over entries whose values are changed
+lookup-map_keyed : {A : Type 0} (g : ℕ → A → A) (q : ℕ) (es : List (ℕ × A)) → lookup (is_at (nat_cmp q)) (map (λ e. (e.0, g e.0 e.1)) es) ≡ option_map (g q) (lookup (is_at (nat_cmp q)) es)
+lookup-map_keyed g q [] = refl
+lookup-map_keyed {A} g q (e ∷ es) = go (is_at (nat_cmp q) e.0) refl (lookup-map_keyed g q es)
+  where
+    go : (b : Bool) → is_at (nat_cmp q) e.0 ≡ b → lookup (is_at (nat_cmp q)) (map (λ x. (x.0, g x.0 x.1)) es) ≡ option_map (g q) (lookup (is_at (nat_cmp q)) es)
+        → cond b (Some (g e.0 e.1)) (lookup (is_at (nat_cmp q)) (map (λ x. (x.0, g x.0 x.1)) es)) ≡ option_map (g q) (cond b (Some e.1) (lookup (is_at (nat_cmp q)) es))
+    go true is rest = ap (λ k. Some (g k e.1)) (sym (eqb-true q e.0 (sym (unsigned_tied q e.0) ∙ is)))
+    go false is rest = rest
+
+-- a closure that keeps each pair, writes g of each value at its key, and stays as it was
+pub map_keyed_pairs : {F X : Type 0} (T : F → ℕ → X → Bool → X → F → Type 0) (g : ℕ → X → X) (f : F) → ((k : ℕ) (v : X) (b : Bool) (w : X) (f' : F) → T f k v b w f' → (b ≡ true) × (w ≡ g k v) × (f' ≡ f))
+    → (es kept : List (ℕ × X)) → RetainsPairs T f es kept → kept ≡ map (λ e. (e.0, g e.0 e.1)) es
+map_keyed_pairs T g f h [] kept r = r
+map_keyed_pairs T g f h (e ∷ es) kept r =
+    let a = h e.0 e.1 r.0 r.1 r.2 r.4 in
+    let rest = map_keyed_pairs T g f h es r.3 (subst (λ u. RetainsPairs T u es r.3) a.2 r.5) in
+    r.6 ∙ ap (λ b. cond b ((e.0, r.1) ∷ r.3) r.3) a.0 ∙ (λ i. (e.0, a.1 i) ∷ rest i)
+
 -- a key more
 pub below_put : {A : Type 0} (n : ℕ) (m new : BTreeMap ℕ A) (k : ℕ) (x : A) → IsKeyedBelow n m → k < n → Updates nat_cmp m new k (Some x) → IsKeyedBelow n new
 below_put n m new k x below l put q h = elim (cases_eq q k) [
   | inl e ↦ rw e l
   | inr other ↦ below q (subst IsSome (put.2 q (apart k q (λ e. other (sym e)))) h)
 ]
+
+-- what is written through a borrow: the value that was there, or another one
+pub written_same : {A : Type 0} (m new : BTreeMap ℕ A) (k : ℕ) (d w : A) → WritesThrough nat_cmp (nat_cmp k) m w new → Some d ≡ get nat_cmp m k → w ≡ d → new.entries ≡ m.entries
+written_same m new k d w h at e = h.0 ∙ set_value_same (is_at (nat_cmp k)) m.entries w (sym at ∙ ap Some (sym e))
+
+pub written_puts : {A : Type 0} (m new : BTreeMap ℕ A) (k : ℕ) (d w : A) → WritesThrough nat_cmp (nat_cmp k) m w new → Some d ≡ get nat_cmp m k → Updates nat_cmp m new k (Some w)
+written_puts m new k d w h at = h.3 (subst IsSome at refl)
 
 module _ {A B : Type 0} (n : ℕ) (value : A → B) where
   pub length-places : (m : BTreeMap ℕ A) → length (places_of n value m) ≡ n
@@ -69,17 +96,17 @@ module _ {A B : Type 0} (n : ℕ) (value : A → B) where
             ∙ (places_below m q below ∙ ap (option_map value) (sym (others q (apart k q (λ e. other (sym e))))))
       ]))
 
-  change_each : (g : A → A) (h : B → B) → ((x : A) → value (g x) ≡ h (value x)) → (o : Option A) → option_map h (option_map value o) ≡ option_map value (option_map g o)
-  change_each g h same None = refl
-  change_each g h same (Some x) = ap Some (sym (same x))
+  change_each : (g : A → A) (h : B → B) (o : Option A) → ((x : A) → o ≡ Some x → value (g x) ≡ h (value x)) → option_map h (option_map value o) ≡ option_map value (option_map g o)
+  change_each g h None same = refl
+  change_each g h (Some x) same = ap Some (sym (same x refl))
 
-  -- each value changed
-  pub places_changed : (g : A → A) (h : B → B) → ((x : A) → value (g x) ≡ h (value x)) → (m new : BTreeMap ℕ A) → new.entries ≡ map (λ e. (e.0, g e.1)) m.entries
-      → places_of n value new ≡ changed (λ k place. option_map h place) (places_of n value m)
+  -- each value changed, by a change that is given its key
+  pub places_changed : (g : ℕ → A → A) (h : ℕ → B → B) → (m new : BTreeMap ℕ A) → ((k : ℕ) (x : A) → get nat_cmp m k ≡ Some x → value (g k x) ≡ h k (value x)) → new.entries ≡ map (λ e. (e.0, g e.0 e.1)) m.entries
+      → places_of n value new ≡ changed (λ k place. option_map (h k) place) (places_of n value m)
   unfolding places_of
-  places_changed g h same m new e =
-      sym (fill_by_all (λ q. option_map value (get nat_cmp new q)) (changed (λ k place. option_map h place) (places_of n value m)) n None (length-changed (λ k place. option_map h place) (places_of n value m) ∙ length-places m) (λ q below.
-      changed_at (λ k place. option_map h place) (places_of n value m) q None refl
-      ∙ (ap (option_map h) (places_below m q below)
-      ∙ (change_each g h same (get nat_cmp m q)
-      ∙ ap (option_map value) (sym (ap (lookup (is_at (nat_cmp q))) e ∙ lookup-map_values g (is_at (nat_cmp q)) m.entries))))))
+  places_changed g h m new same e =
+      sym (fill_by_all (λ q. option_map value (get nat_cmp new q)) (changed (λ k place. option_map (h k) place) (places_of n value m)) n None (length-changed (λ k place. option_map (h k) place) (places_of n value m) ∙ length-places m) (λ q below.
+      changed_at (λ k place. option_map (h k) place) (places_of n value m) q None refl
+      ∙ (ap (option_map (h q)) (places_below m q below)
+      ∙ (change_each (g q) (h q) (get nat_cmp m q) (same q)
+      ∙ ap (option_map value) (sym (ap (lookup (is_at (nat_cmp q))) e ∙ lookup-map_keyed g q m.entries))))))

@@ -1,5 +1,5 @@
 -- A start: one address is left beside the legacy targets, and the main controller takes it.
-use Rattle.std.proofs.Common.{◌≡◌, ℕ, zero, suc, ◌+◌, ◌≤◌, ◌<◌, Bool, true, false, cond, not, ◌&&◌, ◌==◌, nat_le, nat_cmp, List, [], ◌∷◌, get_or, set, Option, Some, None, option_map, is_some, count_by, sym, refl, ap, ◌∙◌, subst, arith}
+use Rattle.std.proofs.Common.{◌≡◌, ℕ, zero, suc, ◌+◌, ◌≤◌, ◌<◌, Bool, true, false, cond, not, ◌&&◌, ◌==◌, nat_le, nat_cmp, List, [], ◌∷◌, get_or, replicate, set, Option, Some, None, option_map, is_some, count_by, sym, refl, ap, ◌∙◌, subst, arith}
 use Rattle.std.specs.BTreeMap.{BTreeMap, Updates}
 use Rattle.std.specs.List.{range_with_len}
 use Rattle.std.proofs.lemmas.Bool.{and_parts, eqb-false, false≢true, leb-true}
@@ -89,12 +89,17 @@ seated : (main : Setup) (a : ℕ) → set no_devices 0 (Some (record (attached m
 unfolding no_devices
 seated main a = refl
 
-pub started : (main : Setup) (legacies : List (Option Lvr)) (m devices : BTreeMap ℕ PlainDevice) (t given : BTreeMap ℕ PlainEntry) (d : PlainDevice) (a active : ℕ) (records : List Record)
-    → m.entries ≡ [] → t.entries ≡ [] → records ≡ [] → active ≡ 0 → device_of d ≡ record (attached main) { address = Some a } → Updates nat_cmp m devices active (Some d)
+-- no slot has raised
+pub none_raised : (raised : List ℕ) → raised ≡ replicate SLOTS 0 → raised ≡ no_raises
+unfolding no_raises
+none_raised raised e = e
+
+pub started : (main : Setup) (legacies : List (Option Lvr)) (m devices : BTreeMap ℕ PlainDevice) (t given : BTreeMap ℕ PlainEntry) (d : PlainDevice) (a active : ℕ) (raised : List ℕ) (records : List Record)
+    → raised ≡ no_raises → m.entries ≡ [] → t.entries ≡ [] → records ≡ [] → active ≡ 0 → device_of d ≡ record (attached main) { address = Some a } → Updates nat_cmp m devices active (Some d)
     → Updates nat_cmp t given a (Some (record { bcr = main.identity.bcr; dcr = main.identity.dcr; kept = None })) → IsPickIn (places_of ADDRESSES entry_from t) (targets_of legacies) a
     → IsStart main (targets_of legacies) (record {
       devices = places_of SLOTS device_of devices;
-      raised = no_raises;
+      raised = raised;
       active = active;
       legacy = targets_of legacies;
       given = places_of ADDRESSES entry_from given;
@@ -102,7 +107,7 @@ pub started : (main : Setup) (legacies : List (Option Lvr)) (m devices : BTreeMa
       listed = false;
       records = records;
     })
-started main legacies m devices t given d a active records no_device no_entry no_record zeroth same put entered pick =
+started main legacies m devices t given d a active raised records no_raise no_device no_entry no_record zeroth same put entered pick =
     let small : a < ADDRESSES = let usable = pick.0.0.1 in omega arith in
     let first : active < SLOTS = omega (arith, zeroth) in
     let devices_are = places_put SLOTS device_of m devices active d first put.1 put.2
@@ -114,7 +119,7 @@ started main legacies m devices t given d a active records no_device no_entry no
       subst (λ places. IsPickIn places (targets_of legacies) a) (none_given t no_entry) pick,
       λ k. record {
         devices = devices_are k;
-        raised = no_raises;
+        raised = no_raise k;
         active = zeroth k;
         legacy = targets_of legacies;
         given = given_are k;

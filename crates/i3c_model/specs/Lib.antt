@@ -1,2 +1,4 @@
-pub mod Views
 pub mod Events
+pub mod Kinds
+pub mod Views
+pub mod Driving

@@ -1,24 +1,25 @@
 -- The machine's maps, seen as the abstract bus.
-use Rattle.std.specs.Prelude.{ℕ, ◌<◌, false, List, [], map, Option, option_map, IsSome}
+use Rattle.std.specs.Prelude.{ℕ, ◌<◌, List, map, Option, option_map, IsSome}
 use Rattle.std.specs.Ordering.{nat_cmp}
 use Rattle.std.specs.List.{range_with_len}
 use Rattle.std.specs.BTreeMap.{BTreeMap, get}
 use Rattle.i3c_base.specs.declared.range.TheConstants.{ADDRESSES, SLOTS}
-use Rattle.i3c_base.specs.State.{Device, Entry, State, all_kinds, cleared_registers, no_raises, targets_of}
+use Rattle.i3c_base.specs.State.{Device, Entry, State, cleared_registers, targets_of}
 use Rattle.i3c_model.specs.declared.device.PlainDevice.{PlainDevice}
 use Rattle.i3c_model.specs.declared.device.PlainEntry.{PlainEntry}
 use Rattle.i3c_model.specs.declared.plain.Plain.TheInside.{Inside}
+use Rattle.i3c_model.specs.Kinds.{kinds_in}
 
--- a device: what no event changes yet is as it was when the device was attached
+-- a device: its registers, which no event changes yet, are as they were when it was attached
 abbrev pub device_of : PlainDevice → Device
 device_of d = record {
   identity = d.identity;
   willing = d.willing;
   address = d.address;
-  kinds = all_kinds;
-  waiting = [];
-  join_wish = false;
-  role_wish = false;
+  kinds = kinds_in d.kinds;
+  waiting = d.waiting;
+  join_wish = d.join_wish;
+  role_wish = d.role_wish;
   hearing = d.hearing;
   registers = cleared_registers;
 }
@@ -44,7 +45,7 @@ pub record IsWithinPlaces (p : Inside) : Type 0 where
 abbrev pub state_of : Inside → State
 state_of p = record {
   devices = places_of SLOTS device_of p.devices;
-  raised = no_raises;
+  raised = p.raised;
   active = p.active;
   legacy = targets_of p.legacies;
   given = places_of ADDRESSES entry_from p.given;

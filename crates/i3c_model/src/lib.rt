@@ -4,9 +4,17 @@
 //! wires, bits, contests or rows.
 #![tactic(auto)]
 
+mod asking;
+mod assigning;
 mod device;
+mod enabling;
 mod faults;
+mod kinds;
 mod plain;
+mod queue;
+mod raising;
+mod reading;
+mod serving;
 
 pub use faults::{OutOfMemory, PlainFault};
 pub use plain::{Choice, Plain};

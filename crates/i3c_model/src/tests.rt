@@ -3,7 +3,10 @@ ghost use Rattle.std.specs.List.{All};
 ghost use Rattle.i3c_bus.specs.Step.{IsUncutEvent};
 
 use crate::{Choice, Plain, PlainFault};
-use i3c_base::{Addr7, Bcr, Cuts, Dcr, Identity, Lvr, Pid, RoundReply, Served, Setup, Slot};
+use i3c_base::{
+    Addr7, Bcr, Cuts, Dcr, Fixed, Identity, Kinds, Lvr, Pid, RoundReply, Served, Setup, Slot,
+    Verdict,
+};
 use i3c_bus::{Event, Outcome, Refusal, Reply, run_events};
 use i3c_legacy::Legacies;
 use std::alloc::Global;
@@ -31,103 +34,127 @@ fn hub(alloc: Global) -> Result<Plain, Fail> {
     Ok(Plain::new(alloc, setup(0x0204_0000_0001_46C0)?, Legacies::new())?)
 }
 
-fn attach(plain: &mut Plain, slot: u8, bits: u64) -> Result<Reply, Fail> {
-    let event = Event::Attach(Slot::new(slot)?, setup(bits)?);
-    Ok(plain.step(&event, Choice::Heard)?)
-}
-
-fn open(plain: &mut Plain) -> Result<Reply, Fail> {
-    Ok(plain.step(&Event::OpenDaa(Cuts::new()), Choice::Lost)?)
-}
-
-fn round(plain: &mut Plain) -> Result<Reply, Fail> {
-    Ok(plain.step(&Event::Round(Cuts::new()), Choice::Silent)?)
-}
-
 fn assigned(address: u8, bits: u64) -> Result<Reply, Fail> {
     Ok(Reply::Round(RoundReply::Assigned(Addr7::new(address)?, identity(bits)?)))
 }
 
-#[test]
-fn a_thermometer_gets_the_next_address(rt: HostRuntime) -> Result<(), Fail> {
-    let mut plain = hub(rt.alloc())?;
-    let (zero, one) = (Slot::new(0)?, Slot::new(1)?);
-    assert_eq!(rt; plain.active(), zero);
-    assert_eq!(rt; plain.address(zero), Some(Addr7::new(0x08)?));
-    assert!(rt; !plain.present(one));
-    assert_eq!(rt;
-        attach(&mut plain, 1, 0x0204_0000_0010_0644)?,
-        Reply::Attached
-    );
-    assert!(rt; plain.present(one));
-    assert_eq!(rt; plain.address(one), None);
-    assert_eq!(rt; open(&mut plain)?, Reply::Opened(Served::Quiet));
-    assert_eq!(rt; round(&mut plain)?, assigned(0x09, 0x0204_0000_0010_0644)?);
-    assert_eq!(rt; plain.address(one), Some(Addr7::new(0x09)?));
-    assert_eq!(rt; round(&mut plain)?, Reply::Round(RoundReply::Done));
-    assert_eq!(rt; plain.step(&Event::EndDaa, Choice::Heard)?, Reply::Ended);
+// The plain machine answers these events, one after another, so.
+fn answers(
+    rt: &impl Abort,
+    plain: &mut Plain,
+    choice: Choice,
+    events: &[Event],
+    replies: &[Reply],
+) -> Result<(), Fail>
+    requires { All IsUncutEvent events.now }
+{
+    assert_eq!(rt; replies.len(), events.len());
+    for (event, reply) in events.iter().zip(replies) {
+        assert_eq!(rt; plain.step(event, choice)?, *reply);
+    }
     Ok(())
 }
 
+const OPENED: Reply = Reply::Opened(Served::Quiet);
+
+const DONE: Reply = Reply::Round(RoundReply::Done);
+
+#[test]
+fn a_thermometer_gets_the_next_address(rt: HostRuntime) -> Result<(), Fail> {
+    let mut plain = hub(rt.alloc())?;
+    let one = Slot::new(1)?;
+    assert!(rt; !plain.present(one));
+    assert_eq!(rt; plain.address(Slot::new(0)?), Some(Addr7::new(0x08)?));
+    let events = [
+        attached(1, 0x0204_0000_0010_0644)?,
+        opening(),
+        a_round(),
+        a_round(),
+        Event::EndDaa,
+    ];
+    let replies = [
+        Reply::Attached,
+        OPENED,
+        assigned(0x09, 0x0204_0000_0010_0644)?,
+        DONE,
+        Reply::Ended,
+    ];
+    answers(&rt, &mut plain, Choice::Silent, &events, &replies)?;
+    assert!(rt; plain.present(one));
+    assert_eq!(rt; plain.address(one), Some(Addr7::new(0x09)?));
+    Ok(())
+}
+
+// Nobody hears the session, since the hub has an address.
 #[test]
 fn refusals(rt: HostRuntime) -> Result<(), Fail> {
-    let mut plain = hub(rt.alloc())?;
-    assert_eq!(rt;
-        attach(&mut plain, 0, 0x0204_0000_0010_0644)?,
-        Reply::Refused(Refusal::SlotTaken)
-    );
-    assert_eq!(rt; round(&mut plain)?, Reply::Refused(Refusal::NoSession));
-    assert_eq!(rt;
-        plain.step(&Event::EndDaa, Choice::Heard)?,
-        Reply::Refused(Refusal::NoSession)
-    );
-    assert_eq!(rt; open(&mut plain)?, Reply::Opened(Served::Quiet));
-    assert_eq!(rt; open(&mut plain)?, Reply::Refused(Refusal::SessionOpen));
-    // nobody hears, since the hub has an address
-    assert_eq!(rt; round(&mut plain)?, Reply::Round(RoundReply::Done));
-    Ok(())
+    let events = [
+        attached(0, 0x0204_0000_0010_0644)?,
+        a_round(),
+        Event::EndDaa,
+        opening(),
+        opening(),
+        a_round(),
+    ];
+    let replies = [
+        Reply::Refused(Refusal::SlotTaken),
+        Reply::Refused(Refusal::NoSession),
+        Reply::Refused(Refusal::NoSession),
+        OPENED,
+        Reply::Refused(Refusal::SessionOpen),
+        DONE,
+    ];
+    answers(&rt, &mut hub(rt.alloc())?, Choice::Heard, &events, &replies)
 }
 
 #[test]
 fn the_least_identity_is_first(rt: HostRuntime) -> Result<(), Fail> {
-    let mut plain = hub(rt.alloc())?;
-    assert_eq!(rt;
-        attach(&mut plain, 3, 0x0204_0000_0010_0645)?,
-        Reply::Attached
-    );
-    assert_eq!(rt;
-        attach(&mut plain, 5, 0x0204_0000_0010_0644)?,
-        Reply::Attached
-    );
-    assert_eq!(rt; open(&mut plain)?, Reply::Opened(Served::Quiet));
-    assert_eq!(rt; round(&mut plain)?, assigned(0x09, 0x0204_0000_0010_0644)?);
-    assert_eq!(rt; round(&mut plain)?, assigned(0x0A, 0x0204_0000_0010_0645)?);
-    assert_eq!(rt; round(&mut plain)?, Reply::Round(RoundReply::Done));
-    Ok(())
+    let events = [
+        attached(3, 0x0204_0000_0010_0645)?,
+        attached(5, 0x0204_0000_0010_0644)?,
+        opening(),
+        a_round(),
+        a_round(),
+        a_round(),
+    ];
+    let replies = [
+        Reply::Attached,
+        Reply::Attached,
+        OPENED,
+        assigned(0x09, 0x0204_0000_0010_0644)?,
+        assigned(0x0A, 0x0204_0000_0010_0645)?,
+        DONE,
+    ];
+    answers(&rt, &mut hub(rt.alloc())?, Choice::Lost, &events, &replies)
 }
 
+// Devices of one identity take one address, which is kept for those that come later.
 #[test]
 fn one_identity_takes_one_address(rt: HostRuntime) -> Result<(), Fail> {
     let mut plain = hub(rt.alloc())?;
-    assert_eq!(rt;
-        attach(&mut plain, 1, 0x0204_0000_0010_0644)?,
-        Reply::Attached
-    );
-    assert_eq!(rt;
-        attach(&mut plain, 2, 0x0204_0000_0010_0644)?,
-        Reply::Attached
-    );
-    assert_eq!(rt; open(&mut plain)?, Reply::Opened(Served::Quiet));
-    assert_eq!(rt; round(&mut plain)?, assigned(0x09, 0x0204_0000_0010_0644)?);
-    assert_eq!(rt; round(&mut plain)?, Reply::Round(RoundReply::Done));
-    assert_eq!(rt; plain.step(&Event::EndDaa, Choice::Heard)?, Reply::Ended);
-    // the address is kept for the identity
-    assert_eq!(rt;
-        attach(&mut plain, 4, 0x0204_0000_0010_0644)?,
-        Reply::Attached
-    );
-    assert_eq!(rt; open(&mut plain)?, Reply::Opened(Served::Quiet));
-    assert_eq!(rt; round(&mut plain)?, assigned(0x09, 0x0204_0000_0010_0644)?);
+    let events = [
+        attached(1, 0x0204_0000_0010_0644)?,
+        attached(2, 0x0204_0000_0010_0644)?,
+        opening(),
+        a_round(),
+        a_round(),
+        Event::EndDaa,
+        attached(4, 0x0204_0000_0010_0644)?,
+        opening(),
+        a_round(),
+    ];
+    let replies = [
+        Reply::Attached,
+        Reply::Attached,
+        OPENED,
+        assigned(0x09, 0x0204_0000_0010_0644)?,
+        DONE,
+        Reply::Ended,
+        Reply::Attached,
+        OPENED,
+        assigned(0x09, 0x0204_0000_0010_0644)?,
+    ];
+    answers(&rt, &mut plain, Choice::Heard, &events, &replies)?;
     for slot in [1, 2, 4] {
         assert_eq!(rt; plain.address(Slot::new(slot)?), Some(Addr7::new(0x09)?));
     }
@@ -220,6 +247,110 @@ fn the_bus_and_the_plain_machine_answer_alike(rt: HostRuntime) -> Result<(), Fai
         Event::EndDaa,
     ];
     for legacy in [None, Some(0x08), Some(0x09), Some(0x50)] {
+        answer_alike(&rt, rt.alloc(), legacy, &events)?;
+    }
+    Ok(())
+}
+
+fn all(verdict: Verdict) -> Fixed {
+    Fixed {
+        join: verdict,
+        role: verdict,
+        interrupt: verdict,
+    }
+}
+
+fn raising(slot: u8, byte: Option<u8>) -> Result<Event, Fail>
+    ensures { IfOk result IsUncutEvent }
+{
+    Ok(Event::Raise(Slot::new(slot)?, byte))
+}
+
+fn serving(verdict: Verdict) -> Event
+    ensures { IsUncutEvent result }
+{
+    Event::Serve(all(verdict), Cuts::new())
+}
+
+fn enabling(to: Option<u8>, verdict: Verdict) -> Result<Event, Fail>
+    ensures { IfOk result IsUncutEvent }
+{
+    let to = match to {
+        Some(address) => Some(Addr7::new(address)?),
+        None => None,
+    };
+    Ok(Event::Enec(to, Kinds::INTERRUPT, all(verdict), Cuts::new()))
+}
+
+fn disabling(to: Option<u8>, verdict: Verdict) -> Result<Event, Fail>
+    ensures { IfOk result IsUncutEvent }
+{
+    let to = match to {
+        Some(address) => Some(Addr7::new(address)?),
+        None => None,
+    };
+    Ok(Event::Disec(to, Kinds::INTERRUPT, all(verdict), Cuts::new()))
+}
+
+// Raises and their refusals, two devices of one identity whose bytes are read together, and requests that are turned
+// down, by a policy and as a session is opened.
+#[test]
+fn interrupts_are_served_alike(rt: HostRuntime) -> Result<(), Fail> {
+    let events = [
+        attached(1, 0x0204_0000_0010_0645)?,
+        attached(2, 0x0204_0000_0010_0644)?,
+        attached(3, 0x0204_0000_0010_0644)?,
+        opening(),
+        a_round(),
+        a_round(),
+        Event::EndDaa,
+        raising(0, Some(0x01))?,
+        raising(1, None)?,
+        raising(1, Some(0x22))?,
+        raising(3, Some(0x7C))?,
+        raising(2, Some(0xF1))?,
+        serving(Verdict::Refuse),
+        attached(4, 0x0204_0000_0011_0244)?,
+        raising(4, None)?,
+        opening(),
+        a_round(),
+        Event::EndDaa,
+        serving(Verdict::Accept),
+        serving(Verdict::Accept),
+        serving(Verdict::Accept),
+    ];
+    for legacy in [None, Some(0x09)] {
+        answer_alike(&rt, rt.alloc(), legacy, &events)?;
+    }
+    Ok(())
+}
+
+// Commands to all, to one address and to none, and that a session refuses them.
+#[test]
+fn kinds_are_changed_alike(rt: HostRuntime) -> Result<(), Fail> {
+    let events = [
+        attached(1, 0x0204_0000_0010_0644)?,
+        attached(2, 0x0204_0000_0011_0244)?,
+        opening(),
+        a_round(),
+        a_round(),
+        Event::EndDaa,
+        raising(1, Some(0x11))?,
+        disabling(Some(0x09), Verdict::Refuse)?,
+        raising(1, Some(0x12))?,
+        serving(Verdict::Accept),
+        raising(2, None)?,
+        disabling(None, Verdict::Accept)?,
+        enabling(Some(0x09), Verdict::Refuse)?,
+        enabling(Some(0x50), Verdict::Accept)?,
+        enabling(Some(0x08), Verdict::Accept)?,
+        serving(Verdict::Accept),
+        serving(Verdict::Accept),
+        opening(),
+        serving(Verdict::Accept),
+        enabling(None, Verdict::Accept)?,
+    ];
+    for legacy in [None, Some(0x50)] {
         answer_alike(&rt, rt.alloc(), legacy, &events)?;
     }
     Ok(())

@@ -1,10 +1,18 @@
 use crate::names::Name;
+use crate::policies::policy;
 use crate::words;
-use i3c_base::{Addr7, Bcr, Dcr, Identity, Lvr, Setup};
+use i3c_base::{Addr7, Bcr, Dcr, Fixed, Identity, Kinds, Lvr, Setup};
 use std::str::Split;
 
 /// The last word of a device that doesn't take the controller role.
 const DECLINE: &str = "decline";
+
+/// Kinds of events, and the address of the devices that are meant. Without one all are but the active controller.
+#[derive(Clone, Copy)]
+pub(crate) struct Choice {
+    pub kinds: Kinds,
+    pub to: Option<Addr7>,
+}
 
 /// What a line asks for.
 #[derive(Drop)]
@@ -25,6 +33,19 @@ pub(crate) enum Command {
         name: Name,
         setup: Setup,
     },
+    /// `raise NAME [BYTE]`: a device raises an interrupt, with its mandatory byte where one is due.
+    Raise {
+        name: Name,
+        byte: Option<u8>,
+    },
+    /// `policy all|none|joins|roles|interrupts`: which requests the frames from now on accept.
+    Policy(Fixed),
+    /// `serve`: the first request is served.
+    Serve,
+    /// `enec BYTE [ADDR]`: kinds of events are enabled, of the devices at an address or of all.
+    Enec(Choice),
+    /// `disec BYTE [ADDR]`: kinds of events are disabled, of the same.
+    Disec(Choice),
     /// `daa`: a whole session of dynamic address assignment.
     Daa,
     /// `show`: the bus as it is.
@@ -47,6 +68,11 @@ impl Command {
                 let (name, setup) = parse_device(&mut words)?;
                 Command::Attach { name, setup }
             }
+            "raise" => parse_raise(&mut words)?,
+            "policy" => Command::Policy(policy(words.next()?)?),
+            "serve" => Command::Serve,
+            "enec" => Command::Enec(parse_choice(&mut words)?),
+            "disec" => Command::Disec(parse_choice(&mut words)?),
             "daa" => Command::Daa,
             "show" => Command::Show,
             "symbols" => Command::Symbols,
@@ -83,4 +109,24 @@ fn parse_device(words: &mut Words<'_>) -> Option<(Name, Setup)> {
         Some(_) => return None,
     };
     Some((name, Setup { identity, willing }))
+}
+
+/// The words of `raise`: a name, and a byte if one is given.
+fn parse_raise(words: &mut Words<'_>) -> Option<Command> {
+    let name = Name::parse(words.next()?)?;
+    let byte = match words.next() {
+        None => None,
+        Some(word) => Some(words::byte(word)?),
+    };
+    Some(Command::Raise { name, byte })
+}
+
+/// The words of `enec` and `disec`: a byte, and an address if one is given.
+fn parse_choice(words: &mut Words<'_>) -> Option<Choice> {
+    let kinds = words::kinds(words.next()?)?;
+    let to = match words.next() {
+        None => None,
+        Some(word) => Some(words::address(word)?),
+    };
+    Some(Choice { kinds, to })
 }

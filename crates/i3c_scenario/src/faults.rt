@@ -2,7 +2,8 @@ ghost use Rattle.std.specs.Prelude.{◌≡◌};
 ghost use Rattle.i3c_scenario.specs.declared.faults.Refusal.TheVariants.{SlotTaken as taken, ActiveStays as stays};
 ghost use Rattle.i3c_scenario.specs.declared.faults.Stop.TheVariants.{Refused, Memory, Write};
 
-use i3c_bus::{ActiveStays, SlotTaken};
+use i3c_base::{Addr7, Answer};
+use i3c_bus::{ActiveStays, FrameFault, RaiseRefusal, SlotTaken, TargetFault};
 use i3c_legacy::LegacyFault;
 use std::alloc::AllocError;
 use std::io;
@@ -54,9 +55,29 @@ pub(crate) enum Refusal {
     SessionOpen,
     #[error("ActiveStays")]
     ActiveStays,
-    /// No address is left to give.
+    /// No name like this was given.
+    #[error("NoName")]
+    NoName,
+    /// The name is a legacy target's, or its device is gone.
+    #[error("NoDevice")]
+    NoDevice,
+    #[error("IsActive")]
+    IsActive,
+    /// No address is left to give, or the device has none.
     #[error("NoAddress")]
     NoAddress,
+    #[error("ByteMismatch")]
+    ByteMismatch,
+    #[error("Masked")]
+    Masked,
+    #[error("Full")]
+    Full,
+    /// No device answers to this address.
+    #[error("NoAnswer {:02X}", .0.get())]
+    NoAnswer(Addr7),
+    /// The data that was read did not end.
+    #[error("NoEnd")]
+    NoEnd,
 }
 
 impl From<LegacyFault> for Refusal {
@@ -82,6 +103,39 @@ impl From<ActiveStays> for Refusal {
 
     fn from(_stays: ActiveStays) -> Refusal {
         Refusal::ActiveStays
+    }
+}
+
+impl From<RaiseRefusal> for Refusal {
+    ghost use Rattle.i3c_scenario.specs.Stops.{raise_refusal};
+
+    ghost from_gives = { λ why refusal. refusal ≡ raise_refusal why };
+
+    fn from(why: RaiseRefusal) -> Refusal {
+        match why {
+            RaiseRefusal::NoDevice => Refusal::NoDevice,
+            RaiseRefusal::IsActive => Refusal::IsActive,
+            RaiseRefusal::NoAddress => Refusal::NoAddress,
+            RaiseRefusal::NotCapable => Refusal::NotCapable,
+            RaiseRefusal::ByteMismatch => Refusal::ByteMismatch,
+            RaiseRefusal::Masked => Refusal::Masked,
+            RaiseRefusal::Full => Refusal::Full,
+        }
+    }
+}
+
+impl Refusal {
+    ghost use Rattle.i3c_scenario.specs.Stops.{answer_refusal};
+
+    /// The refusal that a frame's answer is printed as, if it is one.
+    pub fn of_answer(answer: &Answer) -> Option<Refusal>
+        ensures { result ≡ answer_refusal answer.now }
+    {
+        match answer {
+            Answer::Done | Answer::Bytes(_) => None,
+            Answer::NoAnswer(address) => Some(Refusal::NoAnswer(*address)),
+            Answer::NoEnd => Some(Refusal::NoEnd),
+        }
     }
 }
 
@@ -118,5 +172,32 @@ impl From<io::Error> for Stop {
 
     fn from(_error: io::Error) -> Stop {
         Stop::Write
+    }
+}
+
+impl From<FrameFault> for Stop {
+    ghost use Rattle.i3c_scenario.specs.Stops.{frame_stop};
+
+    ghost from_gives = { λ fault stop. stop ≡ frame_stop fault };
+
+    fn from(fault: FrameFault) -> Stop {
+        match fault {
+            FrameFault::ActiveStays => Stop::Refused(Refusal::ActiveStays),
+            FrameFault::OutOfMemory => Stop::Memory,
+        }
+    }
+}
+
+impl From<TargetFault> for Stop {
+    ghost use Rattle.i3c_scenario.specs.Stops.{target_stop};
+
+    ghost from_gives = { λ fault stop. stop ≡ target_stop fault };
+
+    fn from(fault: TargetFault) -> Stop {
+        match fault {
+            TargetFault::ActiveStays => Stop::Refused(Refusal::ActiveStays),
+            TargetFault::NoAnswer(address) => Stop::Refused(Refusal::NoAnswer(address)),
+            TargetFault::OutOfMemory => Stop::Memory,
+        }
     }
 }

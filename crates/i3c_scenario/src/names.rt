@@ -1,6 +1,7 @@
 ghost use Rattle.std.specs.Prelude.{◌≡◌, ◌↔◌, All, IsTrue, IsSome, IfSome};
 ghost use Rattle.i3c_scenario.specs.Words.{IsName, IsNameLetter};
 
+use crate::faults::Refusal;
 use arrayvec::ArrayString;
 use i3c_base::{Addr7, Slot};
 use indexmap::IndexMap;
@@ -52,6 +53,8 @@ pub(crate) enum Place {
     Slot(Slot),
     /// The legacy target at a static address.
     Legacy(Addr7),
+    /// A device that is gone, whose slot another device has taken since.
+    Gone,
 }
 
 /// The names that were given, in the order in which they first were, and what each stands for.
@@ -61,6 +64,10 @@ pub(crate) struct Names {
 }
 
 impl Names {
+    ghost use Rattle.std.specs.Prelude.{IfSome, IsSome, OnOk, Some};
+    ghost use Rattle.i3c_scenario.specs.Naming.{place_named, slot_named};
+    ghost use Rattle.i3c_scenario.specs.declared.names.Name.{Name};
+
     /// No names.
     pub fn new(alloc: Global) -> Names {
         Names {
@@ -69,8 +76,24 @@ impl Names {
     }
 
     /// What a name stands for, if it was given.
-    pub fn place_of(&self, name: &Name) -> Option<Place> {
+    pub fn place_of(&self, name: &Name) -> Option<Place>
+        ensures { result ≡ place_named self.now name.now }
+    {
         self.places.get(name).copied()
+    }
+
+    /// The slot that a name stands for. Its device may be gone. It answers `NoName` where the name was not given, and
+    /// `NoDevice` where it is a legacy target's, or another device has taken the slot since.
+    pub fn slot_of(&self, name: &Name) -> Result<Slot, Refusal>
+        ensures { result ≡ slot_named (place_named self.now name.now) }
+    {
+        let Some(place) = self.place_of(name) else {
+            return Err(Refusal::NoName);
+        };
+        match place {
+            Place::Slot(slot) => Ok(slot),
+            Place::Legacy(_) | Place::Gone => Err(Refusal::NoDevice),
+        }
     }
 
     /// Who stands at a place, if a name was given to it.
@@ -83,10 +106,25 @@ impl Names {
         None
     }
 
-    /// Gives a name to a place. The name that the place had before is gone.
-    pub fn give(&mut self, name: Name, place: Place) -> Result<(), AllocError> {
-        self.places.retain(|_, held| *held != place);
+    /// Gives a name to a place. The name that the place had before stays known, as one that is gone.
+    pub fn give(&mut self, name: Name, place: Place) -> Result<(), AllocError>
+        ensures given { OnOk result (place_named self.new name ≡ Some place) }
+        ensures known { (other : Name) → IsSome (place_named self.old other) → IsSome (place_named self.new other) }
+    {
+        self.empty(&place)?;
         self.places.insert(name, place)?;
+        Ok(())
+    }
+
+    /// Whoever stands at a place is gone.
+    fn empty(&mut self, place: &Place) -> Result<(), AllocError>
+        ensures known { (other : Name) → IsSome (place_named self.old other) → IsSome (place_named self.new other) }
+    {
+        let name = match self.at(*place) {
+            Some(name) => *name,
+            None => return Ok(()),
+        };
+        self.places.insert(name, Place::Gone)?;
         Ok(())
     }
 }

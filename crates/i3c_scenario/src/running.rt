@@ -1,24 +1,25 @@
 ghost use Rattle.std.specs.Prelude.{◌≡◌, MatchOption};
 ghost use Rattle.i3c_base.specs.State.{IsPresent};
-ghost use Rattle.i3c_bus.specs.Hands.{HandFits, holder_of};
-ghost use Rattle.i3c_bus.specs.declared.tokens.Hand.{Hand};
+ghost use Rattle.i3c_bus.specs.Hands.{holder_of};
 ghost use Rattle.i3c_scenario.specs.InHand.{is_session};
 ghost use Rattle.i3c_scenario.specs.Slots.{AllPresentBelow};
 
 use crate::command::Command;
 use crate::faults::{Refusal, Stop};
+use crate::frames::{daa, disec, enec, serve};
 use crate::names::{Name, Names, Place};
 use crate::show::show;
 use crate::wires::Wires;
-use i3c_base::{Cuts, RoundReply, SLOTS, Setup, Slot};
-use i3c_bus::{ActiveStays, Bus, Hand, Role, Session};
+use i3c_base::{Fixed, SLOTS, Setup, Slot};
+use i3c_bus::{Bus, Hand};
 use std::io::Write;
 
-/// A bus, its role or session, and the last symbols of its wire.
+/// A bus, its role or session, the last symbols of its wire, and which requests its frames accept.
 pub(crate) struct Running {
     pub bus: Bus,
     pub hand: Hand,
     pub wires: Wires,
+    pub policy: Fixed,
     ghost holder: { holder_of hand ≡ bus.state.active },
     ghost session: { is_session hand ≡ bus.state.in_session },
 }
@@ -35,6 +36,7 @@ impl Running {
             mut bus,
             hand,
             mut wires,
+            mut policy,
         } = self;
         let (hand, outcome) = match command {
             Command::Legacy { .. } | Command::Main { .. } => (hand, Err(Refusal::BusMade.into())),
@@ -42,11 +44,37 @@ impl Running {
                 let outcome = attach(&mut bus, names, name, setup, out);
                 (hand, outcome)
             }
+            Command::Raise { name, byte } => {
+                let outcome = raise(&mut bus, names, &name, byte, out);
+                (hand, outcome)
+            }
+            Command::Policy(named) => {
+                policy = named;
+                (hand, Ok(()))
+            }
+            Command::Serve => {
+                let outcome = serve(&mut bus, &hand, policy, &mut wires, out);
+                (hand, outcome)
+            }
+            Command::Enec(choice) => {
+                let outcome = enec(&mut bus, &hand, choice, policy, &mut wires, out);
+                (hand, outcome)
+            }
+            Command::Disec(choice) => {
+                let outcome = disec(&mut bus, &hand, choice, policy, &mut wires, out);
+                (hand, outcome)
+            }
             Command::Daa => daa(&mut bus, hand, &mut wires, out),
             Command::Show => (hand, show(&bus, names, out).map_err(Stop::from)),
             Command::Symbols => (hand, wires.show(out).map_err(Stop::from)),
         };
-        (Running { bus, hand, wires }, outcome)
+        let running = Running {
+            bus,
+            hand,
+            wires,
+            policy,
+        };
+        (running, outcome)
     }
 
     /// Takes the bus apart. A session that is open ends so.
@@ -55,6 +83,7 @@ impl Running {
             bus,
             hand,
             wires: _,
+            policy: _,
         } = self;
         let _records = bus.retire(hand);
     }
@@ -68,6 +97,7 @@ fn is_taken(bus: &Bus, names: &Names, name: &Name) -> bool {
     match place {
         Place::Slot(slot) => bus.present(slot),
         Place::Legacy(_) => true,
+        Place::Gone => false,
     }
 }
 
@@ -108,75 +138,19 @@ fn attach<W: Write>(
     Ok(())
 }
 
-/// `daa`: opens a session, runs its rounds and ends it.
-fn daa<W: Write>(
+/// `raise`: a device raises an interrupt.
+fn raise<W: Write>(
     bus: &mut Bus,
-    hand: Hand,
-    wires: &mut Wires,
-    out: &mut W,
-) -> (Hand, Result<(), Stop>)
-    requires { HandFits hand bus.old.state }
-    ensures { HandFits result.0 bus.new.state }
-{
-    match hand {
-        Hand::Session(session) => (Hand::Session(session), Err(Refusal::SessionOpen.into())),
-        Hand::Role(role) => {
-            let (role, outcome) = assign_all(bus, role, wires, out);
-            (Hand::Role(role), outcome)
-        }
-    }
-}
-
-/// A whole session. What its opening served is `quiet` as long as nobody asks, and isn't printed.
-fn assign_all<W: Write>(
-    bus: &mut Bus,
-    role: Role,
-    wires: &mut Wires,
-    out: &mut W,
-) -> (Role, Result<(), Stop>)
-    requires { HandFits (Hand.Role role) bus.old.state }
-    ensures { HandFits (Hand.Role result.0) bus.new.state }
-{
-    match bus.open_daa(role, wires, &Cuts::new()) {
-        Ok((session, _served)) => {
-            let outcome = rounds(bus, &session, wires, out);
-            (session.end(bus, wires), outcome)
-        }
-        Err((role, ActiveStays)) => (role, Err(Refusal::ActiveStays.into())),
-    }
-}
-
-/// Runs the rounds of a session, and prints each, until nobody hears it any more or no address is left.
-fn rounds<W: Write>(
-    bus: &mut Bus,
-    session: &Session,
-    wires: &mut Wires,
+    names: &Names,
+    name: &Name,
+    byte: Option<u8>,
     out: &mut W,
 ) -> Result<(), Stop>
-    requires { HandFits (Hand.Session session.now) bus.old.state }
-    ensures { HandFits (Hand.Session session.now) bus.new.state }
+    ensures active { bus.new.state.active ≡ bus.old.state.active }
+    ensures session { bus.new.state.in_session ≡ bus.old.state.in_session }
 {
-    // every other round takes a hearer away, so `done` comes after `SLOTS` of them at most
-    for _ in 0..u64::MAX {
-        match session
-            .round(bus, wires, &Cuts::new())
-            .map_err(Refusal::from)?
-        {
-            RoundReply::Assigned(address, identity) => {
-                let (pid, bcr, dcr) = (identity.pid.get(), identity.bcr.0, identity.dcr.0);
-                writeln!(
-                    out,
-                    "assigned {:02X} {pid:012X} {bcr:02X} {dcr:02X}",
-                    address.get()
-                )?;
-            }
-            RoundReply::Nobody => writeln!(out, "nobody")?,
-            RoundReply::Done => {
-                writeln!(out, "done")?;
-                break;
-            }
-            RoundReply::NoAddress => return Err(Refusal::NoAddress.into()),
-        }
-    }
+    let slot = names.slot_of(name)?;
+    let number = bus.raise(slot, byte).map_err(Refusal::from)?;
+    writeln!(out, "raised {number}")?;
     Ok(())
 }

@@ -4,6 +4,7 @@ ghost use Rattle.i3c_base.specs.Numbers.{is_capable};
 use crate::command::Command;
 use crate::faults::{Refusal, Stop};
 use crate::names::{Name, Names, Place};
+use crate::policies::ACCEPT_ALL;
 use crate::running::Running;
 use crate::show::ShownAddress;
 use crate::wires::Wires;
@@ -68,9 +69,15 @@ fn before<W: Write>(
             (Stage::Before(declared), outcome)
         }
         Command::Main { name, setup } => start(alloc, legacies, names, name, setup, out),
-        Command::Attach { .. } | Command::Daa | Command::Show | Command::Symbols => {
-            (Stage::Before(legacies), Err(Refusal::NoBus.into()))
-        }
+        Command::Attach { .. }
+        | Command::Raise { .. }
+        | Command::Policy(_)
+        | Command::Serve
+        | Command::Enec(_)
+        | Command::Disec(_)
+        | Command::Daa
+        | Command::Show
+        | Command::Symbols => (Stage::Before(legacies), Err(Refusal::NoBus.into())),
     }
 }
 
@@ -128,6 +135,11 @@ fn start<W: Write>(
     let slot = role.holder();
     let address = ShownAddress(bus.address(slot));
     let outcome = writeln!(out, "{name} slot {} at {address}", slot.index()).map_err(Stop::from);
-    let hand = Hand::Role(role);
-    (Stage::Running(Running { bus, hand, wires }), outcome)
+    let running = Running {
+        bus,
+        hand: Hand::Role(role),
+        wires,
+        policy: ACCEPT_ALL,
+    };
+    (Stage::Running(running), outcome)
 }

@@ -1,4 +1,7 @@
+use crate::faults::Refusal;
+use crate::names::{Name, Names, Place};
 use crate::{ScriptFault, Tally, run_script};
+use i3c_base::Slot;
 use std::alloc::Global;
 use std::io::{ErrorKind, Read, Write};
 use std::process::Abort;
@@ -228,12 +231,40 @@ fn lines_without_a_form(rt: HostRuntime) -> Result<(), Fail> {
         "attach t 020400000010 06 44 44",
         "attach t 020400000010 06 44 declined",
         "attach t 020400000010 06 44 decline decline",
+        "raise",
+        "raise hub 11 11",
+        "policy",
+        "policy some",
+        "policy ALL",
+        "policy all none",
+        "serve now",
+        "enec",
+        "disec",
+        "enec 01 09 09",
+        "disec 01 09 09",
+        // lines that come with other calls
+        "drop hub",
+        "ask-role hub",
+        "ask-join hub",
+        "cut hub 3",
+        "reset",
+        "list",
+        "read 09",
+        "write 09 01",
+        "open",
+        "round",
+        "end",
+        "handover 09",
         // spaces
         " ",
         " daa",
         "daa ",
         "attach  t 020400000010 06 44",
         "attach t 020400000010 06 44 ",
+        "raise hub ",
+        "raise  hub",
+        "policy all ",
+        "enec 01 ",
         "attach\tt 020400000010 06 44",
         "attach t\t020400000010 06 44",
         "daa\r",
@@ -252,7 +283,16 @@ fn lines_without_a_form(rt: HostRuntime) -> Result<(), Fail> {
         "attach t +20400000010 06 44",
         "attach t 020400000010 06 4/",
         "attach t 0x0400000010 06 44",
+        "raise hub 1",
+        "raise hub 111",
+        "raise hub 1g",
+        "enec 1",
+        "disec 011",
+        "enec 0b",
         // addresses
+        "enec 01 80",
+        "disec 01 FF",
+        "enec 01 9",
         "legacy eep 80 20",
         "legacy eep FF 20",
         "legacy eep 9 20",
@@ -262,6 +302,8 @@ fn lines_without_a_form(rt: HostRuntime) -> Result<(), Fail> {
         "attach T 020400000010 06 44",
         "attach t_u 020400000010 06 44",
         "attach  020400000010 06 44",
+        "raise HUB",
+        "raise abcdefghijklmnopq",
         "attach abcdefghijklmnopq 020400000010 06 44",
         "attach é 020400000010 06 44",
         "attach t` 020400000010 06 44",
@@ -280,6 +322,181 @@ fn lines_without_a_form(rt: HostRuntime) -> Result<(), Fail> {
             1,
         )?;
     }
+    Ok(())
+}
+
+/// A device that interrupts with a mandatory byte.
+const TARGET: &str = "attach t 020400000010 06 44\n";
+
+/// What it prints as the first device after the main controller, and what `daa` prints then.
+const TARGET_LINES: &str = "t slot 1\nassigned 09 020400000010 06 44\ndone\n";
+
+/// The wire of that session.
+const TARGET_WIRE: &str = "S 7E/W+ 07.0 Sr 7E/R+ =0204000000100644 @13+ Sr 7E/R- P";
+
+/// A script that follows the assignment of that device prints this, and then this wire.
+fn target_goes_on(
+    rt: &impl Abort,
+    alloc: Global,
+    script: &str,
+    wanted: &str,
+    wire: &str,
+    refused: u64,
+) -> Result<(), Fail> {
+    let script = format!(in alloc; "{TARGET}daa\n{script}symbols\n")?;
+    let wanted = format!(in alloc; "{TARGET_LINES}{wanted}{TARGET_WIRE}{wire}\n")?;
+    goes_on(rt, alloc, script.as_str(), wanted.as_str(), refused)
+}
+
+// Two devices ask at once: the lower address is served first, whoever raised first.
+#[test]
+fn interrupts_are_served_by_address(rt: HostRuntime) -> Result<(), Fail> {
+    let script = "attach v 020400000010 06 45\nattach t 020400000010 06 44\ndaa\n\
+        raise v 22\nraise t 11\nserve\nserve\nserve\nshow\nsymbols\n";
+    let wanted = "v slot 1\nt slot 2\n\
+        assigned 09 020400000010 06 44\nassigned 0A 020400000010 06 45\ndone\n\
+        raised 1\nraised 1\nrecorded 1\nrecorded 2\nquiet\n\
+        active 08\nhub 08 waiting 0\nv 0A waiting 0\nt 09 waiting 0\nrecords 2\n\
+        record 1 slot 2 raise 1 at 09 byte 11\nrecord 2 slot 1 raise 1 at 0A byte 22\n\
+        S 7E/W+ 07.0 Sr 7E/R+ =0204000000100644 @13+ Sr 7E/R+ =0204000000100645 @15+ Sr 7E/R- P \
+        S 09/R+ 11.0 P S 0A/R+ 22.0 P S 7E/W+ P\n";
+    goes_on(&rt, rt.alloc(), script, wanted, 0)
+}
+
+// What was raised before its kind is disabled stays waiting, and is served though it is disabled no more.
+#[test]
+fn requests_are_turned_down(rt: HostRuntime) -> Result<(), Fail> {
+    let script =
+        "raise t 11\npolicy none\ndisec 01\npolicy all\nserve\nraise t 12\nenec 01\nserve\n";
+    let wanted = "raised 1\nturned down\ndone\nquiet\nrefused Masked\ndone\nrecorded 1\n";
+    let wire = " S 09/R- Sr 7E/W+ 01.0 01.0 P S 7E/W+ P S 7E/W+ 00.1 01.0 P S 09/R+ 11.0 P";
+    target_goes_on(&rt, rt.alloc(), script, wanted, wire, 1)
+}
+
+// Only a policy that accepts interrupts takes one. What is turned down is asked again.
+#[test]
+fn policies(rt: HostRuntime) -> Result<(), Fail> {
+    let script = "raise t 11\npolicy joins\nserve\npolicy roles\nserve\npolicy none\nserve\nshow\n\
+        policy interrupts\nserve\nraise t 12\npolicy all\nenec 01\nserve\n";
+    let wanted = "raised 1\nturned down\nturned down\nturned down\n\
+        active 08\nhub 08 waiting 0\nt 09 waiting 1\nrecords 0\n\
+        recorded 1\nraised 2\nrecorded 2\ndone\nquiet\n";
+    let wire = " S 09/R- P S 09/R- P S 09/R- P S 09/R+ 11.0 P \
+        S 09/R+ 12.0 Sr 7E/W+ 00.1 01.0 P S 7E/W+ P";
+    target_goes_on(&rt, rt.alloc(), script, wanted, wire, 0)
+}
+
+// To one address, by a header of its own; an address that the table has no row for gets no frame, nor the active
+// controller's own.
+#[test]
+fn enabling_at_one_address(rt: HostRuntime) -> Result<(), Fail> {
+    let script =
+        "disec 01 09\nraise t 11\nenec 01 09\nraise t 11\nenec 01 50\ndisec 01 08\nenec 08 09\n";
+    let wanted = "done\nrefused Masked\ndone\nraised 1\nrefused NoAnswer 50\nrefused NoAnswer 08\n\
+        recorded 1\ndone\n";
+    let wire = " S 7E/W+ 81.1 Sr 09/W+ 01.0 P S 7E/W+ 80.0 Sr 09/W+ 01.0 P \
+        S 09/R+ 11.0 Sr 7E/W+ 80.0 Sr 09/W+ 08.0 P";
+    target_goes_on(&rt, rt.alloc(), script, wanted, wire, 3)
+}
+
+// A byte's bits other than 0, 1 and 3 are sent as 0. T makes the number of ones odd.
+#[test]
+fn kinds_on_the_wire(rt: HostRuntime) -> Result<(), Fail> {
+    let script = "enec FF\ndisec 0B\nenec 02\ndisec 08\nenec F4\nraise t 11\nenec 09\nraise t 11\n";
+    let wanted = "done\ndone\ndone\ndone\ndone\nrefused Masked\ndone\nraised 1\n";
+    let wire = " S 7E/W+ 00.1 0B.0 P S 7E/W+ 01.0 0B.0 P S 7E/W+ 00.1 02.0 P S 7E/W+ 01.0 08.0 P \
+        S 7E/W+ 00.1 00.1 P S 7E/W+ 00.1 09.1 P";
+    target_goes_on(&rt, rt.alloc(), script, wanted, wire, 1)
+}
+
+// Why a raise is refused. At most eight wait, and a session turns down who asks while it is opened.
+#[test]
+fn raises_are_refused(rt: HostRuntime) -> Result<(), Fail> {
+    let mut script = String::from_str(rt.alloc(), "raise t\nraise hub 01\nraise x 01\n")?;
+    let mut wanted = String::from_str(
+        rt.alloc(),
+        "refused ByteMismatch\nrefused IsActive\nrefused NoName\n",
+    )?;
+    for number in 1..9 {
+        writeln!(script, "raise t 01")?;
+        writeln!(wanted, "raised {number}")?;
+    }
+    script.push_str(
+        "raise t 01\nattach p 020400000030 00 44\nraise p\ndaa\nraise p\nshow\nserve\n",
+    )?;
+    wanted.push_str(
+        "refused Full\np slot 2\nrefused NoAddress\n\
+        turned down\nassigned 0A 020400000030 00 44\ndone\nrefused NotCapable\n\
+        active 08\nhub 08 waiting 0\nt 09 waiting 8\np 0A waiting 0\nrecords 0\nrecorded 1\n",
+    )?;
+    let wire = " S 09/R- Sr 7E/W+ 07.0 Sr 7E/R+ =0204000000300044 @15+ Sr 7E/R- P S 09/R+ 01.0 P";
+    target_goes_on(&rt, rt.alloc(), script.as_str(), wanted.as_str(), wire, 6)
+}
+
+// A device whose BCR names no mandatory byte interrupts without one.
+#[test]
+fn interrupts_without_a_byte(rt: HostRuntime) -> Result<(), Fail> {
+    let script = "attach n 020400000040 02 44\ndaa\nraise n 01\nraise n\nserve\nshow\nsymbols\n";
+    let wanted = "n slot 1\nassigned 09 020400000040 02 44\ndone\n\
+        refused ByteMismatch\nraised 1\nrecorded 1\n\
+        active 08\nhub 08 waiting 0\nn 09 waiting 0\nrecords 1\n\
+        record 1 slot 1 raise 1 at 09 byte --\n\
+        S 7E/W+ 07.0 Sr 7E/R+ =0204000000400244 @13+ Sr 7E/R- P S 09/R+ P\n";
+    goes_on(&rt, rt.alloc(), script, wanted, 1)
+}
+
+// The lines that docs/FORMATS.md gives as examples.
+#[test]
+fn documented_lines(rt: HostRuntime) -> Result<(), Fail> {
+    let script = "raise t\nraise t 11\npolicy none\ndisec 01\nraise t 12\npolicy all\nenec 01 50\n\
+        serve\nenec 01 09\nserve\n";
+    let wanted =
+        "refused ByteMismatch\nraised 1\nturned down\ndone\nrefused Masked\nrefused NoAnswer 50\n\
+        quiet\ndone\nrecorded 1\n";
+    let wire =
+        " S 09/R- Sr 7E/W+ 01.0 01.0 P S 7E/W+ P S 7E/W+ 80.0 Sr 09/W+ 01.0 P S 09/R+ 11.0 P";
+    target_goes_on(&rt, rt.alloc(), script, wanted, wire, 3)
+}
+
+// Nobody acknowledges the frames of a bus that the main controller has to itself.
+#[test]
+fn frames_of_a_lone_controller(rt: HostRuntime) -> Result<(), Fail> {
+    let script = "serve\ndisec 01\nenec 01 09\nsymbols\n";
+    let wanted = "quiet\ndone\nrefused NoAnswer 09\nS 7E/W- P S 7E/W- 01.0 01.0 P\n";
+    goes_on(&rt, rt.alloc(), script, wanted, 1)
+}
+
+// Before the bus there is nobody to raise or serve, whatever the line names; a legacy target is no device; and a name
+// that was refused was not given.
+#[test]
+fn names_and_devices(rt: HostRuntime) {
+    let script = "raise x 01\npolicy none\nserve\nenec 01\ndisec 01 09\nlegacy eep 50 20\n\
+        main p 020400000030 00 44\nmain hub 020400000001 46 C0\nraise eep 01\nraise p\n\
+        attach eep 020400000010 06 44\nattach t 020400000010 06 44\ndaa\nraise t 11\nserve\n";
+    let wanted = "refused NoBus\nrefused NoBus\nrefused NoBus\nrefused NoBus\nrefused NoBus\n\
+        eep legacy at 50\nrefused NotCapable\nhub slot 0 at 08\nrefused NoDevice\nrefused NoName\n\
+        refused NameTaken\nt slot 1\nassigned 09 020400000010 06 44\ndone\nraised 1\nrecorded 1\n";
+    prints(&rt, rt.alloc(), script, wanted, 9);
+}
+
+// A name stays known where another device takes its slot, and may be given again.
+#[test]
+fn names_of_devices_that_are_gone(rt: HostRuntime) -> Result<(), Fail> {
+    let first = Name::parse("t").ok_or("a name")?;
+    let second = Name::parse("u").ok_or("a name")?;
+    let (one, two) = (Slot::new(1)?, Slot::new(2)?);
+    let mut names = Names::new(rt.alloc());
+    assert!(rt; names.slot_of(&first) == Err(Refusal::NoName));
+    names.give(first, Place::Slot(one))?;
+    names.give(first, Place::Slot(one))?;
+    assert!(rt; names.slot_of(&first) == Ok(one));
+    names.give(second, Place::Slot(one))?;
+    assert!(rt; names.slot_of(&first) == Err(Refusal::NoDevice));
+    assert!(rt; names.slot_of(&second) == Ok(one));
+    assert!(rt; names.at(Place::Slot(one)) == Some(&second));
+    names.give(first, Place::Slot(two))?;
+    assert!(rt; names.slot_of(&first) == Ok(two));
+    assert!(rt; names.slot_of(&second) == Ok(one));
     Ok(())
 }
 

@@ -2,7 +2,7 @@ ghost use Rattle.std.specs.Prelude.{◌≡◌, ◌<◌, ◌^◌, ◌≤◌, ◌�
 ghost use Rattle.std.specs.Str.Parse.{digits_value};
 ghost use Rattle.i3c_scenario.specs.Words.{IsHex, IsHexDigit};
 
-use i3c_base::{Addr7, Pid};
+use i3c_base::{Addr7, Kinds, Pid};
 
 /// Numbers are written in hex.
 const RADIX: u32 = 16;
@@ -52,6 +52,29 @@ pub(crate) fn address(word: &str) -> Option<Addr7>
 {
     let number = byte(word)?;
     Addr7::new(number).ok()
+}
+
+/// The kinds of events that a byte names: bit 0 interrupts, bit 1 role requests, bit 3 Hot-Join. No other bit is kept.
+fn kinds_of(byte: u8) -> Kinds {
+    let mut kinds = Kinds::INTERRUPT | Kinds::ROLE | Kinds::JOIN;
+    if byte & 1 == 0 {
+        kinds -= Kinds::INTERRUPT;
+    }
+    if byte & 2 == 0 {
+        kinds -= Kinds::ROLE;
+    }
+    if byte & 8 == 0 {
+        kinds -= Kinds::JOIN;
+    }
+    kinds
+}
+
+/// Kinds of events: two hex digits.
+pub(crate) fn kinds(word: &str) -> Option<Kinds>
+    ensures form { IsSome result ↔ IsHex BYTE_DIGITS word.now }
+{
+    let byte = byte(word)?;
+    Some(kinds_of(byte))
 }
 
 /// A provisioned ID: twelve hex digits.

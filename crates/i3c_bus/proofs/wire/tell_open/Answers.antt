@@ -1,12 +1,6 @@
--- The three symbols, one after another.
-use Rattle.std.proofs.Common.{refl, subst, ◌∙◌}
-use Rattle.i3c_frame.specs.declared.symbols.Symbol.{Symbol}
+-- The code, as a word.
+use Rattle.std.proofs.Common.{refl, ◌∙◌}
 use Rattle.i3c_bus.proofs.wire.tell_open.Goals as goal
 
 pub returns : goal.returns
-returns g c =
-    let header = subst (λ (s : Symbol). g.T.Tap.note_gives c.note.new.self s c.note-2.new.self) c.broadcast.ensures c.note-2.ensures in (
-      _,
-      (c.note.new.self, c.note.ensures, (c.note-2.new.self, header, (c.note-3.new.self, c.note-3.ensures, refl))),
-      (c.write_word.result, (c.write_word.ensures.byte ∙ c.byte_of.ensures, c.write_word.ensures.odd), refl),
-    )
+returns g c = (_, (c.note.new.self, c.note.ensures, refl), (c.write_word.result, (c.write_word.ensures.byte ∙ c.byte_of.ensures, c.write_word.ensures.odd), refl))

@@ -1,10 +1,24 @@
-use Rattle.i3c_ibi.proofs.ReadingLaws.{scanned_none, scanned_some}
+-- The byte that the fronts have is read where one is due, and there is none where none is.
+use Rattle.std.proofs.Common.{◌≡◌, ◌∙◌, ap, sym, is_some, None}
+use Rattle.i3c_base.specs.declared.requests.Record.{Record}
+use Rattle.i3c_ibi.specs.Driving.{HaveBytes, IsReading}
+use Rattle.i3c_ibi.proofs.ReadingLaws.{due_byte, no_byte}
 use Rattle.i3c_ibi.proofs.readings.reading.Goals as goal
-use Rattle.i3c_ibi.proofs.readings.reading.Goals.{in-Some-byte, in-None}
+use Rattle.i3c_ibi.proofs.readings.reading.Goals.{else-due, then-due, Joined-due}
 
-pub returns : goal.returns
-returns c st d a = elim c.match-front.branch [
-  | in-Some-byte w ↦ rw w.byte-is
-      (scanned_some st c.args.devices.now c.args.active c.args.at _ _ w.index.result w.in-Some-byte.own w.together.result d a c.in-Some.ensures w.in-Some-byte.is w.index.ensures.same w.together.ensures w.together.type_inv)
-  | in-None w ↦ rw w.byte-is (scanned_none st c.args.devices.now c.args.active c.args.at _ _ d a c.in-Some.ensures w.in-None.is)
+is_due : (c : Joined-due) → HaveBytes c.args.active c.args.devices.now c.args.at c.args.due → is_some c.fronts_read-read.result.byte ≡ c.args.due
+is_due c fits = due_byte c.args.devices.now c.args.active c.args.at c.args.due c.fronts_read-read.result fits c.fronts_read-read.ensures
+
+pub returns-clause-read : goal.returns-clause-read
+returns-clause-read c fits st d a =
+    let read : IsReading st c.args.at c.fronts_read-read.result = c.fronts_read-read.ensures st d a in
+    elim c.if-due.branch [
+      | then-due w ↦ rw w.result-is read
+      | else-due w ↦ rw (w.result-is, ← no_byte c.fronts_read-read.result.byte (is_due c fits ∙ w.if-due.false)) read
+    ]
+
+pub returns-clause-due : goal.returns-clause-due
+returns-clause-due c fits = elim c.if-due.branch [
+  | then-due w ↦ ap is_some w.result-is ∙ is_due c fits
+  | else-due w ↦ ap is_some w.result-is ∙ sym w.if-due.false
 ]

@@ -1,0 +1,133 @@
+-- Policies that agree on the first request serve it alike.
+use Rattle.std.proofs.Common.{◌≡◌, ℕ, true, false, ◌+◌, Option, Some, None, MatchOption, if◌then◌else◌, ◌⊎◌, inl, inr, sym, refl, ap, subst, ◌∙◌}
+use Rattle.std.proofs.lemmas.Bool.{both_ways}
+use Rattle.i3c_base.specs.declared.kinds.Kinds.{Kinds}
+use Rattle.i3c_base.specs.declared.requests.Fixed.{Fixed}
+use Rattle.i3c_base.specs.declared.requests.Request.{Request}
+use Rattle.i3c_base.specs.declared.requests.Request.TheVariants.{Join, Role, Interrupt}
+use Rattle.i3c_base.specs.declared.requests.Served.{Served}
+use Rattle.i3c_base.specs.declared.requests.Served.TheVariants.{Quiet, Recorded, Refused, Torn, Joining, WantsRole}
+use Rattle.i3c_base.specs.declared.requests.Verdict.{Verdict}
+use Rattle.i3c_base.specs.declared.requests.Verdict.TheVariants.{Refuse}
+use Rattle.i3c_base.specs.Cutting.{CutList, Lost, lost_by}
+use Rattle.i3c_base.specs.State.{State}
+use Rattle.i3c_base.specs.Serve.{Frame, IsFirst, Serves, verdict}
+use Rattle.i3c_events.specs.declared.words.Change.{Change}
+use Rattle.i3c_events.specs.declared.words.Change.TheVariants.{Enable, Disable}
+use Rattle.i3c_ibi.specs.Policies.{Decides, is_known, verdict_in}
+use Rattle.i3c_bus.specs.Asking.{Asks}
+use Rattle.i3c_bus.specs.Commands.{kinds_event}
+use Rattle.i3c_bus.specs.Step.{Acts, IsShort, Step, checks, first_refusal}
+use Rattle.i3c_bus.specs.declared.events.Event.{Event}
+use Rattle.i3c_bus.specs.declared.replies.Refusal.{Refusal}
+use Rattle.i3c_bus.specs.declared.replies.Reply.{Reply}
+use Rattle.i3c_bus.proofs.Uniqueness.{first_unique}
+
+-- they have one verdict on whichever request comes first
+pub Agree : State → Fixed → Fixed → Type 0
+Agree st f g = (r : Request) → IsFirst st r → verdict st f r ≡ verdict st g r
+
+serves_as : (st : State) (f g : Fixed) (lost : Lost) (served : Served) (new : State) → Agree st f g → Serves st f lost served new → Serves st g lost served new
+unfolding Agree
+serves_as st f g lost Quiet new agree h = h
+serves_as st f g lost Refused new agree h = ((h.0.0, h.0.1, sym (agree h.0.0 h.0.1) ∙ h.0.2), h.1)
+serves_as st f g lost Joining new agree h = (h.0, sym (agree Join h.0) ∙ h.1, h.2)
+serves_as st f g lost (WantsRole a) new agree h = (h.0, sym (agree (Role a) h.0) ∙ h.1, h.2)
+serves_as st f g lost (Recorded place) new agree h = record {
+  at = h.at;
+  slot = h.slot;
+  front = h.front;
+  byte = h.byte;
+  first = h.first;
+  accepted = sym (agree (Interrupt h.at) h.first) ∙ h.accepted;
+  lowest = h.lowest;
+  fronted = h.fronted;
+  read = h.read;
+  placed = h.placed;
+  left = h.left;
+}
+serves_as st f g lost Torn new agree h = record { at = h.at; first = h.first; accepted = sym (agree (Interrupt h.at) h.first) ∙ h.accepted; due = h.due; gone = h.gone; left = h.left }
+
+frame_as : (old : State) (f g : Fixed) (cuts : CutList) (served : Served) (rest : ℕ) (Own : Lost → State → State → Type 0) (new : State) → Agree old f g → Frame old f cuts served rest Own new → Frame old g cuts served rest Own new
+frame_as old f g cuts served rest Own new agree h = record {
+  word = h.word;
+  mid = h.mid;
+  done = h.done;
+  sent = h.sent;
+  serves = serves_as old f g (lost_by cuts (h.word + rest)) served h.mid agree h.serves;
+  own = h.own;
+  left = h.left;
+}
+
+-- a policy's verdict on a request that the table knows, and on one that it doesn't
+verdict_known : (st : State) (f : Fixed) (r : Request) → is_known st.given r ≡ true → verdict st f r ≡ verdict_in f r
+verdict_known st f Join k = refl
+verdict_known st f (Role a) k = ap (λ b. if b then f.role else Refuse) k
+verdict_known st f (Interrupt a) k = ap (λ b. if b then f.interrupt else Refuse) k
+
+verdict_unknown : (st : State) (f : Fixed) (r : Request) → is_known st.given r ≡ false → verdict st f r ≡ Refuse
+verdict_unknown st f Join k = absurd (both_ways _ k refl)
+verdict_unknown st f (Role a) k = ap (λ b. if b then f.role else Refuse) k
+verdict_unknown st f (Interrupt a) k = ap (λ b. if b then f.interrupt else Refuse) k
+
+-- what a fixed policy may do: it stays as it is, and gives its verdict
+abbrev pub fixed_gives : Fixed → Request → Verdict → Fixed → Type 0
+fixed_gives old request verdict new = (new ≡ old) × (verdict ≡ verdict_in old request)
+
+-- the policy that a fixed one was asked as agrees with it
+decides_agree : (st : State) (p q f : Fixed) → Decides fixed_gives p q st f → Agree st f p
+unfolding Agree
+decides_agree st p q f h r first = elim h [
+  | inl none ↦ absurd (both_ways _ (none.0 first.driven.0 r) first.driven.1)
+  | inr other ↦ elim other [
+    | inl k ↦
+        let same : r ≡ k.0 = first_unique st r k.0 first k.1 in
+        let known : is_known st.given r ≡ true = ap (is_known st.given) same ∙ k.2 in
+        let verdicts : verdict_in f r ≡ verdict_in p r = subst (λ x. verdict_in f x ≡ verdict_in p x) (sym same) k.3.1 in
+        verdict_known st f r known ∙ (verdicts ∙ sym (verdict_known st p r known))
+    | inr u ↦
+        let same : r ≡ u.0 = first_unique st r u.0 first u.1 in
+        let unknown : is_known st.given r ≡ false = ap (is_known st.given) same ∙ u.2 in
+        verdict_unknown st f r unknown ∙ sym (verdict_unknown st p r unknown)
+  ]
+]
+
+-- a serve under a policy that was asked as another
+pub serve_asked : (old : State) (p q f : Fixed) (cuts : CutList) (reply : Reply) (new : State) → Asks fixed_gives p q old f reply → Step old (Event.Serve f cuts) reply new → Step old (Event.Serve p cuts) reply new
+serve_asked old p q f cuts reply new asks h = go (first_refusal (checks old (Event.Serve p cuts))) h
+  where
+    go : (o : Option Refusal) → MatchOption o (IsShort old (Event.Serve f cuts) reply new ⊎ Acts old (Event.Serve f cuts) reply new) (λ why. (reply ≡ Reply.Refused why) × (new ≡ old))
+        → MatchOption o (IsShort old (Event.Serve p cuts) reply new ⊎ Acts old (Event.Serve p cuts) reply new) (λ why. (reply ≡ Reply.Refused why) × (new ≡ old))
+    go (Some why) k = k
+    go None k = elim k [
+      | inl short ↦ inl short
+      | inr acts ↦
+          let asked : Decides fixed_gives p q old f = subst (λ r. Asks fixed_gives p q old f r) acts.1 asks in
+          inr (acts.0, acts.1, frame_as old f p cuts acts.0 _ _ new (decides_agree old p q f asked) acts.2)
+    ]
+
+-- ENEC and DISEC under a policy that was asked as another
+pub kinds_asked : (change : Change) (old : State) (to : Option ℕ) (kinds : Kinds) (p q f : Fixed) (cuts : CutList) (reply : Reply) (new : State) → Asks fixed_gives p q old f reply
+    → Step old (kinds_event change to kinds f cuts) reply new → Step old (kinds_event change to kinds p cuts) reply new
+kinds_asked Enable old to kinds p q f cuts reply new asks h = go (first_refusal (checks old (Event.Enec to kinds p cuts))) h
+  where
+    go : (o : Option Refusal) → MatchOption o (IsShort old (Event.Enec to kinds f cuts) reply new ⊎ Acts old (Event.Enec to kinds f cuts) reply new) (λ why. (reply ≡ Reply.Refused why) × (new ≡ old))
+        → MatchOption o (IsShort old (Event.Enec to kinds p cuts) reply new ⊎ Acts old (Event.Enec to kinds p cuts) reply new) (λ why. (reply ≡ Reply.Refused why) × (new ≡ old))
+    go (Some why) k = k
+    go None k = elim k [
+      | inl short ↦ inl short
+      | inr acts ↦
+          let asked : Decides fixed_gives p q old f = subst (λ r. Asks fixed_gives p q old f r) acts.1 asks in
+          inr (acts.0, acts.1, frame_as old f p cuts acts.0.served _ _ new (decides_agree old p q f asked) acts.2)
+    ]
+kinds_asked Disable old to kinds p q f cuts reply new asks h = go (first_refusal (checks old (Event.Disec to kinds p cuts))) h
+  where
+    go : (o : Option Refusal) → MatchOption o (IsShort old (Event.Disec to kinds f cuts) reply new ⊎ Acts old (Event.Disec to kinds f cuts) reply new) (λ why. (reply ≡ Reply.Refused why) × (new ≡ old))
+        → MatchOption o (IsShort old (Event.Disec to kinds p cuts) reply new ⊎ Acts old (Event.Disec to kinds p cuts) reply new) (λ why. (reply ≡ Reply.Refused why) × (new ≡ old))
+    go (Some why) k = k
+    go None k = elim k [
+      | inl short ↦ inl short
+      | inr acts ↦
+          let asked : Decides fixed_gives p q old f = subst (λ r. Asks fixed_gives p q old f r) acts.1 asks in
+          inr (acts.0, acts.1, frame_as old f p cuts acts.0.served _ _ new (decides_agree old p q f asked) acts.2)
+    ]

@@ -1,0 +1,31 @@
+-- What every bus keeps, whatever happens on it.
+use Rattle.std.specs.Prelude.{◌≡◌, ℕ, length, Some, None, is_some}
+use Rattle.std.specs.List.{All}
+use Rattle.i3c_base.specs.declared.range.TheConstants.{ADDRESSES}
+use Rattle.i3c_base.specs.declared.device.Waiting.{Waiting}
+use Rattle.i3c_base.specs.declared.identity.Identity.{Identity}
+use Rattle.i3c_base.specs.Numbers.{has_byte}
+use Rattle.i3c_base.specs.State.{Device, Entry, State, device_at, entry_at, target_at}
+
+-- the entry says what the identity's device is, and is kept for no other identity
+pub record IsFor (i : Identity) (e : Entry) : Type 0 where
+  pub bcr : e.bcr ≡ i.bcr
+  pub dcr : e.dcr ≡ i.dcr
+  pub kept : (j : Identity) → e.kept ≡ Some j → j ≡ i
+
+-- each address in use stands in the table under its device's identity and is kept for no other, devices of one address
+-- have one identity, and no address of the table is a legacy target's
+pub record Addresses (st : State) : Type 0 where
+  pub used : (s a : ℕ) (d : Device) → device_at st s ≡ Some d → d.address ≡ Some a → (e : Entry) × (entry_at st a ≡ Some e) × IsFor d.identity e
+  pub alike : (s t a : ℕ) (d e : Device) → device_at st s ≡ Some d → device_at st t ≡ Some e → d.address ≡ Some a → e.address ≡ Some a → d.identity ≡ e.identity
+  pub free : (a : ℕ) (e : Entry) → entry_at st a ≡ Some e → target_at st a ≡ None
+  pub long : length st.given ≡ ADDRESSES
+
+-- a device's waiting interrupts have mandatory bytes exactly where its BCR says so
+abbrev pub IsFitting : Device → Type 0
+IsFitting d = All (λ (w : Waiting). is_some w.byte ≡ has_byte d.identity.bcr) d.waiting
+
+-- a bus whose addresses are those of its table, and whose waiting interrupts fit their devices
+pub record IsSound (st : State) : Type 0 where
+  pub addresses : Addresses st
+  pub fitting : (s : ℕ) (d : Device) → device_at st s ≡ Some d → IsFitting d

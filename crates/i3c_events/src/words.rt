@@ -1,0 +1,51 @@
+ghost use Rattle.std.specs.Prelude.{◌≡◌, ◌∷◌, []};
+ghost use Rattle.i3c_base.specs.Numbers.{kind_set};
+ghost use Rattle.i3c_word.specs.Parity.{HasOddParity};
+ghost use Rattle.i3c_device.specs.Hearing.{named_kinds};
+ghost use Rattle.i3c_events.specs.Words.{code_byte, command, kinds_byte};
+
+use bitflags::Flags;
+use i3c_base::{Addr7, Kinds};
+use i3c_ccc::{Code, byte_of};
+use i3c_word::{Word, write_word};
+
+/// Whether kinds of events are enabled (ENEC) or disabled (DISEC).
+#[derive(Clone, Copy, Debug, PartialEq, Eq)]
+pub enum Change {
+    Enable,
+    Disable,
+}
+
+/// The bits that stand for kinds: interrupts, role requests and Hot-Join.
+const NAMED: u8 = 0b1011;
+
+/// The command's code: broadcast, or direct to one address.
+pub(crate) fn code_for(change: Change, to: Option<Addr7>) -> Code
+    ensures { result ≡ command change to }
+{
+    match (change, to) {
+        (Change::Enable, None) => Code::Enec,
+        (Change::Disable, None) => Code::Disec,
+        (Change::Enable, Some(_)) => Code::EnecDirect,
+        (Change::Disable, Some(_)) => Code::DisecDirect,
+    }
+}
+
+/// The word of the command's code: broadcast `00` (ENEC) or `01` (DISEC), to one address `80` or `81`
+/// (I3C Basic 5.1.9.3.1).
+pub fn code_word(change: Change, to: Option<Addr7>) -> Word
+    ensures byte { result.byte ≡ code_byte change to }
+    ensures odd { HasOddParity result }
+{
+    write_word(byte_of(code_for(change, to)))
+}
+
+/// The word that names kinds: bit 0 interrupts, bit 1 role requests, bit 3 Hot-Join; all other bits are 0
+/// (I3C Basic 5.1.9.3.1).
+pub fn kinds_word(kinds: Kinds) -> Word
+    ensures byte { result.byte ≡ kinds_byte (kind_set kinds) }
+    ensures named { named_kinds (result ∷ []) ≡ kind_set kinds }
+    ensures odd { HasOddParity result }
+{
+    write_word(kinds.bits() & NAMED)
+}

@@ -1,0 +1,125 @@
+-- The first request: the scan over the slots.
+use Rattle.std.proofs.lemmas.Bool.{both_ways, cases_eq, cases_lt, eq-eqb, eqb-true, ne_eqb}
+use Rattle.std.proofs.lemmas.List.{get_or_past}
+use Rattle.std.proofs.lemmas.Option.{none-some, same_Some}
+use Rattle.std.specs.Prelude.{⊤}
+use Rattle.std.proofs.Common.{◌≡◌, ◌↔◌, ℕ, ◌+◌, ◌<◌, ◌≤◌, Bool, true, false, not, ◌&&◌, ◌==◌, length, IfSome, IsTrue, Option, Some, None, MatchOption, ◌⊎◌, inl, inr, refl, sym, ap, subst, arith, ◌∙◌}
+use Rattle.i3c_base.specs.declared.requests.Request.{Request}
+use Rattle.i3c_base.specs.State.{Device, IsTargetAt, State, device_at, has_address, in_slot, is_the}
+use Rattle.i3c_base.specs.Serve.{asks, drives, rank}
+use Rattle.i3c_model.specs.Driving.{IsFirstOf}
+use Rattle.i3c_model.proofs.States.{and_false}
+
+-- no slot below n drives a request
+abbrev pub NoneBelow : State → ℕ → Type 0
+NoneBelow st n = (s : ℕ) (q : Request) → s < n → drives st q s ≡ false
+
+-- r is driven, and none of the slots below n drives one that comes before it
+pub record FirstBelow (st : State) (n : ℕ) (r : Request) : Type 0 where
+  pub driven : (s : ℕ) × (drives st r s ≡ true)
+  pub least : (s : ℕ) (q : Request) → s < n → drives st q s ≡ true → rank r ≤ rank q
+
+-- the first request of the slots below n, if there is one
+abbrev pub IsFirstSoFar : State → ℕ → Option Request → Type 0
+IsFirstSoFar st n first = MatchOption first (NoneBelow st n) (FirstBelow st n)
+
+-- one slot more, which drives nothing
+pub first_more_none : (st : State) (n : ℕ) (first : Option Request) → IsFirstSoFar st n first → ((q : Request) → drives st q n ≡ false) → IsFirstSoFar st (n + 1) first
+first_more_none st n None h none = λ s q l. elim (cases_eq s n) [
+  | inl e ↦ subst (λ k. drives st q k ≡ false) (sym e) (none q)
+  | inr ne ↦ h s q (omega arith)
+]
+first_more_none st n (Some r) h none = record {
+  driven = h.driven;
+  least = λ s q l d. elim (cases_eq s n) [
+    | inl e ↦ absurd (both_ways _ (none q) (subst (λ k. drives st q k ≡ true) e d))
+    | inr ne ↦ h.least s q (omega arith) d
+  ];
+}
+
+-- one slot more, which drives r, where f comes first of r and of what came first
+pub first_more : (st : State) (n : ℕ) (first : Option Request) (r f : Request) → IsFirstSoFar st n first → drives st r n ≡ true → ((q : Request) → drives st q n ≡ true → q ≡ r)
+    → (f ≡ r) ⊎ (first ≡ Some f) → rank f ≤ rank r → MatchOption first ⊤ (λ g. rank f ≤ rank g) → FirstBelow st (n + 1) f
+first_more st n None r f h d alone one least still = elim one [
+  | inl e ↦ record {
+    driven = (n, subst (λ q. drives st q n ≡ true) (sym e) d);
+    least = λ s q l dq. elim (cases_eq s n) [
+      | inl same ↦ subst (λ g. rank f ≤ rank g) (sym (alone q (subst (λ k. drives st q k ≡ true) same dq))) least
+      | inr ne ↦ absurd (both_ways _ (h s q (omega arith)) dq)
+    ];
+  }
+  | inr e ↦ cc
+]
+first_more st n (Some g) r f h d alone one least still = record {
+  driven = elim one [
+    | inl e ↦ (n, subst (λ q. drives st q n ≡ true) (sym e) d)
+    | inr e ↦ let same : g ≡ f = cc in (h.driven.0, subst (λ q. drives st q h.driven.0 ≡ true) same h.driven.1)
+  ];
+  least = λ s q l dq. elim (cases_eq s n) [
+    | inl same ↦ subst (λ k. rank f ≤ rank k) (sym (alone q (subst (λ k. drives st q k ≡ true) same dq))) least
+    | inr ne ↦ let low : rank g ≤ rank q = h.least s q (omega arith) dq in let s : rank f ≤ rank g = still in omega arith
+  ];
+}
+
+-- past the last slot nobody drives
+drives_none : (s active : ℕ) (o : Option Device) (q : Request) → o ≡ None → (not (s == active) && in_slot (λ d. asks d q) o) ≡ true → ⊥
+drives_none s active None q e d = both_ways _ (and_false (not (s == active))) d
+drives_none s active (Some x) q e d = cc
+
+pub drives_in : (st : State) (q : Request) (s : ℕ) → drives st q s ≡ true → s < length st.devices
+drives_in st q s d = elim (cases_lt s (length st.devices)) [
+  | inl l ↦ l
+  | inr past ↦ absurd (drives_none s st.active (device_at st s) q (get_or_past st.devices s None past) d)
+]
+
+not_true : (b : Bool) → (b ≡ true → ⊥) → b ≡ false
+not_true true h = absurd (h refl)
+not_true false h = refl
+
+-- so what came first of all slots is first
+pub first_all : (st : State) (n : ℕ) (first : Option Request) → n ≡ length st.devices → IsFirstSoFar st n first → IsFirstOf st first
+first_all st n None e h = λ s q. not_true _ (λ d. both_ways _ (h s q (let l = drives_in st q s d in omega arith)) d)
+first_all st n (Some r) e h = record {
+  driven = h.driven;
+  first = λ s q d. h.least s q (let l = drives_in st q s d in omega arith) d;
+}
+
+-- the slot of a device drives what the device asks for, unless it is the active controller's
+drives_of : (st : State) (s : ℕ) (d : Device) (q : Request) → (s ≡ st.active → ⊥) → device_at st s ≡ Some d → drives st q s ≡ asks d q
+drives_of st s d q ne at = ap (λ o. not (s == st.active) && in_slot (λ x. asks x q) o) at ∙ ap (λ b. not b && asks d q) (ne_eqb s st.active ne)
+
+-- what the device wants, its slot drives
+pub wanted_asked : (st : State) (s : ℕ) (d : Device) (o : Option Request) → (s ≡ st.active → ⊥) → device_at st s ≡ Some d → MatchOption o ((q : Request) → asks d q ≡ false) (λ r. asks d r ≡ true)
+    → MatchOption o ((q : Request) → drives st q s ≡ false) (λ r. drives st r s ≡ true)
+wanted_asked st s d None ne at h = λ q. drives_of st s d q ne at ∙ h q
+wanted_asked st s d (Some r) ne at h = drives_of st s d r ne at ∙ h
+
+pub wanted_alone : (st : State) (s : ℕ) (d : Device) (o : Option Request) → (s ≡ st.active → ⊥) → device_at st s ≡ Some d → IfSome o (λ r. (q : Request) → asks d q ≡ true → q ≡ r)
+    → IfSome o (λ r. (q : Request) → drives st q s ≡ true → q ≡ r)
+wanted_alone st s d None ne at h = h
+wanted_alone st s d (Some r) ne at h = λ q k. h q (sym (drives_of st s d q ne at) ∙ k)
+
+-- an empty slot drives nothing, and has no address
+pub none_driven : (st : State) (s : ℕ) (q : Request) → device_at st s ≡ None → drives st q s ≡ false
+none_driven st s q at = ap (λ o. not (s == st.active) && in_slot (λ x. asks x q) o) at ∙ and_false (not (s == st.active))
+
+pub none_at : (st : State) (a s : ℕ) → device_at st s ≡ None → IsTrue false ↔ ((d : Device) × IsTargetAt st a s d)
+none_at st a s at = ((λ h. absurd (both_ways _ refl h)), λ h. absurd (none-some h.0 (sym at ∙ h.1.0)))
+
+-- a device there is a target exactly if it has the address
+the_address : (a : ℕ) (o : Option ℕ) → is_the a o ≡ true → o ≡ Some a
+the_address a None h = absurd (both_ways _ refl h)
+the_address a (Some b) h = ap Some (eqb-true b a h)
+
+pub at_there : (st : State) (a s : ℕ) (d : Device) (b : Bool) → (s ≡ st.active → ⊥) → device_at st s ≡ Some d → b ≡ has_address a d → IsTrue b ↔ ((x : Device) × IsTargetAt st a s x)
+at_there st a s d b ne at e = (
+  (λ h. (d, (at, the_address a d.address (sym e ∙ h), ne))),
+  λ h. e ∙ (ap (has_address a) (same_Some d h.0 (sym at ∙ h.1.0)) ∙ (ap (is_the a) h.1.1 ∙ eq-eqb a a refl)),
+)
+
+-- each device is in a slot
+pub at_in : (st : State) (s : ℕ) (d : Device) → device_at st s ≡ Some d → s < length st.devices
+at_in st s d at = elim (cases_lt s (length st.devices)) [
+  | inl l ↦ l
+  | inr past ↦ absurd (none-some d (sym (get_or_past st.devices s None past) ∙ at))
+]

@@ -1,0 +1,10 @@
+use borrow.Author.Tests.{tests}
+use Rattle.std.proofs.Common.{rules}
+use Rattle.i3c_model.proofs.PlaceLaws.{map_keyed_pairs}
+use Rattle.i3c_model.proofs.States.{rekinded_there, rekinding_at}
+use Rattle.i3c_model.proofs.plain.Plain.change_kinds.Goals as goal
+
+pub returns : goal.returns
+returns c =
+    let each = map_keyed_pairs _ (rekinding_at c.self.inside.active c.args.to.now c.args.change.now) _ (λ k v b w f q. search (rules, tests)) _ _ c.retain.ensures.filtered in
+    rekinded_there c.self.inside c.args.self.now c.self.view_is c.self.invariant c.retain.new.self c.args.to.now c.args.change.now each

@@ -1,0 +1,22 @@
+-- The words that name policies, and what each accepts.
+use Rattle.std.specs.Prelude.{◌≡◌, ◌⊎◌, ℕ, List, codes}
+use Rattle.i3c_base.specs.declared.requests.Fixed.{Fixed}
+use Rattle.i3c_base.specs.declared.requests.Verdict.{Verdict}
+use Rattle.i3c_base.specs.declared.requests.Verdict.TheVariants.{Accept, Refuse}
+
+-- one verdict for all kinds of requests
+abbrev pub each_kind : Verdict → Fixed
+each_kind verdict = record { join = verdict; role = verdict; interrupt = verdict }
+
+abbrev pub joins_alone : Fixed
+joins_alone = record (each_kind Refuse) { join = Accept }
+
+abbrev pub roles_alone : Fixed
+roles_alone = record (each_kind Refuse) { role = Accept }
+
+abbrev pub interrupts_alone : Fixed
+interrupts_alone = record (each_kind Refuse) { interrupt = Accept }
+
+-- a word that names a policy
+abbrev pub IsPolicyWord : List ℕ → Type 0
+IsPolicyWord word = (word ≡ codes "all") ⊎ (word ≡ codes "none") ⊎ (word ≡ codes "joins") ⊎ (word ≡ codes "roles") ⊎ (word ≡ codes "interrupts")
