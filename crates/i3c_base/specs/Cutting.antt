@@ -27,6 +27,10 @@ earlier (Some had) bit = min had bit
 abbrev pub Lost : Type 0
 Lost = ℕ → Bool
 
+-- no device is lost
+abbrev pub nobody : Lost
+nobody s = false
+
 -- there is a cut, at this bit or before
 abbrev pub is_by : ℕ → Option ℕ → Bool
 is_by last None = false

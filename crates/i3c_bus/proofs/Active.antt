@@ -21,6 +21,8 @@ use Rattle.i3c_base.proofs.Lookups.{change_at, each_at, emptied_at, length-no_de
 use Rattle.i3c_bus.specs.declared.events.Event.{Event}
 use Rattle.i3c_bus.specs.declared.events.Event.TheVariants.{Attach, Raise, Serve, Enec, Disec, OpenDaa, Round, EndDaa}
 use Rattle.i3c_bus.specs.declared.replies.Reply.{Reply}
+use Rattle.i3c_bus.specs.Runs.{IsLegalRun}
+use Rattle.i3c_bus.proofs.Kept.{run_keeps}
 use Rattle.i3c_bus.specs.Step.{Acts, Step, checks, first_refusal, target_checks}
 use Rattle.i3c_bus.proofs.Steps.{active_left, step_cases}
 
@@ -122,3 +124,7 @@ Active-start main legacy start h = subst HasActive (sym h.2)
   where
     low : 0 < length no_devices
     low = let n : length no_devices ≡ SLOTS = length-no_devices in omega arith
+
+-- so a device is in the active slot of each state that a legal run leads to
+pub active_along : (main : Setup) (legacy : List (Option Target)) (events : List Event) (replies : List Reply) (new : State) → IsLegalRun main legacy events replies new → HasActive new
+active_along main legacy events replies new run = run_keeps HasActive Active-step run.0 events replies new run.2 (Active-start main legacy run.0 run.1)

@@ -20,7 +20,7 @@ use Rattle.i3c_ibi.specs.Driving.{HaveBytes, IsReading, answered, drives_at, wit
 use Rattle.i3c_ibi.specs.Policies.{Decides, is_known, verdict_in}
 use Rattle.i3c_bus.specs.Sound.{IsSound}
 use Rattle.i3c_bus.proofs.Drivers.{Drives-from}
-use Rattle.i3c_bus.proofs.Lost.{nobody}
+use Rattle.i3c_base.specs.Cutting.{nobody}
 use Rattle.i3c_bus.proofs.Maps.{same_device}
 use Rattle.i3c_bus.proofs.Soundness.{sound_serves}
 use Rattle.i3c_bus.proofs.Uniqueness.{accept≢refuse}

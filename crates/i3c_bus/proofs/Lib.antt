@@ -18,6 +18,7 @@ pub mod Numbering
 pub mod Recording
 pub mod StayOrder
 pub mod HearersLaws
+pub mod Accepting
 pub mod Stepping
 pub mod Beginning
 pub mod Agreeing

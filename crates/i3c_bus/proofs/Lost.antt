@@ -1,10 +1,6 @@
 -- Cuts that are empty lose nobody.
 use Rattle.std.proofs.Common.{◌≡◌, ℕ, false, ap}
-use Rattle.i3c_base.specs.Cutting.{CutList, Lost, IsUncut, is_by, lost_by}
-
--- nobody is lost
-abbrev pub nobody : Lost
-nobody s = false
+use Rattle.i3c_base.specs.Cutting.{CutList, IsUncut, is_by, lost_by, nobody}
 
 pub unlost : (cuts : CutList) → IsUncut cuts → (last s : ℕ) → lost_by cuts last s ≡ false
 unlost cuts uncut last s = ap (is_by last) (uncut s)

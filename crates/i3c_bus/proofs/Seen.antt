@@ -14,7 +14,7 @@ use Rattle.i3c_base.specs.State.{Device, Held, State, IsKeptIn, IsPickIn, IsPick
 use Rattle.std.proofs.lemmas.Bool.{false≢true}
 use Rattle.i3c_base.specs.Serve.{Serves, refuse_all}
 use Rattle.i3c_base.specs.Round.{IsAddressFor, hears, opened}
-use Rattle.i3c_bus.proofs.Lost.{nobody}
+use Rattle.i3c_base.specs.Cutting.{nobody}
 use Rattle.i3c_bus.specs.declared.events.Event.{Event}
 use Rattle.i3c_bus.specs.declared.replies.Reply.{Reply}
 use Rattle.i3c_bus.specs.Step.{Step}

@@ -27,7 +27,8 @@ use Rattle.i3c_bus.specs.Commands.{kinds_event}
 use Rattle.i3c_bus.specs.Step.{Acts, IsShort, Step, checks, cuts_active, first_refusal, frame_checks, is_no_target, may_want_memory, target_checks}
 use Rattle.i3c_bus.specs.Hearers.{IsLeastHearing, NobodyHears}
 use Rattle.i3c_bus.specs.Winning.{won}
-use Rattle.i3c_bus.proofs.Lost.{lost_nobody, nobody}
+use Rattle.i3c_base.specs.Cutting.{nobody}
+use Rattle.i3c_bus.proofs.Lost.{lost_nobody}
 
 -- a step that no test refuses
 pub step_acts : (old : State) (event : Event) (reply : Reply) (new : State) → first_refusal (checks old event) ≡ None → Acts old event reply new → Step old event reply new

@@ -15,12 +15,15 @@ use Rattle.i3c_base.specs.Round.{Rounds, assigned}
 use Rattle.std.specs.Prelude.{⊤}
 use Rattle.i3c_base.specs.Serve.{refuse_all}
 use Rattle.i3c_base.specs.Round.{AllHearersLost, AnyHears, IsAddressFor, IsBeatenByLost, IsContender}
+use Rattle.i3c_events.specs.declared.words.Change.{Change}
+use Rattle.i3c_events.specs.Hearing.{changed_kinds}
 use Rattle.i3c_bus.specs.declared.events.Event.{Event}
 use Rattle.i3c_bus.specs.declared.events.Event.TheVariants.{Attach, Raise, Serve, Enec, Disec, OpenDaa, Round, EndDaa}
 use Rattle.i3c_bus.specs.declared.replies.Refusal.{Refusal}
 use Rattle.i3c_bus.specs.declared.replies.Reply.{Reply}
-use Rattle.i3c_bus.specs.Step.{Acts, IsShort, RekindsBy, Step, checks, cuts_in, disabling, enabling, first_refusal}
-use Rattle.i3c_bus.proofs.Lost.{lost_nobody, nobody, unlost}
+use Rattle.i3c_bus.specs.Step.{Acts, IsShort, RekindsBy, Step, checks, cuts_in, first_refusal}
+use Rattle.i3c_base.specs.Cutting.{nobody}
+use Rattle.i3c_bus.proofs.Lost.{lost_nobody, unlost}
 use Rattle.i3c_bus.proofs.Uniqueness.{address_unique, serves_unique, winner_unique}
 
 -- two frames agree if their own parts do
@@ -102,8 +105,8 @@ acts_unique old (Raise s byte) reply other new next u h k = (h.0 ∙ sym k.0, h.
 acts_unique old (Serve policy cuts) reply other new next u h k =
     let r = frames_agree old policy cuts h.0 k.0 _ _ _ _ new next ⊤ u (λ mid done last x y. (tt, x ∙ sym y)) h.2 k.2 in
     (h.1 ∙ (ap Reply.Served r.0 ∙ sym k.1), r.2)
-acts_unique old (Enec to kinds policy cuts) reply other new next u h k = rekinds_by_unique old to (enabling kinds) policy cuts reply other new next u h k
-acts_unique old (Disec to kinds policy cuts) reply other new next u h k = rekinds_by_unique old to (disabling kinds) policy cuts reply other new next u h k
+acts_unique old (Enec to kinds policy cuts) reply other new next u h k = rekinds_by_unique old to (changed_kinds Change.Enable kinds) policy cuts reply other new next u h k
+acts_unique old (Disec to kinds policy cuts) reply other new next u h k = rekinds_by_unique old to (changed_kinds Change.Disable kinds) policy cuts reply other new next u h k
 acts_unique old (OpenDaa cuts) reply other new next u h k =
     let r = frames_agree old refuse_all cuts h.0 k.0 _ _ _ _ new next ⊤ u (λ mid done last x y. (tt, x ∙ sym y)) h.2 k.2 in
     (h.1 ∙ (ap Reply.Opened r.0 ∙ sym k.1), r.2)

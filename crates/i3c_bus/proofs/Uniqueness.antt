@@ -20,7 +20,7 @@ use Rattle.i3c_base.specs.Numbers.{IsBelow}
 use Rattle.i3c_base.specs.State.{IsKept, IsPick}
 use Rattle.i3c_base.specs.Serve.{DrivesByte, IsAnd, IsFirst, IsFront, IsLowestDriver, IsRead, NoneAsks, rank, verdict}
 use Rattle.i3c_base.specs.Round.{IsAddressFor, IsWinner}
-use Rattle.i3c_bus.proofs.Lost.{nobody}
+use Rattle.i3c_base.specs.Cutting.{nobody}
 
 -- the order of identities is total, so a least one is unique
 below_total : (i j : Identity) → IsBelow i j ⊎ (IsBelow j i ⊎ (i ≡ j))

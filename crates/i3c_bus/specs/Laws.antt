@@ -1,13 +1,12 @@
 -- What holds over every legal run.
-use Rattle.std.specs.Prelude.{◌≡◌, ◌≢◌, ℕ, true, false, List, ◌++◌, Option, Some}
+use Rattle.std.specs.Prelude.{◌≡◌, ◌≢◌, ℕ, true, List, ◌++◌, Option, Some}
 use Rattle.i3c_base.specs.declared.device.Setup.{Setup}
 use Rattle.i3c_base.specs.declared.device.Target.{Target}
 use Rattle.i3c_base.specs.declared.requests.Fixed.{Fixed}
 use Rattle.i3c_base.specs.declared.requests.Request.{Request}
 use Rattle.i3c_base.specs.declared.requests.Served.{Served}
 use Rattle.i3c_base.specs.declared.requests.Verdict.{Verdict}
-use Rattle.i3c_base.specs.Cutting.{Lost}
-use Rattle.i3c_base.specs.Serve.{IsFirst, Serves, drives, verdict}
+use Rattle.i3c_base.specs.Serve.{IsFirst, drives, verdict}
 use Rattle.i3c_base.specs.State.{Device, HasDistinctIdentities, HasUniqueAnswers, IsPresent, IsStart, State, device_at}
 use Rattle.i3c_bus.specs.declared.events.Event.{Event}
 use Rattle.i3c_bus.specs.declared.replies.Reply.{Reply}
@@ -15,6 +14,7 @@ use Rattle.i3c_bus.specs.Step.{IsUncutEvent, Step}
 use Rattle.i3c_bus.specs.Runs.{IsLegalRun, IsRun}
 use Rattle.i3c_bus.specs.History.{AllDistinct, History, IsLegal, events_of, reached, replies_of}
 use Rattle.i3c_bus.specs.Records.{HasFaithfulRecords}
+use Rattle.i3c_bus.specs.Serving.{policy_of, recorded_at, served_of}
 use Rattle.i3c_bus.specs.Stays.{accepted_in_stay, recorded_in_stay}
 
 -- No two devices answer to one address, legacy targets included, in a state that a legal run leads to
@@ -39,11 +39,12 @@ abbrev pub InterruptsAreRecordedOnce : Type 0
 InterruptsAreRecordedOnce = (main : Setup) (legacy : List (Option Target)) (start : State) (h : History)
     → IsStart main legacy start → IsLegal start h → AllDistinct start h → HasFaithfulRecords start h
 
--- Serving records an interrupt whose verdict is Accept, and that some device drives which the frame doesn't lose.
+-- A frame that accepts its first request, an interrupt of which some driver is still there afterwards, records it.
 abbrev pub AcceptedInterruptsAreRecorded : Type 0
-AcceptedInterruptsAreRecorded = (old : State) (policy : Fixed) (lost : Lost) (served : Served) (mid : State) (a s : ℕ)
-    → Serves old policy lost served mid → IsFirst old (Request.Interrupt a) → verdict old policy (Request.Interrupt a) ≡ Verdict.Accept
-    → drives old (Request.Interrupt a) s ≡ true → lost s ≡ false → (place : ℕ) × (served ≡ Served.Recorded place)
+AcceptedInterruptsAreRecorded = (old : State) (event : Event) (reply : Reply) (new : State) (policy : Fixed) (served : Served) (a s : ℕ)
+    → Step old event reply new → policy_of event ≡ Some policy → served_of reply ≡ Some served
+    → IsFirst old (Request.Interrupt a) → verdict old policy (Request.Interrupt a) ≡ Verdict.Accept → drives old (Request.Interrupt a) s ≡ true → IsPresent new s
+    → (place : ℕ) × (recorded_at reply ≡ Some place)
 
 -- Of a present device's stay, the accepted raises are the recorded ones and then those that wait, in order.
 abbrev pub RaisesStayInOrder : Type 0

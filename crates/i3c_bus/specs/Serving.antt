@@ -1,6 +1,9 @@
--- What a reply says of the request that its frame served.
+-- What an event and its reply say of the request that a frame served.
 use Rattle.std.specs.Prelude.{ℕ, Option, Some, None, option_and_then}
+use Rattle.i3c_base.specs.declared.requests.Fixed.{Fixed}
 use Rattle.i3c_base.specs.declared.requests.Served.{Served}
+use Rattle.i3c_base.specs.Serve.{refuse_all}
+use Rattle.i3c_bus.specs.declared.events.Event.{Event}
 use Rattle.i3c_bus.specs.declared.replies.Reply.{Reply}
 
 -- what a frame served
@@ -18,3 +21,11 @@ place_of _ = None
 -- the place of the record that an event appended
 abbrev pub recorded_at : Reply → Option ℕ
 recorded_at reply = option_and_then place_of (served_of reply)
+
+-- the policy that a frame has on its first request; an opening refuses each
+abbrev pub policy_of : Event → Option Fixed
+policy_of (Event.Serve policy cuts) = Some policy
+policy_of (Event.Enec to kinds policy cuts) = Some policy
+policy_of (Event.Disec to kinds policy cuts) = Some policy
+policy_of (Event.OpenDaa cuts) = Some refuse_all
+policy_of _ = None

@@ -14,7 +14,7 @@ pub record IsFor (i : Identity) (e : Entry) : Type 0 where
   pub kept : (j : Identity) → e.kept ≡ Some j → j ≡ i
 
 -- each address in use stands in the table under its device's identity and is kept for no other, devices of one address
--- have one identity, and no address of the table is a legacy target's
+-- have one identity, and no address of the table, which has a place for each, is a legacy target's
 pub record Addresses (st : State) : Type 0 where
   pub used : (s a : ℕ) (d : Device) → device_at st s ≡ Some d → d.address ≡ Some a → (e : Entry) × (entry_at st a ≡ Some e) × IsFor d.identity e
   pub alike : (s t a : ℕ) (d e : Device) → device_at st s ≡ Some d → device_at st t ≡ Some e → d.address ≡ Some a → e.address ≡ Some a → d.identity ≡ e.identity

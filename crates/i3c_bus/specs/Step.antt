@@ -2,17 +2,18 @@
 use Rattle.std.specs.Prelude.{◌≡◌, ℕ, suc, ◌+◌, ◌-◌, ◌^◌, Bool, true, false, not, ◌||◌, ◌==◌, ◌⊎◌, nat_le, List, [], ◌∷◌, ◌++◌, length, Option, Some, None, if◌then◌else◌, is_none, is_some, MatchOption, ⊤}
 use Rattle.i3c_base.specs.declared.answers.RoundReply.{RoundReply}
 use Rattle.i3c_base.specs.declared.device.TheConstants.{WAITING}
-use Rattle.i3c_base.specs.declared.kinds.Kinds.{Kinds}
 use Rattle.i3c_base.specs.declared.requests.Fixed.{Fixed}
 use Rattle.i3c_base.specs.declared.requests.Served.{Served}
-use Rattle.i3c_base.specs.Numbers.{KindSet, can_interrupt, has_byte, kind_set}
+use Rattle.i3c_base.specs.Numbers.{KindSet, can_interrupt, has_byte}
 use Rattle.i3c_base.specs.State.{State, device_at, entry_at, in_slot, raised_at}
 use Rattle.i3c_base.specs.Cutting.{CutList, IsUncut, Lost, cut_of}
 use Rattle.i3c_base.specs.Local.{attach, raise}
 use Rattle.i3c_base.specs.Serve.{Frame, header_bits, refuse_all}
-use Rattle.i3c_base.specs.Frames.{Rekinds, active_has, kinds_bits, with_kinds, without_kinds}
+use Rattle.i3c_base.specs.Frames.{Rekinds, active_has, kinds_bits}
 use Rattle.i3c_base.specs.Round.{Rounds, ended, opened}
 use Rattle.i3c_device.specs.Raising.{same_bool}
+use Rattle.i3c_events.specs.declared.words.Change.{Change}
+use Rattle.i3c_events.specs.Hearing.{changed_kinds}
 use Rattle.i3c_bus.specs.declared.events.Event.{Event}
 use Rattle.i3c_bus.specs.declared.events.Event.TheVariants.{Attach, Raise, Serve, Enec, Disec, OpenDaa, Round, EndDaa}
 use Rattle.i3c_bus.specs.declared.replies.Framed.{Framed}
@@ -82,14 +83,6 @@ Nothing lost mid done = done ≡ mid
 abbrev pub Becomes : (State → State) → Lost → State → State → Type 0
 Becomes f lost mid done = done ≡ f mid
 
--- what ENEC makes of the kinds that were enabled
-abbrev pub enabling : Kinds → KindSet → KindSet
-enabling kinds had = with_kinds had (kind_set kinds)
-
--- what DISEC makes of them
-abbrev pub disabling : Kinds → KindSet → KindSet
-disabling kinds had = without_kinds had (kind_set kinds)
-
 -- a frame of ENEC or DISEC, where f is what it makes of enabled kinds
 abbrev pub RekindsBy : State → Option ℕ → (KindSet → KindSet) → Fixed → CutList → Reply → State → Type 0
 RekindsBy old to f policy cuts reply new =
@@ -101,8 +94,8 @@ abbrev pub Acts : State → Event → Reply → State → Type 0
 Acts old (Attach s setup) reply new = (reply ≡ Reply.Attached) × (new ≡ attach s setup old)
 Acts old (Raise s byte) reply new = (reply ≡ Reply.Raised (suc (raised_at old s))) × (new ≡ raise s byte old)
 Acts old (Serve policy cuts) reply new = (served : Served) × (reply ≡ Reply.Served served) × Frame old policy cuts served 0 Nothing new
-Acts old (Enec to kinds policy cuts) reply new = RekindsBy old to (enabling kinds) policy cuts reply new
-Acts old (Disec to kinds policy cuts) reply new = RekindsBy old to (disabling kinds) policy cuts reply new
+Acts old (Enec to kinds policy cuts) reply new = RekindsBy old to (changed_kinds Change.Enable kinds) policy cuts reply new
+Acts old (Disec to kinds policy cuts) reply new = RekindsBy old to (changed_kinds Change.Disable kinds) policy cuts reply new
 Acts old (OpenDaa cuts) reply new =
     (served : Served) × (reply ≡ Reply.Opened served) × Frame old refuse_all cuts served (header_bits served + 9) (Becomes opened) new
 Acts old (Round cuts) reply new = (answer : RoundReply) × (reply ≡ Reply.Round answer) × Rounds old cuts answer new

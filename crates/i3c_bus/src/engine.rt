@@ -2,14 +2,14 @@ ghost use Rattle.std.specs.Prelude.{◌≡◌, MatchResult, OnOk, OnErr, ◌<◌
 ghost use Rattle.i3c_base.specs.State.{no_devices};
 ghost use Rattle.i3c_bus.specs.Raises.{next_fault, place_fault, with_raise};
 
-use crate::replies::{RaiseRefusal, SlotTaken, StartFault};
+use crate::replies::{OutOfMemory, RaiseRefusal, SlotTaken, StartFault};
 use crate::tokens::{Hand, Role, Session};
 use i3c_base::{Addr7, Record, SLOTS, Setup, Slot};
 use i3c_device::{Device, RaiseFault};
 use i3c_legacy::{LEGACIES, Legacies};
 use i3c_picker::pick;
 use i3c_table::{Row, Table};
-use std::alloc::{AllocError, Global};
+use std::alloc::Global;
 use std::marker::Model;
 
 /// The recorded interrupts of a bus, in order.
@@ -189,14 +189,17 @@ impl Bus {
     }
 
     /// Makes room for one more record. While there is room no frame is short of memory, and only a record that is
-    /// appended ends it. It answers `AllocError` where there is no memory, and changes nothing then.
-    pub fn make_room(&mut self) -> Result<(), AllocError>
+    /// appended ends it. It answers `OutOfMemory` where there is none, and changes nothing then.
+    pub fn make_room(&mut self) -> Result<(), OutOfMemory>
         ensures state { self.new.state ≡ self.old.state }
         ensures made { OnOk result (self.new.room ≡ true) }
         ensures short { OnErr result (self.old.room ≡ false) }
         ensures kept { self.old.room ≡ true → IsOk result }
     {
-        self.records.reserve(1)
+        match self.records.reserve(1) {
+            Ok(()) => Ok(()),
+            Err(_) => Err(OutOfMemory),
+        }
     }
 
     /// A device enters a slot, without an address. It answers `SlotTaken` where the slot holds one.

@@ -21,9 +21,9 @@ impl Bus {
     ghost use Rattle.i3c_base.specs.State.{entry_at};
     ghost use Rattle.i3c_base.specs.Frames.{Rekinds};
     ghost use Rattle.i3c_frame.specs.Taps.{NotesAll};
-    ghost use Rattle.i3c_base.specs.Cutting.{CutList, IsUncut};
+    ghost use Rattle.i3c_base.specs.Cutting.{IsUncut, nobody};
     ghost use Rattle.i3c_base.specs.Serve.{IsFirst, Serves, byte_due, refuse_all, verdict};
-    ghost use Rattle.i3c_events.specs.Hearing.{changed_kinds, nobody};
+    ghost use Rattle.i3c_events.specs.Hearing.{changed_kinds};
     ghost use Rattle.i3c_ibi.specs.Policies.{Decides, is_known};
     ghost use Rattle.i3c_bus.specs.Asking.{Asks};
     ghost use Rattle.i3c_bus.specs.Commands.{kinds_event};

@@ -22,7 +22,7 @@ pub fn interrupts_are_recorded_once()
     ensures { InterruptsAreRecordedOnce }
 {}
 
-/// A frame that accepts an interrupt of a device which it doesn't lose records it.
+/// A frame that accepts its first request, an interrupt of which some driver is still there afterwards, records it.
 pub fn accepted_interrupts_are_recorded()
     ensures { AcceptedInterruptsAreRecorded }
 {}

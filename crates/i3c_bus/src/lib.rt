@@ -18,15 +18,15 @@ mod wire;
 
 pub use engine::{Bus, Records};
 pub use events::Event;
-pub use i3c_base::{Answer, RoundReply, Served};
+pub use i3c_base::{Answer, Request, RoundReply, Served};
 pub use i3c_ibi::{Fixed, Policy, Record, Verdict};
 pub use laws::{
     accepted_interrupts_are_recorded, addresses_are_unique, interrupts_are_recorded_once,
     one_is_active, raises_stay_in_order, runs_are_histories, uncut_steps_are_determined,
 };
 pub use replies::{
-    ActiveStays, FrameFault, Framed, RaiseRefusal, Refusal, Reply, RunFault, SlotTaken, StartFault,
-    TargetFault,
+    ActiveStays, FrameFault, Framed, OutOfMemory, RaiseRefusal, Refusal, Reply, RunFault,
+    SlotTaken, StartFault, TargetFault,
 };
 pub use runs::{Outcome, run_events};
 pub use tokens::{Hand, Role, Session};

@@ -136,6 +136,11 @@ impl From<RaiseRefusal> for Refusal {
     }
 }
 
+/// There was no memory for a record. Nothing changed.
+#[derive(Clone, Copy, Debug, PartialEq, Eq, Drop, Error)]
+#[error("out of memory")]
+pub struct OutOfMemory;
+
 /// Why a frame to nobody in particular is not sent.
 #[derive(Clone, Copy, Debug, PartialEq, Eq, Drop, Error)]
 pub enum FrameFault {

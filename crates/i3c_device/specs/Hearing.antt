@@ -21,7 +21,7 @@ enabled kinds d = record d { kinds = with_kinds d.kinds kinds }
 abbrev pub disabled : KindSet → Device → Device
 disabled kinds d = record d { kinds = without_kinds d.kinds kinds }
 
--- a device after a command: ENEC and DISEC enable and disable, ENTDAA opens a session; the others come later
+-- a device after a command: ENEC and DISEC enable and disable, ENTDAA opens a session; the other codes change nothing
 abbrev pub heard : Code → List Word → Device → Device
 heard Enec words d = enabled (named_kinds words) d
 heard EnecDirect words d = enabled (named_kinds words) d

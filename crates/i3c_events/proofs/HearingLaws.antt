@@ -12,7 +12,8 @@ use Rattle.i3c_device.specs.Hearing.{named_kinds}
 use Rattle.i3c_events.specs.declared.words.Change.{Change}
 use Rattle.i3c_events.specs.declared.words.Change.TheVariants.{Enable, Disable}
 use Rattle.i3c_events.specs.Words.{command}
-use Rattle.i3c_events.specs.Hearing.{changed_kinds, nobody, told}
+use Rattle.i3c_base.specs.Cutting.{nobody}
+use Rattle.i3c_events.specs.Hearing.{changed_kinds, told}
 
 -- what stands in a slot after it heard the command, whose word names the kinds
 told_is : (change : Change) (to : Option ℕ) (kinds : Kinds) (word : Word) → named_kinds (word ∷ []) ≡ kind_set kinds → (st : State) (s : ℕ) (place : Option Device)

@@ -1,9 +1,8 @@
 -- What devices do with ENEC and DISEC, and the answer.
-use Rattle.std.specs.Prelude.{ℕ, Bool, false, not, ◌&&◌, ◌==◌, if◌then◌else◌, List, Option, Some, None, option_map, Result, Ok, Err}
+use Rattle.std.specs.Prelude.{ℕ, Bool, not, ◌&&◌, ◌==◌, if◌then◌else◌, List, Option, Some, None, option_map, Result, Ok, Err}
 use Rattle.i3c_base.specs.declared.answers.Answer.{Answer}
 use Rattle.i3c_base.specs.declared.kinds.Kinds.{Kinds}
 use Rattle.i3c_base.specs.Numbers.{KindSet, kind_set}
-use Rattle.i3c_base.specs.Cutting.{Lost}
 use Rattle.i3c_base.specs.State.{Device, has_address}
 use Rattle.i3c_base.specs.Frames.{with_kinds, without_kinds}
 use Rattle.i3c_word.specs.declared.Word.{Word}
@@ -22,10 +21,6 @@ changed_kinds Disable kinds had = without_kinds had (kind_set kinds)
 abbrev pub answer_of : Result (Unit {0}) NoAnswer → Answer
 answer_of (Ok done) = Answer.Done
 answer_of (Err none) = Answer.NoAnswer none.0
-
--- no device is lost
-abbrev pub nobody : Lost
-nobody s = false
 
 -- the command reaches this device in slot s, where `active` is the active controller's slot: not that one, and of the
 -- others all, or those at one address

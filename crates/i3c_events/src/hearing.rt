@@ -1,8 +1,9 @@
 ghost use Rattle.std.specs.Prelude.{◌≡◌, ◌↔◌, ◌∷◌, [], IsTrue};
+ghost use Rattle.i3c_base.specs.Cutting.{nobody};
 ghost use Rattle.i3c_base.specs.Places.{changed};
 ghost use Rattle.i3c_base.specs.State.{State, in_slot};
 ghost use Rattle.i3c_base.specs.Frames.{AnyAt, Rekinds};
-ghost use Rattle.i3c_events.specs.Hearing.{answer_of, changed_kinds, nobody, reaches_in, told};
+ghost use Rattle.i3c_events.specs.Hearing.{answer_of, changed_kinds, reaches_in, told};
 
 use crate::words::{Change, code_for, kinds_word};
 use i3c_base::{Addr7, Kinds, Slot};

@@ -6,6 +6,7 @@ use Rattle.i3c_base.specs.declared.device.Waiting.{Waiting}
 use Rattle.i3c_base.specs.declared.requests.Request.{Request}
 use Rattle.i3c_base.specs.declared.requests.Request.TheVariants.{Interrupt, Join, Role}
 use Rattle.i3c_header.specs.Keys.{IsLawful}
+use Rattle.i3c_base.specs.Cutting.{nobody}
 use Rattle.i3c_base.specs.State.{Device, State, in_slot}
 use Rattle.i3c_base.specs.Serve.{IsFirst, IsFront, IsLowestDriver, IsRead, NoneAsks, asks, without_front, without_join, without_role}
 use Rattle.i3c_device.specs.Raising.{front_byte}
@@ -61,11 +62,15 @@ pub record Together (bytes : ℕ → Option ℕ) (own n both : ℕ) : Type 0 whe
   pub bits : (bit : ℕ) → bit < 8 → ((bit_at both bit ≡ 1) ↔ ((bit_at own bit ≡ 1) × ((s v : ℕ) → s < n → bytes s ≡ Some v → bit_at v bit ≡ 1)))
   pub alone : ((s : ℕ) → s < n → bytes s ≡ None) → both ≡ own
 
--- what is recorded of an accepted interrupt at the address `at`
+-- the record names the raise at the front of the lowest driver of an interrupt at the address `at`
+abbrev pub IsLowestRaise : State → ℕ → Record → Type 0
+IsLowestRaise st at r = IsLowestDriver st (Interrupt at) r.slot × ((w : Waiting) × IsFront st r.slot w × (r.number ≡ w.number)) × (r.at ≡ at)
+
+-- what is recorded of an accepted interrupt at the address `at`, where nobody is lost
 pub record IsReading (st : State) (at : ℕ) (r : Record) : Type 0 where
   pub front : Waiting
   pub lowest : IsLowestDriver st (Interrupt at) r.slot
   pub fronted : IsFront st r.slot front
   pub number : r.number ≡ front.number
   pub address : r.at ≡ at
-  pub read : IsRead st (λ s. false) (Interrupt at) r.slot front r.byte
+  pub read : IsRead st nobody (Interrupt at) r.slot front r.byte

@@ -9,7 +9,7 @@ mod readings;
 
 pub use drivers::answer_drivers;
 pub use firsts::first_request;
-pub use i3c_base::{Fixed, Record, Served, Verdict};
+pub use i3c_base::{Fixed, Record, Request, Served, Verdict};
 pub use policies::{Policy, decide};
 pub use readings::{byte_is_due, reading};
 

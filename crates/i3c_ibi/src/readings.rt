@@ -3,7 +3,7 @@ ghost use Rattle.i3c_base.specs.declared.range.TheConstants.{SLOTS as SLOT_COUNT
 ghost use Rattle.i3c_base.specs.declared.requests.Request.{Request as RequestValue};
 ghost use Rattle.i3c_base.specs.State.{State, entry_in};
 ghost use Rattle.i3c_base.specs.Serve.{byte_due};
-ghost use Rattle.i3c_ibi.specs.Driving.{HaveBytes, IsFrontOf, IsLowest, IsReading, Together, UndrivenBelow, byte_beside, drives_at};
+ghost use Rattle.i3c_ibi.specs.Driving.{HaveBytes, IsFrontOf, IsLowest, IsLowestRaise, IsReading, Together, UndrivenBelow, byte_beside, drives_at};
 
 use crate::drivers::drives;
 use i3c_base::{Addr7, Record, Request, Slot, Waiting};
@@ -115,6 +115,7 @@ pub fn byte_is_due(table: &Table, at: Addr7) -> bool
 pub fn reading(devices: &[Option<Device>], active: Slot, at: Addr7, due: bool) -> Record
     requires slots { length devices.now ≤ SLOT_COUNT }
     requires driven { (s : ℕ) × (drives_at active s (slice_index_or devices.now s None) (RequestValue.Interrupt at) ≡ true) }
+    ensures front { (st : State) → st.devices ≡ devices.now → st.active ≡ active → IsLowestRaise st at result }
     ensures read { HaveBytes active devices.now at due → (st : State) → st.devices ≡ devices.now → st.active ≡ active → IsReading st at result }
     ensures due { HaveBytes active devices.now at due → is_some result.byte ≡ due }
     ensures unread { due ≡ false → result.byte ≡ None }

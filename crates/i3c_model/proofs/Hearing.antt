@@ -15,7 +15,7 @@ use Rattle.i3c_base.specs.Numbers.{IsBelow}
 use Rattle.i3c_base.specs.Round.{AnyHears, IsHearer, IsWinner}
 use Rattle.i3c_base.specs.State.{Device, State}
 use Rattle.i3c_base.proofs.Lookups.{option_map_from}
-use Rattle.i3c_model.specs.Events.{nobody}
+use Rattle.i3c_base.specs.Cutting.{nobody}
 use Rattle.i3c_model.specs.declared.device.PlainDevice.{PlainDevice}
 use Rattle.i3c_model.specs.declared.plain.Plain.TheInside.{Inside}
 use Rattle.i3c_model.specs.Views.{IsWithinPlaces, device_of, state_of}

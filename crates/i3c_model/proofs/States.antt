@@ -19,7 +19,7 @@ use Rattle.i3c_base.specs.Numbers.{same_identity}
 use Rattle.i3c_base.specs.Round.{assigned, ended, hears, opened, unhearing, winner}
 use Rattle.i3c_base.specs.Serve.{asks, drives, each_driver}
 use Rattle.i3c_base.specs.State.{Device, Entry, State, attached, change, device_at, entry_at, in_slot, target_at, target_of}
-use Rattle.i3c_model.specs.Events.{nobody}
+use Rattle.i3c_base.specs.Cutting.{nobody}
 use Rattle.i3c_model.specs.Driving.{is_meant, losing, without}
 use Rattle.i3c_model.specs.Kinds.{changed_by, kinds_from, kinds_in}
 use Rattle.i3c_model.specs.declared.kinds.Change.{Change}

@@ -25,11 +25,12 @@ use Rattle.i3c_bus.specs.declared.events.Event.TheVariants.{Attach, Disec, Enec,
 use Rattle.i3c_bus.specs.declared.replies.Refusal.{Refusal}
 use Rattle.i3c_bus.specs.declared.replies.Refusal.TheVariants.{ActiveStays, NoDevice, NoSession, SessionOpen, SlotTaken}
 use Rattle.i3c_bus.specs.declared.replies.Reply.{Reply}
-use Rattle.i3c_bus.specs.Step.{Acts, Becomes, Checks, IsShort, Nothing, Step, checks, cuts_active, disabling, enabling, first_refusal, frame_checks, target_checks}
+use Rattle.i3c_bus.specs.Step.{Acts, Becomes, Checks, IsShort, Nothing, Step, checks, cuts_active, first_refusal, frame_checks, target_checks}
 use Rattle.i3c_bus.proofs.Lost.{lost_nobody}
 use Rattle.i3c_model.specs.declared.kinds.Change.{Change}
 use Rattle.i3c_model.specs.declared.kinds.Change.TheVariants.{Disable, Enable}
-use Rattle.i3c_model.specs.Events.{nobody, rekinding}
+use Rattle.i3c_base.specs.Cutting.{nobody}
+use Rattle.i3c_model.specs.Events.{rekinding}
 use Rattle.i3c_model.specs.Kinds.{changed_by}
 
 -- an event that no test refuses acts, and one that a test refuses changes nothing
@@ -104,13 +105,13 @@ rekind_acts old to (Enable kinds) policy cuts served answer mid new uncut none s
     acts_there old (Enec to kinds policy cuts) (Reply.Framed (record { served = served; answer = answer })) new none (
       record { served = served; answer = answer },
       refl,
-      frame_of old policy cuts served (header_bits served + kinds_bits to answer) (Rekinds to (enabling kinds) answer) mid new uncut serves own,
+      frame_of old policy cuts served (header_bits served + kinds_bits to answer) (Rekinds to (changed_by (Enable kinds)) answer) mid new uncut serves own,
     )
 rekind_acts old to (Disable kinds) policy cuts served answer mid new uncut none serves own =
     acts_there old (Disec to kinds policy cuts) (Reply.Framed (record { served = served; answer = answer })) new none (
       record { served = served; answer = answer },
       refl,
-      frame_of old policy cuts served (header_bits served + kinds_bits to answer) (Rekinds to (disabling kinds) answer) mid new uncut serves own,
+      frame_of old policy cuts served (header_bits served + kinds_bits to answer) (Rekinds to (changed_by (Disable kinds)) answer) mid new uncut serves own,
     )
 
 -- opening a session, whose frame refuses the first request

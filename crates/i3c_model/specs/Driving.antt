@@ -8,7 +8,7 @@ use Rattle.i3c_base.specs.declared.requests.Request.TheVariants.{Interrupt, Join
 use Rattle.i3c_base.specs.State.{Device, State, device_at, has_address}
 use Rattle.i3c_base.specs.Serve.{IsFirst, IsFront, IsLowestDriver, IsRead, NoneAsks, drives, tail, without_front, without_join, without_role}
 use Rattle.i3c_model.specs.declared.device.PlainDevice.{PlainDevice}
-use Rattle.i3c_model.specs.Events.{nobody}
+use Rattle.i3c_base.specs.Cutting.{nobody}
 
 -- what an accepted request takes from a device that drives it
 abbrev pub without : Request → Device → Device

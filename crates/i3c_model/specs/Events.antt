@@ -1,15 +1,11 @@
 -- What is said of events apart from the step.
-use Rattle.std.specs.Prelude.{ℕ, false, Option, ⊤}
+use Rattle.std.specs.Prelude.{ℕ, Option, ⊤}
 use Rattle.i3c_base.specs.declared.requests.Fixed.{Fixed}
-use Rattle.i3c_base.specs.Cutting.{CutList, Lost}
+use Rattle.i3c_base.specs.Cutting.{CutList}
 use Rattle.i3c_bus.specs.declared.events.Event.{Event}
 use Rattle.i3c_bus.specs.declared.events.Event.TheVariants.{Attach, Raise, Serve, Enec, Disec, OpenDaa, Round, EndDaa}
 use Rattle.i3c_model.specs.declared.kinds.Change.{Change}
 use Rattle.i3c_model.specs.declared.kinds.Change.TheVariants.{Enable, Disable}
-
--- a frame without cuts loses nobody
-abbrev pub nobody : Lost
-nobody slot = false
 
 -- the event may store something: a device, an interrupt, a record or an entry of the table
 abbrev pub MayStore : Event → Type 0

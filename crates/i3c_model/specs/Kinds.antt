@@ -1,6 +1,6 @@
 -- Sets of kinds, and what commands make of them.
-use Rattle.i3c_base.specs.Numbers.{KindSet}
-use Rattle.i3c_bus.specs.Step.{disabling, enabling}
+use Rattle.i3c_base.specs.Numbers.{KindSet, kind_set}
+use Rattle.i3c_base.specs.Frames.{with_kinds, without_kinds}
 use Rattle.i3c_model.specs.declared.kinds.Change.{Change}
 use Rattle.i3c_model.specs.declared.kinds.Change.TheVariants.{Enable, Disable}
 use Rattle.i3c_model.specs.declared.kinds.PlainKinds.{PlainKinds}
@@ -15,5 +15,5 @@ kinds_from set = record { interrupt = set.interrupt; role = set.role; join = set
 
 -- what a command makes of a set
 abbrev pub changed_by : Change → KindSet → KindSet
-changed_by (Enable kinds) had = enabling kinds had
-changed_by (Disable kinds) had = disabling kinds had
+changed_by (Enable kinds) had = with_kinds had (kind_set kinds)
+changed_by (Disable kinds) had = without_kinds had (kind_set kinds)

@@ -13,7 +13,7 @@ impl Plain {
     ghost use Rattle.i3c_bus.specs.Step.{Step};
     ghost use Rattle.i3c_bus.specs.declared.events.Event.{Event};
     ghost use Rattle.i3c_bus.specs.declared.replies.Reply.{Reply};
-    ghost use Rattle.i3c_model.specs.Events.{nobody};
+    ghost use Rattle.i3c_base.specs.Cutting.{nobody};
 
     // Opens a session, which each device without an address hears. The first request is refused.
     pub(crate) fn open_daa(&mut self, cuts: &Cuts) -> Reply

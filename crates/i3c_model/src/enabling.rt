@@ -11,7 +11,8 @@ impl Plain {
     ghost use Rattle.i3c_base.specs.State.{Device, IsTargetAt};
     ghost use Rattle.i3c_bus.specs.Step.{Step, first_refusal, frame_checks, is_no_target, target_checks};
     ghost use Rattle.i3c_bus.specs.declared.replies.Reply.{Reply};
-    ghost use Rattle.i3c_model.specs.Events.{nobody, rekinding};
+    ghost use Rattle.i3c_base.specs.Cutting.{nobody};
+    ghost use Rattle.i3c_model.specs.Events.{rekinding};
     ghost use Rattle.i3c_model.specs.Kinds.{changed_by};
 
     // Whether the table has no entry at an address, or it is the active controller's own.

@@ -14,7 +14,7 @@ impl Plain {
     ghost use Rattle.i3c_bus.specs.declared.events.Event.{Event};
     ghost use Rattle.i3c_bus.specs.declared.replies.Reply.{Reply};
     ghost use Rattle.i3c_model.specs.Driving.{without};
-    ghost use Rattle.i3c_model.specs.Events.{nobody};
+    ghost use Rattle.i3c_base.specs.Cutting.{nobody};
 
     // The policy's verdict on a request. One at an address without an entry is refused unasked.
     fn verdict(&self, policy: &Fixed, request: &Request) -> Verdict

@@ -1,5 +1,4 @@
 pub mod Words
-pub mod InHand
 pub mod Naming
 pub mod Policies
 pub mod Reading

@@ -14,6 +14,17 @@ pub(crate) struct Choice {
     pub to: Option<Addr7>,
 }
 
+/// A frame that the active controller sends under the role, without opening a session.
+#[derive(Clone, Copy)]
+pub(crate) enum Frame {
+    /// `serve`: the first request is served.
+    Serve,
+    /// `enec BYTE [ADDR]`: kinds of events are enabled.
+    Enec(Choice),
+    /// `disec BYTE [ADDR]`: kinds of events are disabled.
+    Disec(Choice),
+}
+
 /// What a line asks for.
 #[derive(Drop)]
 pub(crate) enum Command {
@@ -40,12 +51,8 @@ pub(crate) enum Command {
     },
     /// `policy all|none|joins|roles|interrupts`: which requests the frames from now on accept.
     Policy(Fixed),
-    /// `serve`: the first request is served.
-    Serve,
-    /// `enec BYTE [ADDR]`: kinds of events are enabled, of the devices at an address or of all.
-    Enec(Choice),
-    /// `disec BYTE [ADDR]`: kinds of events are disabled, of the same.
-    Disec(Choice),
+    /// A frame under the role.
+    Frame(Frame),
     /// `daa`: a whole session of dynamic address assignment.
     Daa,
     /// `show`: the bus as it is.
@@ -70,9 +77,9 @@ impl Command {
             }
             "raise" => parse_raise(&mut words)?,
             "policy" => Command::Policy(policy(words.next()?)?),
-            "serve" => Command::Serve,
-            "enec" => Command::Enec(parse_choice(&mut words)?),
-            "disec" => Command::Disec(parse_choice(&mut words)?),
+            "serve" => Command::Frame(Frame::Serve),
+            "enec" => Command::Frame(Frame::Enec(parse_choice(&mut words)?)),
+            "disec" => Command::Frame(Frame::Disec(parse_choice(&mut words)?)),
             "daa" => Command::Daa,
             "show" => Command::Show,
             "symbols" => Command::Symbols,

@@ -1,7 +1,7 @@
 ghost use Rattle.i3c_bus.specs.Hands.{HandFits};
 ghost use Rattle.i3c_bus.specs.declared.tokens.Hand.{Hand};
 
-use crate::command::Choice;
+use crate::command::{Choice, Frame};
 use crate::faults::{Refusal, Stop};
 use crate::show::ShownServed;
 use crate::wires::Wires;
@@ -9,10 +9,11 @@ use i3c_base::{Cuts, Fixed, RoundReply, Served};
 use i3c_bus::{ActiveStays, Bus, Framed, Hand, Role, Session};
 use std::io::Write;
 
-/// `serve`: serves the first request.
-pub(crate) fn serve<W: Write>(
+/// Sends a frame under the role, and prints what came of it.
+pub(crate) fn send<W: Write>(
     bus: &mut Bus,
     hand: &Hand,
+    frame: Frame,
     policy: Fixed,
     wires: &mut Wires,
     out: &mut W,
@@ -24,50 +25,19 @@ pub(crate) fn serve<W: Write>(
         return Err(Refusal::SessionOpen.into());
     };
     let mut fixed = policy;
-    let served = bus.serve(role, &mut fixed, wires, &Cuts::new())?;
-    writeln!(out, "{}", ShownServed(served))?;
-    Ok(())
-}
-
-/// `enec`: enables kinds of events.
-pub(crate) fn enec<W: Write>(
-    bus: &mut Bus,
-    hand: &Hand,
-    choice: Choice,
-    policy: Fixed,
-    wires: &mut Wires,
-    out: &mut W,
-) -> Result<(), Stop>
-    requires { HandFits hand.now bus.old.state }
-    ensures { HandFits hand.now bus.new.state }
-{
-    let Hand::Role(role) = hand else {
-        return Err(Refusal::SessionOpen.into());
+    let framed = match frame {
+        Frame::Serve => {
+            let served = bus.serve(role, &mut fixed, wires, &Cuts::new())?;
+            writeln!(out, "{}", ShownServed(served))?;
+            return Ok(());
+        }
+        Frame::Enec(Choice { kinds, to }) => {
+            bus.enec(role, to, kinds, &mut fixed, wires, &Cuts::new())?
+        }
+        Frame::Disec(Choice { kinds, to }) => {
+            bus.disec(role, to, kinds, &mut fixed, wires, &Cuts::new())?
+        }
     };
-    let Choice { kinds, to } = choice;
-    let mut fixed = policy;
-    let framed = bus.enec(role, to, kinds, &mut fixed, wires, &Cuts::new())?;
-    show_framed(&framed, out)
-}
-
-/// `disec`: disables kinds of events.
-pub(crate) fn disec<W: Write>(
-    bus: &mut Bus,
-    hand: &Hand,
-    choice: Choice,
-    policy: Fixed,
-    wires: &mut Wires,
-    out: &mut W,
-) -> Result<(), Stop>
-    requires { HandFits hand.now bus.old.state }
-    ensures { HandFits hand.now bus.new.state }
-{
-    let Hand::Role(role) = hand else {
-        return Err(Refusal::SessionOpen.into());
-    };
-    let Choice { kinds, to } = choice;
-    let mut fixed = policy;
-    let framed = bus.disec(role, to, kinds, &mut fixed, wires, &Cuts::new())?;
     show_framed(&framed, out)
 }
 

@@ -64,7 +64,7 @@ pub(crate) struct Names {
 }
 
 impl Names {
-    ghost use Rattle.std.specs.Prelude.{IfSome, IsSome, OnOk, Some};
+    ghost use Rattle.std.specs.Prelude.{OnOk, Some};
     ghost use Rattle.i3c_scenario.specs.Naming.{place_named, slot_named};
     ghost use Rattle.i3c_scenario.specs.declared.names.Name.{Name};
 

@@ -1,12 +1,11 @@
 ghost use Rattle.std.specs.Prelude.{◌≡◌, MatchOption};
 ghost use Rattle.i3c_base.specs.State.{IsPresent};
-ghost use Rattle.i3c_bus.specs.Hands.{holder_of};
-ghost use Rattle.i3c_scenario.specs.InHand.{is_session};
+ghost use Rattle.i3c_bus.specs.Hands.{HandFits};
 ghost use Rattle.i3c_scenario.specs.Slots.{AllPresentBelow};
 
 use crate::command::Command;
 use crate::faults::{Refusal, Stop};
-use crate::frames::{daa, disec, enec, serve};
+use crate::frames::{daa, send};
 use crate::names::{Name, Names, Place};
 use crate::show::show;
 use crate::wires::Wires;
@@ -20,8 +19,7 @@ pub(crate) struct Running {
     pub hand: Hand,
     pub wires: Wires,
     pub policy: Fixed,
-    ghost holder: { holder_of hand ≡ bus.state.active },
-    ghost session: { is_session hand ≡ bus.state.in_session },
+    ghost fits: { HandFits hand bus.state },
 }
 
 impl Running {
@@ -34,39 +32,26 @@ impl Running {
     ) -> (Running, Result<(), Stop>) {
         let Running {
             mut bus,
-            hand,
+            mut hand,
             mut wires,
             mut policy,
         } = self;
-        let (hand, outcome) = match command {
-            Command::Legacy { .. } | Command::Main { .. } => (hand, Err(Refusal::BusMade.into())),
-            Command::Attach { name, setup } => {
-                let outcome = attach(&mut bus, names, name, setup, out);
-                (hand, outcome)
-            }
-            Command::Raise { name, byte } => {
-                let outcome = raise(&mut bus, names, &name, byte, out);
-                (hand, outcome)
-            }
+        let outcome = match command {
+            Command::Legacy { .. } | Command::Main { .. } => Err(Refusal::BusMade.into()),
+            Command::Attach { name, setup } => attach(&mut bus, names, name, setup, out),
+            Command::Raise { name, byte } => raise(&mut bus, names, &name, byte, out),
             Command::Policy(named) => {
                 policy = named;
-                (hand, Ok(()))
+                Ok(())
             }
-            Command::Serve => {
-                let outcome = serve(&mut bus, &hand, policy, &mut wires, out);
-                (hand, outcome)
+            Command::Frame(frame) => send(&mut bus, &hand, frame, policy, &mut wires, out),
+            Command::Daa => {
+                let (next, outcome) = daa(&mut bus, hand, &mut wires, out);
+                hand = next;
+                outcome
             }
-            Command::Enec(choice) => {
-                let outcome = enec(&mut bus, &hand, choice, policy, &mut wires, out);
-                (hand, outcome)
-            }
-            Command::Disec(choice) => {
-                let outcome = disec(&mut bus, &hand, choice, policy, &mut wires, out);
-                (hand, outcome)
-            }
-            Command::Daa => daa(&mut bus, hand, &mut wires, out),
-            Command::Show => (hand, show(&bus, names, out).map_err(Stop::from)),
-            Command::Symbols => (hand, wires.show(out).map_err(Stop::from)),
+            Command::Show => show(&bus, names, out).map_err(Stop::from),
+            Command::Symbols => wires.show(out).map_err(Stop::from),
         };
         let running = Running {
             bus,

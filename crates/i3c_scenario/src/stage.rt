@@ -72,9 +72,7 @@ fn before<W: Write>(
         Command::Attach { .. }
         | Command::Raise { .. }
         | Command::Policy(_)
-        | Command::Serve
-        | Command::Enec(_)
-        | Command::Disec(_)
+        | Command::Frame(_)
         | Command::Daa
         | Command::Show
         | Command::Symbols => (Stage::Before(legacies), Err(Refusal::NoBus.into())),

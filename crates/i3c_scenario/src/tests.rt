@@ -363,7 +363,7 @@ fn interrupts_are_served_by_address(rt: HostRuntime) -> Result<(), Fail> {
     goes_on(&rt, rt.alloc(), script, wanted, 0)
 }
 
-// What was raised before its kind is disabled stays waiting, and is served though it is disabled no more.
+// What was raised before its kind is disabled stays waiting, and is served once its kind is enabled again.
 #[test]
 fn requests_are_turned_down(rt: HostRuntime) -> Result<(), Fail> {
     let script =

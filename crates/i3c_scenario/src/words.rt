@@ -1,7 +1,9 @@
 ghost use Rattle.std.specs.Prelude.{◌≡◌, ◌<◌, ◌^◌, ◌≤◌, ◌↔◌, All, IsTrue, IsSome, IfSome};
 ghost use Rattle.std.specs.Str.Parse.{digits_value};
+ghost use Rattle.i3c_base.specs.Numbers.{kind_set};
 ghost use Rattle.i3c_scenario.specs.Words.{IsHex, IsHexDigit};
 
+use bitflags::Flags;
 use i3c_base::{Addr7, Kinds, Pid};
 
 /// Numbers are written in hex.
@@ -54,27 +56,13 @@ pub(crate) fn address(word: &str) -> Option<Addr7>
     Addr7::new(number).ok()
 }
 
-/// The kinds of events that a byte names: bit 0 interrupts, bit 1 role requests, bit 3 Hot-Join. No other bit is kept.
-fn kinds_of(byte: u8) -> Kinds {
-    let mut kinds = Kinds::INTERRUPT | Kinds::ROLE | Kinds::JOIN;
-    if byte & 1 == 0 {
-        kinds -= Kinds::INTERRUPT;
-    }
-    if byte & 2 == 0 {
-        kinds -= Kinds::ROLE;
-    }
-    if byte & 8 == 0 {
-        kinds -= Kinds::JOIN;
-    }
-    kinds
-}
-
-/// Kinds of events: two hex digits.
+/// Kinds of events: two hex digits, of which bit 0 names interrupts, bit 1 role requests and bit 3 Hot-Join.
 pub(crate) fn kinds(word: &str) -> Option<Kinds>
     ensures form { IsSome result ↔ IsHex BYTE_DIGITS word.now }
+    ensures value { IfSome result (λ kinds. kind_set kinds ≡ kind_set (record { 0 = digits_value RADIX word.now })) }
 {
     let byte = byte(word)?;
-    Some(kinds_of(byte))
+    Some(Kinds::from_bits_retain(byte))
 }
 
 /// A provisioned ID: twelve hex digits.

@@ -65,7 +65,7 @@ fn slots_of(still: &ArrayVec<(Slot, u64), SLOTS>) -> ArrayVec<Slot, SLOTS>
 /// significant bit first, and one that drives 1 and reads 0 drives nothing more (I3C Basic 5.1.2.2.1, 5.1.4).
 ///
 /// The least key is read, and its holders win. With no contender every bit reads 1, and nobody wins.
-/// The cuts are empty for now: devices that drop off inside a frame come in a later stage.
+/// The cuts are empty for now: devices that drop off inside a frame aren't built yet.
 pub fn contest(keys: &ArrayVec<(Slot, u64), SLOTS>, width: u32, cuts: &Cuts) -> Contest
     requires some_bits { 0 < width }
     requires few_bits { width ≤ 64 }

@@ -1,10 +1,13 @@
 ghost use Rattle.std.specs.Prelude.{◌<◌, IfSome};
+ghost use Rattle.std.specs.List.{All};
 ghost use Rattle.i3c_bus.specs.Hands.{HandFits};
 ghost use Rattle.i3c_bus.specs.declared.tokens.Hand.{Hand as HandValue};
 ghost use Rattle.i3c_bus.specs.Step.{IsUncutEvent};
 
 use super::*;
-use crate::{Answer, Fixed, FrameFault, Framed, RaiseRefusal, Record, Role, TargetFault, Verdict};
+use crate::{
+    Answer, Fixed, FrameFault, Framed, RaiseRefusal, Record, Records, Role, TargetFault, Verdict,
+};
 use i3c_base::Kinds;
 
 /// The policy with this verdict on each request.
@@ -339,22 +342,56 @@ fn interrupted(alloc: Global) -> Option<(Bus, Role)>
     }
 }
 
-// Room that was made lasts until a record takes it, and the replies are the same.
+/// The replies to events on a bus for which room is made before each serve, whether there then always was room, and
+/// what was recorded.
+fn answered_with_room(alloc: Global, events: &[Event]) -> Option<(Vec<Reply>, bool, Records)>
+    requires { All IsUncutEvent events.now }
+{
+    let Ok((mut bus, role)) = Bus::new(alloc, hub(), Legacies::new()) else {
+        return None;
+    };
+    let mut hand = Hand::Role(role);
+    let mut replies = Vec::new(alloc);
+    let mut always = true;
+    for event in events {
+        if let Event::Serve(_, _) = event {
+            always &= bus.make_room().is_ok() && bus.has_room();
+        }
+        let (next, reply) = bus.step(hand, event, &mut Silent);
+        hand = next;
+        let _ = replies.push(reply);
+    }
+    Some((replies, always, bus.retire(hand)))
+}
+
+// With room made before, the replies and the records are the same.
 #[test]
 fn room_is_made_before(rt: HostRuntime) -> Result<(), Fail> {
-    if let Some((mut bus, role)) = interrupted(rt.alloc()) {
-        let had = bus.has_room();
-        let made = bus.make_room();
-        let has = bus.has_room();
-        let mut policy = all(Verdict::Accept);
-        let first = bus.serve(&role, &mut policy, &mut Silent, &Cuts::new());
-        let second = bus.serve(&role, &mut policy, &mut Silent, &Cuts::new());
-        let records = bus.retire(Hand::Role(role));
-        assert!(rt; !had && made.is_ok() && has);
-        assert!(rt; first == Ok(Served::Recorded(1)));
-        assert!(rt; second == Ok(Served::Quiet));
-        assert!(rt; records.as_slice() == [record(1, 1, 0x09, 0x11)].as_slice());
-    }
+    let events = [
+        attach(1, other()),
+        attach(2, thermometer()),
+        open(),
+        round(),
+        round(),
+        round(),
+        Event::EndDaa,
+        raise(1, 0x22),
+        raise(2, 0x11),
+        serve(),
+        serve(),
+        serve(),
+    ];
+    let expected = [
+        Reply::Raised(1),
+        Reply::Raised(1),
+        recorded(1),
+        recorded(2),
+        Reply::Served(Served::Quiet),
+    ];
+    let (replies, always, kept) = answered_with_room(rt.alloc(), &events).ok_or("no bus")?;
+    assert!(rt; always);
+    assert!(rt; replies.as_slice().ends_with(&expected));
+    assert!(rt; kept.as_slice() == [record(2, 1, 0x09, 0x11), record(1, 1, 0x0A, 0x22)].as_slice());
     Ok(())
 }
 

@@ -1,5 +1,6 @@
 -- Each event adds a step, and the law of unique answers holds of every legal run.
 use Rattle.std.proofs.lemmas.List.{take_more}
+use Rattle.i3c_bus.proofs.Active.{active_along}
 use Rattle.i3c_bus.proofs.Answering.{unique_along}
 use Rattle.i3c_bus.proofs.RunLaws.{legal_more, legal_none}
 use Rattle.i3c_bus.proofs.runs.run_events.Goals as goal
@@ -19,3 +20,6 @@ loop-event-preserved c = record {
 
 pub returns-clause-unique : goal.returns-clause-unique
 returns-clause-unique c = unique_along _ _ _ _ _ c.loop-event.invariant.run
+
+pub returns-clause-active : goal.returns-clause-active
+returns-clause-active c = active_along _ _ _ _ _ c.loop-event.invariant.run

@@ -4,7 +4,8 @@ use Rattle.std.proofs.lemmas.Bool.{both_ways}
 use Rattle.std.proofs.lemmas.Option.{same_Some}
 use Rattle.i3c_base.specs.Frames.{AnyAt, Rekinds}
 use Rattle.i3c_base.specs.declared.answers.Answer.{Answer}
-use Rattle.i3c_events.specs.Hearing.{changed_kinds, nobody}
+use Rattle.i3c_base.specs.Cutting.{nobody}
+use Rattle.i3c_events.specs.Hearing.{changed_kinds}
 use Rattle.i3c_events.proofs.HearingLaws.{carried_out, unanswered}
 use Rattle.i3c_events.proofs.hearing.hear_kinds.Goals as goal
 use Rattle.i3c_events.proofs.hearing.hear_kinds.Goals.{in-Some+else-not-is_answered, in_default}

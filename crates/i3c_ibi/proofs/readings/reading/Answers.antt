@@ -1,6 +1,5 @@
 -- The byte that the fronts have is read where one is due, and there is none where none is.
-use Rattle.std.proofs.Common.{◌≡◌, ◌∙◌, ap, sym, is_some, None}
-use Rattle.i3c_base.specs.declared.requests.Record.{Record}
+use Rattle.std.proofs.Common.{◌≡◌, ◌∙◌, ap, sym, is_some}
 use Rattle.i3c_ibi.specs.Driving.{HaveBytes, IsReading}
 use Rattle.i3c_ibi.proofs.ReadingLaws.{due_byte, no_byte}
 use Rattle.i3c_ibi.proofs.readings.reading.Goals as goal
@@ -22,3 +21,8 @@ returns-clause-due c fits = elim c.if-due.branch [
   | then-due w ↦ ap is_some w.result-is ∙ is_due c fits
   | else-due w ↦ ap is_some w.result-is ∙ sym w.if-due.false
 ]
+
+pub returns-clause-front : goal.returns-clause-front
+returns-clause-front c st d a =
+    let read : IsReading st c.args.at c.fronts_read-read.result = c.fronts_read-read.ensures st d a in
+    (read.lowest, (read.front, read.fronted, read.number), read.address)

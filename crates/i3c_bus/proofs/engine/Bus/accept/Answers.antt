@@ -14,7 +14,7 @@ use Rattle.i3c_ibi.specs.Driving.{answered}
 use Rattle.i3c_ibi.specs.Policies.{is_known}
 use Rattle.i3c_bus.specs.Wire.{request_header}
 use Rattle.i3c_bus.proofs.Beginning.{join_served, role_served, sound_accept}
-use Rattle.i3c_bus.proofs.Lost.{nobody}
+use Rattle.i3c_base.specs.Cutting.{nobody}
 use Rattle.i3c_bus.proofs.Seen.{seen}
 use Rattle.i3c_bus.proofs.Telling.{tells_recorded}
 use Rattle.i3c_bus.proofs.engine.Bus.accept.Given as given

@@ -11,7 +11,7 @@ use Rattle.i3c_bus.specs.Step.{Step, is_no_target}
 use Rattle.i3c_bus.specs.Wire.{AnyTarget, IsBegun, IsKindsWire, Tells}
 use Rattle.i3c_bus.specs.declared.replies.Refusal.{Refusal}
 use Rattle.i3c_bus.specs.declared.replies.Reply.{Reply}
-use Rattle.i3c_bus.proofs.Lost.{nobody}
+use Rattle.i3c_base.specs.Cutting.{nobody}
 use Rattle.i3c_bus.proofs.Stepping.{kinds_refused, kinds_short, kinds_step}
 use Rattle.i3c_bus.proofs.Telling.{records_rekinds, tells_frame, tells_own}
 use Rattle.i3c_bus.proofs.engine.Bus.change_kinds.Given as given

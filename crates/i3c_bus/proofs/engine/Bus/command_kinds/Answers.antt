@@ -4,7 +4,7 @@ use Rattle.i3c_base.specs.declared.answers.Answer.{Answer}
 use Rattle.i3c_base.specs.Frames.{Rekinds}
 use Rattle.i3c_base.specs.State.{Held}
 use Rattle.i3c_events.specs.Hearing.{answer_of, changed_kinds}
-use Rattle.i3c_bus.proofs.Lost.{nobody}
+use Rattle.i3c_base.specs.Cutting.{nobody}
 use Rattle.i3c_bus.proofs.Seen.{seen}
 use Rattle.i3c_bus.proofs.Soundness.{sound_rekinds}
 use Rattle.i3c_bus.proofs.engine.Bus.command_kinds.Goals as goal

@@ -8,7 +8,7 @@ use Rattle.i3c_base.specs.State.{Held, entry_at}
 use Rattle.i3c_base.specs.Serve.{IsFirst, Serves, byte_due, verdict}
 use Rattle.i3c_ibi.specs.Driving.{HaveBytes, IsReading}
 use Rattle.i3c_bus.proofs.Beginning.{fitting_bytes, interrupt_served, sound_accept}
-use Rattle.i3c_bus.proofs.Lost.{nobody}
+use Rattle.i3c_base.specs.Cutting.{nobody}
 use Rattle.i3c_bus.proofs.Seen.{seen}
 use Rattle.i3c_bus.proofs.engine.Bus.record.Given as given
 use Rattle.i3c_bus.proofs.engine.Bus.record.Goals as goal

@@ -5,7 +5,7 @@ use Rattle.i3c_base.specs.Serve.{Serves, refuse_all}
 use Rattle.i3c_ibi.specs.Policies.{Decides}
 use Rattle.i3c_bus.specs.Wire.{IsBegun, Tells}
 use Rattle.i3c_bus.specs.declared.events.Event.{Event}
-use Rattle.i3c_bus.proofs.Lost.{nobody}
+use Rattle.i3c_base.specs.Cutting.{nobody}
 use Rattle.i3c_bus.proofs.Stepping.{frame_tests, serve_step, step_short}
 use Rattle.i3c_bus.proofs.Telling.{tells_serve}
 use Rattle.i3c_bus.proofs.engine.Bus.serve.Goals as goal
