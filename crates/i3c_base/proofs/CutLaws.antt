@@ -1,5 +1,6 @@
 -- Cuts as a mask and an array are the cuts by slot.
-use Rattle.std.proofs.Common.{◌≡◌, ◌≢◌, ℕ, zero, suc, ◌+◌, ◌*◌, ◌/◌, ◌%◌, ◌<◌, ◌≤◌, ◌^◌, List, [], ◌∷◌, length, get_or, set, Option, Some, None, ◌==◌, inl, inr, lit<, if◌then◌else◌, sym, refl, ap, subst, ◌∙◌, arith, zero-add}
+use Rattle.std.specs.Prelude.{map}
+use Rattle.std.proofs.Common.{Bool, true, false, option_map, ◌≡◌, ◌≢◌, ℕ, zero, suc, ◌+◌, ◌*◌, ◌/◌, ◌%◌, ◌<◌, ◌≤◌, ◌^◌, List, [], ◌∷◌, length, get_or, set, Option, Some, None, ◌==◌, inl, inr, lit<, if◌then◌else◌, sym, refl, ap, subst, ◌∙◌, arith, zero-add}
 use Rattle.std.proofs.lemmas.Bool.{cond-true, cond-false, eq-eqb, ne_eqb, cases_eq, cases_lt}
 use Rattle.std.proofs.lemmas.List.{get_or_past}
 use Rattle.std.proofs.lemmas.Option.{none-some}
@@ -88,3 +89,13 @@ pub written_set : (mask : ℕ) (xs : List ℕ) (now : List (Option ℕ)) (i s v 
 written_set mask xs now i s v w is e l small same =
     masked_set mask (bit_or mask (1 * 2 ^ i % 65536)) xs i v l (bit_at_set_other w16 mask i small) (bit_at_set_same w16 mask i small)
     ∙ ((λ t. set (is t) (e t) (Some (same t))))
+
+-- masked numbers that were changed
+pub masked_from-map : (f : ℕ → ℕ) (n mask : ℕ) (xs : List ℕ) → masked_from n mask (map f xs) ≡ map (option_map f) (masked_from n mask xs)
+masked_from-map f n mask [] = refl
+masked_from-map f n mask (x ∷ xs) =
+    ap (λ place. place ∷ masked_from (suc n) mask (map f xs)) (go (bit_at mask n == 1)) ∙ ap (λ ys. option_map f (if bit_at mask n == 1 then Some x else None) ∷ ys) (masked_from-map f (suc n) mask xs)
+  where
+    go : (b : Bool) → (if b then Some (f x) else None) ≡ option_map f (if b then Some x else None)
+    go true = refl
+    go false = refl

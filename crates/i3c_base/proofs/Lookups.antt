@@ -1,7 +1,7 @@
 -- What stands in a place after a change.
 use Rattle.std.proofs.Common.{◌≡◌, ℕ, zero, suc, ◌+◌, ◌≤◌, ◌<◌, Bool, true, false, List, [], ◌∷◌, ◌++◌, drop, length, get_or, set, replicate, take, Option, Some, None, option_map, ◌==◌, if◌then◌else◌, ◌⊎◌, inl, inr, sym, refl, ap, ◌∙◌, arith, zero-add}
 use Rattle.std.proofs.lemmas.Bool.{cases_eq, cases_lt, cond-true, cond-false, eq-eqb, eqb-true, ne_eqb}
-use Rattle.std.proofs.lemmas.List.{get_or-set_other, get_or-set_same, get_or_past, set_past}
+use Rattle.std.proofs.lemmas.List.{append-nil, drop_all, get_or-set_other, get_or-set_same, get_or_past, set_past, take_all}
 use Rattle.std.proofs.lemmas.Option.{none-some, same_Some}
 use Rattle.i3c_base.specs.declared.range.TheConstants.{ADDRESSES, SLOTS}
 use Rattle.i3c_base.specs.declared.device.Setup.{Setup}
@@ -197,3 +197,7 @@ changed_from_none f n (x ∷ xs) h = ap (λ y. y ∷ changed_from (suc n) f xs) 
 
 pub changed_none : {A : Type 0} (f : ℕ → A → A) (xs : List A) → ((k : ℕ) (x : A) → f k x ≡ x) → changed f xs ≡ xs
 changed_none f xs h = changed_from_none f 0 xs h
+
+-- the end of such a loop
+pub changed_over_all : {A : Type 0} (f : ℕ → A → A) (xs ys : List A) (i : ℕ) → length xs ≤ i → ys ≡ changed f (take i xs) ++ drop i xs → ys ≡ changed f xs
+changed_over_all f xs ys i l e = e ∙ ((λ t. changed f (take_all i xs l t) ++ drop_all i xs l t) ∙ append-nil (changed f xs))

@@ -1,6 +1,6 @@
 -- A controller's table and the copies that devices keep of it, against the state.
 use Rattle.std.specs.Prelude.{◌≡◌, ◌≢◌, ℕ, Bool, true, List, map, Option, Some, option_map}
-use Rattle.i3c_base.specs.declared.device.Target.{Target}
+use Rattle.i3c_base.specs.declared.device.LegacyTarget.{LegacyTarget}
 use Rattle.i3c_base.specs.declared.identity.Lvr.{Lvr}
 use Rattle.i3c_base.specs.Numbers.{is_capable}
 use Rattle.i3c_base.specs.State.{Device, Entry, State, device_at, unkept}
@@ -13,7 +13,7 @@ pub record Table : Type 0 where
 
 -- the LVRs of the legacy targets
 abbrev pub lvrs : State → List (Option Lvr)
-lvrs st = map (option_map (λ (t : Target). t.lvr)) st.legacy
+lvrs st = map (option_map (λ (t : LegacyTarget). t.lvr)) st.legacy
 
 -- the table of the active controller
 abbrev pub IsTable : State → Table → Type 0

@@ -1,5 +1,5 @@
 -- Drop-offs inside a frame: the bits at which devices lose power, and whom a frame loses so.
-use Rattle.std.specs.Prelude.{◌≡◌, ℕ, Bool, false, nat_le, List, Option, Some, None, min, replicate, slice_index_or}
+use Rattle.std.specs.Prelude.{◌≡◌, ℕ, ◌-◌, Bool, false, nat_le, List, Option, Some, None, map, min, option_map, replicate, slice_index_or}
 use Rattle.i3c_base.specs.declared.range.TheConstants.{SLOTS}
 
 -- cuts by slot
@@ -22,6 +22,10 @@ no_cuts = replicate SLOTS None
 abbrev pub earlier : Option ℕ → ℕ → ℕ
 earlier None bit = bit
 earlier (Some had) bit = min had bit
+
+-- the same cuts with their bits counted from a later one; those before it are at it
+abbrev pub counted_from : ℕ → CutList → CutList
+counted_from first cuts = map (option_map (λ (bit : ℕ). bit - first)) cuts
 
 -- a set of slots: the devices that a frame loses
 abbrev pub Lost : Type 0

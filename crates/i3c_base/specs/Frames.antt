@@ -1,10 +1,13 @@
 -- The frames' own parts: enabling, reset, list, handover and private transfers, with the bits that each sends.
-use Rattle.std.specs.Prelude.{◌≡◌, ℕ, ◌+◌, ◌*◌, ◌<◌, Bool, true, false, not, ◌&&◌, ◌||◌, ◌==◌, ◌⊎◌, List, ◌++◌, length, drop, slice_index, slice_set, count_by, Option, Some, None, if◌then◌else◌, is_some, option_map}
+use Rattle.std.specs.Prelude.{◌≡◌, ◌≢◌, ℕ, ◌+◌, ◌*◌, ◌<◌, Bool, true, false, not, ◌&&◌, ◌||◌, ◌==◌, ◌⊎◌, List, ◌++◌, length, drop, slice_index, slice_set, count_by, Option, Some, None, if◌then◌else◌, is_some, option_map}
 use Rattle.i3c_base.specs.declared.answers.Answer.{Answer}
-use Rattle.i3c_base.specs.declared.device.Target.{Target}
-use Rattle.i3c_base.specs.State.{Device, State, IsTargetAt, change, device_at, each, forgotten, has_address, in_slot, target_at, unkept}
+use Rattle.i3c_base.specs.declared.device.LegacyTarget.{LegacyTarget}
+use Rattle.i3c_base.specs.State.{Device, State, IsPresent, IsTargetAt, change, device_at, each, forgotten, has_address, in_slot, legacy_target_at, unkept}
 use Rattle.i3c_base.specs.Places.{changed}
-use Rattle.i3c_base.specs.Numbers.{KindSet}
+use Rattle.i3c_base.specs.declared.kinds.Change.{Change}
+use Rattle.i3c_base.specs.declared.kinds.Change.TheVariants.{Enable, Disable}
+use Rattle.i3c_base.specs.declared.kinds.Kinds.{Kinds}
+use Rattle.i3c_base.specs.Numbers.{KindSet, kind_set}
 use Rattle.i3c_base.specs.Cutting.{Lost}
 use Rattle.i3c_base.specs.Serve.{IsAnd, without_role}
 
@@ -20,6 +23,15 @@ AllLostAt st a lost = (s : ℕ) (d : Device) → IsTargetAt st a s d → lost s 
 abbrev pub SomeLeftAt : State → ℕ → Lost → Type 0
 SomeLeftAt st a lost = (s : ℕ) × (d : Device) × IsTargetAt st a s d × (lost s ≡ false)
 
+-- some device other than the active controller isn't lost: it acknowledges a broadcast
+abbrev pub AnyLeft : State → Lost → Type 0
+AnyLeft st lost = (s : ℕ) × IsPresent st s × (s ≢ st.active) × (lost s ≡ false)
+
+-- a header is acknowledged: a broadcast by anyone who isn't lost, one to an address by those there
+abbrev pub IsHeard : State → Option ℕ → Lost → Type 0
+IsHeard st None lost = AnyLeft st lost
+IsHeard st (Some a) lost = SomeLeftAt st a lost
+
 -- whom an enabling or disabling reaches: all but the active controller, or those at one address
 abbrev pub reaches : State → Option ℕ → ℕ → Device → Bool
 reaches st None s d = not (s == st.active)
@@ -32,6 +44,11 @@ with_kinds had more = record { interrupt = had.interrupt || more.interrupt; role
 -- the difference of two sets of kinds
 abbrev pub without_kinds : KindSet → KindSet → KindSet
 without_kinds had less = record { interrupt = had.interrupt && not less.interrupt; role = had.role && not less.role; join = had.join && not less.join }
+
+-- the enabled kinds of a device after ENEC or DISEC with these kinds
+abbrev pub changed_kinds : Change → Kinds → KindSet → KindSet
+changed_kinds Enable kinds had = with_kinds had (kind_set kinds)
+changed_kinds Disable kinds had = without_kinds had (kind_set kinds)
 
 -- the kinds of whom the command reaches, changed by f
 abbrev pub rekinded : Option ℕ → (KindSet → KindSet) → State → State
@@ -54,9 +71,13 @@ kinds_bits (Some a) _ = 27
 abbrev pub active_has : State → ℕ → Bool
 active_has st a = in_slot (has_address a) (device_at st st.active)
 
+-- a device that hears RSTDAA: without its address and its role wish
+abbrev pub unaddressed_device : Device → Device
+unaddressed_device d = record d { address = None; role_wish = false }
+
 -- RSTDAA: the active controller alone keeps its address and its entry; role wishes go too
 abbrev pub reset : State → State
-reset st = record (each (λ s d. record d { address = if s == st.active then d.address else None; role_wish = false }) st) {
+reset st = record (each (λ s d. if s == st.active then without_role d else unaddressed_device d) st) {
   given = changed (λ a place. if active_has st a then option_map unkept place else None) st.given;
   listed = false;
 }
@@ -96,14 +117,14 @@ DrivesRegister st a k s v = (d : Device) × IsTargetAt st a s d × (v ≡ slice_
 -- what a read of the address gives: a legacy target's registers; of several devices the AND, free where some are lost
 abbrev pub IsReadOf : State → ℕ → Lost → List ℕ → Type 0
 IsReadOf st a lost bytes =
-    ((target : Target) × (target_at st a ≡ Some target) × (bytes ≡ target.registers))
-    ⊎ ((target_at st a ≡ None) × SomeLeftAt st a lost × (length bytes ≡ 16)
+    ((target : LegacyTarget) × (legacy_target_at st a ≡ Some target) × (bytes ≡ target.registers))
+    ⊎ ((legacy_target_at st a ≡ None) × SomeLeftAt st a lost × (length bytes ≡ 16)
     × (((s : ℕ) (d : Device) → IsTargetAt st a s d → lost s ≡ false)
     → (k : ℕ) → k < 16 → IsAnd (slice_index bytes k) (DrivesRegister st a k)))
 
 -- nobody answers, or the answer breaks off: no legacy target is there, and each device is lost
 abbrev pub NobodyLeftAt : State → ℕ → Lost → Type 0
-NobodyLeftAt st a lost = (target_at st a ≡ None) × AllLostAt st a lost
+NobodyLeftAt st a lost = (legacy_target_at st a ≡ None) × AllLostAt st a lost
 
 -- the answers of a read, which changes nothing
 abbrev pub Reads : ℕ → Answer → Lost → State → State → Type 0
@@ -122,19 +143,19 @@ abbrev pub overwritten : List ℕ → List ℕ → List ℕ
 overwritten bytes registers = bytes ++ drop (length bytes) registers
 
 -- a legacy target after a write
-abbrev pub target_written : List ℕ → Option Target → Option Target
-target_written bytes None = None
-target_written bytes (Some target) = Some (record target { registers = overwritten bytes target.registers })
+abbrev pub legacy_written : List ℕ → Option LegacyTarget → Option LegacyTarget
+legacy_written bytes None = None
+legacy_written bytes (Some target) = Some (record target { registers = overwritten bytes target.registers })
 
 -- a write to the address: a legacy target there has its registers changed, and so has each device there
 abbrev pub written : ℕ → List ℕ → State → State
 written a bytes st = record (each (λ s d. if reaches st (Some a) s d then record d { registers = overwritten bytes d.registers } else d) st) {
-  legacy = slice_set st.legacy a (target_written bytes (target_at st a));
+  legacy = slice_set st.legacy a (legacy_written bytes (legacy_target_at st a));
 }
 
 -- the answers of a write
 abbrev pub Writes : ℕ → List ℕ → Answer → Lost → State → State → Type 0
-Writes a bytes Answer.Done lost mid done = (((target : Target) × (target_at mid a ≡ Some target)) ⊎ AnyAt mid a) × (done ≡ written a bytes mid)
+Writes a bytes Answer.Done lost mid done = (((target : LegacyTarget) × (legacy_target_at mid a ≡ Some target)) ⊎ AnyAt mid a) × (done ≡ written a bytes mid)
 Writes a bytes (Answer.NoAnswer b) lost mid done = (b ≡ a) × NobodyLeftAt mid a lost × (done ≡ mid)
 Writes a bytes Answer.NoEnd lost mid done = ⊥
 Writes a bytes (Answer.Bytes read) lost mid done = ⊥

@@ -1,5 +1,5 @@
 -- Identities, what the bits of a BCR say, and sets of event kinds.
-use Rattle.std.specs.Prelude.{◌≡◌, ℕ, ◌+◌, ◌*◌, ◌<◌, ◌^◌, ◌/◌, ◌%◌, Bool, ◌&&◌, ◌==◌, ◌⊎◌}
+use Rattle.std.specs.Prelude.{◌≡◌, ℕ, ◌+◌, ◌*◌, ◌<◌, ◌^◌, ◌/◌, ◌%◌, Bool, true, false, not, ◌&&◌, ◌==◌, ◌⊎◌}
 use Rattle.i3c_base.specs.declared.identity.Bcr.{Bcr}
 use Rattle.i3c_base.specs.declared.identity.Identity.{Identity}
 use Rattle.i3c_base.specs.declared.kinds.Kinds.{Kinds}
@@ -19,6 +19,11 @@ number_of i = i.pid * 65536 + i.bcr.0 * 256 + i.dcr.0
 -- a test of equal identities
 abbrev pub same_identity : Identity → Identity → Bool
 same_identity i j = (i.pid == j.pid) && ((i.bcr.0 == j.bcr.0) && (i.dcr.0 == j.dcr.0))
+
+-- a test of equal truth values
+abbrev pub same_bool : Bool → Bool → Bool
+same_bool true b = b
+same_bool false b = not b
 
 -- bits 7:6 of a BCR are 01: a controller
 abbrev pub is_capable : Bcr → Bool

@@ -1,5 +1,5 @@
 -- The first request of a frame, and what serving it leaves.
-use Rattle.std.specs.Prelude.{◌≡◌, ℕ, suc, ◌+◌, ◌*◌, ◌<◌, ◌≤◌, ◌↔◌, Bool, true, false, not, ◌&&◌, ◌==◌, List, [], ◌∷◌, ◌++◌, length, Option, Some, None, if◌then◌else◌, is_some, is_none}
+use Rattle.std.specs.Prelude.{◌≡◌, ℕ, suc, ◌+◌, ◌*◌, ◌<◌, ◌≤◌, ◌↔◌, Bool, true, false, not, ◌&&◌, ◌==◌, List, [], ◌∷◌, ◌++◌, length, Option, Some, None, if◌then◌else◌, is_some, is_none, MatchOption}
 use Rattle.std.specs.Int.{bit_at}
 use Rattle.i3c_base.specs.declared.requests.Fixed.{Fixed}
 use Rattle.i3c_base.specs.declared.requests.Record.{Record}
@@ -49,6 +49,10 @@ pub record IsFirst (st : State) (r : Request) : Type 0 where
 -- nobody drives a request
 abbrev pub NoneAsks : State → Type 0
 NoneAsks st = (s : ℕ) (r : Request) → drives st r s ≡ false
+
+-- the first request, if there is one
+abbrev pub IsFirstRequest : State → Option Request → Type 0
+IsFirstRequest st first = MatchOption first (NoneAsks st) (λ r. IsFirst st r)
 
 -- the lowest slot of those that drive r
 abbrev pub IsLowestDriver : State → Request → ℕ → Type 0
@@ -108,6 +112,12 @@ without_role d = record d { role_wish = false }
 -- a device without the front of its waiting list
 abbrev pub without_front : Device → Device
 without_front d = record d { waiting = tail d.waiting }
+
+-- what an accepted request takes from a device that drives it
+abbrev pub without : Request → Device → Device
+without Join d = without_join d
+without (Role a) d = without_role d
+without (Interrupt a) d = without_front d
 
 -- a record more
 abbrev pub recorded : Record → State → State

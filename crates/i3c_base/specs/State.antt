@@ -8,7 +8,7 @@ use Rattle.i3c_base.specs.declared.identity.Dcr.{Dcr}
 use Rattle.i3c_base.specs.declared.identity.Identity.{Identity}
 use Rattle.i3c_base.specs.declared.identity.Lvr.{Lvr}
 use Rattle.i3c_base.specs.declared.device.Setup.{Setup}
-use Rattle.i3c_base.specs.declared.device.Target.{Target}
+use Rattle.i3c_base.specs.declared.device.LegacyTarget.{LegacyTarget}
 use Rattle.i3c_base.specs.declared.device.Waiting.{Waiting}
 use Rattle.i3c_base.specs.declared.requests.Record.{Record}
 use Rattle.i3c_base.specs.Numbers.{KindSet}
@@ -37,7 +37,7 @@ pub record State : Type 0 where
   pub devices : List (Option Device)  -- by slot
   pub raised : List ℕ  -- by slot: its accepted raises, over all its stays
   pub active : ℕ  -- the active controller's slot
-  pub legacy : List (Option Target)  -- by static address
+  pub legacy : List (Option LegacyTarget)  -- by static address
   pub given : List (Option Entry)  -- by address: the addresses given since the last reset
   pub in_session : Bool
   pub listed : Bool  -- the list of DEFTGTS is current
@@ -48,6 +48,10 @@ pub record Held : Type 0 where
   pub state : State
   pub room : Bool
 
+-- a bus with these devices, the one in slot `active` being the active controller
+abbrev pub HasDevices : State → List (Option Device) → ℕ → Type 0
+HasDevices st devices active = (st.devices ≡ devices) × (st.active ≡ active)
+
 -- the device in a slot
 abbrev pub device_at : State → ℕ → Option Device
 device_at st s = slice_index_or st.devices s None
@@ -57,8 +61,8 @@ abbrev pub raised_at : State → ℕ → ℕ
 raised_at st s = slice_index st.raised s
 
 -- the legacy target at a static address
-abbrev pub target_at : State → ℕ → Option Target
-target_at st a = slice_index_or st.legacy a None
+abbrev pub legacy_target_at : State → ℕ → Option LegacyTarget
+legacy_target_at st a = slice_index_or st.legacy a None
 
 -- what a table keeps of an address
 abbrev pub entry_in : List (Option Entry) → ℕ → Option Entry
@@ -142,7 +146,7 @@ pub data Party : Type 0 where
 -- the party answers to the address a
 abbrev pub AnswersTo : State → ℕ → Party → Type 0
 AnswersTo st a (in_slot_of s) = (d : Device) × (device_at st s ≡ Some d) × (d.address ≡ Some a)
-AnswersTo st a (legacy_at b) = (b ≡ a) × ((t : Target) × (target_at st a ≡ Some t))
+AnswersTo st a (legacy_at b) = (b ≡ a) × ((t : LegacyTarget) × (legacy_target_at st a ≡ Some t))
 
 -- no two answer to one address
 abbrev pub HasUniqueAnswers : State → Type 0
@@ -199,12 +203,12 @@ abbrev pub kept_entry_of : Identity → Entry
 kept_entry_of i = record { bcr = i.bcr; dcr = i.dcr; kept = Some i }
 
 -- a legacy target at the start
-abbrev pub target_of : Lvr → Target
-target_of lvr = record { lvr = lvr; registers = cleared_registers }
+abbrev pub legacy_target_of : Lvr → LegacyTarget
+legacy_target_of lvr = record { lvr = lvr; registers = cleared_registers }
 
 -- the legacy targets at the start, of their LVRs
-abbrev pub targets_of : List (Option Lvr) → List (Option Target)
-targets_of lvrs = map (option_map target_of) lvrs
+abbrev pub legacy_targets_of : List (Option Lvr) → List (Option LegacyTarget)
+legacy_targets_of lvrs = map (option_map legacy_target_of) lvrs
 
 -- no legacy targets
 unfoldable pub no_lvrs : List (Option Lvr)
@@ -223,7 +227,7 @@ unfoldable pub no_entries : List (Option Entry)
 no_entries = replicate ADDRESSES None
 
 -- a bus with the main controller alone, before it has an address
-abbrev pub unaddressed : Setup → List (Option Target) → State
+abbrev pub unaddressed : Setup → List (Option LegacyTarget) → State
 unaddressed main legacy = record {
   devices = slice_set no_devices 0 (Some (attached main));
   raised = no_raises;
@@ -240,5 +244,5 @@ abbrev pub addressed : ℕ → ℕ → Identity → State → State
 addressed s a i st = record (change s (λ d. record d { address = Some a }) st) { given = slice_set st.given a (Some (entry_of i)) }
 
 -- a start: the main controller sits in slot 0 at the least pickable address
-abbrev pub IsStart : Setup → List (Option Target) → State → Type 0
+abbrev pub IsStart : Setup → List (Option LegacyTarget) → State → Type 0
 IsStart main legacy st = (a : ℕ) × IsPick (unaddressed main legacy) a × (st ≡ addressed 0 a main.identity (unaddressed main legacy))

@@ -4,7 +4,7 @@ use std::marker::Model;
 /// The devices that lose power during one frame: for each cut slot, the bit from which it drives nothing.
 ///
 /// Bits are counted from the ninth bit of the frame's first header, which is 0. A slot has one cut at most.
-#[derive(Clone, Drop)]
+#[derive(Clone, Debug, Drop)]
 pub struct Cuts {
     // one bit for each slot: it is cut
     cut: u16,
@@ -25,7 +25,7 @@ impl Model for Cuts {
 
 impl Cuts {
     ghost use Rattle.std.specs.Prelude.{◌≡◌, ◌↔◌, IsTrue, Some, slice_set};
-    ghost use Rattle.i3c_base.specs.Cutting.{cut_of, earlier, no_cuts, IsUncut};
+    ghost use Rattle.i3c_base.specs.Cutting.{counted_from, cut_of, earlier, lost_by, no_cuts, IsUncut};
 
     /// No cut.
     pub fn new() -> Cuts
@@ -61,6 +61,30 @@ impl Cuts {
         let index = slot.index();
         self.cut |= 1 << index;
         self.bits[index] = first;
+    }
+
+    /// Whether a slot's device is lost by this bit: it is cut there or before.
+    pub fn is_lost(&self, slot: Slot, last: u16) -> bool
+        ensures { result ≡ lost_by self.now last slot }
+    {
+        match self.at(slot) {
+            Some(bit) => bit <= last,
+            None => false,
+        }
+    }
+
+    /// The same cuts with their bits counted from a later one. Those before it are at it.
+    pub fn counted_from(&self, first: u16) -> Cuts
+        ensures { result ≡ counted_from first self.now }
+    {
+        let mut bits = self.bits;
+        for bit in bits.iter_mut() {
+            *bit = bit.saturating_sub(first);
+        }
+        Cuts {
+            cut: self.cut,
+            bits,
+        }
     }
 
     /// Whether no slot is cut.

@@ -21,8 +21,8 @@ pub struct Waiting {
 }
 
 /// A legacy I2C target: its LVR and its registers.
-#[derive(Clone, Copy)]
-pub struct Target {
+#[derive(Clone, Copy, Debug, PartialEq, Eq, Default)]
+pub struct LegacyTarget {
     pub lvr: Lvr,
     pub registers: [u8; REGISTERS],
 }

@@ -2,6 +2,13 @@ ghost use Rattle.std.specs.Prelude.{⊤, ◌≡◌, [], ◌∷◌, codes};
 
 use bitflags::{Flag, Flags, bitflag_items};
 
+/// What a command does to the kinds of events that are enabled: ENEC enables, DISEC disables (I3C Basic 5.1.9.3.1).
+#[derive(Clone, Copy, Debug, PartialEq, Eq)]
+pub enum Change {
+    Enable,
+    Disable,
+}
+
 /// A set of event kinds, as ENEC and DISEC carry it (I3C Basic 5.1.9.3.1).
 #[derive(Clone, Copy, PartialEq, Eq, Debug)]
 pub struct Kinds(u8);

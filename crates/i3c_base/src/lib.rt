@@ -14,9 +14,9 @@ mod requests;
 
 pub use answers::{Answer, RoundReply};
 pub use cuts::Cuts;
-pub use device::{REGISTERS, Setup, Target, WAITING, Waiting};
+pub use device::{LegacyTarget, REGISTERS, Setup, WAITING, Waiting};
 pub use identity::{Bcr, Dcr, Identity, Lvr};
-pub use kinds::Kinds;
+pub use kinds::{Change, Kinds};
 pub use range::{ADDRESSES, Addr7, OutOfRange, Pid, SLOTS, Slot};
 pub use requests::{Fixed, Record, Request, Served, Verdict};
 

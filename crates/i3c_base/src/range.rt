@@ -87,6 +87,14 @@ impl Slot {
         }
     }
 
+    /// The slot of an index.
+    pub fn from_index(index: usize) -> Slot
+        requires { index < SLOTS }
+        ensures { result ≡ index }
+    {
+        Slot { value: index as u8 }
+    }
+
     /// The slot as an index.
     pub fn index(self) -> usize
         ensures same { result ≡ self }

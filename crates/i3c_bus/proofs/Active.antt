@@ -4,7 +4,7 @@ use Rattle.std.proofs.Common.{◌≡◌, ℕ, suc, ◌++◌, length, false, ◌�
 use Rattle.i3c_base.specs.declared.answers.Answer.{Answer}
 use Rattle.i3c_base.specs.declared.answers.RoundReply.{RoundReply}
 use Rattle.i3c_base.specs.declared.device.Setup.{Setup}
-use Rattle.i3c_base.specs.declared.device.Target.{Target}
+use Rattle.i3c_base.specs.declared.device.LegacyTarget.{LegacyTarget}
 use Rattle.i3c_base.specs.declared.identity.Identity.{Identity}
 use Rattle.i3c_base.specs.declared.range.TheConstants.{SLOTS}
 use Rattle.i3c_base.specs.declared.requests.Fixed.{Fixed}
@@ -118,7 +118,7 @@ pub Active-step : (old : State) (event : Event) (reply : Reply) (new : State) �
 Active-step old event reply new h p = step_cases old event reply new h (λ idle e. subst HasActive (sym e) p) (λ free acts. Active-acts old event reply new free acts p)
 
 -- a start's active controller is the main one, in slot 0
-pub Active-start : (main : Setup) (legacy : List (Option Target)) (start : State) → IsStart main legacy start → HasActive start
+pub Active-start : (main : Setup) (legacy : List (Option LegacyTarget)) (start : State) → IsStart main legacy start → HasActive start
 Active-start main legacy start h = subst HasActive (sym h.2)
     (Present-change 0 (λ (d : Device). record d { address = Some h.0 }) (unaddressed main legacy) 0 (attached main, set_in no_devices 0 0 (Some (attached main)) None low))
   where
@@ -126,5 +126,5 @@ Active-start main legacy start h = subst HasActive (sym h.2)
     low = let n : length no_devices ≡ SLOTS = length-no_devices in omega arith
 
 -- so a device is in the active slot of each state that a legal run leads to
-pub active_along : (main : Setup) (legacy : List (Option Target)) (events : List Event) (replies : List Reply) (new : State) → IsLegalRun main legacy events replies new → HasActive new
+pub active_along : (main : Setup) (legacy : List (Option LegacyTarget)) (events : List Event) (replies : List Reply) (new : State) → IsLegalRun main legacy events replies new → HasActive new
 active_along main legacy events replies new run = run_keeps HasActive Active-step run.0 events replies new run.2 (Active-start main legacy run.0 run.1)

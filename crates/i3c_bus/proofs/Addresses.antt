@@ -14,9 +14,9 @@ use Rattle.i3c_base.specs.declared.answers.RoundReply.{RoundReply}
 use Rattle.i3c_base.specs.declared.requests.Served.{Served}
 use Rattle.i3c_base.specs.declared.requests.Served.TheVariants.{Quiet, Recorded, Refused, Torn, Joining, WantsRole}
 use Rattle.i3c_base.specs.declared.device.Setup.{Setup}
-use Rattle.i3c_base.specs.declared.device.Target.{Target}
+use Rattle.i3c_base.specs.declared.device.LegacyTarget.{LegacyTarget}
 use Rattle.i3c_base.specs.Numbers.{same_identity}
-use Rattle.i3c_base.specs.State.{Device, Entry, State, IsStart, addressed, attached, change, device_at, each, entry_at, entry_of, kept_entry_of, kept_of, no_devices, no_entries, raised_at, target_at, unaddressed, unkept}
+use Rattle.i3c_base.specs.State.{Device, Entry, State, IsStart, addressed, attached, change, device_at, each, entry_at, entry_of, kept_entry_of, kept_of, no_devices, no_entries, raised_at, legacy_target_at, unaddressed, unkept}
 use Rattle.i3c_base.specs.declared.range.TheConstants.{ADDRESSES}
 use Rattle.i3c_base.specs.Local.{attach, raise}
 use Rattle.i3c_base.specs.Frames.{Rekinds, reaches, rekinded}
@@ -54,7 +54,7 @@ pub record NoneNew (old new : State) : Type 0 where
   pub devices : (s a : ℕ) (d : Device) → device_at new s ≡ Some d → d.address ≡ Some a → WasThere old s a d
   pub entries : (s a : ℕ) (d : Device) (e : Entry) → device_at new s ≡ Some d → d.address ≡ Some a → entry_at old a ≡ Some e → (f : Entry) × (entry_at new a ≡ Some f) × IsRest e f
   pub given : (a : ℕ) (f : Entry) → entry_at new a ≡ Some f → (e : Entry) × (entry_at old a ≡ Some e)
-  pub legacy : (a : ℕ) → target_at old a ≡ None → target_at new a ≡ None
+  pub legacy : (a : ℕ) → legacy_target_at old a ≡ None → legacy_target_at new a ≡ None
   pub long : length new.given ≡ length old.given
 
 IsFor-rest : (i j : Identity) (e f : Entry) → i ≡ j → IsFor i e → IsRest e f → IsFor j f
@@ -94,7 +94,7 @@ WasThere-each f st steady s a d p q =
     }
 
 pub NoneNew-from : (old new : State) → ((s a : ℕ) (d : Device) → device_at new s ≡ Some d → d.address ≡ Some a → WasThere old s a d)
-    → new.given ≡ old.given → ((a : ℕ) → target_at old a ≡ None → target_at new a ≡ None) → NoneNew old new
+    → new.given ≡ old.given → ((a : ℕ) → legacy_target_at old a ≡ None → legacy_target_at new a ≡ None) → NoneNew old new
 NoneNew-from old new devices given legacy = record {
   devices = devices;
   entries = λ s a d e p q g. (e, ap (λ places. get_or places a None) given ∙ g, IsRest-refl e);
@@ -192,7 +192,7 @@ Addresses-frame old policy cuts served rest Own new own frame inv =
 -- what makes a an address for the identity i: its users have i, no legacy target has it, and it has a place in the table
 record Suits (st : State) (i : Identity) (a : ℕ) : Type 0 where
   users : (s : ℕ) (d : Device) → device_at st s ≡ Some d → d.address ≡ Some a → d.identity ≡ i
-  free : target_at st a ≡ None
+  free : legacy_target_at st a ≡ None
   low : a < length st.given
 
 kept_from : (o : Option Entry) (i : Identity) → kept_of o ≡ Some i → (e : Entry) × (o ≡ Some e) × (e.kept ≡ Some i)
@@ -258,7 +258,7 @@ Addresses-assigned lost i a st for inv = record {
     ]
   ];
   free = λ b e g. elim (cond_some_from (b == a) (kept_entry_of i) e (entry_at st b) (sym (entry b) ∙ g)) [
-    | inl f ↦ ap (target_at st) (eqb-true b a f.0) ∙ suits.free
+    | inl f ↦ ap (legacy_target_at st) (eqb-true b a f.0) ∙ suits.free
     | inr f ↦ inv.free b e f.1
   ];
   long = length-set st.given a (Some (kept_entry_of i)) ∙ inv.long;
@@ -308,7 +308,7 @@ pub Addresses-step : (old : State) (event : Event) (reply : Reply) (new : State)
 Addresses-step old event reply new h inv = step_cases old event reply new h (λ idle e. subst Addresses (sym e) inv) (λ e acts. Addresses-acts old event reply new acts inv)
 
 -- the start's only device, and its only entry
-pub start_device : (main : Setup) (legacy : List (Option Target)) (a s : ℕ) (d : Device) → device_at (addressed 0 a main.identity (unaddressed main legacy)) s ≡ Some d
+pub start_device : (main : Setup) (legacy : List (Option LegacyTarget)) (a s : ℕ) (d : Device) → device_at (addressed 0 a main.identity (unaddressed main legacy)) s ≡ Some d
     → (s ≡ 0) × (d ≡ record (attached main) { address = Some a })
 start_device main legacy a s d p =
     let w = change_from 0 (λ (x : Device). record x { address = Some a }) (unaddressed main legacy) s d p in
@@ -318,7 +318,7 @@ start_device main legacy a s d p =
     ]
 
 -- a start has it
-pub Addresses-start : (main : Setup) (legacy : List (Option Target)) (start : State) → IsStart main legacy start → Addresses start
+pub Addresses-start : (main : Setup) (legacy : List (Option LegacyTarget)) (start : State) → IsStart main legacy start → Addresses start
 Addresses-start main legacy start h = subst Addresses (sym h.2) (record {
   used = λ s b d p q. let f = from s b d p q in
       (entry_of main.identity, entry b ∙ cond-true (b == h.0) _ None (eq-eqb b h.0 f.1), record { bcr = ap (λ (i : Identity). i.bcr) (sym f.0); dcr = ap (λ (i : Identity). i.dcr) (sym f.0); kept = λ j k. absurd (none-some j k) });

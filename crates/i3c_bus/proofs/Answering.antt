@@ -2,7 +2,7 @@
 use Rattle.std.proofs.Common.{List, Option, ap, sym, ◌∙◌}
 use Rattle.std.proofs.lemmas.Option.{none-some}
 use Rattle.i3c_base.specs.declared.device.Setup.{Setup}
-use Rattle.i3c_base.specs.declared.device.Target.{Target}
+use Rattle.i3c_base.specs.declared.device.LegacyTarget.{LegacyTarget}
 use Rattle.i3c_base.specs.State.{HasDistinctIdentities, HasUniqueAnswers, State, in_slot_of, legacy_at}
 use Rattle.i3c_bus.specs.declared.events.Event.{Event}
 use Rattle.i3c_bus.specs.declared.replies.Reply.{Reply}
@@ -18,7 +18,7 @@ unique_answers st inv distinct a (in_slot_of s) (legacy_at c) h k = let u = inv.
 unique_answers st inv distinct a (legacy_at b) (in_slot_of t) h k = let u = inv.used t a k.0 k.1 k.2 in absurd (none-some h.1.0 (sym (inv.free a u.0 u.1) ∙ h.1.1))
 unique_answers st inv distinct a (legacy_at b) (legacy_at c) h k = ap legacy_at (h.0 ∙ sym k.0)
 
-pub unique_along : (main : Setup) (legacy : List (Option Target)) (events : List Event) (replies : List Reply) (new : State)
+pub unique_along : (main : Setup) (legacy : List (Option LegacyTarget)) (events : List Event) (replies : List Reply) (new : State)
     → IsLegalRun main legacy events replies new → HasDistinctIdentities new → HasUniqueAnswers new
 unique_along main legacy events replies new run distinct =
     unique_answers new (run_keeps Addresses Addresses-step run.0 events replies new run.2 (Addresses-start main legacy run.0 run.1)) distinct

@@ -2,7 +2,7 @@
 use Rattle.std.proofs.lemmas.List.{append-nil, drop_at, length-set, map-append}
 use Rattle.std.proofs.Common.{◌≡◌, ℕ, length, List, [], ◌∷◌, ◌++◌, drop, filter, map, Option, Some, None, ◌==◌, sym, refl, ap, ◌∙◌, subst, append_assoc, arith}
 use Rattle.i3c_base.specs.declared.device.Setup.{Setup}
-use Rattle.i3c_base.specs.declared.device.Target.{Target}
+use Rattle.i3c_base.specs.declared.device.LegacyTarget.{LegacyTarget}
 use Rattle.i3c_base.specs.declared.device.Waiting.{Waiting}
 use Rattle.i3c_base.specs.declared.requests.Record.{Record}
 use Rattle.i3c_base.specs.State.{Device, HasDistinctIdentities, IsStart, State, addressed, device_at, no_devices, raised_at, unaddressed}
@@ -110,7 +110,7 @@ pub last_facts : (start : State) (m : Moment) (earlier : History) → IsLawful s
 last_facts start m earlier law = facts_from start m earlier law (numbered_reached start earlier (IsLawful-earlier start m earlier law))
 
 -- nothing waits at a start, and nothing was raised
-pub IsLawful-start : (main : Setup) (legacy : List (Option Target)) (start : State) (h : History) → IsStart main legacy start → IsLegal start h → AllDistinct start h → IsLawful start h
+pub IsLawful-start : (main : Setup) (legacy : List (Option LegacyTarget)) (start : State) (h : History) → IsStart main legacy start → IsLegal start h → AllDistinct start h → IsLawful start h
 IsLawful-start main legacy start h begins legal distinct = record {
   addresses = Addresses-start main legacy start begins;
   numbered = subst IsNumbered (sym begins.2) (record {

@@ -4,7 +4,7 @@ use Rattle.std.proofs.lemmas.List.Elements.{Contains-append_cases, Contains-appe
 use Rattle.std.proofs.Common.{◌≡◌, ℕ, Bool, true, false, List, [], ◌∷◌, ◌++◌, filter, map, Option, Some, None, ◌==◌, if◌then◌else◌, ◌⊎◌, inl, inr, sym, refl, ap, ◌∙◌, subst, arith}
 use Rattle.std.specs.List.{Contains}
 use Rattle.i3c_base.specs.declared.device.Setup.{Setup}
-use Rattle.i3c_base.specs.declared.device.Target.{Target}
+use Rattle.i3c_base.specs.declared.device.LegacyTarget.{LegacyTarget}
 use Rattle.i3c_base.specs.declared.device.Waiting.{Waiting}
 use Rattle.i3c_base.specs.declared.requests.Record.{Record}
 use Rattle.i3c_base.specs.State.{Device, IsStart, State, device_at, raised_at}
@@ -127,7 +127,7 @@ records_grow start (m ∷ earlier) law =
       raised = waiting_raised start earlier (IsLawful-earlier start m earlier law) a.last.slot a.device (raise_of a.last) a.there a.waits;
     }
 
-pub faithful_records : (main : Setup) (legacy : List (Option Target)) (start : State) (h : History)
+pub faithful_records : (main : Setup) (legacy : List (Option LegacyTarget)) (start : State) (h : History)
     → IsStart main legacy start → IsLegal start h → AllDistinct start h → HasFaithfulRecords start h
 faithful_records main legacy start h begins legal distinct = record {
   grow = records_grow start h law;

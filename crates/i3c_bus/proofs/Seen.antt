@@ -7,10 +7,10 @@ use Rattle.i3c_base.specs.declared.requests.Record.{Record}
 use Rattle.i3c_base.specs.declared.requests.Served.{Served}
 use Rattle.i3c_base.specs.Places.{changed}
 use Rattle.i3c_base.specs.Cutting.{CutList, IsUncut}
-use Rattle.i3c_base.specs.declared.device.Target.{Target}
+use Rattle.i3c_base.specs.declared.device.LegacyTarget.{LegacyTarget}
 use Rattle.i3c_base.specs.declared.identity.Lvr.{Lvr}
 use Rattle.i3c_base.specs.Covered.{IsTable, Table}
-use Rattle.i3c_base.specs.State.{Device, Held, State, IsKeptIn, IsPickIn, IsPickableIn, IsUnknownIn, kept_entry_of, target_of, targets_of}
+use Rattle.i3c_base.specs.State.{Device, Held, State, IsKeptIn, IsPickIn, IsPickableIn, IsUnknownIn, kept_entry_of, legacy_target_of, legacy_targets_of}
 use Rattle.std.proofs.lemmas.Bool.{false≢true}
 use Rattle.i3c_base.specs.Serve.{Serves, refuse_all}
 use Rattle.i3c_base.specs.Round.{IsAddressFor, hears, opened}
@@ -89,19 +89,19 @@ there_or_not devices s k place e l =
     go (Some d) h = (d, refl)
 
 -- the LVRs of targets are those they were made of
-lvr_of-target_of : (o : Option Lvr) → option_map (λ (t : Target). t.lvr) (option_map target_of o) ≡ o
-lvr_of-target_of None = refl
-lvr_of-target_of (Some v) = refl
+lvr_of-legacy_target_of : (o : Option Lvr) → option_map (λ (t : LegacyTarget). t.lvr) (option_map legacy_target_of o) ≡ o
+lvr_of-legacy_target_of None = refl
+lvr_of-legacy_target_of (Some v) = refl
 
-pub lvrs-targets_of : (lvrs : List (Option Lvr)) → map (option_map (λ (t : Target). t.lvr)) (targets_of lvrs) ≡ lvrs
-lvrs-targets_of [] = refl
-lvrs-targets_of (o ∷ lvrs) = λ t. lvr_of-target_of o t ∷ lvrs-targets_of lvrs t
+pub lvrs-legacy_targets_of : (lvrs : List (Option Lvr)) → map (option_map (λ (t : LegacyTarget). t.lvr)) (legacy_targets_of lvrs) ≡ lvrs
+lvrs-legacy_targets_of [] = refl
+lvrs-legacy_targets_of (o ∷ lvrs) = λ t. lvr_of-legacy_target_of o t ∷ lvrs-legacy_targets_of lvrs t
 
 -- the table covers the bus that it is part of
 pub covered_seen : (now : Held) (devices : List (Option Device)) (raised : List ℕ) (active : ℕ) (table : Table) (in_session room : Bool) (records : List Record)
     → held devices raised active table in_session records room ≡ now → IsTable now.state table
 covered_seen now devices raised active table in_session room records is =
-    subst (λ (h : Held). IsTable h.state table) is (refl, sym (lvrs-targets_of table.legacy), refl)
+    subst (λ (h : Held). IsTable h.state table) is (refl, sym (lvrs-legacy_targets_of table.legacy), refl)
 
 -- the place that was read is the slot's
 pub place_is : (devices : List (Option Device)) (s k : ℕ) (place : Option Device) → k ≡ s → s < length devices → place ≡ get_or devices k place → get_or devices s None ≡ place

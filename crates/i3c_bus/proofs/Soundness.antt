@@ -6,7 +6,7 @@ use Rattle.std.specs.List.{All}
 use Rattle.i3c_base.specs.declared.answers.Answer.{Answer}
 use Rattle.i3c_base.specs.declared.answers.RoundReply.{RoundReply}
 use Rattle.i3c_base.specs.declared.device.Setup.{Setup}
-use Rattle.i3c_base.specs.declared.device.Target.{Target}
+use Rattle.i3c_base.specs.declared.device.LegacyTarget.{LegacyTarget}
 use Rattle.i3c_base.specs.declared.device.Waiting.{Waiting}
 use Rattle.i3c_base.specs.declared.identity.Bcr.{Bcr}
 use Rattle.i3c_base.specs.declared.identity.Identity.{Identity}
@@ -146,7 +146,7 @@ AllFit-acts old (Round cuts) reply new free h all = AllFit-round old cuts h.0 ne
 AllFit-acts old EndDaa reply new free h all = subst AllFit (sym h.1) (AllFit-each (λ s d. unhearing d) old (λ s d f. f) all)
 
 -- a start is sound: nothing waits there
-pub sound_start : (main : Setup) (legacy : List (Option Target)) (st : State) → IsStart main legacy st → IsSound st
+pub sound_start : (main : Setup) (legacy : List (Option LegacyTarget)) (st : State) → IsStart main legacy st → IsSound st
 sound_start main legacy st h = record {
   addresses = Addresses-start main legacy st h;
   fitting = subst AllFit (sym h.2) (λ s d p.

@@ -6,7 +6,7 @@ use Rattle.i3c_base.specs.declared.range.TheConstants.{SLOTS}
 use Rattle.i3c_base.specs.declared.device.Setup.{Setup}
 use Rattle.i3c_base.specs.declared.identity.Lvr.{Lvr}
 use Rattle.i3c_base.specs.Covered.{Table}
-use Rattle.i3c_base.specs.State.{Device, IsPickIn, IsPickableIn, IsStart, attached, entry_of, no_devices, no_entries, no_raises, targets_of}
+use Rattle.i3c_base.specs.State.{Device, IsPickIn, IsPickableIn, IsStart, attached, entry_of, no_devices, no_entries, no_raises, legacy_targets_of}
 use Rattle.i3c_base.specs.Round.{winner}
 use Rattle.i3c_base.proofs.Lookups.{no_entries_at}
 use Rattle.i3c_bus.specs.Parts.{state_of}
@@ -40,7 +40,7 @@ some_free lvrs few none =
 
 -- what is made at the pick is a start
 pub start_seen : (main : Setup) (lvrs : List (Option Lvr)) (a : ℕ) (devices : List (Option Device)) (raised : List ℕ) (d : Device) (table : Table) → IsPickIn no_entries lvrs a → devices ≡ no_devices → raised ≡ no_raises → d ≡ winner a (attached main)
-    → table ≡ record { given = set no_entries a (Some (entry_of main.identity)); legacy = lvrs; listed = false } → IsStart main (targets_of lvrs) (state_of (set devices 0 (Some d)) raised 0 table false [])
+    → table ≡ record { given = set no_entries a (Some (entry_of main.identity)); legacy = lvrs; listed = false } → IsStart main (legacy_targets_of lvrs) (state_of (set devices 0 (Some d)) raised 0 table false [])
 unfolding no_devices no_raises
 start_seen main lvrs a devices raised d table pick none zeros is at = (
   a,

@@ -12,7 +12,7 @@ use Rattle.i3c_base.specs.declared.requests.Served.TheVariants.{Quiet, Recorded,
 use Rattle.i3c_base.specs.Numbers.{IsBelow}
 use Rattle.i3c_base.specs.Places.{changed}
 use Rattle.i3c_base.specs.Cutting.{CutList, IsUncut, Lost, lost_by}
-use Rattle.i3c_base.specs.State.{Entry, State, IsFree, IsPickIn, IsPickable, IsPickableIn, kept_entry_of, target_of, targets_of}
+use Rattle.i3c_base.specs.State.{Entry, State, IsFree, IsPickIn, IsPickable, IsPickableIn, kept_entry_of, legacy_target_of, legacy_targets_of}
 use Rattle.i3c_base.specs.Serve.{Frame, IsWordBits, Serves, emptied, refuse_all}
 use Rattle.i3c_base.specs.Frames.{Rekinds}
 use Rattle.i3c_base.specs.Round.{IsAddressFor, IsWinner, assigned, ended, opened}
@@ -184,23 +184,23 @@ get_or-map f [] k = refl
 get_or-map f (x ∷ xs) zero = refl
 get_or-map f (x ∷ xs) (suc k) = get_or-map f xs k
 
-free_targets : (lvrs : List (Option Lvr)) (a : ℕ) → IsFree lvrs a → IsFree (targets_of lvrs) a
-free_targets lvrs a h = get_or-map target_of lvrs a ∙ ap (option_map target_of) h
+free_targets : (lvrs : List (Option Lvr)) (a : ℕ) → IsFree lvrs a → IsFree (legacy_targets_of lvrs) a
+free_targets lvrs a h = get_or-map legacy_target_of lvrs a ∙ ap (option_map legacy_target_of) h
 
-free_lvrs : (lvrs : List (Option Lvr)) (a : ℕ) → IsFree (targets_of lvrs) a → IsFree lvrs a
-free_lvrs lvrs a h = go (get_or lvrs a None) (sym (get_or-map target_of lvrs a) ∙ h)
+free_lvrs : (lvrs : List (Option Lvr)) (a : ℕ) → IsFree (legacy_targets_of lvrs) a → IsFree lvrs a
+free_lvrs lvrs a h = go (get_or lvrs a None) (sym (get_or-map legacy_target_of lvrs a) ∙ h)
   where
-    go : (o : Option Lvr) → option_map target_of o ≡ None → o ≡ None
+    go : (o : Option Lvr) → option_map legacy_target_of o ≡ None → o ≡ None
     go None e = refl
-    go (Some v) e = absurd (none-some (target_of v) (sym e))
+    go (Some v) e = absurd (none-some (legacy_target_of v) (sym e))
 
-pub pickable_targets : (given : List (Option Entry)) (lvrs : List (Option Lvr)) (a : ℕ) → IsPickableIn given lvrs a → IsPickableIn given (targets_of lvrs) a
+pub pickable_targets : (given : List (Option Entry)) (lvrs : List (Option Lvr)) (a : ℕ) → IsPickableIn given lvrs a → IsPickableIn given (legacy_targets_of lvrs) a
 pickable_targets given lvrs a h = (h.0, h.1, free_targets lvrs a h.2)
 
-pub pickable_lvrs : (given : List (Option Entry)) (lvrs : List (Option Lvr)) (a : ℕ) → IsPickableIn given (targets_of lvrs) a → IsPickableIn given lvrs a
+pub pickable_lvrs : (given : List (Option Entry)) (lvrs : List (Option Lvr)) (a : ℕ) → IsPickableIn given (legacy_targets_of lvrs) a → IsPickableIn given lvrs a
 pickable_lvrs given lvrs a h = (h.0, h.1, free_lvrs lvrs a h.2)
 
-pub pick_targets : (given : List (Option Entry)) (lvrs : List (Option Lvr)) (a : ℕ) → IsPickIn given lvrs a → IsPickIn given (targets_of lvrs) a
+pub pick_targets : (given : List (Option Entry)) (lvrs : List (Option Lvr)) (a : ℕ) → IsPickIn given lvrs a → IsPickIn given (legacy_targets_of lvrs) a
 pick_targets given lvrs a h = (pickable_targets given lvrs a h.0, λ b l p. h.1 b l (pickable_lvrs given lvrs b p))
 
 -- a session that ends

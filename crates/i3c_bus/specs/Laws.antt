@@ -1,7 +1,7 @@
 -- What holds over every legal run.
 use Rattle.std.specs.Prelude.{◌≡◌, ◌≢◌, ℕ, true, List, ◌++◌, Option, Some}
 use Rattle.i3c_base.specs.declared.device.Setup.{Setup}
-use Rattle.i3c_base.specs.declared.device.Target.{Target}
+use Rattle.i3c_base.specs.declared.device.LegacyTarget.{LegacyTarget}
 use Rattle.i3c_base.specs.declared.requests.Fixed.{Fixed}
 use Rattle.i3c_base.specs.declared.requests.Request.{Request}
 use Rattle.i3c_base.specs.declared.requests.Served.{Served}
@@ -20,12 +20,12 @@ use Rattle.i3c_bus.specs.Stays.{accepted_in_stay, recorded_in_stay}
 -- No two devices answer to one address, legacy targets included, in a state that a legal run leads to
 -- and in which devices present together have distinct identities.
 abbrev pub AddressesAreUnique : Type 0
-AddressesAreUnique = (main : Setup) (legacy : List (Option Target)) (events : List Event) (replies : List Reply) (new : State)
+AddressesAreUnique = (main : Setup) (legacy : List (Option LegacyTarget)) (events : List Event) (replies : List Reply) (new : State)
     → IsLegalRun main legacy events replies new → HasDistinctIdentities new → HasUniqueAnswers new
 
 -- In each state that a legal run leads to, a device is in the active slot. (The state names one slot, so no other is active.)
 abbrev pub OneIsActive : Type 0
-OneIsActive = (main : Setup) (legacy : List (Option Target)) (events : List Event) (replies : List Reply) (new : State)
+OneIsActive = (main : Setup) (legacy : List (Option LegacyTarget)) (events : List Event) (replies : List Reply) (new : State)
     → IsLegalRun main legacy events replies new → IsPresent new new.active
 
 -- Each run is a legal history, with the states between, so what holds of histories holds of runs.
@@ -36,7 +36,7 @@ RunsAreHistories = (start : State) (events : List Event) (replies : List Reply) 
 -- Each accepted interrupt is recorded once, under the address of the device that raised it while enabled, where
 -- devices present together always had distinct identities.
 abbrev pub InterruptsAreRecordedOnce : Type 0
-InterruptsAreRecordedOnce = (main : Setup) (legacy : List (Option Target)) (start : State) (h : History)
+InterruptsAreRecordedOnce = (main : Setup) (legacy : List (Option LegacyTarget)) (start : State) (h : History)
     → IsStart main legacy start → IsLegal start h → AllDistinct start h → HasFaithfulRecords start h
 
 -- A frame that accepts its first request, an interrupt of which some driver is still there afterwards, records it.
@@ -48,7 +48,7 @@ AcceptedInterruptsAreRecorded = (old : State) (event : Event) (reply : Reply) (n
 
 -- Of a present device's stay, the accepted raises are the recorded ones and then those that wait, in order.
 abbrev pub RaisesStayInOrder : Type 0
-RaisesStayInOrder = (main : Setup) (legacy : List (Option Target)) (start : State) (h : History)
+RaisesStayInOrder = (main : Setup) (legacy : List (Option LegacyTarget)) (start : State) (h : History)
     → IsStart main legacy start → IsLegal start h → AllDistinct start h
     → (s : ℕ) (d : Device) → device_at (reached start h) s ≡ Some d → accepted_in_stay start h s ≡ recorded_in_stay start h s ++ d.waiting
 

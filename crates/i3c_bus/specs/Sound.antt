@@ -5,7 +5,7 @@ use Rattle.i3c_base.specs.declared.range.TheConstants.{ADDRESSES}
 use Rattle.i3c_base.specs.declared.device.Waiting.{Waiting}
 use Rattle.i3c_base.specs.declared.identity.Identity.{Identity}
 use Rattle.i3c_base.specs.Numbers.{has_byte}
-use Rattle.i3c_base.specs.State.{Device, Entry, State, device_at, entry_at, target_at}
+use Rattle.i3c_base.specs.State.{Device, Entry, State, device_at, entry_at, legacy_target_at}
 
 -- the entry says what the identity's device is, and is kept for no other identity
 pub record IsFor (i : Identity) (e : Entry) : Type 0 where
@@ -18,7 +18,7 @@ pub record IsFor (i : Identity) (e : Entry) : Type 0 where
 pub record Addresses (st : State) : Type 0 where
   pub used : (s a : ℕ) (d : Device) → device_at st s ≡ Some d → d.address ≡ Some a → (e : Entry) × (entry_at st a ≡ Some e) × IsFor d.identity e
   pub alike : (s t a : ℕ) (d e : Device) → device_at st s ≡ Some d → device_at st t ≡ Some e → d.address ≡ Some a → e.address ≡ Some a → d.identity ≡ e.identity
-  pub free : (a : ℕ) (e : Entry) → entry_at st a ≡ Some e → target_at st a ≡ None
+  pub free : (a : ℕ) (e : Entry) → entry_at st a ≡ Some e → legacy_target_at st a ≡ None
   pub long : length st.given ≡ ADDRESSES
 
 -- a device's waiting interrupts have mandatory bytes exactly where its BCR says so

@@ -68,7 +68,7 @@ impl Bus {
     ghost use Rattle.std.specs.Prelude.{◌≡◌, ◌↔◌, true, false, length, IfOk, IsOk, IsTrue, OnOk, OnErr};
     ghost use Rattle.i3c_base.specs.Numbers.{is_capable};
     ghost use Rattle.i3c_base.specs.Covered.{IsTable};
-    ghost use Rattle.i3c_base.specs.State.{device_at, IsPresent, IsStart, targets_of};
+    ghost use Rattle.i3c_base.specs.State.{device_at, IsPresent, IsStart, legacy_targets_of};
     ghost use Rattle.i3c_bus.specs.Step.{Step};
     ghost use Rattle.i3c_bus.specs.Sound.{IsSound};
     ghost use Rattle.i3c_bus.specs.Hands.{HandFits};
@@ -81,7 +81,7 @@ impl Bus {
     /// It answers `NotCapable` where the main device's BCR isn't a controller's.
     pub fn new(alloc: Global, main: Setup, legacies: Legacies) -> Result<(Bus, Role), StartFault>
         ensures capable { IsOk result ↔ (is_capable main.identity.bcr ≡ true) }
-        ensures start { IfOk result (λ made. IsStart main (targets_of legacies) made.0.state) }
+        ensures start { IfOk result (λ made. IsStart main (legacy_targets_of legacies) made.0.state) }
         ensures fits { IfOk result (λ made. HandFits (Hand.Role made.1) made.0.state) }
     {
         let bcr = main.identity.bcr;

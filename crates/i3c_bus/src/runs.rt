@@ -1,7 +1,7 @@
 ghost use Rattle.std.specs.Prelude.{◌≡◌, ◌↔◌, false, IfOk, IsErrOf};
 ghost use Rattle.std.specs.List.{All};
 ghost use Rattle.i3c_base.specs.Numbers.{is_capable};
-ghost use Rattle.i3c_base.specs.State.{HasDistinctIdentities, HasUniqueAnswers, IsPresent, targets_of};
+ghost use Rattle.i3c_base.specs.State.{HasDistinctIdentities, HasUniqueAnswers, IsPresent, legacy_targets_of};
 ghost use Rattle.i3c_bus.specs.Step.{IsUncutEvent};
 ghost use Rattle.i3c_bus.specs.Runs.{IsLegalRun};
 ghost use Rattle.i3c_bus.specs.Hands.{HandFits};
@@ -31,7 +31,7 @@ pub fn run_events(
     events: &[Event],
 ) -> Result<Outcome, RunFault>
     requires uncut { All IsUncutEvent events.now }
-    ensures run { IfOk result (λ o. IsLegalRun main (targets_of legacies) events.now o.replies.items o.bus.state) }
+    ensures run { IfOk result (λ o. IsLegalRun main (legacy_targets_of legacies) events.now o.replies.items o.bus.state) }
     ensures fits { IfOk result (λ o. HandFits o.hand o.bus.state) }
     ensures unique { IfOk result (λ o. HasDistinctIdentities o.bus.state → HasUniqueAnswers o.bus.state) }
     ensures active { IfOk result (λ o. IsPresent o.bus.state o.bus.state.active) }

@@ -1,3 +1,4 @@
 pub mod Hearing
 pub mod Raising
 pub mod Addressing
+pub mod Walks

@@ -1,16 +1,11 @@
 -- When a device may raise an interrupt.
-use Rattle.std.specs.Prelude.{ℕ, Bool, true, false, not, nat_le, List, [], ◌∷◌, length, Option, Some, None, is_none, is_some, if◌then◌else◌}
+use Rattle.std.specs.Prelude.{ℕ, ◌-◌, ◌^◌, Bool, not, nat_le, List, [], ◌∷◌, ◌++◌, length, Option, Some, None, is_none, is_some, if◌then◌else◌}
 use Rattle.i3c_base.specs.declared.device.TheConstants.{WAITING}
 use Rattle.i3c_base.specs.declared.device.Waiting.{Waiting}
-use Rattle.i3c_base.specs.Numbers.{can_interrupt, has_byte}
+use Rattle.i3c_base.specs.Numbers.{can_interrupt, has_byte, same_bool}
 use Rattle.i3c_base.specs.State.{Device}
 use Rattle.i3c_device.specs.declared.faults.RaiseFault.{RaiseFault}
 use Rattle.i3c_device.specs.declared.faults.RaiseFault.TheVariants.{NoAddress, NotCapable, ByteMismatch, Masked, Full}
-
--- a test of equal truth values
-abbrev pub same_bool : Bool → Bool → Bool
-same_bool true b = b
-same_bool false b = not b
 
 -- the first fault of a raise with this byte: no address, no interrupts by its BCR, a byte where none is due or none
 -- where one is, interrupts disabled, or eight that wait
@@ -21,6 +16,19 @@ raise_fault d byte =
     (if not (same_bool (has_byte d.identity.bcr) (is_some byte)) then Some ByteMismatch else
     (if not d.kinds.interrupt then Some Masked else
     (if nat_le WAITING (length d.waiting) then Some Full else None))))
+
+-- the fault, or that the slot's raises can't be counted further
+abbrev pub or_uncounted : Option RaiseFault → ℕ → Option RaiseFault
+or_uncounted (Some fault) raised = Some fault
+or_uncounted None raised = if nat_le (2 ^ 64 - 1) raised then Some Full else None
+
+-- the first fault of a device's next raise, where `raised` of its slot were accepted
+abbrev pub next_fault : Device → Option ℕ → ℕ → Option RaiseFault
+next_fault d byte raised = or_uncounted (raise_fault d byte) raised
+
+-- a device with one more interrupt that waits
+abbrev pub with_raise : ℕ → Option ℕ → Device → Device
+with_raise number byte d = record d { waiting = d.waiting ++ record { number = number; byte = byte } ∷ [] }
 
 -- the byte of the interrupt that waits at the front
 abbrev pub front_byte : List Waiting → Option ℕ

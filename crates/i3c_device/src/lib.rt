@@ -1,12 +1,16 @@
-//! A device on the bus: what it asks for, what it does with the commands that it hears, and what it answers.
+//! A device on the bus: what it asks for, what it does with the commands that it hears, and what it answers; and the
+//! devices of a bus in their slots.
 #![tactic(auto)]
 
+mod attached;
 mod faults;
 mod kinds;
-mod targets;
+mod places;
+mod slots;
 
+pub use attached::Device;
 pub use faults::RaiseFault;
-pub use targets::Device;
+pub use slots::Devices;
 
 #[cfg(test)]
 mod tests;

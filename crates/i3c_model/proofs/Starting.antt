@@ -9,7 +9,7 @@ use Rattle.i3c_base.specs.declared.device.Setup.{Setup}
 use Rattle.i3c_base.specs.declared.identity.Lvr.{Lvr}
 use Rattle.i3c_base.specs.declared.range.TheConstants.{ADDRESSES, SLOTS}
 use Rattle.i3c_base.specs.declared.requests.Record.{Record}
-use Rattle.i3c_base.specs.State.{Device, IsPickIn, IsPickableIn, IsStart, IsUsable, attached, entry_of, no_devices, no_entries, no_raises, target_of, targets_of}
+use Rattle.i3c_base.specs.State.{Device, IsPickIn, IsPickableIn, IsStart, IsUsable, attached, entry_of, no_devices, no_entries, no_raises, legacy_target_of, legacy_targets_of}
 use Rattle.i3c_base.proofs.Lookups.{no_entries_at}
 use Rattle.i3c_model.specs.declared.device.PlainDevice.{PlainDevice}
 use Rattle.i3c_model.specs.declared.device.PlainEntry.{PlainEntry}
@@ -66,7 +66,7 @@ unfolding no_entries
 none_given t e = places_none ADDRESSES entry_from t e
 
 -- few legacy targets leave an address
-pub one_is_left : (t : BTreeMap ℕ PlainEntry) (legacies : List (Option Lvr)) → t.entries ≡ [] → count_by is_some legacies ≤ 16 → ((a : ℕ) → IsPickableIn (places_of ADDRESSES entry_from t) (targets_of legacies) a → ⊥) → ⊥
+pub one_is_left : (t : BTreeMap ℕ PlainEntry) (legacies : List (Option Lvr)) → t.entries ≡ [] → count_by is_some legacies ≤ 16 → ((a : ℕ) → IsPickableIn (places_of ADDRESSES entry_from t) (legacy_targets_of legacies) a → ⊥) → ⊥
 one_is_left t legacies e few none =
     let many = count_at_least is_usable 128 0 legacies (λ k l u. taken k (ap is_usable (let z : k ≡ 0 + k = omega arith in z) ∙ u)) in
     omega (arith, many, few, usable_count)
@@ -74,7 +74,7 @@ one_is_left t legacies e few none =
     taken_by : (k : ℕ) (o : Option Lvr) → get_or legacies k None ≡ o → is_usable k ≡ true → is_some o ≡ true
     taken_by k (Some v) is u = refl
     taken_by k None is u =
-        absurd (none k (usable_if k u, ap (λ places. get_or places k None) (none_given t e) ∙ no_entries_at k, get_or-map (option_map target_of) legacies k None ∙ ap (option_map target_of) is))
+        absurd (none k (usable_if k u, ap (λ places. get_or places k None) (none_given t e) ∙ no_entries_at k, get_or-map (option_map legacy_target_of) legacies k None ∙ ap (option_map legacy_target_of) is))
 
     taken : (k : ℕ) → is_usable k ≡ true → is_some (get_or legacies k None) ≡ true
     taken k u = taken_by k (get_or legacies k None) refl u
@@ -96,12 +96,12 @@ none_raised raised e = e
 
 pub started : (main : Setup) (legacies : List (Option Lvr)) (m devices : BTreeMap ℕ PlainDevice) (t given : BTreeMap ℕ PlainEntry) (d : PlainDevice) (a active : ℕ) (raised : List ℕ) (records : List Record)
     → raised ≡ no_raises → m.entries ≡ [] → t.entries ≡ [] → records ≡ [] → active ≡ 0 → device_of d ≡ record (attached main) { address = Some a } → Updates nat_cmp m devices active (Some d)
-    → Updates nat_cmp t given a (Some (record { bcr = main.identity.bcr; dcr = main.identity.dcr; kept = None })) → IsPickIn (places_of ADDRESSES entry_from t) (targets_of legacies) a
-    → IsStart main (targets_of legacies) (record {
+    → Updates nat_cmp t given a (Some (record { bcr = main.identity.bcr; dcr = main.identity.dcr; kept = None })) → IsPickIn (places_of ADDRESSES entry_from t) (legacy_targets_of legacies) a
+    → IsStart main (legacy_targets_of legacies) (record {
       devices = places_of SLOTS device_of devices;
       raised = raised;
       active = active;
-      legacy = targets_of legacies;
+      legacy = legacy_targets_of legacies;
       given = places_of ADDRESSES entry_from given;
       in_session = false;
       listed = false;
@@ -116,12 +116,12 @@ started main legacies m devices t given d a active raised records no_raise no_de
     let given_are = places_put ADDRESSES entry_from t given a (record { bcr = main.identity.bcr; dcr = main.identity.dcr; kept = None }) small entered.1 entered.2
     ∙ ap (λ places. set places a (Some (entry_of main.identity))) (none_given t no_entry) in (
       a,
-      subst (λ places. IsPickIn places (targets_of legacies) a) (none_given t no_entry) pick,
+      subst (λ places. IsPickIn places (legacy_targets_of legacies) a) (none_given t no_entry) pick,
       λ k. record {
         devices = devices_are k;
         raised = no_raise k;
         active = zeroth k;
-        legacy = targets_of legacies;
+        legacy = legacy_targets_of legacies;
         given = given_are k;
         in_session = false;
         listed = false;

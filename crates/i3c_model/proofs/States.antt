@@ -18,7 +18,7 @@ use Rattle.i3c_base.specs.Places.{changed}
 use Rattle.i3c_base.specs.Numbers.{same_identity}
 use Rattle.i3c_base.specs.Round.{assigned, ended, hears, opened, unhearing, winner}
 use Rattle.i3c_base.specs.Serve.{asks, drives, each_driver}
-use Rattle.i3c_base.specs.State.{Device, Entry, State, attached, change, device_at, entry_at, in_slot, target_at, target_of}
+use Rattle.i3c_base.specs.State.{Device, Entry, State, attached, change, device_at, entry_at, in_slot, legacy_target_at, legacy_target_of}
 use Rattle.i3c_base.specs.Cutting.{nobody}
 use Rattle.i3c_model.specs.Driving.{is_meant, losing, without}
 use Rattle.i3c_model.specs.Kinds.{changed_by, kinds_from, kinds_in}
@@ -117,8 +117,8 @@ module _ (p : Inside) (st : State) (seen : state_of p ≡ st) (within : IsWithin
   pub entry_there : (a : ℕ) → entry_at st a ≡ option_map entry_from (get nat_cmp p.given a)
   entry_there a = ap (λ x. entry_at x a) (sym seen) ∙ places_at ADDRESSES entry_from p.given a within.addresses
 
-  pub target_there : (a : ℕ) → target_at st a ≡ option_map target_of (get_or p.legacies a None)
-  target_there a = ap (λ x. target_at x a) (sym seen) ∙ get_or-map (option_map target_of) p.legacies a None
+  pub target_there : (a : ℕ) → legacy_target_at st a ≡ option_map legacy_target_of (get_or p.legacies a None)
+  target_there a = ap (λ x. legacy_target_at x a) (sym seen) ∙ get_or-map (option_map legacy_target_of) p.legacies a None
 
   pub present_there : (s : ℕ) → is_some (device_at st s) ≡ is_some (get nat_cmp p.devices s)
   present_there s = ap is_some (device_there s) ∙ is_some-mapped device_of (get nat_cmp p.devices s)
@@ -126,8 +126,8 @@ module _ (p : Inside) (st : State) (seen : state_of p ≡ st) (within : IsWithin
   pub given_there : (a : ℕ) → is_some (entry_at st a) ≡ is_some (get nat_cmp p.given a)
   given_there a = ap is_some (entry_there a) ∙ is_some-mapped entry_from (get nat_cmp p.given a)
 
-  pub legacy_there : (a : ℕ) → is_some (target_at st a) ≡ is_some (get_or p.legacies a None)
-  legacy_there a = ap is_some (target_there a) ∙ is_some-mapped target_of (get_or p.legacies a None)
+  pub legacy_there : (a : ℕ) → is_some (legacy_target_at st a) ≡ is_some (get_or p.legacies a None)
+  legacy_there a = ap is_some (target_there a) ∙ is_some-mapped legacy_target_of (get_or p.legacies a None)
 
   -- the slot of a device that is there drives what the device asks for
   pub drives_there : (s : ℕ) (d : PlainDevice) (r : Request) → get nat_cmp p.devices s ≡ Some d → drives st r s ≡ (not (s == p.active) && asks (device_of d) r)

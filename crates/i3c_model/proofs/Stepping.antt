@@ -18,7 +18,7 @@ use Rattle.i3c_base.specs.Frames.{Rekinds, kinds_bits}
 use Rattle.i3c_base.specs.Local.{attach, raise}
 use Rattle.i3c_base.specs.Round.{AnyHears, AnyPickable, IsAddressFor, IsWinner, Rounds, assigned, ended, opened}
 use Rattle.i3c_base.specs.Serve.{Frame, IsFirst, IsWordBits, NoneAsks, Serves, emptied, header_bits, refuse_all, verdict}
-use Rattle.i3c_base.specs.State.{Device, State, IsKept, IsPick, IsPickable, IsUnknown, IsUsable, device_at, entry_at, raised_at, target_at}
+use Rattle.i3c_base.specs.State.{Device, State, IsKept, IsPick, IsPickable, IsUnknown, IsUsable, device_at, entry_at, raised_at, legacy_target_at}
 use Rattle.i3c_base.proofs.Lookups.{changed_none}
 use Rattle.i3c_bus.specs.declared.events.Event.{Event}
 use Rattle.i3c_bus.specs.declared.events.Event.TheVariants.{Attach, Disec, Enec, OpenDaa, Raise, Round, Serve, EndDaa}
@@ -169,8 +169,8 @@ none_from : {A : Type 0} (o : Option A) → is_some o ≡ false → o ≡ None
 none_from None e = refl
 none_from (Some x) e = absurd (false≢true (sym e))
 
-pub pickable_if_usable : (st : State) (a : ℕ) (usable : Bool) → (IsTrue usable ↔ IsUsable a) → is_some (entry_at st a) ≡ false → is_some (target_at st a) ≡ false → IsTrue usable ↔ IsPickable st a
-pickable_if_usable st a usable u given legacy = ((λ h. (u.0 h, none_from (entry_at st a) given, none_from (target_at st a) legacy)), λ p. u.1 p.0)
+pub pickable_if_usable : (st : State) (a : ℕ) (usable : Bool) → (IsTrue usable ↔ IsUsable a) → is_some (entry_at st a) ≡ false → is_some (legacy_target_at st a) ≡ false → IsTrue usable ↔ IsPickable st a
+pickable_if_usable st a usable u given legacy = ((λ h. (u.0 h, none_from (entry_at st a) given, none_from (legacy_target_at st a) legacy)), λ p. u.1 p.0)
 
 pub given_not_pickable : (st : State) (a : ℕ) → is_some (entry_at st a) ≡ true → IsPickable st a → ⊥
 given_not_pickable st a given p = false≢true (sym (ap is_some p.1) ∙ given)

@@ -4,7 +4,7 @@ use Rattle.std.specs.Ordering.{nat_cmp}
 use Rattle.std.specs.List.{range_with_len}
 use Rattle.std.specs.BTreeMap.{BTreeMap, get}
 use Rattle.i3c_base.specs.declared.range.TheConstants.{ADDRESSES, SLOTS}
-use Rattle.i3c_base.specs.State.{Device, Entry, State, cleared_registers, targets_of}
+use Rattle.i3c_base.specs.State.{Device, Entry, State, cleared_registers, legacy_targets_of}
 use Rattle.i3c_model.specs.declared.device.PlainDevice.{PlainDevice}
 use Rattle.i3c_model.specs.declared.device.PlainEntry.{PlainEntry}
 use Rattle.i3c_model.specs.declared.plain.Plain.TheInside.{Inside}
@@ -47,7 +47,7 @@ state_of p = record {
   devices = places_of SLOTS device_of p.devices;
   raised = p.raised;
   active = p.active;
-  legacy = targets_of p.legacies;
+  legacy = legacy_targets_of p.legacies;
   given = places_of ADDRESSES entry_from p.given;
   in_session = p.in_session;
   listed = p.listed;

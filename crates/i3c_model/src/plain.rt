@@ -53,7 +53,7 @@ impl Plain {
     ghost use Rattle.std.specs.Prelude.{◌≡◌, ◌≢◌, ◌↔◌, false, IfOk, OnErr, IsErrOf, IsTrue, length, is_some, option_and_then, option_map};
     ghost use Rattle.i3c_base.specs.Numbers.{is_capable};
     ghost use Rattle.i3c_base.specs.declared.range.TheConstants.{SLOTS as SLOT_COUNT};
-    ghost use Rattle.i3c_base.specs.State.{device_at, entry_at, targets_of, IsPresent, IsStart};
+    ghost use Rattle.i3c_base.specs.State.{device_at, entry_at, legacy_targets_of, IsPresent, IsStart};
     ghost use Rattle.i3c_bus.specs.Step.{IsUncutEvent, Step};
     ghost use Rattle.i3c_bus.specs.declared.events.Event.{Event};
     ghost use Rattle.i3c_bus.specs.declared.replies.Reply.{Reply};
@@ -64,7 +64,7 @@ impl Plain {
     /// It answers `NotCapable` where the main device's BCR isn't a controller's.
     pub fn new(alloc: Global, main: Setup, legacies: Legacies) -> Result<Plain, PlainFault>
         ensures capable { IsErrOf result PlainFault.NotCapable ↔ (is_capable main.identity.bcr ≡ false) }
-        ensures start { IfOk result (IsStart main (targets_of legacies)) }
+        ensures start { IfOk result (IsStart main (legacy_targets_of legacies)) }
     {
         let bcr = main.identity.bcr;
         let dcr = main.identity.dcr;

@@ -43,14 +43,14 @@ impl Model for Device {
 }
 
 impl Device {
-    ghost use Rattle.std.specs.Prelude.{◌≡◌, ◌≤◌, ◌+◌, ◌++◌, ◌∷◌, [], ℕ, true, false, length, slice_get, IfSome, MatchOption, MatchResult, OnErr, OnOk, Some, None};
+    ghost use Rattle.std.specs.Prelude.{◌≡◌, ◌≤◌, ◌++◌, ◌∷◌, [], ℕ, suc, true, false, length, slice_get, IfSome, MatchOption, MatchResult, OnErr, OnOk, Some, None};
     ghost use Rattle.i3c_base.specs.declared.requests.Request.{Request as RequestValue};
     ghost use Rattle.i3c_base.specs.State.{attached};
     ghost use Rattle.i3c_base.specs.Serve.{asks, without_front, without_join, without_role};
     ghost use Rattle.i3c_base.specs.Round.{unhearing, winner};
     ghost use Rattle.i3c_header.specs.Keys.{IsLawful};
     ghost use Rattle.i3c_device.specs.Hearing.{heard};
-    ghost use Rattle.i3c_device.specs.Raising.{front_byte, raise_fault};
+    ghost use Rattle.i3c_device.specs.Raising.{front_byte, next_fault, raise_fault, with_raise};
 
     /// A device that was just attached: all kinds of events are enabled, and its registers are `00`.
     pub fn new(setup: Setup) -> Device
@@ -104,7 +104,8 @@ impl Device {
         self.willing
     }
 
-    /// What it does with a command and the words after its code (I3C Basic 5.1.9.3).
+    /// What it does with a command and the words after its code (I3C Basic 5.1.9.3). What it keeps of a list (DEFTGTS)
+    /// isn't part of it: the bus has that.
     pub fn hear(&mut self, code: Code, words: &[Word])
         ensures { self.new ≡ heard code words.now self.old }
     {
@@ -116,7 +117,11 @@ impl Device {
                     self.hearing = true;
                 }
             }
-            Code::Rstdaa | Code::Deftgts | Code::Getacccr | Code::Other(_) => {}
+            Code::Rstdaa => {
+                self.address = None;
+                self.role_wish = false;
+            }
+            Code::Deftgts | Code::Getacccr | Code::Other(_) => {}
         }
     }
 
@@ -187,15 +192,19 @@ impl Device {
         Ok(())
     }
 
-    /// Raises an interrupt under this number: it waits as the last one. The first fault refuses it, and changes nothing.
-    pub fn raise(&mut self, number: u64, byte: Option<u8>) -> Result<(), RaiseFault>
-        ensures fault { MatchResult result (λ _. raise_fault self.old byte ≡ None) (λ fault. raise_fault self.old byte ≡ Some fault) }
-        ensures raised { OnOk result (self.new ≡ record self.old { waiting = self.old.waiting ++ record { number = number; byte = byte } ∷ [] }) }
+    /// Raises the interrupt after this many of its slot, and answers its number: it waits as the last one. The first
+    /// fault refuses it, and changes nothing; a count that can't grow is `Full` too.
+    pub fn raise(&mut self, raised: u64, byte: Option<u8>) -> Result<u64, RaiseFault>
+        ensures fault { MatchResult result (λ number. (number ≡ suc raised) × (next_fault self.old byte raised ≡ None)) (λ fault. next_fault self.old byte raised ≡ Some fault) }
+        ensures raised { OnOk result (self.new ≡ with_raise (suc raised) byte self.old) }
         ensures unchanged { OnErr result (self.new ≡ self.old) }
     {
         self.may_raise(byte)?;
+        let Some(number) = raised.checked_add(1) else {
+            return Err(RaiseFault::Full);
+        };
         self.waiting.push(Waiting { number, byte });
-        Ok(())
+        Ok(number)
     }
 
     /// The interrupt that waits at the front.

@@ -1,0 +1,80 @@
+-- What walks over the slots find.
+use Rattle.std.proofs.Common.{◌≡◌, ℕ, zero, suc, ◌+◌, ◌<◌, ◌≤◌, Bool, true, false, not, ◌&&◌, ◌==◌, List, [], ◌∷◌, ◌++◌, length, length-append, get_or, replicate, Option, Some, None, inl, inr, sym, refl, ap, ◌∙◌, subst, arith}
+use Rattle.std.proofs.lemmas.Bool.{both_ways, cases_eq, cases_lt}
+use Rattle.std.proofs.lemmas.List.{get_or_default, get_or_past}
+use Rattle.std.proofs.lemmas.Option.{none-some}
+use Rattle.std.specs.List.{All, Contains}
+use Rattle.std.proofs.lemmas.List.Elements.{All-append, All-cons, All-nil, Contains-append_left, Contains-push}
+use Rattle.i3c_base.specs.declared.requests.Request.{Request}
+use Rattle.i3c_base.specs.Cutting.{Lost}
+use Rattle.i3c_base.specs.State.{Device, in_slot}
+use Rattle.i3c_header.specs.Keys.{IsLawful}
+use Rattle.i3c_device.specs.Walks.{AreDriven, SomeReached, drives_at, reaches_at}
+
+-- with no slots there are none
+pub driven_none : (active : ℕ) (devices : List (Option Device)) → AreDriven active devices 0 []
+driven_none active devices = record { driven = All-nil _; lawful = All-nil IsLawful; among = λ s q l. absurd (omega (arith, l)); few = omega arith }
+
+-- one slot more, which drives nothing
+pub driven_skip : (active : ℕ) (devices : List (Option Device)) (n : ℕ) (place : Option Device) (requests : List Request) → AreDriven active devices n requests → n < length devices → place ≡ get_or devices n place
+    → ((q : Request) → drives_at active n place q ≡ false) → AreDriven active devices (n + 1) requests
+driven_skip active devices n place requests h low at none =
+    let there : get_or devices n None ≡ place = get_or_default devices n None place low ∙ sym at in record {
+      driven = h.driven;
+      lawful = h.lawful;
+      among = λ s q l d. elim (cases_eq s n) [
+        | inl e ↦ absurd (both_ways _ (none q) (ap (λ o. drives_at active n o q) (sym there) ∙ subst (λ k. drives_at active k (get_or devices k None) q ≡ true) e d))
+        | inr ne ↦ h.among s q (omega arith) d
+      ];
+      few = omega (arith, h.few);
+    }
+
+-- one slot more, which drives r
+pub driven_more : (active : ℕ) (devices : List (Option Device)) (n : ℕ) (place : Option Device) (requests more : List Request) (r : Request) → AreDriven active devices n requests → n < length devices → place ≡ get_or devices n place
+    → drives_at active n place r ≡ true → ((q : Request) → drives_at active n place q ≡ true → q ≡ r) → IsLawful r → more ≡ requests ++ r ∷ [] → AreDriven active devices (n + 1) more
+driven_more active devices n place requests more r h low at d alone lawful e =
+    let there : get_or devices n None ≡ place = get_or_default devices n None place low ∙ sym at in record {
+      driven = subst (All (λ q. (s : ℕ) × (drives_at active s (get_or devices s None) q ≡ true))) (sym e)
+          (All-append (λ q. (s : ℕ) × (drives_at active s (get_or devices s None) q ≡ true)) requests (r ∷ []) h.driven
+          (All-cons (λ q. (s : ℕ) × (drives_at active s (get_or devices s None) q ≡ true)) r [] (n, ap (λ o. drives_at active n o r) there ∙ d) (All-nil (λ q. (s : ℕ) × (drives_at active s (get_or devices s None) q ≡ true)))));
+      lawful = subst (All IsLawful) (sym e) (All-append IsLawful requests (r ∷ []) h.lawful (All-cons IsLawful r [] lawful (All-nil IsLawful)));
+      among = λ s q l dq. subst (λ rs. Contains rs q) (sym e) (elim (cases_eq s n) [
+        | inl same ↦ subst (λ x. Contains (requests ++ r ∷ []) x) (sym (alone q (ap (λ o. drives_at active n o q) (sym there) ∙ subst (λ k. drives_at active k (get_or devices k None) q ≡ true) same dq))) (Contains-push requests r)
+        | inr ne ↦ Contains-append_left requests (r ∷ []) q (h.among s q (omega arith) dq)
+      ]);
+      few = let l = ap length e in omega (arith, l, length-append requests (r ∷ []), h.few);
+    }
+
+-- places that are all empty
+pub all_none : {A : Type 0} (xs : List (Option A)) (n : ℕ) → length xs ≡ n → ((k : ℕ) → k < n → get_or xs k None ≡ None) → xs ≡ replicate n None
+all_none [] zero l h = refl
+all_none [] (suc n) l h = absurd (omega arith)
+all_none (x ∷ xs) zero l h = absurd (omega arith)
+all_none (x ∷ xs) (suc n) l h = let rest = all_none xs n (omega arith) (λ k m. h (suc k) (omega arith)) in λ t. h zero (omega arith) t ∷ rest t
+
+-- whoever is reached below a slot is lost
+abbrev pub LostBelow : ℕ → Option ℕ → Lost → List (Option Device) → ℕ → Type 0
+LostBelow active to lost devices n = (s : ℕ) (d : Device) → s < n → get_or devices s None ≡ Some d → reaches_at active to s d ≡ true → lost s ≡ true
+
+-- one slot more, where whoever is reached is lost
+pub lost_more : (active : ℕ) (to : Option ℕ) (lost : Lost) (devices : List (Option Device)) (n : ℕ) (place : Option Device) → LostBelow active to lost devices n → n < length devices → place ≡ get_or devices n place
+    → (in_slot (reaches_at active to n) place ≡ true → lost n ≡ true) → LostBelow active to lost devices (n + 1)
+lost_more active to lost devices n place h l at here s d m there r = elim (cases_eq s n) [
+  | inl e ↦
+      let found : place ≡ Some d = at ∙ (sym (get_or_default devices n None place l) ∙ (ap (λ k. get_or devices k None) (sym e) ∙ there)) in
+      ap lost e ∙ here (ap (in_slot (reaches_at active to n)) found ∙ (ap (λ k. reaches_at active to k d) (sym e) ∙ r))
+  | inr ne ↦ h s d (omega arith) there r
+]
+
+-- at the end nobody who is reached is left
+pub none_left : (active : ℕ) (to : Option ℕ) (lost : Lost) (devices : List (Option Device)) (n : ℕ) → LostBelow active to lost devices n → length devices ≤ n → ¬ SomeReached active to lost devices
+none_left active to lost devices n h l some = elim (cases_lt some.0 n) [
+  | inl m ↦ both_ways _ some.4 (h some.0 some.1 m some.2 some.3)
+  | inr m ↦ none-some some.1 (sym (get_or_past devices some.0 None (omega arith)) ∙ some.2)
+]
+
+-- whatever was found in a slot is reached there
+pub found_here : (active : ℕ) (to : Option ℕ) (lost : Lost) (devices : List (Option Device)) (s : ℕ) (place : Option Device) → s < length devices → place ≡ get_or devices s place
+    → in_slot (reaches_at active to s) place ≡ true → lost s ≡ false → SomeReached active to lost devices
+found_here active to lost devices s None l at h f = absurd (both_ways _ refl h)
+found_here active to lost devices s (Some d) l at h f = (s, d, get_or_default devices s None (Some d) l ∙ sym at, h, f)

@@ -1,0 +1,48 @@
+-- What a request, a command, a session or a drop-off does to whatever stands in a slot. `active` is the active controller's slot.
+use Rattle.std.specs.Prelude.{◌≡◌, ℕ, ◌<◌, Bool, true, false, not, ◌&&◌, ◌==◌, List, Option, Some, None, option_map, if◌then◌else◌, slice_index_or, All, Contains, length, ◌≤◌}
+use Rattle.i3c_base.specs.declared.identity.Identity.{Identity}
+use Rattle.i3c_base.specs.declared.requests.Request.{Request}
+use Rattle.i3c_base.specs.Cutting.{Lost}
+use Rattle.i3c_base.specs.Round.{winner, wins}
+use Rattle.i3c_base.specs.Serve.{asks, without}
+use Rattle.i3c_base.specs.State.{Device, has_address, in_slot}
+use Rattle.i3c_word.specs.declared.Word.{Word}
+use Rattle.i3c_ccc.specs.declared.codes.Code.{Code}
+use Rattle.i3c_header.specs.Keys.{IsLawful}
+use Rattle.i3c_device.specs.Hearing.{heard}
+
+-- it drives this request
+abbrev pub drives_at : ℕ → ℕ → Option Device → Request → Bool
+drives_at active s place q = not (s == active) && in_slot (λ d. asks d q) place
+
+-- it after this request was accepted
+abbrev pub accepted_at : ℕ → Request → ℕ → Option Device → Option Device
+accepted_at active r s place = option_map (λ d. if drives_at active s place r then without r d else d) place
+
+-- a command reaches this device: not the active controller, and of the others all, or those at one address
+abbrev pub reaches_at : ℕ → Option ℕ → ℕ → Device → Bool
+reaches_at active None s d = not (s == active)
+reaches_at active (Some a) s d = not (s == active) && has_address a d
+
+-- it after a command and its words
+abbrev pub heard_at : ℕ → Option ℕ → Code → List Word → ℕ → Option Device → Option Device
+heard_at active to code words s place = option_map (λ d. if reaches_at active to s d then heard code words d else d) place
+
+-- it after a round that this identity won
+abbrev pub assigned_at : Lost → Identity → ℕ → ℕ → Option Device → Option Device
+assigned_at lost i a s place = option_map (λ d. if wins lost i s d then winner a d else d) place
+
+-- it after a frame that loses these devices
+abbrev pub left_at : Lost → ℕ → Option Device → Option Device
+left_at lost s place = if lost s then None else place
+
+-- the requests that whatever stands in the slots below n drives: each is driven and lawful, and each that is driven is among them
+pub record AreDriven (active : ℕ) (devices : List (Option Device)) (n : ℕ) (requests : List Request) : Type 0 where
+  pub driven : All (λ r. (s : ℕ) × (drives_at active s (slice_index_or devices s None) r ≡ true)) requests
+  pub lawful : All IsLawful requests
+  pub among : (s : ℕ) (q : Request) → s < n → drives_at active s (slice_index_or devices s None) q ≡ true → Contains requests q
+  pub few : length requests ≤ n
+
+-- a command reaches a device of these that isn't lost
+abbrev pub SomeReached : ℕ → Option ℕ → Lost → List (Option Device) → Type 0
+SomeReached active to lost devices = (s : ℕ) × (d : Device) × (slice_index_or devices s None ≡ Some d) × (reaches_at active to s d ≡ true) × (lost s ≡ false)

@@ -1,0 +1,145 @@
+ghost use Rattle.std.specs.Prelude.{◌≡◌, ◌≤◌, ◌<◌, ℕ, true, false, option_map, length, IfSome, IsTrue, ◌↔◌, MatchOption, Some};
+ghost use Rattle.i3c_base.specs.declared.range.TheConstants.{SLOTS as SLOT_COUNT};
+ghost use Rattle.i3c_base.specs.declared.requests.Request.{Request as RequestValue};
+ghost use Rattle.i3c_base.specs.Cutting.{lost_by};
+ghost use Rattle.i3c_base.specs.Places.{changed};
+ghost use Rattle.i3c_base.specs.Round.{hears, unhearing};
+ghost use Rattle.i3c_base.specs.State.{in_slot};
+ghost use Rattle.i3c_header.specs.Keys.{IsLawful};
+ghost use Rattle.i3c_device.specs.Walks.{accepted_at, assigned_at, drives_at, heard_at, left_at, reaches_at};
+
+use crate::attached::Device;
+use i3c_base::{Addr7, Cuts, Identity, Request, Slot};
+use i3c_ccc::Code;
+use i3c_word::Word;
+
+/// The request that whatever stands in this slot drives. The active controller drives none.
+pub(crate) fn driven(place: &Option<Device>, index: usize, active: Slot) -> Option<Request>
+    ensures asked { MatchOption result ((q : RequestValue) → drives_at active index place.now q ≡ false) (λ r. drives_at active index place.now r ≡ true) }
+    ensures alone { IfSome result (λ r. (q : RequestValue) → drives_at active index place.now q ≡ true → q ≡ r) }
+    ensures lawful { IfSome result IsLawful }
+{
+    match place {
+        Some(device) => {
+            if index == active.index() {
+                None
+            } else {
+                device.wants()
+            }
+        }
+        None => None,
+    }
+}
+
+/// Whether whatever stands in this slot drives this request.
+pub(crate) fn drives(place: &Option<Device>, index: usize, active: Slot, request: &Request) -> bool
+    ensures { result ≡ drives_at active index place.now request.now }
+{
+    match driven(place, index, active) {
+        Some(driven) => driven == *request,
+        None => false,
+    }
+}
+
+/// This request was accepted: a driver of it loses the wish or the front.
+pub(crate) fn accept(place: &mut Option<Device>, index: usize, active: Slot, request: &Request)
+    ensures { place.new ≡ accepted_at active request.now index place.old }
+{
+    if drives(place, index, active, request) {
+        if let Some(device) = place {
+            match request {
+                Request::Join => device.lose_join_wish(),
+                Request::Role(_) => device.lose_role_wish(),
+                Request::Interrupt(_) => device.lose_front(),
+            }
+        }
+    }
+}
+
+/// Whether a command reaches whatever stands in this slot.
+pub(crate) fn reaches(
+    place: &Option<Device>,
+    index: usize,
+    active: Slot,
+    to: &Option<Addr7>,
+) -> bool
+    ensures { result ≡ in_slot (reaches_at active to.now index) place.now }
+{
+    let Some(device) = place else {
+        return false;
+    };
+    if index == active.index() {
+        return false;
+    }
+    match to {
+        Some(at) => device.address() == Some(*at),
+        None => true,
+    }
+}
+
+/// Whatever stands in this slot hears a command and its words, if it reaches it.
+pub(crate) fn hear(
+    place: &mut Option<Device>,
+    index: usize,
+    active: Slot,
+    to: &Option<Addr7>,
+    code: Code,
+    words: &[Word],
+)
+    ensures { place.new ≡ heard_at active to.now code words.now index place.old }
+{
+    if reaches(place, index, active, to) {
+        if let Some(device) = place {
+            device.hear(code, words);
+        }
+    }
+}
+
+/// A session is opened: the device here hears it if it has no address.
+pub(crate) fn open(place: &mut Option<Device>)
+    ensures { place.new ≡ option_map hears place.old }
+{
+    if let Some(device) = place {
+        device.hear(Code::Entdaa, &[]);
+    }
+}
+
+/// A session ends: the device here hears no more.
+pub(crate) fn silence(place: &mut Option<Device>)
+    ensures { place.new ≡ option_map unhearing place.old }
+{
+    if let Some(device) = place {
+        device.fall_silent();
+    }
+}
+
+/// This identity won a round: the device here takes the address if it hears, has the identity and isn't lost by then.
+pub(crate) fn assign(
+    place: &mut Option<Device>,
+    index: usize,
+    identity: &Identity,
+    address: Addr7,
+    cuts: &Cuts,
+    last: u16,
+)
+    requires slot { index < SLOT_COUNT }
+    requires dynamic { 8 ≤ address }
+    ensures { place.new ≡ assigned_at (lost_by cuts.now last) identity.now address index place.old }
+{
+    if let Some(device) = place {
+        let lost = cuts.is_lost(Slot::from_index(index), last);
+        if device.is_hearing() && !lost && device.identity() == *identity {
+            device.take_address(address);
+        }
+    }
+}
+
+/// The device here is gone if it is lost by this bit.
+pub(crate) fn drop_lost(place: &mut Option<Device>, index: usize, cuts: &Cuts, last: u16)
+    requires slot { index < SLOT_COUNT }
+    ensures { place.new ≡ left_at (lost_by cuts.now last) index place.old }
+{
+    if cuts.is_lost(Slot::from_index(index), last) {
+        *place = None;
+    }
+}
