@@ -9,7 +9,7 @@ use Rattle.i3c_base.specs.declared.requests.Request.{Request}
 use Rattle.i3c_base.specs.Cutting.{Lost}
 use Rattle.i3c_base.specs.State.{Device, in_slot}
 use Rattle.i3c_header.specs.Keys.{IsLawful}
-use Rattle.i3c_device.specs.Walks.{AreDriven, SomeReached, drives_at, reaches_at}
+use Rattle.i3c_device.specs.Walks.{AnyDrives, AreDriven, IsLowest, SomeDrives, SomeReached, drives_at, reaches_at}
 
 -- with no slots there are none
 pub driven_none : (active : ℕ) (devices : List (Option Device)) → AreDriven active devices 0 []
@@ -52,6 +52,15 @@ all_none [] (suc n) l h = absurd (omega arith)
 all_none (x ∷ xs) zero l h = absurd (omega arith)
 all_none (x ∷ xs) (suc n) l h = let rest = all_none xs n (omega arith) (λ k m. h (suc k) (omega arith)) in λ t. h zero (omega arith) t ∷ rest t
 
+and_false : (b : Bool) → (b && false) ≡ false
+and_false true = refl
+and_false false = refl
+
+-- an empty place drives nothing
+pub undriven_past : (active s : ℕ) (o : Option Device) (r : Request) → o ≡ None → drives_at active s o r ≡ true → ⊥
+undriven_past active s None r e d = both_ways _ (and_false (not (s == active))) d
+undriven_past active s (Some x) r e d = none-some x (sym e)
+
 -- whoever is reached below a slot is lost
 abbrev pub LostBelow : ℕ → Option ℕ → Lost → List (Option Device) → ℕ → Type 0
 LostBelow active to lost devices n = (s : ℕ) (d : Device) → s < n → get_or devices s None ≡ Some d → reaches_at active to s d ≡ true → lost s ≡ true
@@ -72,6 +81,57 @@ none_left active to lost devices n h l some = elim (cases_lt some.0 n) [
   | inl m ↦ both_ways _ some.4 (h some.0 some.1 m some.2 some.3)
   | inr m ↦ none-some some.1 (sym (get_or_past devices some.0 None (omega arith)) ∙ some.2)
 ]
+
+-- none of the slots below n drives the request
+abbrev pub NoneBelow : ℕ → Request → List (Option Device) → ℕ → Type 0
+NoneBelow active r devices n = (s : ℕ) → s < n → drives_at active s (get_or devices s None) r ≡ false
+
+-- one slot more, which doesn't drive it
+pub none_more : (active : ℕ) (r : Request) (devices : List (Option Device)) (n : ℕ) (place : Option Device) → NoneBelow active r devices n → n < length devices → place ≡ get_or devices n place
+    → drives_at active n place r ≡ false → NoneBelow active r devices (n + 1)
+none_more active r devices n place h l at here s m = elim (cases_eq s n) [
+  | inl e ↦
+      ap (λ k. drives_at active k (get_or devices k None) r) e ∙ (ap (λ o. drives_at active n o r) (get_or_default devices n None place l ∙ sym at) ∙ here)
+  | inr ne ↦ h s (omega arith)
+]
+
+-- the slot that drives it is the lowest
+pub lowest_here : (active : ℕ) (r : Request) (devices : List (Option Device)) (n : ℕ) (place : Option Device) → NoneBelow active r devices n → n < length devices → place ≡ get_or devices n place
+    → drives_at active n place r ≡ true → IsLowest active r devices n
+lowest_here active r devices n place h l at here = (ap (λ o. drives_at active n o r) (get_or_default devices n None place l ∙ sym at) ∙ here, h)
+
+-- at the end nobody drives it
+pub nobody_drives : (active : ℕ) (r : Request) (devices : List (Option Device)) (n : ℕ) → NoneBelow active r devices n → length devices ≤ n → ¬ AnyDrives active r devices
+nobody_drives active r devices n h l any = elim (cases_lt any.0 n) [
+  | inl m ↦ both_ways _ (h any.0 m) any.1
+  | inr m ↦ undriven_past active any.0 (get_or devices any.0 None) r (get_or_past devices any.0 None (omega arith)) any.1
+]
+
+-- whoever drives the request below a slot is lost
+abbrev pub UndrivenBelow : ℕ → Request → Lost → List (Option Device) → ℕ → Type 0
+UndrivenBelow active r lost devices n = (s : ℕ) → s < n → drives_at active s (get_or devices s None) r ≡ true → lost s ≡ true
+
+-- one slot more, where whoever drives it is lost
+pub undriven_more : (active : ℕ) (r : Request) (lost : Lost) (devices : List (Option Device)) (n : ℕ) (place : Option Device) → UndrivenBelow active r lost devices n → n < length devices → place ≡ get_or devices n place
+    → (drives_at active n place r ≡ true → lost n ≡ true) → UndrivenBelow active r lost devices (n + 1)
+undriven_more active r lost devices n place h l at here s m d = elim (cases_eq s n) [
+  | inl e ↦
+      let found : place ≡ get_or devices s None = at ∙ (sym (get_or_default devices n None place l) ∙ ap (λ k. get_or devices k None) (sym e)) in
+      ap lost e ∙ here (ap (λ o. drives_at active n o r) found ∙ (ap (λ k. drives_at active k (get_or devices s None) r) (sym e) ∙ d))
+  | inr ne ↦ h s (omega arith) d
+]
+
+-- at the end nobody who drives it is left
+pub none_drives : (active : ℕ) (r : Request) (lost : Lost) (devices : List (Option Device)) (n : ℕ) → UndrivenBelow active r lost devices n → length devices ≤ n → ¬ SomeDrives active r lost devices
+none_drives active r lost devices n h l some = elim (cases_lt some.0 n) [
+  | inl m ↦ both_ways _ some.2 (h some.0 m some.1)
+  | inr m ↦ undriven_past active some.0 (get_or devices some.0 None) r (get_or_past devices some.0 None (omega arith)) some.1
+]
+
+-- whatever was found in a slot drives it there
+pub driver_here : (active : ℕ) (r : Request) (lost : Lost) (devices : List (Option Device)) (s : ℕ) (place : Option Device) → s < length devices → place ≡ get_or devices s place
+    → drives_at active s place r ≡ true → lost s ≡ false → SomeDrives active r lost devices
+driver_here active r lost devices s place l at h f = (s, ap (λ o. drives_at active s o r) (get_or_default devices s None place l ∙ sym at) ∙ h, f)
 
 -- whatever was found in a slot is reached there
 pub found_here : (active : ℕ) (to : Option ℕ) (lost : Lost) (devices : List (Option Device)) (s : ℕ) (place : Option Device) → s < length devices → place ≡ get_or devices s place

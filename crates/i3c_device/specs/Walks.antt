@@ -43,6 +43,19 @@ pub record AreDriven (active : ℕ) (devices : List (Option Device)) (n : ℕ) (
   pub among : (s : ℕ) (q : Request) → s < n → drives_at active s (slice_index_or devices s None) q ≡ true → Contains requests q
   pub few : length requests ≤ n
 
+-- a device of these drives the request
+abbrev pub AnyDrives : ℕ → Request → List (Option Device) → Type 0
+AnyDrives active r devices = (s : ℕ) × (drives_at active s (slice_index_or devices s None) r ≡ true)
+
+-- a device of these that isn't lost drives the request
+abbrev pub SomeDrives : ℕ → Request → Lost → List (Option Device) → Type 0
+SomeDrives active r lost devices = (s : ℕ) × (drives_at active s (slice_index_or devices s None) r ≡ true) × (lost s ≡ false)
+
+-- slot s is the lowest that drives the request
+abbrev pub IsLowest : ℕ → Request → List (Option Device) → ℕ → Type 0
+IsLowest active r devices s =
+    (drives_at active s (slice_index_or devices s None) r ≡ true) × ((t : ℕ) → t < s → drives_at active t (slice_index_or devices t None) r ≡ false)
+
 -- a command reaches a device of these that isn't lost
 abbrev pub SomeReached : ℕ → Option ℕ → Lost → List (Option Device) → Type 0
 SomeReached active to lost devices = (s : ℕ) × (d : Device) × (slice_index_or devices s None ≡ Some d) × (reaches_at active to s d ≡ true) × (lost s ≡ false)

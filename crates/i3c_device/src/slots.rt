@@ -1,6 +1,6 @@
 use crate::attached::Device;
 use crate::faults::RaiseFault;
-use crate::places::{accept, assign, drop_lost, driven, hear, open, reaches, silence};
+use crate::places::{accept, assign, driven, drives, drop_lost, hear, open, reaches, silence};
 use arrayvec::ArrayVec;
 use i3c_base::{Addr7, Cuts, Identity, Request, SLOTS, Slot};
 use i3c_ccc::Code;
@@ -31,8 +31,8 @@ impl Devices {
     ghost use Rattle.i3c_base.specs.declared.range.TheConstants.{SLOTS as SLOT_COUNT};
     ghost use Rattle.i3c_base.specs.Cutting.{lost_by};
     ghost use Rattle.i3c_base.specs.Places.{changed};
-    ghost use Rattle.i3c_device.specs.Walks.{accepted_at, assigned_at, heard_at, left_at, AreDriven, SomeReached};
-    ghost use Rattle.std.specs.Prelude.{◌≡◌, ◌≤◌, ◌<◌, ◌↔◌, ℕ, length, IsTrue, suc, Some, None, option_map, slice_index_or, slice_set, MatchResult, OnOk, OnErr};
+    ghost use Rattle.i3c_device.specs.Walks.{accepted_at, assigned_at, drives_at, heard_at, left_at, AnyDrives, AreDriven, IsLowest, SomeDrives, SomeReached};
+    ghost use Rattle.std.specs.Prelude.{◌≡◌, ◌≤◌, ◌<◌, ◌↔◌, ℕ, length, IsTrue, suc, Some, None, option_map, slice_index_or, slice_set, MatchOption, MatchResult, OnOk, OnErr};
     ghost use Rattle.i3c_base.specs.Round.{hears, unhearing};
     ghost use Rattle.i3c_base.specs.State.{Device as DeviceState, no_devices};
     ghost use Rattle.i3c_device.specs.Raising.{next_fault, with_raise};
@@ -82,7 +82,8 @@ impl Devices {
 
     /// The requests that the devices drive into one header. The active controller drives none.
     pub fn requests(&self, active: Slot) -> ArrayVec<Request, SLOTS>
-        ensures { AreDriven active self.now SLOT_COUNT result.items }
+        ensures driven { AreDriven active self.now (length self.now) result.items }
+        ensures slots { length self.now ≡ SLOT_COUNT }
     {
         let mut requests: ArrayVec<Request, SLOTS> = ArrayVec::new();
         for (index, place) in self.places.iter().enumerate() {
@@ -91,6 +92,39 @@ impl Devices {
             }
         }
         requests
+    }
+
+    /// Whether the slot's device drives this request.
+    pub fn drives(&self, active: Slot, slot: Slot, request: &Request) -> bool
+        ensures { result ≡ drives_at active slot (slice_index_or self.now slot None) request.now }
+    {
+        let index = slot.index();
+        drives(&self.places[index], index, active, request)
+    }
+
+    /// The lowest slot that drives this request.
+    pub fn lowest_driver(&self, active: Slot, request: &Request) -> Option<Slot>
+        ensures { MatchOption result (¬ AnyDrives active request.now self.now) (IsLowest active request.now self.now) }
+    {
+        for (index, place) in self.places.iter().enumerate() {
+            if drives(place, index, active, request) {
+                return Some(Slot::from_index(index));
+            }
+        }
+        None
+    }
+
+    /// Whether a device that isn't lost by this bit drives the request.
+    pub fn is_driven(&self, active: Slot, request: &Request, cuts: &Cuts, last: u16) -> bool
+        ensures { IsTrue result ↔ SomeDrives active request.now (lost_by cuts.now last) self.now }
+    {
+        for (index, place) in self.places.iter().enumerate() {
+            if drives(place, index, active, request) && !cuts.is_lost(Slot::from_index(index), last)
+            {
+                return true;
+            }
+        }
+        false
     }
 
     /// The request was accepted: its drivers lose the wish or the front of what waits.

@@ -1,17 +1,16 @@
-//! Requests in an arbitrable header: who drives the first one, the policy that decides on it, and what is read of an
-//! accepted interrupt.
+//! Requests in an arbitrable header: which comes first, the policy that decides on it, what its drivers lose and what is
+//! read of them.
 #![tactic(auto)]
 
-mod drivers;
-mod firsts;
+mod first;
 mod policies;
 mod readings;
+mod serving;
 
-pub use drivers::answer_drivers;
-pub use firsts::first_request;
+pub use first::first_request;
 pub use i3c_base::{Fixed, Record, Request, Served, Verdict};
 pub use policies::{Policy, decide};
-pub use readings::{byte_is_due, reading};
+pub use serving::{Reading, serve};
 
 #[cfg(test)]
 mod tests;

@@ -1,74 +1,104 @@
-ghost use Rattle.std.specs.Prelude.{◌≡◌, ◌≢◌, ℕ, ◌<◌, ◌≤◌, false, true, length, is_some, MatchOption, None, slice_index_or};
+ghost use Rattle.std.specs.Prelude.{◌≡◌, false, true, is_some, MatchOption, None, slice_index_or};
 ghost use Rattle.i3c_base.specs.declared.range.TheConstants.{SLOTS as SLOT_COUNT};
 ghost use Rattle.i3c_base.specs.declared.requests.Request.{Request as RequestValue};
-ghost use Rattle.i3c_base.specs.State.{State, entry_in};
+ghost use Rattle.i3c_base.specs.State.{HasDevices, State, entry_in};
 ghost use Rattle.i3c_base.specs.Serve.{byte_due};
-ghost use Rattle.i3c_ibi.specs.Driving.{HaveBytes, IsFrontOf, IsLowest, IsLowestRaise, IsReading, Together, UndrivenBelow, byte_beside, drives_at};
+ghost use Rattle.i3c_device.specs.Walks.{drives_at, AnyDrives};
+ghost use Rattle.i3c_ibi.specs.Driving.{HaveBytes, IsFrontOf, IsLowest, IsReading, Together, UndrivenBelow, byte_beside, driven};
 
-use crate::drivers::drives;
-use i3c_base::{Addr7, Record, Request, Slot, Waiting};
-use i3c_device::Device;
+use i3c_base::{Addr7, Cuts, Record, Request, SLOTS, Slot, Waiting};
+use i3c_device::Devices;
 use i3c_table::Table;
 
-/// The front of what stands in this slot, if it drives an interrupt at this address.
-fn front_driven(place: &Option<Device>, index: usize, active: Slot, at: Addr7) -> Option<Waiting>
-    ensures { MatchOption result (drives_at active index place.now (RequestValue.Interrupt at) ≡ false) (λ w. (drives_at active index place.now (RequestValue.Interrupt at) ≡ true) × IsFrontOf place.now w) }
+/// The last bit of a mandatory byte's word, its T: the ninth bit of the header is 0.
+pub(crate) const END_BIT: u16 = 9;
+
+/// The front of the device in this slot, if it drives an interrupt at this address.
+fn front_driven(devices: &Devices, slot: Slot, active: Slot, at: Addr7) -> Option<Waiting>
+    ensures { MatchOption result (drives_at active slot (slice_index_or devices.now slot None) (RequestValue.Interrupt at) ≡ false)
+        (λ w. (drives_at active slot (slice_index_or devices.now slot None) (RequestValue.Interrupt at) ≡ true) × IsFrontOf (slice_index_or devices.now slot None) w) }
 {
-    let request = Request::Interrupt(at);
-    if drives(place, index, active, &request) {
-        if let Some(device) = place {
-            return device.front();
+    if devices.drives(active, slot, &Request::Interrupt(at)) {
+        match devices.get(slot) {
+            Some(device) => device.front(),
+            None => None,
         }
+    } else {
+        None
     }
-    None
 }
 
 /// The lowest slot that drives an interrupt at this address, and its front.
-fn lowest_front(devices: &[Option<Device>], active: Slot, at: Addr7) -> Option<(Slot, Waiting)>
-    requires { length devices.now ≤ SLOT_COUNT }
-    ensures { MatchOption result (UndrivenBelow active (RequestValue.Interrupt at) devices.now (length devices.now)) (λ f. IsLowest active (RequestValue.Interrupt at) devices.now f.0 × IsFrontOf (slice_index_or devices.now f.0 None) f.1) }
+fn lowest_front(devices: &Devices, active: Slot, at: Addr7) -> Option<(Slot, Waiting)>
+    ensures { MatchOption result (UndrivenBelow active (RequestValue.Interrupt at) devices.now SLOT_COUNT)
+        (λ f. IsLowest active (RequestValue.Interrupt at) devices.now f.0 × IsFrontOf (slice_index_or devices.now f.0 None) f.1) }
 {
-    for (index, place) in devices.iter().enumerate() {
-        if let Some(front) = front_driven(place, index, active, at) {
-            if let Ok(slot) = Slot::new(index as u8) {
-                return Some((slot, front));
-            }
+    for index in 0..SLOTS {
+        let slot = Slot::from_index(index);
+        if let Some(front) = front_driven(devices, slot, active, at) {
+            return Some((slot, front));
         }
     }
     None
 }
 
-/// The byte that what stands in this slot drives behind this request, beside that of the lowest slot.
-fn byte_beside(
-    place: &Option<Device>,
-    index: usize,
-    active: Slot,
-    request: &Request,
-    lowest: usize,
-) -> Option<u8>
-    ensures { result ≡ byte_beside active request.now lowest index place.now }
+/// A mandatory byte, bits 1 to 8 of its frame, as a device drives it that is cut at this bit: ones from there on.
+fn driven(byte: u8, cut: Option<u16>) -> u8
+    ensures { result ≡ driven cut byte }
 {
-    if index != lowest && drives(place, index, active, request) {
-        if let Some(device) = place {
-            return device.answer_byte();
+    match cut {
+        None => byte,
+        Some(bit) => {
+            if bit >= END_BIT {
+                byte
+            } else if bit <= 1 {
+                u8::MAX
+            } else {
+                byte | (u8::MAX >> (bit - 1))
+            }
         }
     }
-    None
+}
+
+/// The byte that the device in this slot drives behind this request, beside that of the lowest slot.
+fn byte_beside(
+    devices: &Devices,
+    slot: Slot,
+    active: Slot,
+    request: &Request,
+    lowest: Slot,
+    cuts: &Cuts,
+) -> Option<u8>
+    ensures { result ≡ byte_beside cuts.now active request.now lowest slot (slice_index_or devices.now slot None) }
+{
+    if slot == lowest || !devices.drives(active, slot, request) {
+        return None;
+    }
+    let byte = devices.get(slot)?.answer_byte()?;
+    Some(driven(byte, cuts.at(slot)))
 }
 
 /// The AND of the lowest slot's byte and those of the others that drive the request.
 fn together(
-    devices: &[Option<Device>],
+    devices: &Devices,
     active: Slot,
     request: &Request,
-    lowest: usize,
+    lowest: Slot,
     own: u8,
+    cuts: &Cuts,
 ) -> u8
-    ensures { Together (λ s. byte_beside active request.now lowest s (slice_index_or devices.now s None)) own (length devices.now) result }
+    ensures { Together (λ s. byte_beside cuts.now active request.now lowest s (slice_index_or devices.now s None)) own SLOT_COUNT result }
 {
     let mut both = own;
-    for (index, place) in devices.iter().enumerate() {
-        match byte_beside(place, index, active, request, lowest) {
+    for index in 0..SLOTS {
+        match byte_beside(
+            devices,
+            Slot::from_index(index),
+            active,
+            request,
+            lowest,
+            cuts,
+        ) {
             Some(byte) => {
                 both &= byte;
             }
@@ -78,18 +108,20 @@ fn together(
     both
 }
 
-/// What the drivers of the interrupt at this address, of whom there is one, have at their fronts.
-fn fronts_read(devices: &[Option<Device>], active: Slot, at: Addr7) -> Record
-    requires slots { length devices.now ≤ SLOT_COUNT }
-    requires driven { (s : ℕ) × (drives_at active s (slice_index_or devices.now s None) (RequestValue.Interrupt at) ≡ true) }
-    ensures { (st : State) → st.devices ≡ devices.now → st.active ≡ active → IsReading st at result }
+/// What the drivers of the interrupt at this address, of whom there is one, have at their fronts, as they drive it.
+fn fronts_read(devices: &Devices, active: Slot, at: Addr7, cuts: &Cuts) -> Record
+    requires driven { AnyDrives active (RequestValue.Interrupt at) devices.now }
+    ensures { (st : State) → HasDevices st devices.now active → IsReading st cuts.now at result }
 {
     let Some((slot, front)) = lowest_front(devices, active, at) else {
         unreachable!()
     };
     let request = Request::Interrupt(at);
     let byte = match front.byte {
-        Some(own) => Some(together(devices, active, &request, slot.index(), own)),
+        Some(own) => {
+            let own = driven(own, cuts.at(slot));
+            Some(together(devices, active, &request, slot, own, cuts))
+        }
         None => None,
     };
     Record {
@@ -100,29 +132,32 @@ fn fronts_read(devices: &[Option<Device>], active: Slot, at: Addr7) -> Record
     }
 }
 
+/// What is recorded of the accepted interrupt at this address, which some device drives: the controller reads the
+/// mandatory byte where one is due (I3C Basic 5.1.6.2).
+pub(crate) fn reading(
+    devices: &Devices,
+    active: Slot,
+    at: Addr7,
+    due: bool,
+    cuts: &Cuts,
+) -> Record
+    requires driven { AnyDrives active (RequestValue.Interrupt at) devices.now }
+    ensures read { HaveBytes active devices.now at due → (st : State) → HasDevices st devices.now active → IsReading st cuts.now at result }
+    ensures due { HaveBytes active devices.now at due → is_some result.byte ≡ due }
+{
+    let read = fronts_read(devices, active, at, cuts);
+    Record {
+        byte: if due { read.byte } else { None },
+        ..read
+    }
+}
+
 /// Whether the interrupts at this address have a mandatory byte, by the BCR in the controller's table.
-pub fn byte_is_due(table: &Table, at: Addr7) -> bool
+pub(crate) fn byte_is_due(table: &Table, at: Addr7) -> bool
     ensures { result ≡ byte_due (entry_in table.now.given at) }
 {
     match table.row_of(at) {
         Some(row) => row.bcr.has_byte(),
         None => false,
-    }
-}
-
-/// What is recorded of the accepted interrupt at this address, which some device drives: the controller reads the
-/// mandatory byte where one is due (I3C Basic 5.1.6.2).
-pub fn reading(devices: &[Option<Device>], active: Slot, at: Addr7, due: bool) -> Record
-    requires slots { length devices.now ≤ SLOT_COUNT }
-    requires driven { (s : ℕ) × (drives_at active s (slice_index_or devices.now s None) (RequestValue.Interrupt at) ≡ true) }
-    ensures front { (st : State) → st.devices ≡ devices.now → st.active ≡ active → IsLowestRaise st at result }
-    ensures read { HaveBytes active devices.now at due → (st : State) → st.devices ≡ devices.now → st.active ≡ active → IsReading st at result }
-    ensures due { HaveBytes active devices.now at due → is_some result.byte ≡ due }
-    ensures unread { due ≡ false → result.byte ≡ None }
-{
-    let read = fronts_read(devices, active, at);
-    Record {
-        byte: if due { read.byte } else { None },
-        ..read
     }
 }

@@ -1,7 +1,6 @@
 -- One slot more.
 use Rattle.std.proofs.Common.{arith, get_or, subst, ◌≡◌, ◌<◌, length}
 use Rattle.std.proofs.lemmas.List.{get_or_default}
-use Rattle.i3c_base.specs.declared.range.TheConstants.{SLOTS}
 use Rattle.i3c_device.specs.Walks.{AreDriven}
 use Rattle.i3c_device.proofs.Walking.{driven_more, driven_skip}
 use Rattle.i3c_device.proofs.slots.Devices.requests.Goals as goal
@@ -23,8 +22,8 @@ loop-index-preserved c =
           (driven_skip c.args.active c.self.inside.places c.loop-index.index here c.loop-index.requests.items c.loop-index.invariant below at w.in_default.ensures.asked)
     ]
 
-pub returns : goal.returns
-returns c =
-    let all : c.loop-index.index ≡ SLOTS = omega arith in
-    subst (λ devices. AreDriven c.args.active devices SLOTS c.loop-index.requests.items) c.self.view_is
+pub returns-clause-driven : goal.returns-clause-driven
+returns-clause-driven c =
+    let all : c.loop-index.index ≡ length c.self.inside.places = omega (arith, c.self.invariant) in
+    subst (λ devices. AreDriven c.args.active devices (length devices) c.loop-index.requests.items) c.self.view_is
     (subst (λ n. AreDriven c.args.active c.self.inside.places n c.loop-index.requests.items) all c.loop-index.invariant)

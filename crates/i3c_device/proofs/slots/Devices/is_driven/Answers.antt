@@ -1,0 +1,27 @@
+-- Whoever drives it and is left is found, and else nobody is.
+use Rattle.std.proofs.Common.{◌≡◌, ◌<◌, ◌∙◌, ap, arith, get_or, length, sym, subst, false}
+use Rattle.std.proofs.lemmas.Bool.{both_ways, false≢true}
+use Rattle.std.proofs.lemmas.List.{get_or_default}
+use Rattle.i3c_base.specs.Cutting.{lost_by}
+use Rattle.i3c_device.specs.Walks.{SomeDrives}
+use Rattle.i3c_device.proofs.Walking.{undriven_more, none_drives}
+use Rattle.i3c_device.proofs.slots.Devices.is_driven.Goals as goal
+use Rattle.i3c_device.proofs.slots.Devices.is_driven.Goals.{else-drives-via-then-drives+else-not-is_lost, else-drives-via-else-drives}
+
+pub loop-index-preserved : goal.loop-index-preserved
+loop-index-preserved c =
+    let below : c.loop-index.index < length c.self.inside.places = omega (arith, c.type_inv.place-items) in
+    let here = get_or c.self.inside.places c.loop-index.index c.place-item.result in
+    undriven_more c.args.active c.args.request.now (lost_by c.args.cuts.now c.args.last) c.self.inside.places c.loop-index.index here c.loop-index.invariant below
+    (get_or_default c.self.inside.places c.loop-index.index c.place-item.result here below)
+    (λ r. elim c.else-drives.branch [
+      | else-drives-via-then-drives+else-not-is_lost w ↦ ap (lost_by c.args.cuts.now c.args.last) (sym w.from_index.ensures) ∙ (sym w.is_lost.ensures ∙ w.if-not-is_lost.false)
+      | else-drives-via-else-drives w ↦ absurd (both_ways _ (sym c.drives.ensures ∙ w.if-drives.false) r)
+    ])
+
+pub returns : goal.returns
+returns c =
+    let none = none_drives c.args.active c.args.request.now (lost_by c.args.cuts.now c.args.last) c.self.inside.places c.loop-index.index c.loop-index.invariant (omega (arith, c.self.invariant)) in (
+      λ h. absurd (false≢true h),
+      λ some. absurd (none (subst (SomeDrives c.args.active c.args.request.now (lost_by c.args.cuts.now c.args.last)) (sym c.self.view_is) some)),
+    )

@@ -1,0 +1,102 @@
+ghost use Rattle.std.specs.Prelude.{◌≡◌, length, true};
+ghost use Rattle.i3c_base.specs.declared.requests.Request.{Request as RequestValue};
+ghost use Rattle.i3c_base.specs.State.{HasDevices, State};
+ghost use Rattle.i3c_base.specs.Serve.{IsFirst};
+ghost use Rattle.i3c_device.specs.Walks.{AnyDrives};
+ghost use Rattle.i3c_ibi.specs.Policies.{Decides, is_known};
+ghost use Rattle.i3c_ibi.specs.Serving.{FitsTable, IsServing, given_for, served_as};
+
+use crate::first::first_request;
+use crate::policies::{Policy, decide};
+use crate::readings::{END_BIT, byte_is_due, reading};
+use i3c_base::{Addr7, Cuts, Record, Request, Slot, Verdict};
+use i3c_device::Devices;
+use i3c_table::Table;
+
+/// What came of a frame's first request, as the controller saw it on the wire.
+#[derive(Clone, Copy, Debug, PartialEq, Eq)]
+pub enum Reading {
+    /// Nobody asked.
+    Quiet,
+    /// This request was turned down.
+    Refused(Request),
+    /// A Hot-Join was accepted.
+    Joined,
+    /// The role request of the device at this address was accepted.
+    WantsRole(Addr7),
+    /// An interrupt was accepted, and this record of it is due.
+    Due(Record),
+    /// The interrupt at this address was accepted, and T after its byte was read as 1: nobody was left to end the byte,
+    /// of which this was read.
+    Torn(Addr7, u8),
+}
+
+/// Reads the accepted interrupt at this address, which some device drives.
+fn interrupt(
+    devices: &mut Devices,
+    active: Slot,
+    table: &Table,
+    at: Addr7,
+    cuts: &Cuts,
+) -> Reading
+    requires driven { AnyDrives active (RequestValue.Interrupt at) devices.old }
+    ensures { (st : State) → HasDevices st devices.old active → st.given ≡ table.now.given → FitsTable st → IsFirst st (RequestValue.Interrupt at)
+        → is_known st.given (RequestValue.Interrupt at) ≡ true → IsServing st cuts.now result devices.new }
+{
+    let request = Request::Interrupt(at);
+    let record = reading(devices, active, at, byte_is_due(table, at), cuts);
+    let ended = devices.is_driven(active, &request, cuts, END_BIT);
+    devices.accept(active, &request);
+    match record.byte {
+        Some(byte) if !ended => Reading::Torn(at, byte),
+        _ => Reading::Due(record),
+    }
+}
+
+/// Accepts this request, which comes first.
+fn accept(
+    devices: &mut Devices,
+    active: Slot,
+    table: &Table,
+    request: &Request,
+    cuts: &Cuts,
+) -> Reading
+    requires driven { AnyDrives active request.now devices.old }
+    ensures { (st : State) → HasDevices st devices.old active → st.given ≡ table.now.given → FitsTable st → IsFirst st request.now
+        → is_known st.given request.now ≡ true → IsServing st cuts.now result devices.new }
+{
+    match request {
+        Request::Join => {
+            devices.accept(active, request);
+            Reading::Joined
+        }
+        Request::Role(at) => {
+            devices.accept(active, request);
+            Reading::WantsRole(*at)
+        }
+        Request::Interrupt(at) => interrupt(devices, active, table, *at, cuts),
+    }
+}
+
+/// Serves the first request of a frame, in which these devices are cut: the policy decides on it, unless its address
+/// has no row in the table; its drivers lose what was accepted, and the mandatory byte is read where the table says that
+/// one is due (I3C Basic 5.1.6.2).
+pub fn serve<P: Policy>(
+    devices: &mut Devices,
+    active: Slot,
+    table: &Table,
+    policy: &mut P,
+    cuts: &Cuts,
+) -> Reading
+    ensures serves { (st : State) → HasDevices st devices.old active → st.given ≡ table.now.given → FitsTable st → IsServing st cuts.now result devices.new }
+    ensures asks { (st : State) → HasDevices st devices.old active → st.given ≡ table.now.given
+        → Decides P.verdict_gives policy.old policy.new st (given_for (served_as (length st.records) result)) }
+{
+    let Some(request) = first_request(devices, active) else {
+        return Reading::Quiet;
+    };
+    match decide(table, policy, &request) {
+        Verdict::Refuse => Reading::Refused(request),
+        Verdict::Accept => accept(devices, active, table, &request, cuts),
+    }
+}
