@@ -12,14 +12,6 @@ use Rattle.i3c_base.specs.Serve.{DrivesByte, IsAnd, IsFront, IsLowestDriver, dri
 use Rattle.i3c_device.specs.Raising.{front_byte}
 use Rattle.i3c_device.specs.Walks.{drives_at}
 
--- none of the slots below n drives the request
-abbrev pub UndrivenBelow : ℕ → Request → List (Option Device) → ℕ → Type 0
-UndrivenBelow active r devices n = (s : ℕ) → s < n → drives_at active s (slice_index_or devices s None) r ≡ false
-
--- slot s is the lowest that drives it
-abbrev pub IsLowest : ℕ → Request → List (Option Device) → ℕ → Type 0
-IsLowest active r devices s = (drives_at active s (slice_index_or devices s None) r ≡ true) × UndrivenBelow active r devices s
-
 -- w waits at the front of what stands in a slot
 abbrev pub IsFrontOf : Option Device → Waiting → Type 0
 IsFrontOf place w = (d : Device) × (rest : List Waiting) × (place ≡ Some d) × (d.waiting ≡ w ∷ rest)
@@ -34,10 +26,14 @@ abbrev pub driven : Option ℕ → ℕ → ℕ
 driven None byte = byte
 driven (Some bit) byte = if nat_le 9 bit then byte else (if nat_le bit 1 then 255 else bit_or byte (255 / 2 ^ (bit - 1)))
 
+-- the byte at the front of what stands in a slot
+abbrev pub slot_byte : Option Device → Option ℕ
+slot_byte place = option_and_then (λ d. front_byte d.waiting) place
+
 -- the byte that slot s drives behind the request r, beside the one of slot `lowest`
 abbrev pub byte_beside : CutList → ℕ → Request → ℕ → ℕ → Option Device → Option ℕ
 byte_beside cuts active r lowest s place =
-    if not (s == lowest) && drives_at active s place r then option_map (driven (cut_of cuts s)) (option_and_then (λ d. front_byte d.waiting) place) else None
+    if not (s == lowest) && drives_at active s place r then option_map (driven (cut_of cuts s)) (slot_byte place) else None
 
 -- `both` is the AND of `own` and the bytes of the slots below n
 pub record Together (bytes : ℕ → Option ℕ) (own n both : ℕ) : Type 0 where

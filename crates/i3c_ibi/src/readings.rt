@@ -1,10 +1,10 @@
-ghost use Rattle.std.specs.Prelude.{◌≡◌, false, true, is_some, MatchOption, None, slice_index_or};
-ghost use Rattle.i3c_base.specs.declared.range.TheConstants.{SLOTS as SLOT_COUNT};
+ghost use Rattle.std.specs.Prelude.{◌≡◌, is_some, length, ◌<◌, IfSome, IsSomeAnd, MatchOption, None, slice_index_or};
 ghost use Rattle.i3c_base.specs.declared.requests.Request.{Request as RequestValue};
+ghost use Rattle.i3c_base.specs.Cutting.{cut_of};
 ghost use Rattle.i3c_base.specs.State.{HasDevices, State, entry_in};
 ghost use Rattle.i3c_base.specs.Serve.{byte_due};
-ghost use Rattle.i3c_device.specs.Walks.{drives_at, AnyDrives};
-ghost use Rattle.i3c_ibi.specs.Driving.{HaveBytes, IsFrontOf, IsLowest, IsReading, Together, UndrivenBelow, byte_beside, driven};
+ghost use Rattle.i3c_device.specs.Walks.{AnyDrives, IsLowest};
+ghost use Rattle.i3c_ibi.specs.Driving.{HaveBytes, IsFrontOf, IsReading, Together, byte_beside, driven, slot_byte};
 
 use i3c_base::{Addr7, Cuts, Record, Request, SLOTS, Slot, Waiting};
 use i3c_device::Devices;
@@ -13,33 +13,14 @@ use i3c_table::Table;
 /// The last bit of a mandatory byte's word, its T: the ninth bit of the header is 0.
 pub(crate) const END_BIT: u16 = 9;
 
-/// The front of the device in this slot, if it drives an interrupt at this address.
-fn front_driven(devices: &Devices, slot: Slot, active: Slot, at: Addr7) -> Option<Waiting>
-    ensures { MatchOption result (drives_at active slot (slice_index_or devices.now slot None) (RequestValue.Interrupt at) ≡ false)
-        (λ w. (drives_at active slot (slice_index_or devices.now slot None) (RequestValue.Interrupt at) ≡ true) × IsFrontOf (slice_index_or devices.now slot None) w) }
-{
-    if devices.drives(active, slot, &Request::Interrupt(at)) {
-        match devices.get(slot) {
-            Some(device) => device.front(),
-            None => None,
-        }
-    } else {
-        None
-    }
-}
-
 /// The lowest slot that drives an interrupt at this address, and its front.
 fn lowest_front(devices: &Devices, active: Slot, at: Addr7) -> Option<(Slot, Waiting)>
-    ensures { MatchOption result (UndrivenBelow active (RequestValue.Interrupt at) devices.now SLOT_COUNT)
+    ensures { MatchOption result (¬ AnyDrives active (RequestValue.Interrupt at) devices.now)
         (λ f. IsLowest active (RequestValue.Interrupt at) devices.now f.0 × IsFrontOf (slice_index_or devices.now f.0 None) f.1) }
 {
-    for index in 0..SLOTS {
-        let slot = Slot::from_index(index);
-        if let Some(front) = front_driven(devices, slot, active, at) {
-            return Some((slot, front));
-        }
-    }
-    None
+    let slot = devices.lowest_driver(active, &Request::Interrupt(at))?;
+    let front = devices.get(slot)?.front()?;
+    Some((slot, front))
 }
 
 /// A mandatory byte, bits 1 to 8 of its frame, as a device drives it that is cut at this bit: ones from there on.
@@ -78,34 +59,32 @@ fn byte_beside(
     Some(driven(byte, cuts.at(slot)))
 }
 
-/// The AND of the lowest slot's byte and those of the others that drive the request.
-fn together(
+/// The byte that is read behind the interrupt at this address, which the device in this slot drives, the lowest of those
+/// who do: the AND of what they drive. `None` where its front has none.
+fn byte_read(
     devices: &Devices,
     active: Slot,
-    request: &Request,
+    at: Addr7,
     lowest: Slot,
-    own: u8,
     cuts: &Cuts,
-) -> u8
-    ensures { Together (λ s. byte_beside cuts.now active request.now lowest s (slice_index_or devices.now s None)) own SLOT_COUNT result }
+) -> Option<u8>
+    ensures read { MatchOption (slot_byte (slice_index_or devices.now lowest None)) (result ≡ None)
+        (λ own. IsSomeAnd result (Together (λ s. byte_beside cuts.now active (RequestValue.Interrupt at) lowest s (slice_index_or devices.now s None)) (driven (cut_of cuts.now lowest) own) (length devices.now))) }
+    ensures byte { IfSome result (λ v. v < 256) }
 {
-    let mut both = own;
+    let own = devices.get(lowest)?.answer_byte()?;
+    let request = Request::Interrupt(at);
+    let mut both = driven(own, cuts.at(lowest));
     for index in 0..SLOTS {
-        match byte_beside(
-            devices,
-            Slot::from_index(index),
-            active,
-            request,
-            lowest,
-            cuts,
-        ) {
+        let slot = Slot::from_index(index);
+        match byte_beside(devices, slot, active, &request, lowest, cuts) {
             Some(byte) => {
                 both &= byte;
             }
             None => {}
         }
     }
-    both
+    Some(both)
 }
 
 /// What the drivers of the interrupt at this address, of whom there is one, have at their fronts, as they drive it.
@@ -116,19 +95,11 @@ fn fronts_read(devices: &Devices, active: Slot, at: Addr7, cuts: &Cuts) -> Recor
     let Some((slot, front)) = lowest_front(devices, active, at) else {
         unreachable!()
     };
-    let request = Request::Interrupt(at);
-    let byte = match front.byte {
-        Some(own) => {
-            let own = driven(own, cuts.at(slot));
-            Some(together(devices, active, &request, slot, own, cuts))
-        }
-        None => None,
-    };
     Record {
         slot,
         number: front.number,
         at,
-        byte,
+        byte: byte_read(devices, active, at, slot, cuts),
     }
 }
 

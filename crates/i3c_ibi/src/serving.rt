@@ -1,9 +1,10 @@
-ghost use Rattle.std.specs.Prelude.{◌≡◌, length, true};
+ghost use Rattle.std.specs.Prelude.{◌≡◌, ℕ, length, true};
 ghost use Rattle.i3c_base.specs.declared.requests.Request.{Request as RequestValue};
+ghost use Rattle.i3c_base.specs.declared.requests.Verdict.{Verdict as VerdictValue};
 ghost use Rattle.i3c_base.specs.State.{HasDevices, State};
 ghost use Rattle.i3c_base.specs.Serve.{IsFirst};
 ghost use Rattle.i3c_device.specs.Walks.{AnyDrives};
-ghost use Rattle.i3c_ibi.specs.Policies.{Decides, is_known};
+ghost use Rattle.i3c_ibi.specs.Policies.{Decides, is_known, verdict_in};
 ghost use Rattle.i3c_ibi.specs.Serving.{FitsTable, IsServing, given_for, served_as};
 
 use crate::first::first_request;
@@ -40,8 +41,9 @@ fn interrupt(
     cuts: &Cuts,
 ) -> Reading
     requires driven { AnyDrives active (RequestValue.Interrupt at) devices.old }
-    ensures { (st : State) → HasDevices st devices.old active → st.given ≡ table.now.given → FitsTable st → IsFirst st (RequestValue.Interrupt at)
+    ensures served { (st : State) → HasDevices st devices.old active → st.given ≡ table.now.given → FitsTable st → IsFirst st (RequestValue.Interrupt at)
         → is_known st.given (RequestValue.Interrupt at) ≡ true → IsServing st cuts.now result devices.new }
+    ensures accepted { (count : ℕ) → (given_for (served_as count result)).interrupt ≡ VerdictValue.Accept }
 {
     let request = Request::Interrupt(at);
     let record = reading(devices, active, at, byte_is_due(table, at), cuts);
@@ -62,8 +64,9 @@ fn accept(
     cuts: &Cuts,
 ) -> Reading
     requires driven { AnyDrives active request.now devices.old }
-    ensures { (st : State) → HasDevices st devices.old active → st.given ≡ table.now.given → FitsTable st → IsFirst st request.now
+    ensures served { (st : State) → HasDevices st devices.old active → st.given ≡ table.now.given → FitsTable st → IsFirst st request.now
         → is_known st.given request.now ≡ true → IsServing st cuts.now result devices.new }
+    ensures accepted { (count : ℕ) → verdict_in (given_for (served_as count result)) request.now ≡ VerdictValue.Accept }
 {
     match request {
         Request::Join => {

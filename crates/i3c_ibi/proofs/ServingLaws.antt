@@ -1,0 +1,206 @@
+-- What serving a first request does to a bus.
+use Rattle.std.proofs.Common.{◌≡◌, ℕ, suc, ◌+◌, Bool, true, false, nat_le, List, length, Option, Some, None, option_map, is_some, if◌then◌else◌, inl, inr, sym, refl, ap, subst, ◌∙◌, arith}
+use Rattle.std.proofs.lemmas.Bool.{both_ways}
+use Rattle.std.proofs.lemmas.Bool.Decides.{nat_tests}
+use Rattle.std.proofs.lemmas.Option.{none-some}
+use Rattle.i3c_base.specs.declared.device.Waiting.{Waiting}
+use Rattle.i3c_base.specs.declared.requests.Fixed.{Fixed}
+use Rattle.i3c_base.specs.declared.requests.Record.{Record}
+use Rattle.i3c_base.specs.declared.requests.Request.{Request}
+use Rattle.i3c_base.specs.declared.requests.Request.TheVariants.{Join, Role, Interrupt}
+use Rattle.i3c_base.specs.declared.requests.Served.{Served}
+use Rattle.i3c_base.specs.declared.requests.Verdict.{Verdict}
+use Rattle.i3c_base.specs.declared.requests.Verdict.TheVariants.{Accept, Refuse}
+use Rattle.i3c_base.specs.Cutting.{CutList, Lost, cut_of, is_by, lost_by}
+use Rattle.i3c_base.specs.Places.{changed}
+use Rattle.i3c_base.specs.State.{Device, Entry, HasDevices, State, device_at, entry_at, entry_in}
+use Rattle.i3c_base.specs.Serve.{IsFirst, IsFront, IsRead, NoneAsks, byte_due, drives, each_driver, recorded, refuse_all, verdict, without, without_front}
+use Rattle.i3c_base.proofs.Lookups.{changed_same}
+use Rattle.i3c_device.specs.Walks.{AnyDrives, SomeDrives, accepted_at, drives_at}
+use Rattle.i3c_ibi.specs.declared.serving.Reading.{Reading}
+use Rattle.i3c_ibi.specs.declared.serving.Reading.TheVariants.{Quiet, Refused, Joined, WantsRole, Due, Torn}
+use Rattle.i3c_ibi.specs.Driving.{HaveBytes, IsFrontOf, IsReading}
+use Rattle.i3c_ibi.proofs.ReadingLaws.{no_byte}
+use Rattle.i3c_ibi.specs.Policies.{Decides, is_known, verdict_in}
+use Rattle.i3c_ibi.specs.Serving.{FitsTable, IsServing, given_for, served_as}
+
+-- what a walk over the devices leaves, of whom drives the request
+accepted_is : (st : State) (r : Request) (k : ℕ) (o : Option Device) → device_at st k ≡ o → accepted_at st.active r k o ≡ option_map (λ d. if drives st r k then without r d else d) o
+accepted_is st r k None e = refl
+accepted_is st r k (Some x) e = ap (λ place. Some (if drives_at st.active k place r then without r x else x)) (sym e)
+
+accepted_devices : (st : State) (r : Request) → changed (accepted_at st.active r) st.devices ≡ (each_driver r (without r) st).devices
+accepted_devices st r = changed_same (accepted_at st.active r) _ None st.devices (λ k. accepted_is st r k (device_at st k) refl)
+
+left_by : (st : State) (r : Request) (old new : List (Option Device)) (active : ℕ) → HasDevices st old active → new ≡ changed (accepted_at active r) old → record st { devices = new } ≡ each_driver r (without r) st
+left_by st r old new active has e =
+    let same = e ∙ ((λ k. changed (accepted_at (sym has.1 k) r) (sym has.0 k)) ∙ accepted_devices st r) in λ k. record st { devices = same k }
+
+-- nothing was left
+pub unchanged : (st : State) (old : List (Option Device)) (active : ℕ) → HasDevices st old active → record st { devices = old } ≡ st
+unchanged st old active has = λ k. record st { devices = sym has.0 k }
+
+-- who is lost early is lost later
+lost_later : (rest : ℕ) (cut : Option ℕ) → is_by 9 cut ≡ true → is_by (9 + rest) cut ≡ true
+lost_later rest None h = h
+lost_later rest (Some bit) h = grind (arith, nat_tests)
+
+left_sooner : (rest : ℕ) (cut : Option ℕ) → is_by (9 + rest) cut ≡ false → is_by 9 cut ≡ false
+left_sooner rest cut h = go (is_by 9 cut) refl
+  where
+    go : (b : Bool) → is_by 9 cut ≡ b → is_by 9 cut ≡ false
+    go true e = absurd (both_ways _ h (lost_later rest cut e))
+    go false e = e
+
+-- a request that the table knows is accepted by a policy that accepts its kind
+known_accept : (b : Bool) → b ≡ true → (if b then Accept else Refuse) ≡ Accept
+known_accept b e = ap (λ x. if x then Accept else Refuse) e
+
+-- an accepted join, and an accepted role request
+pub join_served : (st : State) (cuts : CutList) (old new : List (Option Device)) (active : ℕ) → HasDevices st old active → IsFirst st Join → new ≡ changed (accepted_at active Join) old → IsServing st cuts Joined new
+join_served st cuts old new active has first e = record { serves = λ rest. (first, refl, left_by st Join old new active has e); word = refl; first = first; ended = tt }
+
+pub role_served : (st : State) (cuts : CutList) (a : ℕ) (old new : List (Option Device)) (active : ℕ) → HasDevices st old active → IsFirst st (Role a) → is_known st.given (Role a) ≡ true
+    → new ≡ changed (accepted_at active (Role a)) old → IsServing st cuts (WantsRole a) new
+role_served st cuts a old new active has first known e =
+    record { serves = λ rest. (first, known_accept _ known, left_by st (Role a) old new active has e); word = refl; first = first; ended = tt }
+
+-- what was read where there is no byte, and where some driver ended it
+read_none : (st : State) (cuts : CutList) (at : ℕ) (r : Record) (h : IsReading st cuts at r) (lost : Lost) → is_some r.byte ≡ false → IsRead st lost (Interrupt at) r.slot h.front r.byte
+read_none st cuts at r h lost e = record {
+  alone = λ k. no_byte r.byte e ∙ sym (no_byte h.front.byte (sym h.present ∙ e));
+  together = λ k v q. absurd (none-some v (sym (no_byte r.byte e) ∙ q));
+  present = h.present;
+}
+
+read_some : (st : State) (cuts : CutList) (at rest : ℕ) (r : Record) (h : IsReading st cuts at r) → SomeDrives st.active (Interrupt at) (lost_by cuts 9) st.devices
+    → IsRead st (lost_by cuts (9 + rest)) (Interrupt at) r.slot h.front r.byte
+read_some st cuts at rest r h some = record {
+  alone = λ k. h.alone k (ap (lost_by cuts 9) (sym (k some.0 some.1)) ∙ some.2);
+  together = λ k. h.together (λ t d. left_sooner rest (cut_of cuts t) (k t d));
+  present = h.present;
+}
+
+read_of : (st : State) (cuts : CutList) (at rest : ℕ) (r : Record) (h : IsReading st cuts at r) → (is_some r.byte ≡ true → SomeDrives st.active (Interrupt at) (lost_by cuts 9) st.devices)
+    → IsRead st (lost_by cuts ((if is_some r.byte then 9 else 0) + rest)) (Interrupt at) r.slot h.front r.byte
+read_of st cuts at rest r h ended = go (is_some r.byte) refl
+  where
+    go : (b : Bool) → is_some r.byte ≡ b → IsRead st (lost_by cuts ((if is_some r.byte then 9 else 0) + rest)) (Interrupt at) r.slot h.front r.byte
+    go true e = subst (λ b. IsRead st (lost_by cuts ((if b then 9 else 0) + rest)) (Interrupt at) r.slot h.front r.byte) (sym e) (read_some st cuts at rest r h (ended e))
+    go false e = read_none st cuts at r h (lost_by cuts ((if is_some r.byte then 9 else 0) + rest)) e
+
+-- an accepted interrupt that is recorded
+pub due_served : (st : State) (cuts : CutList) (at : ℕ) (r : Record) (old new : List (Option Device)) (active : ℕ) → HasDevices st old active → FitsTable st → IsFirst st (Interrupt at) → is_known st.given (Interrupt at) ≡ true
+    → IsReading st cuts at r → (is_some r.byte ≡ true → SomeDrives st.active (Interrupt at) (lost_by cuts 9) st.devices) → new ≡ changed (accepted_at active (Interrupt at)) old → IsServing st cuts (Due r) new
+due_served st cuts at r old new active has fits first known h ended e = record {
+  serves = λ rest. record {
+    at = at;
+    slot = r.slot;
+    front = h.front;
+    byte = r.byte;
+    first = first;
+    accepted = known_accept _ known;
+    lowest = h.lowest;
+    fronted = h.fronted;
+    read = read_of st cuts at rest r h ended;
+    placed = refl;
+    left = ap (recorded r) (left_by st (Interrupt at) old new active has e)
+      ∙ ap (λ (q : Record). recorded q (each_driver (Interrupt at) without_front st)) (λ k. record { slot = r.slot; number = h.number k; at = h.address k; byte = r.byte });
+  };
+  word = (at, first, ap (λ b. if b then 9 else 0) (h.present ∙ fits at r.slot h.front h.lowest.0 h.fronted));
+  first = subst (λ a. IsFirst st (Interrupt a)) (sym h.address) first;
+  ended = λ b. let some = ended b in (some.0, subst (λ a. drives st (Interrupt a) some.0 ≡ true) (sym h.address) some.1, some.2);
+}
+
+-- an accepted interrupt whose byte nobody ended
+pub torn_served : (st : State) (cuts : CutList) (at byte : ℕ) (r : Record) (old new : List (Option Device)) (active : ℕ) → HasDevices st old active → FitsTable st → IsFirst st (Interrupt at) → is_known st.given (Interrupt at) ≡ true
+    → IsReading st cuts at r → r.byte ≡ Some byte → ¬ SomeDrives st.active (Interrupt at) (lost_by cuts 9) st.devices → new ≡ changed (accepted_at active (Interrupt at)) old → IsServing st cuts (Torn at byte) new
+torn_served st cuts at byte r old new active has fits first known h b none e = record {
+  serves = λ rest. record {
+    at = at;
+    first = first;
+    accepted = known_accept _ known;
+    due = sym (fits at r.slot h.front h.lowest.0 h.fronted) ∙ (sym h.present ∙ ap is_some b);
+    gone = λ s d. lost_later rest (cut_of cuts s) (gone s d (lost_by cuts 9 s) refl);
+    left = left_by st (Interrupt at) old new active has e;
+  };
+  word = refl;
+  first = first;
+  ended = tt;
+}
+  where
+    gone : (s : ℕ) → drives st (Interrupt at) s ≡ true → (b : Bool) → lost_by cuts 9 s ≡ b → lost_by cuts 9 s ≡ true
+    gone s d true l = l
+    gone s d false l = absurd (none (s, d, l))
+
+-- the drivers of a bus, as the walks see them
+pub seen_drives : (st : State) (r : Request) (lost : Lost) (old : List (Option Device)) (active : ℕ) → HasDevices st old active → SomeDrives active r lost old → SomeDrives st.active r lost st.devices
+seen_drives st r lost old active has some =
+    subst (λ ds. SomeDrives st.active r lost ds) (sym has.0) (subst (λ a. SomeDrives a r lost old) (sym has.1) some)
+
+pub unseen_drives : (st : State) (r : Request) (lost : Lost) (old : List (Option Device)) (active : ℕ) → HasDevices st old active → SomeDrives st.active r lost st.devices → SomeDrives active r lost old
+unseen_drives st r lost old active has some = subst (λ ds. SomeDrives active r lost ds) has.0 (subst (λ a. SomeDrives a r lost st.devices) has.1 some)
+
+pub have_bytes : (st : State) (old : List (Option Device)) (active at : ℕ) (given : List (Option Entry)) → HasDevices st old active → st.given ≡ given → FitsTable st → HaveBytes active old at (byte_due (entry_in given at))
+have_bytes st old active at given has same fits =
+    subst (λ g. HaveBytes active old at (byte_due (entry_in g at))) same
+    (subst (λ ds. HaveBytes active ds at (byte_due (entry_at st at))) has.0 (subst (λ a. HaveBytes a st.devices at (byte_due (entry_at st at))) has.1 (fits at)))
+
+-- someone drives the first request
+pub any_drives : (st : State) (r : Request) (old : List (Option Device)) (active : ℕ) → HasDevices st old active → IsFirst st r → AnyDrives active r old
+any_drives st r old active has first = subst (λ ds. AnyDrives active r ds) has.0 (subst (λ a. AnyDrives a r st.devices) has.1 first.driven)
+
+-- nobody asks
+pub quiet_served : (st : State) (cuts : CutList) (old : List (Option Device)) (active : ℕ) → HasDevices st old active → NoneAsks st → IsServing st cuts Quiet old
+quiet_served st cuts old active has none = record { serves = λ rest. (none, unchanged st old active has); word = refl; first = none; ended = tt }
+
+-- the first request is turned down
+refuse_either : (b : Bool) → (if b then Refuse else Refuse) ≡ Refuse
+refuse_either true = refl
+refuse_either false = refl
+
+pub refuses : (st : State) (r : Request) → verdict st refuse_all r ≡ Refuse
+refuses st Join = refl
+refuses st (Role a) = refuse_either (is_some (entry_at st a))
+refuses st (Interrupt a) = refuse_either (is_some (entry_at st a))
+
+pub refused_served : (st : State) (cuts : CutList) (r : Request) (old : List (Option Device)) (active : ℕ) → HasDevices st old active → IsFirst st r → IsServing st cuts (Refused r) old
+refused_served st cuts r old active has first =
+    record { serves = λ rest. ((r, first, refuses st r), unchanged st old active has); word = refl; first = first; ended = tt }
+
+-- the verdicts that were given
+refuses_in : (r : Request) → verdict_in refuse_all r ≡ Refuse
+refuses_in Join = refl
+refuses_in (Role a) = refl
+refuses_in (Interrupt a) = refl
+
+-- a policy that was asked where the table knows the request, and not elsewhere
+decided : {P : Type 0} (gives : P → Request → Verdict → P → Type 0) (old new : P) (st : State) (r : Request) (v : Verdict) (fixed : Fixed) → IsFirst st r
+    → (is_known st.given r ≡ true → gives old r v new) → (is_known st.given r ≡ false → (v ≡ Refuse) × (new ≡ old)) → v ≡ verdict_in fixed r → Decides gives old new st fixed
+decided gives old new st r v fixed first asked unasked e = go (is_known st.given r) refl
+  where
+    go : (b : Bool) → is_known st.given r ≡ b → Decides gives old new st fixed
+    go true known = inr (inl (r, first, known, subst (λ w. gives old r w new) e (asked known)))
+    go false unknown = inr (inr (r, first, unknown, (unasked unknown).1))
+
+pub decided_refusal : {P : Type 0} (gives : P → Request → Verdict → P → Type 0) (old new : P) (st : State) (r : Request) (v : Verdict) (given : List (Option Entry)) → IsFirst st r → st.given ≡ given → v ≡ Refuse
+    → (is_known given r ≡ true → gives old r v new) → (is_known given r ≡ false → (v ≡ Refuse) × (new ≡ old)) → Decides gives old new st refuse_all
+decided_refusal gives old new st r v given first same e asked unasked =
+    decided gives old new st r v refuse_all first (λ k. asked (ap (λ g. is_known g r) (sym same) ∙ k)) (λ k. unasked (ap (λ g. is_known g r) (sym same) ∙ k)) (e ∙ sym (refuses_in r))
+
+-- a request that was accepted is known
+accept≢refuse : Accept ≡ Refuse → ⊥
+accept≢refuse e = cc
+
+pub known_accepted : {P : Type 0} (old new : P) (r : Request) (v : Verdict) (given : List (Option Entry)) → (is_known given r ≡ false → (v ≡ Refuse) × (new ≡ old)) → v ≡ Accept → is_known given r ≡ true
+known_accepted old new r v given unasked e = go (is_known given r) refl
+  where
+    go : (b : Bool) → is_known given r ≡ b → is_known given r ≡ true
+    go true known = known
+    go false unknown = absurd (accept≢refuse (sym e ∙ (unasked unknown).0))
+
+pub decided_acceptance : {P : Type 0} (gives : P → Request → Verdict → P → Type 0) (old new : P) (st : State) (r : Request) (v : Verdict) (reading : Reading) (given : List (Option Entry)) → IsFirst st r → st.given ≡ given → v ≡ Accept
+    → (is_known given r ≡ true → gives old r v new) → (is_known given r ≡ false → (v ≡ Refuse) × (new ≡ old)) → verdict_in (given_for (served_as (length st.records) reading)) r ≡ Accept
+    → Decides gives old new st (given_for (served_as (length st.records) reading))
+decided_acceptance gives old new st r v reading given first same e asked unasked gave =
+    decided gives old new st r v (given_for (served_as (length st.records) reading)) first (λ k. asked (ap (λ g. is_known g r) (sym same) ∙ k)) (λ k. unasked (ap (λ g. is_known g r) (sym same) ∙ k)) (e ∙ sym gave)
