@@ -1,1 +1,3 @@
+pub mod MaskLaws
+pub mod PlaneLaws
 pub mod Reading
