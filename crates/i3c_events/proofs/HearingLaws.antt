@@ -1,53 +1,110 @@
 -- Who hears the command, and what it leaves.
-use Rattle.std.proofs.Common.{◌≡◌, ℕ, ◌==◌, not, ◌&&◌, if◌then◌else◌, List, [], ◌∷◌, Option, Some, None, option_map, inl, inr, refl, sym, ap, ◌∙◌, subst}
+use Rattle.std.proofs.Common.{◌≡◌, ◌≢◌, ℕ, Bool, true, false, ◌==◌, not, ◌&&◌, if◌then◌else◌, List, [], ◌∷◌, Option, Some, None, option_map, inl, inr, refl, sym, ap, ◌∙◌, subst}
+use Rattle.std.proofs.lemmas.Bool.{and_parts, eq-eqb, eqb-true, both_ways, ne_eqb}
 use Rattle.i3c_base.specs.declared.answers.Answer.{Answer}
+use Rattle.i3c_base.specs.declared.kinds.Change.{Change}
+use Rattle.i3c_base.specs.declared.kinds.Change.TheVariants.{Enable, Disable}
 use Rattle.i3c_base.specs.declared.kinds.Kinds.{Kinds}
+use Rattle.i3c_base.specs.Cutting.{Lost}
 use Rattle.i3c_base.specs.Numbers.{KindSet, kind_set}
 use Rattle.i3c_base.specs.Places.{changed}
-use Rattle.i3c_base.specs.State.{Device, State, has_address}
-use Rattle.i3c_base.specs.Frames.{AnyAt, Rekinds, reaches, rekinded, with_kinds, without_kinds}
+use Rattle.i3c_base.specs.State.{Device, HasDevices, State, device_at, has_address, is_the}
+use Rattle.i3c_base.specs.Frames.{AllLostAt, AnyAt, IsHeard, Rekinds, SomeLeftAt, changed_kinds, reaches, rekinded, with_kinds, without_kinds}
 use Rattle.i3c_word.specs.declared.Word.{Word}
 use Rattle.i3c_ccc.specs.declared.codes.Code.{Code}
 use Rattle.i3c_device.specs.Hearing.{named_kinds}
-use Rattle.i3c_events.specs.declared.words.Change.{Change}
-use Rattle.i3c_events.specs.declared.words.Change.TheVariants.{Enable, Disable}
+use Rattle.i3c_device.specs.Walks.{SomeReached, heard_at, reaches_at}
 use Rattle.i3c_events.specs.Words.{command}
-use Rattle.i3c_base.specs.Cutting.{nobody}
-use Rattle.i3c_events.specs.Hearing.{changed_kinds, told}
+
+-- an address that is asked for
+pub address_is : (a : ℕ) (o : Option ℕ) → is_the a o ≡ true → o ≡ Some a
+address_is a None e = absurd (both_ways _ refl e)
+address_is a (Some b) e = ap Some (eqb-true b a e)
+
+pub is_address : (a : ℕ) (o : Option ℕ) → o ≡ Some a → is_the a o ≡ true
+is_address a o e = ap (is_the a) e ∙ eq-eqb a a refl
+
+and_join : (a b : Bool) → a ≡ true → b ≡ true → (a && b) ≡ true
+and_join a b p q = ap (λ x. x && b) p ∙ q
+
+other_slot : (s active : ℕ) → not (s == active) ≡ true → s ≢ active
+other_slot s active h e = both_ways _ (ap not (eq-eqb s active e)) h
+
+slot_other : (s active : ℕ) → s ≢ active → not (s == active) ≡ true
+slot_other s active n = ap not (ne_eqb s active n)
+
+-- whoever is reached at an address is a target there that is left, and the other way round
+left_at_own : (st : State) (a : ℕ) (lost : Lost) → SomeReached st.active (Some a) lost st.devices → SomeLeftAt st a lost
+left_at_own st a lost h =
+    let p = and_parts (not (h.0 == st.active)) (has_address a h.1) h.3 in
+    (h.0, h.1, (h.2, address_is a h.1.address p.1, other_slot h.0 st.active p.0), h.4)
+
+own_left_at : (st : State) (a : ℕ) (lost : Lost) → SomeLeftAt st a lost → SomeReached st.active (Some a) lost st.devices
+own_left_at st a lost h =
+    (h.0, h.1, h.2.0, and_join (not (h.0 == st.active)) (has_address a h.1) (slot_other h.0 st.active h.2.2) (is_address a h.1.address h.2.1), h.3)
+
+pub reached_left : (st : State) (a : ℕ) (lost : Lost) (devices : List (Option Device)) (active : ℕ) → HasDevices st devices active → SomeReached active (Some a) lost devices → SomeLeftAt st a lost
+reached_left st a lost devices active has h =
+    left_at_own st a lost (subst (λ ds. SomeReached st.active (Some a) lost ds) (sym has.0) (subst (λ s. SomeReached s (Some a) lost devices) (sym has.1) h))
+
+pub left_reached : (st : State) (a : ℕ) (lost : Lost) (devices : List (Option Device)) (active : ℕ) → HasDevices st devices active → SomeLeftAt st a lost → SomeReached active (Some a) lost devices
+left_reached st a lost devices active has h =
+    subst (λ ds. SomeReached active (Some a) lost ds) has.0 (subst (λ s. SomeReached s (Some a) lost st.devices) has.1 (own_left_at st a lost h))
+
+-- a broadcast is heard by any who is left
+pub reached_any : (st : State) (lost : Lost) (devices : List (Option Device)) (active : ℕ) → HasDevices st devices active → SomeReached active None lost devices → IsHeard st None lost
+reached_any st lost devices active has h =
+    let k = subst (λ ds. SomeReached st.active None lost ds) (sym has.0) (subst (λ s. SomeReached s None lost devices) (sym has.1) h) in
+    (k.0, (k.1, k.2), other_slot k.0 st.active k.3, k.4)
+
+pub any_reached : (st : State) (lost : Lost) (devices : List (Option Device)) (active : ℕ) → HasDevices st devices active → IsHeard st None lost → SomeReached active None lost devices
+any_reached st lost devices active has h =
+    subst (λ ds. SomeReached active None lost ds) has.0 (subst (λ s. SomeReached s None lost st.devices) has.1 (h.0, h.1.0, h.1.1, slot_other h.0 st.active h.2, h.3))
 
 -- what stands in a slot after it heard the command, whose word names the kinds
-told_is : (change : Change) (to : Option ℕ) (kinds : Kinds) (word : Word) → named_kinds (word ∷ []) ≡ kind_set kinds → (st : State) (s : ℕ) (place : Option Device)
-    → told st.active to (command change to) (word ∷ []) s place ≡ option_map (λ d. if reaches st to s d then record d { kinds = changed_kinds change kinds d.kinds } else d) place
-told_is change to kinds word e st s None = refl
-told_is Enable None kinds word e st s (Some d) = ap (λ k. Some (if not (s == st.active) then record d { kinds = with_kinds d.kinds k } else d)) e
-told_is Disable None kinds word e st s (Some d) = ap (λ k. Some (if not (s == st.active) then record d { kinds = without_kinds d.kinds k } else d)) e
-told_is Enable (Some a) kinds word e st s (Some d) = ap (λ k. Some (if not (s == st.active) && has_address a d then record d { kinds = with_kinds d.kinds k } else d)) e
-told_is Disable (Some a) kinds word e st s (Some d) = ap (λ k. Some (if not (s == st.active) && has_address a d then record d { kinds = without_kinds d.kinds k } else d)) e
+heard_is : (change : Change) (to : Option ℕ) (kinds : Kinds) (word : Word) → named_kinds (word ∷ []) ≡ kind_set kinds → (st : State) (s : ℕ) (place : Option Device)
+    → heard_at st.active to (command change to) (word ∷ []) s place ≡ option_map (λ d. if reaches st to s d then record d { kinds = changed_kinds change kinds d.kinds } else d) place
+heard_is change to kinds word e st s None = refl
+heard_is Enable None kinds word e st s (Some d) = ap (λ k. Some (if not (s == st.active) then record d { kinds = with_kinds d.kinds k } else d)) e
+heard_is Disable None kinds word e st s (Some d) = ap (λ k. Some (if not (s == st.active) then record d { kinds = without_kinds d.kinds k } else d)) e
+heard_is Enable (Some a) kinds word e st s (Some d) = ap (λ k. Some (if not (s == st.active) && has_address a d then record d { kinds = with_kinds d.kinds k } else d)) e
+heard_is Disable (Some a) kinds word e st s (Some d) = ap (λ k. Some (if not (s == st.active) && has_address a d then record d { kinds = without_kinds d.kinds k } else d)) e
 
 -- all slots after it
-told_all : (change : Change) (to : Option ℕ) (kinds : Kinds) (word : Word) (st : State) (devices more : List (Option Device)) (active : ℕ) → st.devices ≡ devices → st.active ≡ active
-    → named_kinds (word ∷ []) ≡ kind_set kinds → more ≡ changed (told active to (command change to) (word ∷ [])) devices → record st { devices = more } ≡ rekinded to (changed_kinds change kinds) st
-told_all change to kinds word st devices more active d a e m =
-    let heard : more ≡ changed (told st.active to (command change to) (word ∷ [])) st.devices = m ∙ (λ t. changed (told (sym a t) to (command change to) (word ∷ [])) (sym d t)) in
-    λ t. record st { devices = (heard ∙ (λ k. changed (λ s place. told_is change to kinds word e st s place k) st.devices)) t }
+heard_all : (change : Change) (to : Option ℕ) (kinds : Kinds) (word : Word) (st : State) (devices more : List (Option Device)) (active : ℕ) → HasDevices st devices active
+    → named_kinds (word ∷ []) ≡ kind_set kinds → more ≡ changed (heard_at active to (command change to) (word ∷ [])) devices → record st { devices = more } ≡ rekinded to (changed_kinds change kinds) st
+heard_all change to kinds word st devices more active has e m =
+    let heard : more ≡ changed (heard_at st.active to (command change to) (word ∷ [])) st.devices = m ∙ (λ t. changed (heard_at (sym has.1 t) to (command change to) (word ∷ [])) (sym has.0 t)) in
+    λ t. record st { devices = (heard ∙ (λ k. changed (λ s place. heard_is change to kinds word e st s place k) st.devices)) t }
 
 -- it was carried out
-pub carried_out : (change : Change) (to now : Option ℕ) (kinds : Kinds) (code : Code) (word : Word) (st : State) (devices more : List (Option Device)) (active : ℕ) → st.devices ≡ devices → st.active ≡ active
-    → now ≡ to → code ≡ command change now → named_kinds (word ∷ []) ≡ kind_set kinds → more ≡ changed (told active now code (word ∷ [])) devices → ((a : ℕ) → to ≡ Some a → AnyAt st a)
-    → Rekinds to (changed_kinds change kinds) Answer.Done nobody st (record st { devices = more })
-carried_out change to now kinds code word st devices more active d a same is e m any = go to (told_all change to kinds word st devices more active d a e heard) any
+pub carried_out : (change : Change) (to now : Option ℕ) (kinds : Kinds) (code : Code) (word : Word) (st : State) (lost : Lost) (devices more : List (Option Device)) (active : ℕ) → HasDevices st devices active
+    → now ≡ to → code ≡ command change now → named_kinds (word ∷ []) ≡ kind_set kinds → more ≡ changed (heard_at active now code (word ∷ [])) devices → ((a : ℕ) → to ≡ Some a → AnyAt st a)
+    → Rekinds to (changed_kinds change kinds) Answer.Done lost st (record st { devices = more })
+carried_out change to now kinds code word st lost devices more active has same is e m any = go to (heard_all change to kinds word st devices more active has e heard) any
   where
-    heard : more ≡ changed (told active to (command change to) (word ∷ [])) devices
-    heard = m ∙ (λ t. changed (told active (same t) ((is ∙ ap (command change) same) t) (word ∷ [])) devices)
+    heard : more ≡ changed (heard_at active to (command change to) (word ∷ [])) devices
+    heard = m ∙ (λ t. changed (heard_at active (same t) ((is ∙ ap (command change) same) t) (word ∷ [])) devices)
 
     go : (o : Option ℕ) → record st { devices = more } ≡ rekinded o (changed_kinds change kinds) st → ((a : ℕ) → o ≡ Some a → AnyAt st a)
-        → Rekinds o (changed_kinds change kinds) Answer.Done nobody st (record st { devices = more })
+        → Rekinds o (changed_kinds change kinds) Answer.Done lost st (record st { devices = more })
     go None all any = (refl, all)
     go (Some at) all any = inl (refl, any at refl, all)
 
--- nobody is at the address
-pub unanswered : (to : Option ℕ) (at : ℕ) (f : KindSet → KindSet) (st : State) (devices : List (Option Device)) → st.devices ≡ devices → to ≡ Some at → ¬ AnyAt st at
-    → Rekinds to f (Answer.NoAnswer at) nobody st (record st { devices = devices })
-unanswered to at f st devices d e none =
-    subst (λ o. Rekinds o f (Answer.NoAnswer at) nobody st (record st { devices = devices })) (sym e)
-    (inr (refl, λ s x h. absurd (none (s, x, h)), λ t. record st { devices = sym d t }))
+-- nobody at the address is left
+all_lost : (st : State) (a : ℕ) (lost : Lost) → ¬ SomeLeftAt st a lost → AllLostAt st a lost
+all_lost st a lost none s d h = go (lost s) refl
+  where
+    go : (b : Bool) → lost s ≡ b → lost s ≡ true
+    go true e = e
+    go false e = absurd (none (s, d, h, e))
+
+pub unanswered : (to : Option ℕ) (at : ℕ) (f : KindSet → KindSet) (st : State) (lost : Option ℕ → Lost) (devices : List (Option Device)) (active : ℕ) → HasDevices st devices active → to ≡ Some at → ¬ SomeLeftAt st at (lost (Some at))
+    → Rekinds to f (Answer.NoAnswer at) (lost to) st (record st { devices = devices })
+unanswered to at f st lost devices active has e none =
+    subst (λ o. Rekinds o f (Answer.NoAnswer at) (lost o) st (record st { devices = devices })) (sym e)
+    (inr (refl, all_lost st at (lost (Some at)) none, λ t. record st { devices = sym has.0 t }))
+
+-- some of those at the address are there
+pub left_any : (st : State) (a : ℕ) (lost : Lost) → SomeLeftAt st a lost → AnyAt st a
+left_any st a lost h = (h.0, h.1, h.2)

@@ -6,8 +6,8 @@ mod hearing;
 mod words;
 
 pub use hearing::{NoAnswer, hear_kinds};
-pub use i3c_base::Kinds;
-pub use words::{Change, code_word, kinds_word};
+pub use i3c_base::{Change, Kinds};
+pub use words::{code_word, kinds_word};
 
 #[cfg(test)]
 mod tests;

@@ -5,16 +5,9 @@ ghost use Rattle.i3c_device.specs.Hearing.{named_kinds};
 ghost use Rattle.i3c_events.specs.Words.{code_byte, command, kinds_byte};
 
 use bitflags::Flags;
-use i3c_base::{Addr7, Kinds};
+use i3c_base::{Addr7, Change, Kinds};
 use i3c_ccc::{Code, byte_of};
 use i3c_word::{Word, write_word};
-
-/// Whether kinds of events are enabled (ENEC) or disabled (DISEC).
-#[derive(Clone, Copy, Debug, PartialEq, Eq)]
-pub enum Change {
-    Enable,
-    Disable,
-}
 
 /// The bits that stand for kinds: interrupts, role requests and Hot-Join.
 const NAMED: u8 = 0b1011;
