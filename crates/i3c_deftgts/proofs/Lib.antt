@@ -1,0 +1,6 @@
+pub mod UpwardLaws
+pub mod LayoutLaws
+pub mod TableLaws
+pub mod GatheringLaws
+pub mod ReadingLaws
+pub mod FaultLaws
