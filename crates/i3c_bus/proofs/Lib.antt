@@ -17,13 +17,4 @@ pub mod Raising
 pub mod Numbering
 pub mod Recording
 pub mod StayOrder
-pub mod HearersLaws
 pub mod Accepting
-pub mod Stepping
-pub mod Beginning
-pub mod Agreeing
-pub mod Telling
-pub mod RaiseSteps
-pub mod Seen
-pub mod Starting
-pub mod RunLaws

@@ -21,7 +21,7 @@ use Rattle.i3c_base.specs.Local.{attach, raise}
 use Rattle.i3c_base.specs.Serve.{Frame, Serves, drives, each_driver, emptied, tail, without_front, without_join, without_role}
 use Rattle.i3c_base.specs.Frames.{Rekinds, reaches, rekinded}
 use Rattle.i3c_base.specs.Round.{Rounds, assigned, hears, opened, unhearing, winner, wins}
-use Rattle.i3c_device.specs.Raising.{same_bool}
+use Rattle.i3c_base.specs.Numbers.{same_bool}
 use Rattle.i3c_base.proofs.Lookups.{attach_from, change_from, each_from, emptied_from}
 use Rattle.i3c_bus.specs.declared.events.Event.{Event}
 use Rattle.i3c_bus.specs.declared.events.Event.TheVariants.{Attach, Raise, Serve, Enec, Disec, OpenDaa, Round, EndDaa}

@@ -8,15 +8,14 @@ use Rattle.i3c_base.specs.declared.requests.Served.{Served}
 use Rattle.i3c_base.specs.State.{State}
 use Rattle.i3c_base.specs.declared.answers.Answer.{Answer}
 use Rattle.i3c_base.specs.Numbers.{KindSet}
-use Rattle.i3c_base.specs.Frames.{AllLostAt, AnyAt, Rekinds}
+use Rattle.i3c_base.specs.Frames.{changed_kinds, AllLostAt, AnyAt, Rekinds}
 use Rattle.i3c_base.specs.Cutting.{CutList, Lost, IsUncut, lost_by}
 use Rattle.i3c_base.specs.Serve.{Frame, Serves, emptied}
 use Rattle.i3c_base.specs.Round.{Rounds, assigned}
 use Rattle.std.specs.Prelude.{⊤}
 use Rattle.i3c_base.specs.Serve.{refuse_all}
 use Rattle.i3c_base.specs.Round.{AllHearersLost, AnyHears, IsAddressFor, IsBeatenByLost, IsContender}
-use Rattle.i3c_events.specs.declared.words.Change.{Change}
-use Rattle.i3c_events.specs.Hearing.{changed_kinds}
+use Rattle.i3c_base.specs.declared.kinds.Change.{Change}
 use Rattle.i3c_bus.specs.declared.events.Event.{Event}
 use Rattle.i3c_bus.specs.declared.events.Event.TheVariants.{Attach, Raise, Serve, Enec, Disec, OpenDaa, Round, EndDaa}
 use Rattle.i3c_bus.specs.declared.replies.Refusal.{Refusal}

@@ -4,8 +4,10 @@ use Rattle.i3c_base.specs.declared.answers.RoundReply.{RoundReply}
 use Rattle.i3c_base.specs.declared.requests.Served.{Served}
 use Rattle.i3c_device.specs.declared.faults.RaiseFault.{RaiseFault}
 use Rattle.i3c_bus.specs.declared.replies.ActiveStays.{ActiveStays}
+use Rattle.i3c_bus.specs.declared.replies.DropRefusal.{DropRefusal}
 use Rattle.i3c_bus.specs.declared.replies.Framed.{Framed}
 use Rattle.i3c_bus.specs.declared.replies.FrameFault.{FrameFault}
+use Rattle.i3c_bus.specs.declared.replies.JoinRefusal.{JoinRefusal}
 use Rattle.i3c_bus.specs.declared.replies.RaiseRefusal.{RaiseRefusal}
 use Rattle.i3c_bus.specs.declared.replies.SlotTaken.{SlotTaken}
 use Rattle.i3c_bus.specs.declared.replies.TargetFault.{TargetFault}
@@ -34,6 +36,27 @@ raise_refusal RaiseRefusal.NotCapable = Refusal.NotCapable
 raise_refusal RaiseRefusal.ByteMismatch = Refusal.ByteMismatch
 raise_refusal RaiseRefusal.Masked = Refusal.Masked
 raise_refusal RaiseRefusal.Full = Refusal.Full
+
+-- why a device doesn't drop off, among all refusals
+abbrev pub drop_refusal : DropRefusal → Refusal
+drop_refusal DropRefusal.NoDevice = Refusal.NoDevice
+drop_refusal DropRefusal.ActiveStays = Refusal.ActiveStays
+
+-- of `drop_off`
+abbrev pub dropped_reply : Result (Unit {0}) DropRefusal → Reply
+dropped_reply (Ok done) = Reply.Dropped
+dropped_reply (Err why) = Reply.Refused (drop_refusal why)
+
+-- why a device doesn't wish to join, among all refusals
+abbrev pub join_refusal : JoinRefusal → Refusal
+join_refusal JoinRefusal.NoDevice = Refusal.NoDevice
+join_refusal JoinRefusal.HasAddress = Refusal.HasAddress
+join_refusal JoinRefusal.Masked = Refusal.Masked
+
+-- of `ask_join`
+abbrev pub joins_reply : Result (Unit {0}) JoinRefusal → Reply
+joins_reply (Ok done) = Reply.Asked
+joins_reply (Err why) = Reply.Refused (join_refusal why)
 
 -- of `raise`
 abbrev pub raised_reply : Result ℕ RaiseRefusal → Reply

@@ -4,21 +4,19 @@ use Rattle.i3c_base.specs.declared.answers.RoundReply.{RoundReply}
 use Rattle.i3c_base.specs.declared.device.TheConstants.{WAITING}
 use Rattle.i3c_base.specs.declared.requests.Fixed.{Fixed}
 use Rattle.i3c_base.specs.declared.requests.Served.{Served}
-use Rattle.i3c_base.specs.Numbers.{KindSet, can_interrupt, has_byte}
+use Rattle.i3c_base.specs.declared.kinds.Change.{Change}
+use Rattle.i3c_base.specs.Numbers.{KindSet, can_interrupt, has_byte, same_bool}
 use Rattle.i3c_base.specs.State.{State, device_at, entry_at, in_slot, raised_at}
 use Rattle.i3c_base.specs.Cutting.{CutList, IsUncut, Lost, cut_of}
-use Rattle.i3c_base.specs.Local.{attach, raise}
+use Rattle.i3c_base.specs.Local.{ask_join, attach, drop_off, raise}
 use Rattle.i3c_base.specs.Serve.{Frame, header_bits, refuse_all}
-use Rattle.i3c_base.specs.Frames.{Rekinds, active_has, kinds_bits}
+use Rattle.i3c_base.specs.Frames.{Rekinds, active_has, changed_kinds, kinds_bits}
 use Rattle.i3c_base.specs.Round.{Rounds, ended, opened}
-use Rattle.i3c_device.specs.Raising.{same_bool}
-use Rattle.i3c_events.specs.declared.words.Change.{Change}
-use Rattle.i3c_events.specs.Hearing.{changed_kinds}
 use Rattle.i3c_bus.specs.declared.events.Event.{Event}
-use Rattle.i3c_bus.specs.declared.events.Event.TheVariants.{Attach, Raise, Serve, Enec, Disec, OpenDaa, Round, EndDaa}
+use Rattle.i3c_bus.specs.declared.events.Event.TheVariants.{Attach, DropOff, Raise, AskJoin, Serve, Enec, Disec, OpenDaa, Round, EndDaa}
 use Rattle.i3c_bus.specs.declared.replies.Framed.{Framed}
 use Rattle.i3c_bus.specs.declared.replies.Refusal.{Refusal}
-use Rattle.i3c_bus.specs.declared.replies.Refusal.TheVariants.{SessionOpen, NoSession, ActiveStays, SlotTaken, NoDevice, IsActive, NoAddress, NotCapable, ByteMismatch, Masked, Full, NoAnswer}
+use Rattle.i3c_bus.specs.declared.replies.Refusal.TheVariants.{SessionOpen, NoSession, ActiveStays, SlotTaken, NoDevice, IsActive, NoAddress, HasAddress, NotCapable, ByteMismatch, Masked, Full, NoAnswer}
 use Rattle.i3c_bus.specs.declared.replies.Reply.{Reply}
 
 -- tests with the refusal that each stands for, in order
@@ -50,6 +48,7 @@ target_checks st (Some a) = (is_no_target st a, NoAnswer a) ∷ []
 -- the refusals of each event, in order
 abbrev pub checks : State → Event → Checks
 checks st (Attach s setup) = (is_some (device_at st s), SlotTaken) ∷ []
+checks st (DropOff s) = (is_none (device_at st s), NoDevice) ∷ (s == st.active, ActiveStays) ∷ []
 checks st (Raise s byte) =
     (is_none (device_at st s), NoDevice) ∷ (s == st.active, IsActive)
     ∷ (in_slot (λ d. is_none d.address) (device_at st s), NoAddress)
@@ -57,6 +56,9 @@ checks st (Raise s byte) =
     ∷ (in_slot (λ d. not (same_bool (has_byte d.identity.bcr) (is_some byte))) (device_at st s), ByteMismatch)
     ∷ (in_slot (λ d. not d.kinds.interrupt) (device_at st s), Masked)
     ∷ (in_slot (λ d. nat_le WAITING (length d.waiting) || nat_le (2 ^ 64 - 1) (raised_at st s)) (device_at st s), Full) ∷ []
+checks st (AskJoin s) =
+    (is_none (device_at st s), NoDevice) ∷ (in_slot (λ d. is_some d.address) (device_at st s), HasAddress)
+    ∷ (in_slot (λ d. not d.kinds.join) (device_at st s), Masked) ∷ []
 checks st (Serve policy cuts) = frame_checks st cuts
 checks st (Enec to kinds policy cuts) = frame_checks st cuts ++ target_checks st to
 checks st (Disec to kinds policy cuts) = frame_checks st cuts ++ target_checks st to
@@ -70,7 +72,9 @@ may_want_memory (Serve policy cuts) = true
 may_want_memory (Enec to kinds policy cuts) = true
 may_want_memory (Disec to kinds policy cuts) = true
 may_want_memory (Attach s setup) = false
+may_want_memory (DropOff s) = false
 may_want_memory (Raise s byte) = false
+may_want_memory (AskJoin s) = false
 may_want_memory (OpenDaa cuts) = false
 may_want_memory (Round cuts) = false
 may_want_memory EndDaa = false
@@ -92,7 +96,9 @@ RekindsBy old to f policy cuts reply new =
 -- what an event that isn't refused answers and leaves
 abbrev pub Acts : State → Event → Reply → State → Type 0
 Acts old (Attach s setup) reply new = (reply ≡ Reply.Attached) × (new ≡ attach s setup old)
+Acts old (DropOff s) reply new = (reply ≡ Reply.Dropped) × (new ≡ drop_off s old)
 Acts old (Raise s byte) reply new = (reply ≡ Reply.Raised (suc (raised_at old s))) × (new ≡ raise s byte old)
+Acts old (AskJoin s) reply new = (reply ≡ Reply.Asked) × (new ≡ ask_join s old)
 Acts old (Serve policy cuts) reply new = (served : Served) × (reply ≡ Reply.Served served) × Frame old policy cuts served 0 Nothing new
 Acts old (Enec to kinds policy cuts) reply new = RekindsBy old to (changed_kinds Change.Enable kinds) policy cuts reply new
 Acts old (Disec to kinds policy cuts) reply new = RekindsBy old to (changed_kinds Change.Disable kinds) policy cuts reply new
@@ -117,7 +123,9 @@ cuts_in (Disec to kinds policy cuts) = Some cuts
 cuts_in (OpenDaa cuts) = Some cuts
 cuts_in (Round cuts) = Some cuts
 cuts_in (Attach s setup) = None
+cuts_in (DropOff s) = None
 cuts_in (Raise s byte) = None
+cuts_in (AskJoin s) = None
 cuts_in EndDaa = None
 
 -- the event cuts nobody

@@ -1,12 +1,16 @@
 use i3c_base::{Addr7, Cuts, Fixed, Kinds, Setup, Slot};
 
 /// What may happen on a bus. A frame carries its policy on requests, and its cuts.
-#[derive(Drop)]
+#[derive(Debug, Drop)]
 pub enum Event {
     /// A device enters a slot.
     Attach(Slot, Setup),
+    /// The slot's device drops off: it loses power, and is gone.
+    DropOff(Slot),
     /// The slot's device raises an interrupt, with its mandatory byte where one is due (I3C Basic 5.1.6.2).
     Raise(Slot, Option<u8>),
+    /// The slot's device wishes to join (Hot-Join, I3C Basic 5.1.5).
+    AskJoin(Slot),
     /// The active controller serves the first request, and nothing else.
     Serve(Fixed, Cuts),
     /// Kinds of events are enabled (ENEC, I3C Basic 5.1.9.3.1): of the devices at an address, or without one of all
@@ -20,4 +24,15 @@ pub enum Event {
     Round(Cuts),
     /// The session ends with STOP.
     EndDaa,
+}
+
+/// A frame that the active controller sends under its role, with an event's arguments but policy and cuts.
+#[derive(Clone, Copy, Debug, PartialEq, Eq)]
+pub enum Command {
+    /// Serves the first request, and nothing else.
+    Serve,
+    /// Enables kinds of events, of the devices at an address or of all but the active controller.
+    Enec(Option<Addr7>, Kinds),
+    /// Disables kinds of events, of the same.
+    Disec(Option<Addr7>, Kinds),
 }

@@ -19,9 +19,11 @@ pub enum Refusal {
     IsActive,
     /// The device has no address.
     NoAddress,
+    /// The device has an address.
+    HasAddress,
     /// The device can't do this by its BCR.
     NotCapable,
-    /// A mandatory byte is due by the device's BCR and lacks, or is given and isn't due.
+    /// A mandatory byte is due by the device's BCR and is missing, or is given and isn't due.
     ByteMismatch,
     /// The device's events of this kind are disabled.
     Masked,
@@ -45,8 +47,11 @@ pub enum Reply {
     /// There was no memory for a record, before the frame's first bit. Nothing changed.
     OutOfMemory,
     Attached,
+    Dropped,
     /// The number of the raise: those of a slot count from 1, over all its stays.
     Raised(u64),
+    /// The device wishes what it was asked to.
+    Asked,
     /// The frame served this, and nothing else.
     Served(Served),
     Framed(Framed),
@@ -69,6 +74,60 @@ pub enum StartFault {
 #[error("the slot is taken")]
 pub struct SlotTaken;
 
+/// Why a slot's device doesn't drop off.
+#[derive(Clone, Copy, Debug, PartialEq, Eq, Drop, Error)]
+pub enum DropRefusal {
+    /// The slot holds no device.
+    #[error("the slot holds no device")]
+    NoDevice,
+    /// The slot's device is the active controller.
+    #[error("the active controller stays")]
+    ActiveStays,
+}
+
+impl From<DropRefusal> for Refusal {
+    ghost use Rattle.std.specs.Prelude.{◌≡◌};
+    ghost use Rattle.i3c_bus.specs.Replies.{drop_refusal};
+
+    ghost from_gives = { λ why refusal. refusal ≡ drop_refusal why };
+
+    fn from(why: DropRefusal) -> Refusal {
+        match why {
+            DropRefusal::NoDevice => Refusal::NoDevice,
+            DropRefusal::ActiveStays => Refusal::ActiveStays,
+        }
+    }
+}
+
+/// Why a slot's device doesn't wish to join.
+#[derive(Clone, Copy, Debug, PartialEq, Eq, Drop, Error)]
+pub enum JoinRefusal {
+    /// The slot holds no device.
+    #[error("the slot holds no device")]
+    NoDevice,
+    /// The device has an address.
+    #[error("the device has an address")]
+    HasAddress,
+    /// The device's joins are disabled.
+    #[error("the device's joins are disabled")]
+    Masked,
+}
+
+impl From<JoinRefusal> for Refusal {
+    ghost use Rattle.std.specs.Prelude.{◌≡◌};
+    ghost use Rattle.i3c_bus.specs.Replies.{join_refusal};
+
+    ghost from_gives = { λ why refusal. refusal ≡ join_refusal why };
+
+    fn from(why: JoinRefusal) -> Refusal {
+        match why {
+            JoinRefusal::NoDevice => Refusal::NoDevice,
+            JoinRefusal::HasAddress => Refusal::HasAddress,
+            JoinRefusal::Masked => Refusal::Masked,
+        }
+    }
+}
+
 /// The active controller can't be cut.
 #[derive(Clone, Copy, Debug, PartialEq, Eq, Drop, Error)]
 #[error("the active controller stays")]
@@ -89,7 +148,7 @@ pub enum RaiseRefusal {
     /// The device's BCR says that it can't interrupt.
     #[error("the device can't interrupt")]
     NotCapable,
-    /// A mandatory byte is due by the device's BCR and lacks, or is given and isn't due.
+    /// A mandatory byte is due by the device's BCR and is missing, or is given and isn't due.
     #[error("the mandatory byte and the device's BCR differ")]
     ByteMismatch,
     /// The device's interrupts are disabled.

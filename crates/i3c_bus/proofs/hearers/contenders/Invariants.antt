@@ -1,6 +1,0 @@
-use Rattle.i3c_bus.proofs.HearersLaws.{ContendersSoFar}
-use Rattle.i3c_bus.proofs.hearers.contenders.Given as goal
-
--- the contenders of the slots so far
-abbrev pub invariant-loop-index : goal.invariant-loop-index
-invariant-loop-index l = ContendersSoFar l.devices l.index l.keys.items
