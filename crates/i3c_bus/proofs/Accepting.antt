@@ -13,7 +13,7 @@ use Rattle.i3c_base.proofs.Lookups.{emptied_from}
 use Rattle.i3c_bus.specs.Serving.{policy_of, recorded_at, served_of}
 use Rattle.i3c_bus.specs.Step.{Acts, Step}
 use Rattle.i3c_bus.specs.declared.events.Event.{Event}
-use Rattle.i3c_bus.specs.declared.events.Event.TheVariants.{Attach, Raise, Serve, Enec, Disec, OpenDaa, Round, EndDaa}
+use Rattle.i3c_bus.specs.declared.events.Event.TheVariants.{Attach, DropOff, Raise, AskJoin, Serve, Enec, Disec, OpenDaa, Round, EndDaa}
 use Rattle.i3c_bus.specs.declared.replies.Reply.{Reply}
 use Rattle.i3c_bus.proofs.Drivers.{accepted_recorded}
 use Rattle.i3c_bus.proofs.Steps.{IsIdle, refused, short, step_cases}
@@ -54,7 +54,9 @@ acts_record old (Disec to kinds p cuts) reply new policy a s acts e h =
 acts_record old (OpenDaa cuts) reply new policy a s acts e h =
     in_reply reply acts.0 (ap served_of acts.1) (frame_records old refuse_all cuts acts.0 _ _ new a s acts.2 (subst (λ q. IsAcceptedOf old q new a s) (sym (same_Some refuse_all policy e)) h))
 acts_record old (Attach t setup) reply new policy a s acts e h = absurd (none-some policy e)
+acts_record old (DropOff t) reply new policy a s acts e h = absurd (none-some policy e)
 acts_record old (Raise t byte) reply new policy a s acts e h = absurd (none-some policy e)
+acts_record old (AskJoin t) reply new policy a s acts e h = absurd (none-some policy e)
 acts_record old (Round cuts) reply new policy a s acts e h = absurd (none-some policy e)
 acts_record old EndDaa reply new policy a s acts e h = absurd (none-some policy e)
 

@@ -1,6 +1,6 @@
 -- The active controller stays present.
-use Rattle.std.proofs.lemmas.Bool.{cond-false}
-use Rattle.std.proofs.Common.{◌≡◌, ℕ, suc, ◌++◌, length, false, ◌∷◌, [], List, Option, Some, None, option_map, ◌==◌, ◌<◌, arith, if◌then◌else◌, inl, inr, sym, ap, ◌∙◌, subst}
+use Rattle.std.proofs.lemmas.Bool.{cond-false, eqb-false, ne_eqb}
+use Rattle.std.proofs.Common.{◌≡◌, ℕ, suc, ◌++◌, length, false, true, ◌∷◌, [], List, Option, Some, None, option_map, ◌==◌, ◌<◌, arith, if◌then◌else◌, inl, inr, sym, ap, ◌∙◌, subst}
 use Rattle.i3c_base.specs.declared.answers.Answer.{Answer}
 use Rattle.i3c_base.specs.declared.answers.RoundReply.{RoundReply}
 use Rattle.i3c_base.specs.declared.device.Setup.{Setup}
@@ -17,14 +17,14 @@ use Rattle.i3c_base.specs.State.{Device, State, IsPresent, IsStart, attached, ch
 use Rattle.i3c_base.specs.Serve.{Frame, Serves, drives, each_driver, emptied, without_front, without_join, without_role}
 use Rattle.i3c_base.specs.Frames.{Rekinds, reaches, rekinded}
 use Rattle.i3c_base.specs.Round.{Rounds, assigned, hears, opened, unhearing, winner, wins}
-use Rattle.i3c_base.proofs.Lookups.{change_at, each_at, emptied_at, length-no_devices, set_at, set_in}
+use Rattle.i3c_base.proofs.Lookups.{change_at, drop_off_at, each_at, emptied_at, length-no_devices, set_at, set_in}
 use Rattle.i3c_bus.specs.declared.events.Event.{Event}
-use Rattle.i3c_bus.specs.declared.events.Event.TheVariants.{Attach, Raise, Serve, Enec, Disec, OpenDaa, Round, EndDaa}
+use Rattle.i3c_bus.specs.declared.events.Event.TheVariants.{Attach, DropOff, Raise, AskJoin, Serve, Enec, Disec, OpenDaa, Round, EndDaa}
 use Rattle.i3c_bus.specs.declared.replies.Reply.{Reply}
 use Rattle.i3c_bus.specs.Runs.{IsLegalRun}
 use Rattle.i3c_bus.proofs.Kept.{run_keeps}
 use Rattle.i3c_bus.specs.Step.{Acts, Step, checks, first_refusal, target_checks}
-use Rattle.i3c_bus.proofs.Steps.{active_left, step_cases}
+use Rattle.i3c_bus.proofs.Steps.{active_left, no_test, step_cases}
 
 -- the active slot is occupied
 abbrev pub HasActive : State → Type 0
@@ -102,6 +102,10 @@ Active-round old cuts (RoundReply.Assigned a i) new h uncut p = subst HasActive 
 Active-acts : (old : State) (event : Event) (reply : Reply) (new : State) → first_refusal (checks old event) ≡ None → Acts old event reply new → HasActive old → HasActive new
 Active-acts old (Attach s setup) reply new free h p = subst HasActive (sym h.1)
     (elim (set_at old.devices s old.active (Some (attached setup)) None) [ inl e ↦ (attached setup, e.1) | inr e ↦ (p.0, e ∙ p.1) ])
+Active-acts old (DropOff s) reply new free h p =
+    let other : (s == old.active) ≡ false = no_test 1 (checks old (DropOff s)) free in
+    subst HasActive (sym h.1) (p.0, drop_off_at s old old.active ∙ (cond-false (old.active == s) None (device_at old old.active) (ne_eqb old.active s (λ e. eqb-false s old.active other (sym e))) ∙ p.1))
+Active-acts old (AskJoin s) reply new free h p = subst HasActive (sym h.1) (Present-change s (λ d. record d { join_wish = true }) old _ p)
 Active-acts old (Raise s byte) reply new free h p = subst HasActive (sym h.1)
     (Present-change s (λ d. record d { waiting = d.waiting ++ record { number = suc (raised_at old s); byte = byte } ∷ [] }) old _ p)
 Active-acts old (Serve policy cuts) reply new free h p = Active-frame old policy cuts _ _ _ new Safe-same h.2 (λ last. active_left old cuts _ _ _ [] last free) p

@@ -6,7 +6,7 @@ use Rattle.std.proofs.lemmas.Option.{none-some, same_Some}
 use Rattle.i3c_base.specs.declared.identity.Identity.{Identity}
 use Rattle.i3c_base.specs.Cutting.{CutList, Lost, lost_by}
 use Rattle.i3c_bus.specs.declared.events.Event.{Event}
-use Rattle.i3c_bus.specs.declared.events.Event.TheVariants.{Attach, Raise, Serve, Enec, Disec, OpenDaa, Round, EndDaa}
+use Rattle.i3c_bus.specs.declared.events.Event.TheVariants.{Attach, DropOff, Raise, AskJoin, Serve, Enec, Disec, OpenDaa, Round, EndDaa}
 use Rattle.i3c_base.specs.declared.requests.Fixed.{Fixed}
 use Rattle.i3c_base.specs.declared.requests.Request.{Request}
 use Rattle.i3c_bus.specs.declared.replies.Reply.{Reply}
@@ -18,7 +18,7 @@ use Rattle.i3c_base.specs.declared.device.LegacyTarget.{LegacyTarget}
 use Rattle.i3c_base.specs.Numbers.{same_identity}
 use Rattle.i3c_base.specs.State.{Device, Entry, State, IsStart, addressed, attached, change, device_at, each, entry_at, entry_of, kept_entry_of, kept_of, no_devices, no_entries, raised_at, legacy_target_at, unaddressed, unkept}
 use Rattle.i3c_base.specs.declared.range.TheConstants.{ADDRESSES}
-use Rattle.i3c_base.specs.Local.{attach, raise}
+use Rattle.i3c_base.specs.Local.{attach, drop_off, raise}
 use Rattle.i3c_base.specs.Frames.{Rekinds, reaches, rekinded}
 use Rattle.i3c_base.specs.Numbers.{KindSet}
 use Rattle.i3c_base.specs.declared.answers.Answer.{Answer}
@@ -27,7 +27,7 @@ use Rattle.i3c_base.specs.Round.{IsAddressFor, Rounds, assigned, ended, opened, 
 use Rattle.i3c_bus.specs.Step.{Acts, Becomes, Step}
 use Rattle.i3c_bus.specs.Sound.{Addresses, IsFor}
 use Rattle.i3c_bus.proofs.Steps.{step_cases}
-use Rattle.i3c_base.proofs.Lookups.{attach_from, change_from, each_from, emptied_from, length-no_entries, no_devices_at, no_entries_at, set_from, set_in}
+use Rattle.i3c_base.proofs.Lookups.{attach_from, change_from, drop_off_from, each_from, emptied_from, length-no_entries, no_devices_at, no_entries_at, set_from, set_in}
 use Rattle.i3c_bus.proofs.Maps.{cond_some_from, cond_kept_from, same_identity-true}
 
 -- device d had its identity and address in the same slot before
@@ -123,6 +123,11 @@ NoneNew-change s f st steady = NoneNew-from st (change s f st) was refl (λ a l.
           address = kept.address a (ap (λ x. x.address) from.2 ∙ q);
           identity = sym kept.identity ∙ ap (λ x. x.identity) from.2;
         }
+
+NoneNew-drop_off : (s : ℕ) (st : State) → NoneNew st (drop_off s st)
+NoneNew-drop_off s st = NoneNew-from st (drop_off s st)
+    (λ t a d p q. record { was = d; there = (drop_off_from s st t d p).1; address = q; identity = refl })
+    refl (λ a l. l)
 
 pub NoneNew-emptied : (lost : Lost) (st : State) → NoneNew st (emptied lost st)
 NoneNew-emptied lost st = NoneNew-from st (emptied lost st)
@@ -294,6 +299,9 @@ NoneNew-becomes f h lost mid done e = subst (NoneNew mid) (sym e) (h mid)
 -- each event that acts keeps the invariant
 Addresses-acts : (old : State) (event : Event) (reply : Reply) (new : State) → Acts old event reply new → Addresses old → Addresses new
 Addresses-acts old (Attach s setup) reply new h inv = subst Addresses (sym h.1) (Addresses-none_new old _ (NoneNew-attach s setup old) inv)
+Addresses-acts old (DropOff s) reply new h inv = subst Addresses (sym h.1) (Addresses-none_new old _ (NoneNew-drop_off s old) inv)
+Addresses-acts old (AskJoin s) reply new h inv =
+    subst Addresses (sym h.1) (Addresses-none_new old _ (NoneNew-change s (λ d. record d { join_wish = true }) old (λ d. record { identity = refl; address = λ a p. p })) inv)
 Addresses-acts old (Raise s byte) reply new h inv = subst Addresses (sym h.1) (Addresses-none_new old _ (NoneNew-raise s byte old) inv)
 Addresses-acts old (Serve policy cuts) reply new h inv =
     Addresses-frame old policy cuts _ _ _ new (λ lost mid done e. subst (NoneNew mid) (sym e) (NoneNew-refl mid)) h.2 inv

@@ -8,7 +8,7 @@ use Rattle.i3c_base.specs.State.{Device, HasDistinctIdentities, State, device_at
 use Rattle.i3c_base.specs.Local.{raise}
 use Rattle.i3c_base.proofs.Lookups.{change_from, set_in}
 use Rattle.i3c_bus.specs.declared.events.Event.{Event}
-use Rattle.i3c_bus.specs.declared.events.Event.TheVariants.{Attach, Raise, Serve, Enec, Disec, OpenDaa, Round, EndDaa}
+use Rattle.i3c_bus.specs.declared.events.Event.TheVariants.{Attach, DropOff, Raise, AskJoin, Serve, Enec, Disec, OpenDaa, Round, EndDaa}
 use Rattle.i3c_bus.specs.declared.replies.Reply.{Reply}
 use Rattle.i3c_bus.specs.Step.{Acts, Step, checks, first_refusal}
 use Rattle.i3c_bus.specs.History.{IsAccepted, Moment}
@@ -18,7 +18,7 @@ use Rattle.i3c_bus.specs.Stays.{accepted_at, number_raised, raised_as}
 use Rattle.i3c_bus.proofs.Fates.{Contains-one, Counts, StepFacts-frame, StepFacts-unserved, Fate, Fate-none, Grows, IsEven, StepFacts}
 use Rattle.i3c_bus.proofs.Fronts.{since_none}
 use Rattle.i3c_bus.proofs.Steps.{IsIdle, no_test, refused, short, step_cases}
-use Rattle.i3c_bus.proofs.Unserved.{Unserved, Unserved-attach, Unserved-ended, Unserved-opened, Unserved-rekinds, Unserved-round, Unserved-same, waiting_in}
+use Rattle.i3c_bus.proofs.Unserved.{Unserved, Unserved-ask_join, Unserved-attach, Unserved-drop_off, Unserved-ended, Unserved-opened, Unserved-rekinds, Unserved-round, Unserved-same, waiting_in}
 
 none_from : {A : Type 0} (o : Option A) → is_some o ≡ false → o ≡ None
 none_from None h = refl
@@ -100,6 +100,10 @@ StepFacts-acts : (old : State) (event : Event) (reply : Reply) (new : State) →
     → Addresses old → HasDistinctIdentities old → IsEven old → StepFacts old (record { event = event; reply = reply; after = new })
 StepFacts-acts old (Attach s setup) reply new free h inv distinct even = StepFacts-unserved old _ (ap number_raised h.0) (ap recorded_at h.0)
     (subst (Unserved old) (sym h.1) (Unserved-attach s setup old (none_from (device_at old s) (no_test 0 (checks old (Attach s setup)) free)))) even
+StepFacts-acts old (DropOff s) reply new free h inv distinct even =
+    StepFacts-unserved old _ (ap number_raised h.0) (ap recorded_at h.0) (subst (Unserved old) (sym h.1) (Unserved-drop_off s old)) even
+StepFacts-acts old (AskJoin s) reply new free h inv distinct even =
+    StepFacts-unserved old _ (ap number_raised h.0) (ap recorded_at h.0) (subst (Unserved old) (sym h.1) (Unserved-ask_join s old)) even
 StepFacts-acts old (Raise s byte) reply new free h inv distinct even = StepFacts-raise old s byte _ free refl h.0 h.1 even
 StepFacts-acts old (Serve policy cuts) reply new free h inv distinct even =
     StepFacts-frame old _ policy cuts h.0 _ _ (λ lost mid done e. Unserved-same mid done e) h.2 (ap number_raised h.1) (ap recorded_at h.1) inv distinct even

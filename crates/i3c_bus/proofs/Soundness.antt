@@ -22,9 +22,9 @@ use Rattle.i3c_base.specs.Serve.{Frame, Serves, drives, each_driver, emptied, ta
 use Rattle.i3c_base.specs.Frames.{Rekinds, reaches, rekinded}
 use Rattle.i3c_base.specs.Round.{Rounds, assigned, hears, opened, unhearing, winner, wins}
 use Rattle.i3c_base.specs.Numbers.{same_bool}
-use Rattle.i3c_base.proofs.Lookups.{attach_from, change_from, each_from, emptied_from}
+use Rattle.i3c_base.proofs.Lookups.{attach_from, change_from, drop_off_from, each_from, emptied_from}
 use Rattle.i3c_bus.specs.declared.events.Event.{Event}
-use Rattle.i3c_bus.specs.declared.events.Event.TheVariants.{Attach, Raise, Serve, Enec, Disec, OpenDaa, Round, EndDaa}
+use Rattle.i3c_bus.specs.declared.events.Event.TheVariants.{Attach, DropOff, Raise, AskJoin, Serve, Enec, Disec, OpenDaa, Round, EndDaa}
 use Rattle.i3c_bus.specs.declared.replies.Reply.{Reply}
 use Rattle.i3c_bus.specs.Step.{Acts, Step, checks, first_refusal}
 use Rattle.i3c_bus.specs.Sound.{IsFitting, IsSound}
@@ -136,6 +136,10 @@ AllFit-frame old policy cuts served rest Own new own frame all =
 
 AllFit-acts : (old : State) (event : Event) (reply : Reply) (new : State) → first_refusal (checks old event) ≡ None → Acts old event reply new → AllFit old → AllFit new
 AllFit-acts old (Attach s setup) reply new free h all = subst AllFit (sym h.1) (AllFit-attach s setup old all)
+AllFit-acts old (DropOff s) reply new free h all = subst AllFit (sym h.1) (λ t d p. all t d (drop_off_from s old t d p).1)
+AllFit-acts old (AskJoin s) reply new free h all = subst AllFit (sym h.1) (λ t d p.
+    let x = change_from s (λ (y : Device). record y { join_wish = true }) old t d p in
+    subst IsFitting x.2 (Fits-if (t == s) x.0 (record x.0 { join_wish = true }) (all t x.0 x.1) (all t x.0 x.1)))
 AllFit-acts old (Raise s byte) reply new free h all = subst AllFit (sym h.1) (AllFit-raise s byte old free all)
 AllFit-acts old (Serve policy cuts) reply new free h all = AllFit-frame old policy cuts _ _ _ new (λ lost mid done e fit. subst AllFit (sym e) fit) h.2 all
 AllFit-acts old (Enec to kinds policy cuts) reply new free h all = AllFit-frame old policy cuts _ _ _ new (AllFit-rekinds to _ _) h.2 all

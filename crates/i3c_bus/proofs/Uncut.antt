@@ -17,7 +17,7 @@ use Rattle.i3c_base.specs.Serve.{refuse_all}
 use Rattle.i3c_base.specs.Round.{AllHearersLost, AnyHears, IsAddressFor, IsBeatenByLost, IsContender}
 use Rattle.i3c_base.specs.declared.kinds.Change.{Change}
 use Rattle.i3c_bus.specs.declared.events.Event.{Event}
-use Rattle.i3c_bus.specs.declared.events.Event.TheVariants.{Attach, Raise, Serve, Enec, Disec, OpenDaa, Round, EndDaa}
+use Rattle.i3c_bus.specs.declared.events.Event.TheVariants.{Attach, DropOff, Raise, AskJoin, Serve, Enec, Disec, OpenDaa, Round, EndDaa}
 use Rattle.i3c_bus.specs.declared.replies.Refusal.{Refusal}
 use Rattle.i3c_bus.specs.declared.replies.Reply.{Reply}
 use Rattle.i3c_bus.specs.Step.{Acts, IsShort, RekindsBy, Step, checks, cuts_in, first_refusal}
@@ -100,6 +100,8 @@ rounds_unique old cuts (RoundReply.Assigned a i) (RoundReply.Assigned b j) new n
 acts_unique : (old : State) (event : Event) (reply other : Reply) (new next : State) → MatchOption (cuts_in event) ⊤ IsUncut
     → Acts old event reply new → Acts old event other next → (reply ≡ other) × (new ≡ next)
 acts_unique old (Attach s setup) reply other new next u h k = (h.0 ∙ sym k.0, h.1 ∙ sym k.1)
+acts_unique old (DropOff s) reply other new next u h k = (h.0 ∙ sym k.0, h.1 ∙ sym k.1)
+acts_unique old (AskJoin s) reply other new next u h k = (h.0 ∙ sym k.0, h.1 ∙ sym k.1)
 acts_unique old (Raise s byte) reply other new next u h k = (h.0 ∙ sym k.0, h.1 ∙ sym k.1)
 acts_unique old (Serve policy cuts) reply other new next u h k =
     let r = frames_agree old policy cuts h.0 k.0 _ _ _ _ new next ⊤ u (λ mid done last x y. (tt, x ∙ sym y)) h.2 k.2 in

@@ -1,6 +1,6 @@
 -- What raises and serves nothing leaves each waiting list as it was.
 use Rattle.std.proofs.lemmas.List.{length-set}
-use Rattle.std.proofs.Common.{◌≡◌, ℕ, Bool, true, false, length, get_or, List, [], Option, Some, None, option_map, is_none, if◌then◌else◌, inl, inr, sym, refl, ap, ◌∙◌, subst}
+use Rattle.std.proofs.Common.{◌≡◌, ℕ, Bool, true, false, length, get_or, List, [], Option, Some, None, option_map, is_none, ◌==◌, if◌then◌else◌, inl, inr, sym, refl, ap, ◌∙◌, subst}
 use Rattle.i3c_base.specs.declared.answers.Answer.{Answer}
 use Rattle.i3c_base.specs.declared.answers.RoundReply.{RoundReply}
 use Rattle.i3c_base.specs.declared.device.Setup.{Setup}
@@ -10,11 +10,11 @@ use Rattle.i3c_base.specs.declared.requests.Request.{Request}
 use Rattle.i3c_base.specs.Cutting.{CutList, Lost, lost_by}
 use Rattle.i3c_base.specs.Numbers.{KindSet}
 use Rattle.i3c_base.specs.State.{Device, State, attached, device_at, each}
-use Rattle.i3c_base.specs.Local.{attach}
+use Rattle.i3c_base.specs.Local.{ask_join, attach, drop_off}
 use Rattle.i3c_base.specs.Serve.{drives, each_driver, emptied}
 use Rattle.i3c_base.specs.Frames.{Rekinds, reaches, rekinded}
 use Rattle.i3c_base.specs.Round.{Rounds, assigned, ended, hears, opened, unhearing, winner, wins}
-use Rattle.i3c_base.proofs.Lookups.{attach_from, each_at, emptied_from, length-changed}
+use Rattle.i3c_base.proofs.Lookups.{attach_from, change_from, drop_off_from, each_at, emptied_from, length-changed}
 
 -- what waits in a slot
 abbrev pub waiting_in : Option Device → List Waiting
@@ -75,6 +75,25 @@ Unserved-attach s setup st empty = record {
   records = refl;
   raised = refl;
   long = length-set st.devices s (Some (attached setup));
+}
+
+-- a slot that is emptied, and a device that wishes to join
+pub Unserved-drop_off : (s : ℕ) (st : State) → Unserved st (drop_off s st)
+Unserved-drop_off s st = record {
+  waiting = λ t d p. sym (ap waiting_in (drop_off_from s st t d p).1);
+  records = refl;
+  raised = refl;
+  long = length-set st.devices s None;
+}
+
+pub Unserved-ask_join : (s : ℕ) (st : State) → Unserved st (ask_join s st)
+Unserved-ask_join s st = record {
+  waiting = λ t d p.
+      let x = change_from s (λ (y : Device). record y { join_wish = true }) st t d p in
+      ap (λ (y : Device). y.waiting) (sym x.2) ∙ (waiting-if (t == s) (record x.0 { join_wish = true }) x.0 refl ∙ sym (ap waiting_in x.1));
+  records = refl;
+  raised = refl;
+  long = length-set st.devices s _;
 }
 
 Unserved-rekinded : (to : Option ℕ) (f : KindSet → KindSet) (st : State) → Unserved st (rekinded to f st)
