@@ -11,9 +11,9 @@ pub const LEGACIES: usize = 16;
 
 // a legacy target, as it is declared
 #[derive(Clone, Copy, Default)]
-struct Declared {
-    address: Addr7,
-    lvr: Lvr,
+pub(crate) struct Declared {
+    pub address: Addr7,
+    pub lvr: Lvr,
 }
 
 /// The legacy I2C targets of a bus: their LVRs, by their static addresses (I3C Basic 5.1.1.2.3).
@@ -21,7 +21,7 @@ struct Declared {
 /// Clauses see a place for each of the 128 addresses.
 #[derive(Drop)]
 pub struct Legacies {
-    targets: ArrayVec<Declared, LEGACIES>,
+    pub(crate) targets: ArrayVec<Declared, LEGACIES>,
 }
 
 impl Model for Legacies {
