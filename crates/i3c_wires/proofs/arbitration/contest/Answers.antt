@@ -1,6 +1,7 @@
 -- One bit more, on masks; and what was read in the end.
 use Rattle.std.proofs.Common.{◌≡◌, ◌<◌, ◌≤◌, ◌-◌, ◌^◌, ℕ, List, suc, length, get_or, sym, ◌∙◌, ap, arith}
 use Rattle.i3c_base.specs.Cutting.{CutList, cut_of}
+use Rattle.i3c_base.specs.declared.range.TheConstants.{SLOTS}
 use Rattle.i3c_wires.specs.Contest.{drives_one}
 use Rattle.i3c_wires.specs.Masks.{is_at, mask_of}
 use Rattle.i3c_wires.proofs.PlaneLaws.{Sets, contested_first, contested_last, contested_next_one, contested_next_zero}
@@ -8,7 +9,7 @@ use Rattle.i3c_wires.proofs.Reading.{read_each, read_idle, read_in_width, read_l
 use Rattle.i3c_wires.proofs.arbitration.contest.Goals as goal
 
 -- the sets of the next bit
-sets_of : (cuts : CutList) (keys : List (ℕ × ℕ)) (width left : ℕ) (drops planes : List ℕ) → length keys ≤ 16 → 0 < left → left ≤ width → width ≤ 64 → ((bit : ℕ) → bit < 64 → get_or drops bit 0 ≡ mask_of (λ (e : ℕ × ℕ). is_at bit (cut_of cuts e.0)) keys)
+sets_of : (cuts : CutList) (keys : List (ℕ × ℕ)) (width left : ℕ) (drops planes : List ℕ) → length keys ≤ SLOTS → 0 < left → left ≤ width → width ≤ 64 → ((bit : ℕ) → bit < 64 → get_or drops bit 0 ≡ mask_of (λ (e : ℕ × ℕ). is_at bit (cut_of cuts e.0)) keys)
     → ((left : ℕ) → left < 64 → get_or planes left 0 ≡ mask_of (drives_one left) keys) → Sets cuts keys width (left - 1) (get_or drops (width - 1 - (left - 1)) 0) (get_or planes (left - 1) 0)
 sets_of cuts keys width left drops planes few some within fits cut ones =
     let same : width - 1 - (left - 1) ≡ width - suc (left - 1) = omega arith in
