@@ -1,5 +1,5 @@
 -- What requests drive into an arbitrable header, and who of them is first.
-use Rattle.std.specs.Prelude.{ℕ, ◌≤◌, List, All, Contains}
+use Rattle.std.specs.Prelude.{ℕ, ◌≤◌, Bool, true, false, List, All, Contains}
 use Rattle.i3c_base.specs.declared.requests.Request.{Request}
 use Rattle.i3c_base.specs.declared.requests.Request.TheVariants.{Join, Role, Interrupt}
 use Rattle.i3c_base.specs.Serve.{rank}
@@ -15,6 +15,12 @@ abbrev pub rnw_of : Request → ℕ
 rnw_of Join = 0
 rnw_of (Role a) = 0
 rnw_of (Interrupt a) = 1
+
+-- it reads
+abbrev pub is_read : Request → Bool
+is_read Join = false
+is_read (Role a) = false
+is_read (Interrupt a) = true
 
 -- a request that a device may drive: a join, or one at an address from 08
 abbrev pub IsLawful : Request → Type 0

@@ -1,5 +1,5 @@
 ghost use Rattle.std.specs.Prelude.{◌≡◌, ◌+◌, ◌*◌, ◌<◌};
-ghost use Rattle.i3c_header.specs.Keys.{address_of, rnw_of};
+ghost use Rattle.i3c_header.specs.Keys.{address_of, is_read, rnw_of};
 
 use i3c_base::{Addr7, Request};
 
@@ -16,4 +16,13 @@ pub fn key(request: Request) -> u8
         Request::Role(address) => 2 * address.get(),
         Request::Interrupt(address) => 2 * address.get() + 1,
     }
+}
+
+/// The address of a request's header, and whether it reads: what its key says.
+pub fn header(request: Request) -> (Addr7, bool)
+    ensures address { result.0 ≡ address_of request }
+    ensures read { result.1 ≡ is_read request }
+{
+    let key = key(request);
+    (Addr7::new(key / 2).unwrap(), key % 2 == 1)
 }
