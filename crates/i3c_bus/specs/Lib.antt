@@ -11,3 +11,9 @@ pub mod History
 pub mod Records
 pub mod Stays
 pub mod Laws
+pub mod Hands
+pub mod Parts
+pub mod Wire
+pub mod Calls
+pub mod Telling
+pub mod Beginning

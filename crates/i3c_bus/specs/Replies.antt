@@ -13,6 +13,7 @@ use Rattle.i3c_bus.specs.declared.replies.SlotTaken.{SlotTaken}
 use Rattle.i3c_bus.specs.declared.replies.TargetFault.{TargetFault}
 use Rattle.i3c_bus.specs.declared.replies.Refusal.{Refusal}
 use Rattle.i3c_bus.specs.declared.replies.Reply.{Reply}
+use Rattle.i3c_bus.specs.declared.tokens.Hand.{Hand}
 
 -- of `attach`
 abbrev pub attached_reply : Result (Unit {0}) SlotTaken → Reply
@@ -88,6 +89,11 @@ framed_reply (Err why) = target_fault_reply why
 abbrev pub opened_reply : Result (ℕ × Served) (ℕ × ActiveStays) → Reply
 opened_reply (Ok opened) = Reply.Opened opened.1
 opened_reply (Err refused) = Reply.Refused Refusal.ActiveStays
+
+-- the hand after `open_daa`
+abbrev pub opened_hand : Result (ℕ × Served) (ℕ × ActiveStays) → Hand
+opened_hand (Ok opened) = Hand.Session opened.0
+opened_hand (Err refused) = Hand.Role refused.0
 
 -- of `round`
 abbrev pub rounded_reply : Result RoundReply ActiveStays → Reply

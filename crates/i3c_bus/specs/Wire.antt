@@ -64,20 +64,17 @@ IsBegun old cuts (Served.WantsRole a) new wire = wire ≡ Start ∷ request_head
 IsBegun old cuts (Served.Recorded place) new wire = IsRecordedWire old new wire
 IsBegun old cuts Served.Torn new wire = IsTornWire old wire
 
--- how a frame goes on to its own part: at once where nobody asked, else after a repeated START and the broadcast header
-abbrev pub goes_on : Served → Bool → List Symbol
-goes_on Served.Quiet ack = []
-goes_on Served.Refused ack = Repeated ∷ Header 0x7E false ack ∷ []
-goes_on Served.Joining ack = Repeated ∷ Header 0x7E false ack ∷ []
-goes_on (Served.WantsRole a) ack = Repeated ∷ Header 0x7E false ack ∷ []
-goes_on (Served.Recorded place) ack = Repeated ∷ Header 0x7E false ack ∷ []
-goes_on Served.Torn ack = Repeated ∷ Header 0x7E false ack ∷ []
+-- how a frame goes on to its own part: at once where nobody asked, else after a repeated START and the broadcast header,
+-- whose ninth bit comes nine bits after the mandatory word
+abbrev pub IsOn : State → CutList → Served → ℕ → List Symbol → Type 0
+IsOn old cuts Served.Quiet word wire = wire ≡ []
+IsOn old cuts _ word wire = (ack : Bool) × IsAck old cuts (word + 9) ack × (wire ≡ Repeated ∷ Header 0x7E false ack ∷ [])
 
--- a frame: its beginning, the way to its own part, whose header ends nine bits after the mandatory word, and its own part
+-- a frame: its beginning, the way to its own part, and its own part
 abbrev pub IsFrameWire : State → CutList → Served → State → (List Symbol → Type 0) → List Symbol → Type 0
 IsFrameWire old cuts served new IsOwn wire =
-    (begun : List Symbol) × (word : ℕ) × (ack : Bool) × (own : List Symbol)
-    × IsBegun old cuts served new begun × IsWordBits old served word × IsAck old cuts (word + 9) ack × IsOwn own × (wire ≡ begun ++ goes_on served ack ++ own)
+    (begun : List Symbol) × (word : ℕ) × (on : List Symbol) × (own : List Symbol)
+    × IsBegun old cuts served new begun × IsWordBits old served word × IsOn old cuts served word on × IsOwn own × (wire ≡ begun ++ on ++ own)
 
 -- ENEC or DISEC: to all, the code and the kinds; to one address, the code, a header, and where it was acknowledged the kinds
 abbrev pub IsKindsWire : Change → Option ℕ → Kinds → Answer → List Symbol → Type 0

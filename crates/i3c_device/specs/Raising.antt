@@ -1,5 +1,5 @@
 -- When a device may raise an interrupt.
-use Rattle.std.specs.Prelude.{ℕ, ◌-◌, ◌^◌, Bool, not, nat_le, List, [], ◌∷◌, ◌++◌, length, Option, Some, None, is_none, is_some, if◌then◌else◌}
+use Rattle.std.specs.Prelude.{ℕ, ◌-◌, ◌^◌, Bool, true, not, nat_le, List, [], ◌∷◌, ◌++◌, length, Option, Some, None, is_none, is_some, if◌then◌else◌}
 use Rattle.i3c_base.specs.declared.device.TheConstants.{WAITING}
 use Rattle.i3c_base.specs.declared.device.Waiting.{Waiting}
 use Rattle.i3c_base.specs.Numbers.{can_interrupt, has_byte, same_bool}
@@ -29,6 +29,10 @@ next_fault d byte raised = or_uncounted (raise_fault d byte) raised
 -- a device with one more interrupt that waits
 abbrev pub with_raise : ℕ → Option ℕ → Device → Device
 with_raise number byte d = record d { waiting = d.waiting ++ record { number = number; byte = byte } ∷ [] }
+
+-- a device that wishes to join
+abbrev pub wishing_join : Device → Device
+wishing_join d = record d { join_wish = true }
 
 -- the byte of the interrupt that waits at the front
 abbrev pub front_byte : List Waiting → Option ℕ

@@ -90,6 +90,13 @@ impl Device {
         self.address
     }
 
+    /// Whether its joins are enabled.
+    pub fn may_join(&self) -> bool
+        ensures { result ≡ self.now.kinds.join }
+    {
+        may_join(self.kinds)
+    }
+
     /// How many of its interrupts wait.
     pub fn waiting(&self) -> usize
         ensures { result ≡ length self.now.waiting }

@@ -35,7 +35,7 @@ impl Devices {
     ghost use Rattle.std.specs.Prelude.{◌≡◌, ◌≤◌, ◌<◌, ◌↔◌, ℕ, length, IsTrue, suc, Some, None, option_map, slice_index_or, slice_set, MatchOption, MatchResult, OnOk, OnErr};
     ghost use Rattle.i3c_base.specs.Round.{hears, unhearing};
     ghost use Rattle.i3c_base.specs.State.{Device as DeviceState, no_devices};
-    ghost use Rattle.i3c_device.specs.Raising.{next_fault, with_raise};
+    ghost use Rattle.i3c_device.specs.Raising.{next_fault, with_raise, wishing_join};
 
     /// Empty slots.
     pub fn new() -> Devices
@@ -59,6 +59,22 @@ impl Devices {
         ensures { self.new ≡ slice_set self.old slot (Some device) }
     {
         self.places[slot.index()] = Some(device);
+    }
+
+    /// A slot's device is gone.
+    pub fn remove(&mut self, slot: Slot)
+        ensures { self.new ≡ slice_set self.old slot None }
+    {
+        self.places[slot.index()] = None;
+    }
+
+    /// The slot's device, if there is one, wishes to join.
+    pub fn wish_join(&mut self, slot: Slot)
+        ensures { self.new ≡ slice_set self.old slot (option_map wishing_join (slice_index_or self.old slot None)) }
+    {
+        if let Some(device) = &mut self.places[slot.index()] {
+            device.wish_join();
+        }
     }
 
     /// The slot's device raises the interrupt after this many of its slot, and answers its number. The first fault

@@ -1,0 +1,342 @@
+ghost use Rattle.std.specs.Prelude.{◌≡◌};
+ghost use Rattle.i3c_base.specs.Frames.{kinds_bits};
+ghost use Rattle.i3c_events.specs.Hearing.{answer_of};
+ghost use Rattle.i3c_ibi.specs.Serving.{word_bits};
+
+use crate::events::Command;
+use crate::parts::Bus;
+use crate::replies::{FrameFault, Framed, OutOfMemory, Refusal, Reply, TargetFault};
+use crate::tokens::Hand;
+use crate::wire::{tell_broadcast, tell_command, tell_reading, tell_repeated, tell_request};
+use i3c_base::{Addr7, Answer, Change, Cuts, Kinds, Served};
+use i3c_events::{NoAnswer, hear_kinds};
+use i3c_frame::{Symbol, Tap};
+use i3c_handoff::Role;
+use i3c_ibi::{Policy, Reading, first_request, serve};
+
+/// The bits of a header.
+const HEADER_BITS: u16 = 9;
+
+/// The bits of a word.
+const WORD_BITS: u16 = 9;
+
+/// How a frame began: what it served, and how many bits it has sent after its first, which is the header's ninth.
+#[derive(Clone, Copy)]
+pub(crate) struct Begun {
+    pub served: Served,
+    pub bits: u16,
+}
+
+impl Bus {
+    ghost use Rattle.std.specs.Prelude.{ℕ, ◌+◌, ◌≤◌, true, false, None, IfOk, OnErr};
+    ghost use Rattle.i3c_base.specs.Cutting.{Lost, lost_by};
+    ghost use Rattle.i3c_base.specs.Frames.{Rekinds, changed_kinds};
+    ghost use Rattle.i3c_base.specs.Serve.{IsWordBits, Serves, emptied, header_bits, refuse_all};
+    ghost use Rattle.i3c_ibi.specs.Policies.{Decides};
+    ghost use Rattle.i3c_ibi.specs.Serving.{given_for};
+    ghost use Rattle.i3c_bus.specs.Asking.{Asks, given_by};
+    ghost use Rattle.i3c_bus.specs.Beginning.{Begins, IsWay, LeavesBy};
+    ghost use Rattle.i3c_bus.specs.Calls.{Carries};
+    ghost use Rattle.i3c_bus.specs.Commands.{event_of, kinds_event};
+    ghost use Rattle.i3c_bus.specs.Hands.{HandFits};
+    ghost use Rattle.i3c_bus.specs.Replies.{framed_reply, served_reply};
+    ghost use Rattle.i3c_bus.specs.Room.{IsUntouched};
+    ghost use Rattle.i3c_bus.specs.Serving.{place_of};
+    ghost use Rattle.i3c_bus.specs.Step.{cuts_active, is_no_target};
+    ghost use Rattle.i3c_bus.specs.Wire.{IsBegun, IsKindsWire, IsOn, Tells};
+    ghost use Rattle.i3c_bus.specs.declared.events.Event.{Event};
+    ghost use Rattle.i3c_bus.specs.declared.tokens.Hand.{Hand};
+
+    /// Serves the first request, and nothing else (I3C Basic 5.1.6.2): the policy decides on it, unless its address has
+    /// no row. There must be room for a record, or it is made before the first bit: `OutOfMemory` changes nothing.
+    pub fn serve<P: Policy, T: Tap>(
+        &mut self,
+        role: &Role,
+        policy: &mut P,
+        tap: &mut T,
+        cuts: &Cuts,
+    ) -> Result<Served, FrameFault>
+        requires fits { HandFits (Hand.Role role.now) self.old.state }
+        ensures asks { Asks P.verdict_gives policy.old policy.new self.old.state (served_reply result) }
+        ensures carried { Carries self.old self.new (Event.Serve (given_by (served_reply result)) cuts.now) (served_reply result) (Hand.Role role.now) (Tells T.note_gives tap.old tap.new) }
+    {
+        if self.cuts_active(cuts) {
+            return Err(FrameFault::ActiveStays);
+        }
+        if self.make_room().is_err() {
+            return Err(FrameFault::OutOfMemory);
+        }
+        let begun = self.begin(policy, tap, cuts);
+        tap.note(Symbol::Stop);
+        self.drop_lost(cuts, begun.bits);
+        Ok(begun.served)
+    }
+
+    /// Enables kinds of events (ENEC, I3C Basic 5.1.9.3.1): of the devices at an address, or without one of all but the
+    /// active controller. It serves the first request before. It answers `NoAnswer` without a frame where the table has
+    /// no row at the address or it is the active controller's own.
+    pub fn enec<P: Policy, T: Tap>(
+        &mut self,
+        role: &Role,
+        to: Option<Addr7>,
+        kinds: Kinds,
+        policy: &mut P,
+        tap: &mut T,
+        cuts: &Cuts,
+    ) -> Result<Framed, TargetFault>
+        requires fits { HandFits (Hand.Role role.now) self.old.state }
+        ensures asks { Asks P.verdict_gives policy.old policy.new self.old.state (framed_reply result) }
+        ensures carried { Carries self.old self.new (Event.Enec to kinds (given_by (framed_reply result)) cuts.now) (framed_reply result) (Hand.Role role.now) (Tells T.note_gives tap.old tap.new) }
+    {
+        self.change_kinds(role, Change::Enable, to, kinds, policy, tap, cuts)
+    }
+
+    /// Disables kinds of events (DISEC, I3C Basic 5.1.9.3.1), as `enec` enables them.
+    pub fn disec<P: Policy, T: Tap>(
+        &mut self,
+        role: &Role,
+        to: Option<Addr7>,
+        kinds: Kinds,
+        policy: &mut P,
+        tap: &mut T,
+        cuts: &Cuts,
+    ) -> Result<Framed, TargetFault>
+        requires fits { HandFits (Hand.Role role.now) self.old.state }
+        ensures asks { Asks P.verdict_gives policy.old policy.new self.old.state (framed_reply result) }
+        ensures carried { Carries self.old self.new (Event.Disec to kinds (given_by (framed_reply result)) cuts.now) (framed_reply result) (Hand.Role role.now) (Tells T.note_gives tap.old tap.new) }
+    {
+        self.change_kinds(role, Change::Disable, to, kinds, policy, tap, cuts)
+    }
+
+    /// Sends a frame under the role, or refuses it: while a session is open it is `SessionOpen`.
+    pub fn command<P: Policy, T: Tap>(
+        &mut self,
+        hand: &Hand,
+        command: &Command,
+        policy: &mut P,
+        tap: &mut T,
+        cuts: &Cuts,
+    ) -> Reply
+        requires fits { HandFits hand.now self.old.state }
+        ensures asks { Asks P.verdict_gives policy.old policy.new self.old.state result }
+        ensures carried { Carries self.old self.new (event_of command.now (given_by result) cuts.now) result hand.now (Tells T.note_gives tap.old tap.new) }
+    {
+        let Hand::Role(role) = hand else {
+            return Reply::Refused(Refusal::SessionOpen);
+        };
+        match *command {
+            Command::Serve => Reply::from(self.serve(role, policy, tap, cuts)),
+            Command::Enec(to, kinds) => Reply::from(self.enec(role, to, kinds, policy, tap, cuts)),
+            Command::Disec(to, kinds) => {
+                Reply::from(self.disec(role, to, kinds, policy, tap, cuts))
+            }
+        }
+    }
+
+    /// ENEC or DISEC: serves the first request, and goes on with the command.
+    fn change_kinds<P: Policy, T: Tap>(
+        &mut self,
+        role: &Role,
+        change: Change,
+        to: Option<Addr7>,
+        kinds: Kinds,
+        policy: &mut P,
+        tap: &mut T,
+        cuts: &Cuts,
+    ) -> Result<Framed, TargetFault>
+        requires fits { HandFits (Hand.Role role.now) self.old.state }
+        ensures asks { Asks P.verdict_gives policy.old policy.new self.old.state (framed_reply result) }
+        ensures carried { Carries self.old self.new (kinds_event change to kinds (given_by (framed_reply result)) cuts.now) (framed_reply result) (Hand.Role role.now) (Tells T.note_gives tap.old tap.new) }
+    {
+        if self.cuts_active(cuts) {
+            return Err(TargetFault::ActiveStays);
+        }
+        if let Some(address) = to {
+            if self.is_no_target(address) {
+                return Err(TargetFault::NoAnswer(address));
+            }
+        }
+        let Ok(begun) = self.begin_frame(policy, tap, cuts) else {
+            return Err(TargetFault::OutOfMemory);
+        };
+        let answer = self.command_kinds(change, to, kinds, tap, cuts, begun.bits);
+        Ok(Framed {
+            served: begun.served,
+            answer,
+        })
+    }
+
+    /// The own part of ENEC and DISEC, after so many bits of the frame: whom it reaches hears it, and who is cut is gone.
+    fn command_kinds<T: Tap>(
+        &mut self,
+        change: Change,
+        to: Option<Addr7>,
+        kinds: Kinds,
+        tap: &mut T,
+        cuts: &Cuts,
+        begun: u16,
+    ) -> Answer
+        requires { begun ≤ 18 }
+        ensures rekinds { LeavesBy cuts.now (begun + kinds_bits to result) (Rekinds to (changed_kinds change kinds) result) self.old.state self.new.state }
+        ensures told { Tells T.note_gives tap.old tap.new (IsKindsWire change to kinds result) }
+        ensures room { self.new.room ≡ self.old.room }
+    {
+        let active = self.active();
+        let heard = hear_kinds(&mut self.devices, active, to, change, kinds, cuts, begun);
+        tell_command(tap, change, &to, kinds, &heard);
+        let answer = answer_of(&heard);
+        self.drop_lost(cuts, begun + kinds_bits(&to, &answer));
+        answer
+    }
+
+    /// Whether the cuts name the active controller's slot.
+    pub(crate) fn cuts_active(&self, cuts: &Cuts) -> bool
+        ensures { result ≡ cuts_active self.now.state cuts.now }
+    {
+        cuts.at(self.active()).is_some()
+    }
+
+    /// Whether the table has no row at this address, or it is the active controller's own.
+    fn is_no_target(&self, address: Addr7) -> bool
+        ensures { result ≡ is_no_target self.now.state address }
+    {
+        self.table.row_of(address).is_none() || self.address(self.active()) == Some(address)
+    }
+
+    /// The devices that a frame loses by this bit are gone.
+    pub(crate) fn drop_lost(&mut self, cuts: &Cuts, last: u16)
+        ensures state { self.new.state ≡ emptied (lost_by cuts.now last) self.old.state }
+        ensures room { self.new.room ≡ self.old.room }
+    {
+        self.devices.drop_lost(cuts, last);
+    }
+
+    /// The beginning of a frame that goes on: there is room for a record, the first request is served, and after one
+    /// a repeated START and the broadcast header are sent. It changes nothing where there is no memory.
+    fn begin_frame<P: Policy, T: Tap>(
+        &mut self,
+        policy: &mut P,
+        tap: &mut T,
+        cuts: &Cuts,
+    ) -> Result<Begun, OutOfMemory>
+        ensures begins { IfOk result (λ b. (word : ℕ) × Begins self.old.state cuts.now b.served word self.new.state × (b.bits ≡ word + header_bits b.served)
+            × Tells T.note_gives tap.old tap.new (IsWay self.old.state cuts.now b.served word self.new.state)) }
+        ensures asks { IfOk result (λ b. Decides P.verdict_gives policy.old policy.new self.old.state (given_for b.served)) }
+        ensures room { IfOk result (λ b. place_of b.served ≡ None → self.new.room ≡ true) }
+        ensures few { IfOk result (λ b. b.bits ≤ 18) }
+        ensures short { OnErr result (IsUntouched self.old self.new × (self.old.room ≡ false) × (policy.new ≡ policy.old) × (tap.new ≡ tap.old)) }
+    {
+        self.make_room()?;
+        let begun = self.begin(policy, tap, cuts);
+        Ok(self.go_on(begun, tap, cuts))
+    }
+
+    /// The beginning of a frame: its first request is served. There must be room for a record.
+    fn begin<P: Policy, T: Tap>(&mut self, policy: &mut P, tap: &mut T, cuts: &Cuts) -> Begun
+        requires room { self.old.room ≡ true }
+        ensures begins { Begins self.old.state cuts.now result.served result.bits self.new.state }
+        ensures asks { Decides P.verdict_gives policy.old policy.new self.old.state (given_for result.served) }
+        ensures told { Tells T.note_gives tap.old tap.new (IsBegun self.old.state cuts.now result.served self.new.state) }
+        ensures room { place_of result.served ≡ None → self.new.room ≡ true }
+    {
+        let active = self.active();
+        let ack = self.devices.is_heard(active, &None, cuts, 0);
+        let reading = serve(&mut self.devices, active, &self.table, policy, cuts);
+        tell_reading(tap, &reading, ack);
+        let bits = word_bits(&reading);
+        let served = match reading {
+            Reading::Quiet => Served::Quiet,
+            Reading::Refused(_) => Served::Refused,
+            Reading::Joined => Served::Joining,
+            Reading::WantsRole(at) => Served::WantsRole(at),
+            Reading::Torn(_, _) => Served::Torn,
+            Reading::Due(record) => {
+                self.records.push_reserved(record);
+                Served::Recorded(self.records.len())
+            }
+        };
+        Begun { served, bits }
+    }
+
+    /// How a frame goes on after its beginning: after a request a repeated START and the broadcast header are sent.
+    pub(crate) fn go_on<T: Tap>(&self, begun: Begun, tap: &mut T, cuts: &Cuts) -> Begun
+        requires { begun.bits ≤ 9 }
+        ensures served { result.served ≡ begun.served }
+        ensures bits { result.bits ≡ begun.bits + header_bits begun.served }
+        ensures told { Tells T.note_gives tap.old tap.new (IsOn self.now.state cuts.now begun.served begun.bits) }
+    {
+        let Begun { served, bits } = begun;
+        match served {
+            Served::Quiet => Begun { served, bits },
+            _ => {
+                let ack = self.devices.is_heard(self.active(), &None, cuts, bits + HEADER_BITS);
+                tell_repeated(tap, ack);
+                Begun {
+                    served,
+                    bits: bits + HEADER_BITS,
+                }
+            }
+        }
+    }
+
+    /// The beginning of a frame that turns each request down.
+    pub(crate) fn begin_refusing<T: Tap>(&self, tap: &mut T, cuts: &Cuts) -> Begun
+        ensures serves { (lost : Lost) → Serves self.now.state refuse_all lost result.served self.now.state }
+        ensures sent { IsWordBits self.now.state result.served result.bits }
+        ensures bits { result.bits ≡ 0 }
+        ensures told { Tells T.note_gives tap.old tap.new (IsBegun self.now.state cuts.now result.served self.now.state) }
+        ensures unrecorded { place_of result.served ≡ None }
+    {
+        let active = self.active();
+        let served = match first_request(&self.devices, active) {
+            None => {
+                let ack = self.devices.is_heard(active, &None, cuts, 0);
+                tell_broadcast(tap, ack);
+                Served::Quiet
+            }
+            Some(request) => {
+                tell_request(tap, request, false);
+                Served::Refused
+            }
+        };
+        Begun { served, bits: 0 }
+    }
+}
+
+/// The bits of the mandatory word that was read.
+fn word_bits(reading: &Reading) -> u16
+    ensures { result ≡ word_bits reading.now }
+{
+    match reading {
+        Reading::Torn(_, _) => WORD_BITS,
+        Reading::Due(record) => {
+            if record.byte.is_some() {
+                WORD_BITS
+            } else {
+                0
+            }
+        }
+        _ => 0,
+    }
+}
+
+/// The bits of ENEC and DISEC: two words, or a word, a header and after its ACK a word.
+fn kinds_bits(to: &Option<Addr7>, answer: &Answer) -> u16
+    ensures { result ≡ kinds_bits to.now answer.now }
+{
+    match (to, answer) {
+        (Some(_), Answer::NoAnswer(_)) => WORD_BITS + HEADER_BITS,
+        (Some(_), _) => 2 * WORD_BITS + HEADER_BITS,
+        (None, _) => 2 * WORD_BITS,
+    }
+}
+
+/// The answer of a command that was heard, or wasn't.
+fn answer_of(heard: &Result<(), NoAnswer>) -> Answer
+    ensures { result ≡ answer_of heard.now }
+{
+    match heard {
+        Ok(()) => Answer::Done,
+        Err(NoAnswer(address)) => Answer::NoAnswer(*address),
+    }
+}

@@ -1,0 +1,294 @@
+ghost use Rattle.std.specs.Prelude.{◌≡◌};
+
+use crate::replies::{
+    DropRefusal, JoinRefusal, OutOfMemory, RaiseRefusal, SlotTaken, StartFault,
+};
+use crate::tokens::{Hand, Session};
+use i3c_base::{Addr7, Record, SLOTS, Setup, Slot};
+use i3c_device::{Device, Devices};
+use i3c_handoff::{Active, Role, retire};
+use i3c_legacy::{LEGACIES, Legacies, LegacyTargets};
+use i3c_picker::pick;
+use i3c_table::{Row, Table};
+use std::alloc::Global;
+use std::marker::Model;
+
+/// The recorded interrupts of a bus, in order.
+#[derive(Drop)]
+pub struct Records {
+    list: Vec<Record>,
+}
+
+impl Model for Records {
+    ghost use Rattle.std.specs.Prelude.{List};
+    ghost use Rattle.i3c_base.specs.declared.requests.Record.{Record};
+
+    ghost Value = { List Record };
+
+    ghost view = { λ r. r.list.items };
+}
+
+impl Records {
+    ghost use Rattle.std.specs.Prelude.{◌≡◌};
+
+    /// The records, the oldest first.
+    pub fn as_slice(&self) -> &[Record]
+        ensures { result.now ≡ self.now }
+    {
+        self.list.as_slice()
+    }
+}
+
+/// A bus: devices in their slots and which is the active controller, its table, the legacy targets, and what was
+/// recorded.
+pub struct Bus {
+    pub(crate) devices: Devices,
+    raised: [u64; SLOTS],
+    pub(crate) active: Active,
+    pub(crate) table: Table,
+    legacy: LegacyTargets,
+    pub(crate) in_session: bool,
+    pub(crate) records: Vec<Record>,
+}
+
+impl Model for Bus {
+    ghost use Rattle.std.specs.Prelude.{nat_lt, vec_len, vec_capacity};
+    ghost use Rattle.i3c_base.specs.State.{Held};
+    ghost use Rattle.i3c_bus.specs.Parts.{state_of};
+    ghost use Rattle.i3c_bus.specs.Sound.{IsWhole};
+
+    ghost Value = { Held };
+
+    ghost view = { λ b. record {
+      state = state_of b.devices b.raised b.active b.table b.legacy b.in_session b.records.items;
+      room = nat_lt (vec_len b.records) (vec_capacity b.records);
+    } };
+
+    ghost invariant = { λ b. IsWhole (state_of b.devices b.raised b.active b.table b.legacy b.in_session b.records.items) b.table };
+}
+
+impl Bus {
+    ghost use Rattle.std.specs.Prelude.{◌↔◌, true, is_some, IfOk, IsOk, OnOk, OnErr};
+    ghost use Rattle.i3c_base.specs.Numbers.{is_capable};
+    ghost use Rattle.i3c_base.specs.Covered.{IsTable};
+    ghost use Rattle.i3c_base.specs.State.{device_at, IsStart, legacy_targets_of};
+    ghost use Rattle.i3c_bus.specs.Step.{Step};
+    ghost use Rattle.i3c_bus.specs.Hands.{HandFits};
+    ghost use Rattle.i3c_bus.specs.Readings.{address_of, waiting_of};
+    ghost use Rattle.i3c_bus.specs.Room.{StaysAround};
+    ghost use Rattle.i3c_bus.specs.Replies.{attached_reply, dropped_reply, joins_reply, raised_reply};
+    ghost use Rattle.i3c_bus.specs.declared.events.Event.{Event};
+    ghost use Rattle.i3c_bus.specs.declared.tokens.Hand.{Hand};
+
+    /// A bus with its main controller, in slot 0 at the least pickable address, beside these legacy targets.
+    /// It answers `NotCapable` where the main device's BCR isn't a controller's.
+    pub fn new(alloc: Global, main: Setup, legacies: Legacies) -> Result<(Bus, Role), StartFault>
+        ensures capable { IsOk result ↔ (is_capable main.identity.bcr ≡ true) }
+        ensures start { IfOk result (λ made. IsStart main (legacy_targets_of legacies) made.0.state) }
+        ensures fits { IfOk result (λ made. HandFits (Hand.Role made.1) made.0.state) }
+    {
+        let bcr = main.identity.bcr;
+        let dcr = main.identity.dcr;
+        if !bcr.capable() {
+            return Err(StartFault::NotCapable);
+        }
+        // so few legacy targets leave most of the usable addresses free
+        let few = legacies.len() <= LEGACIES;
+        prove!(few);
+        let legacy = LegacyTargets::new(&legacies);
+        let mut table = Table::new(legacies);
+        let Some(address) = pick(&table) else {
+            unreachable!();
+        };
+        table.put(Row {
+            address,
+            bcr,
+            dcr,
+            identity: None,
+        });
+        let mut controller = Device::new(main);
+        controller.take_address(address);
+        let holder = Slot::default();
+        let mut devices = Devices::new();
+        devices.put(holder, controller);
+        let (active, role) = Active::new(holder);
+        let bus = Bus {
+            devices,
+            raised: [0; SLOTS],
+            active,
+            table,
+            legacy,
+            in_session: false,
+            records: Vec::new(alloc),
+        };
+        Ok((bus, role))
+    }
+
+    /// The active controller's slot.
+    pub fn active(&self) -> Slot
+        ensures { result ≡ self.now.state.active }
+    {
+        self.active.slot()
+    }
+
+    /// Whether a slot holds a device.
+    pub fn present(&self, slot: Slot) -> bool
+        ensures { result ≡ is_some (device_at self.now.state slot) }
+    {
+        self.devices.get(slot).is_some()
+    }
+
+    /// The dynamic address of a slot's device, if there is a device and it has one.
+    pub fn address(&self, slot: Slot) -> Option<Addr7>
+        ensures { result ≡ address_of (device_at self.now.state slot) }
+    {
+        match self.devices.get(slot) {
+            Some(device) => device.address(),
+            None => None,
+        }
+    }
+
+    /// How many interrupts of a slot's device wait.
+    pub fn waiting(&self, slot: Slot) -> usize
+        ensures { result ≡ waiting_of (device_at self.now.state slot) }
+    {
+        match self.devices.get(slot) {
+            Some(device) => device.waiting(),
+            None => 0,
+        }
+    }
+
+    /// The recorded interrupts, the oldest first.
+    pub fn records(&self) -> &[Record]
+        ensures { result.now ≡ self.now.state.records }
+    {
+        self.records.as_slice()
+    }
+
+    /// The active controller's table: its rows are what was given, its identities what is kept, its legacy list the
+    /// legacy targets.
+    pub fn table(&self) -> &Table
+        ensures { IsTable self.now.state result.now }
+    {
+        &self.table
+    }
+
+    /// Whether the list of DEFTGTS is current.
+    pub fn listed(&self) -> bool
+        ensures { result ≡ self.now.state.listed }
+    {
+        self.table.list_current()
+    }
+
+    /// Whether a session of dynamic address assignment is open.
+    pub fn in_session(&self) -> bool
+        ensures { result ≡ self.now.state.in_session }
+    {
+        self.in_session
+    }
+
+    /// Whether there is room for one more record.
+    pub fn has_room(&self) -> bool
+        ensures { result ≡ self.now.room }
+    {
+        self.records.len() < self.records.capacity()
+    }
+
+    /// Makes room for one more record. While there is room no frame is short of memory, and only a record that is
+    /// appended ends it. It answers `OutOfMemory` where there is none, and changes nothing then.
+    pub fn make_room(&mut self) -> Result<(), OutOfMemory>
+        ensures state { self.new.state ≡ self.old.state }
+        ensures made { OnOk result (self.new.room ≡ true) }
+        ensures short { OnErr result (self.old.room ≡ false) }
+        ensures kept { self.old.room ≡ true → IsOk result }
+    {
+        match self.records.reserve(1) {
+            Ok(()) => Ok(()),
+            Err(_) => Err(OutOfMemory),
+        }
+    }
+
+    /// A device enters a slot, without an address. It answers `SlotTaken` where the slot holds one.
+    pub fn attach(&mut self, slot: Slot, setup: Setup) -> Result<(), SlotTaken>
+        ensures step { Step self.old.state (Event.Attach slot setup) (attached_reply result) self.new.state }
+        ensures around { StaysAround self.old self.new }
+    {
+        if self.devices.get(slot).is_some() {
+            return Err(SlotTaken);
+        }
+        self.devices.put(slot, Device::new(setup));
+        Ok(())
+    }
+
+    /// The slot's device drops off: it loses power, and is gone. What the table keeps of it stays. The active
+    /// controller's drop-off is refused.
+    pub fn drop_off(&mut self, slot: Slot) -> Result<(), DropRefusal>
+        ensures step { Step self.old.state (Event.DropOff slot) (dropped_reply result) self.new.state }
+        ensures around { StaysAround self.old self.new }
+    {
+        if self.devices.get(slot).is_none() {
+            return Err(DropRefusal::NoDevice);
+        }
+        if slot == self.active() {
+            return Err(DropRefusal::ActiveStays);
+        }
+        self.devices.remove(slot);
+        Ok(())
+    }
+
+    /// The slot's device raises an interrupt, with its mandatory byte where one is due (I3C Basic 5.1.6.2). It answers
+    /// the raise's number: those of a slot count from 1 over the life of the bus.
+    pub fn raise(&mut self, slot: Slot, byte: Option<u8>) -> Result<u64, RaiseRefusal>
+        ensures step { Step self.old.state (Event.Raise slot byte) (raised_reply result) self.new.state }
+        ensures around { StaysAround self.old self.new }
+    {
+        if self.devices.get(slot).is_none() {
+            return Err(RaiseRefusal::NoDevice);
+        }
+        if slot == self.active() {
+            return Err(RaiseRefusal::IsActive);
+        }
+        let index = slot.index();
+        let number = self.devices.raise(slot, self.raised[index], byte)?;
+        self.raised[index] = number;
+        Ok(number)
+    }
+
+    /// The slot's device wishes to join (Hot-Join, I3C Basic 5.1.5).
+    pub fn ask_join(&mut self, slot: Slot) -> Result<(), JoinRefusal>
+        ensures step { Step self.old.state (Event.AskJoin slot) (joins_reply result) self.new.state }
+        ensures around { StaysAround self.old self.new }
+    {
+        let Some(device) = self.devices.get(slot) else {
+            return Err(JoinRefusal::NoDevice);
+        };
+        if device.address().is_some() {
+            return Err(JoinRefusal::HasAddress);
+        }
+        if !device.may_join() {
+            return Err(JoinRefusal::Masked);
+        }
+        self.devices.wish_join(slot);
+        Ok(())
+    }
+
+    /// Takes the bus apart, and gives its records.
+    pub fn retire(self, hand: Hand) -> Records
+        requires { HandFits hand self.state }
+        ensures { result ≡ self.state.records }
+    {
+        let Bus {
+            devices: _,
+            raised: _,
+            active,
+            table: _,
+            legacy: _,
+            in_session: _,
+            records,
+        } = self;
+        match hand {
+            Hand::Role(role) | Hand::Session(Session { role }) => retire(active, role),
+        }
+        Records { list: records }
+    }
+}

@@ -1,0 +1,116 @@
+use crate::frames::Begun;
+use crate::parts::Bus;
+use crate::replies::ActiveStays;
+use crate::tokens::Session;
+use crate::wire::{tell_open, tell_round};
+use i3c_base::{Cuts, RoundReply, Served};
+use i3c_entdaa::{Round, round};
+use i3c_frame::{Symbol, Tap};
+use i3c_handoff::Role;
+
+/// The bits of ENTDAA's code.
+const CODE_BITS: u16 = 9;
+
+impl Bus {
+    ghost use Rattle.std.specs.Prelude.{◌≡◌, true, false, IfErr};
+    ghost use Rattle.i3c_base.specs.Round.{Rounds, ended, opened};
+    ghost use Rattle.i3c_entdaa.specs.Rounds.{IsRead, reply_of};
+    ghost use Rattle.i3c_bus.specs.Calls.{Carries};
+    ghost use Rattle.i3c_bus.specs.Hands.{HandFits};
+    ghost use Rattle.i3c_bus.specs.Replies.{opened_hand, opened_reply};
+    ghost use Rattle.i3c_bus.specs.Wire.{IsRoundWire, Tells};
+    ghost use Rattle.i3c_bus.specs.declared.events.Event.{Event};
+    ghost use Rattle.i3c_bus.specs.declared.tokens.Hand.{Hand};
+
+    /// Opens a session (ENTDAA, I3C Basic 5.1.4.2): each device without an address hears it. Requests are turned down.
+    /// Where the active controller is cut, it is refused, and the role comes back.
+    pub fn open_daa<T: Tap>(
+        &mut self,
+        role: Role,
+        tap: &mut T,
+        cuts: &Cuts,
+    ) -> Result<(Session, Served), (Role, ActiveStays)>
+        requires fits { HandFits (Hand.Role role) self.old.state }
+        ensures carried { Carries self.old self.new (Event.OpenDaa cuts.now) (opened_reply result) (opened_hand result) (Tells T.note_gives tap.old tap.new) }
+        ensures kept { IfErr result (λ refused. refused.0 ≡ role) }
+    {
+        if self.cuts_active(cuts) {
+            return Err((role, ActiveStays));
+        }
+        let begun = self.begin_refusing(tap, cuts);
+        let Begun { served, bits } = self.go_on(begun, tap, cuts);
+        tell_open(tap);
+        self.open();
+        self.drop_lost(cuts, bits + CODE_BITS);
+        Ok((Session { role }, served))
+    }
+
+    /// A session is open, and whoever has no address hears it.
+    fn open(&mut self)
+        ensures state { self.new.state ≡ opened self.old.state }
+        ensures room { self.new.room ≡ self.old.room }
+    {
+        self.devices.open();
+        self.in_session = true;
+    }
+
+    /// One round of the open session.
+    fn round<T: Tap>(&mut self, tap: &mut T, cuts: &Cuts) -> Round
+        ensures rounds { Rounds self.old.state cuts.now (reply_of result) self.new.state }
+        ensures read { IsRead self.old.state cuts.now result }
+        ensures told { Tells T.note_gives tap.old tap.new (IsRoundWire result) }
+        ensures room { self.new.room ≡ self.old.room }
+    {
+        let round = round(&mut self.devices, &mut self.table, cuts);
+        tell_round(tap, &round);
+        round
+    }
+
+    /// The session ends, and nobody hears any more.
+    fn end(&mut self)
+        ensures state { self.new.state ≡ ended self.old.state }
+        ensures room { self.new.room ≡ self.old.room }
+    {
+        self.devices.silence();
+        self.in_session = false;
+    }
+}
+
+impl Session {
+    ghost use Rattle.std.specs.Prelude.{◌≡◌};
+    ghost use Rattle.i3c_bus.specs.Calls.{Carries};
+    ghost use Rattle.i3c_bus.specs.Hands.{HandFits};
+    ghost use Rattle.i3c_bus.specs.Replies.{rounded_reply};
+    ghost use Rattle.i3c_bus.specs.Wire.{Tells};
+    ghost use Rattle.i3c_bus.specs.declared.events.Event.{Event};
+    ghost use Rattle.i3c_bus.specs.declared.replies.Reply.{Reply};
+    ghost use Rattle.i3c_bus.specs.declared.tokens.Hand.{Hand};
+
+    /// One round: the least identity of those who hear gets its address (I3C Basic 5.1.4.2). Where the active controller
+    /// is cut, it is refused.
+    pub fn round<T: Tap>(
+        &self,
+        bus: &mut Bus,
+        tap: &mut T,
+        cuts: &Cuts,
+    ) -> Result<RoundReply, ActiveStays>
+        requires fits { HandFits (Hand.Session self.now) bus.old.state }
+        ensures carried { Carries bus.old bus.new (Event.Round cuts.now) (rounded_reply result) (Hand.Session self.now) (Tells T.note_gives tap.old tap.new) }
+    {
+        if bus.cuts_active(cuts) {
+            return Err(ActiveStays);
+        }
+        Ok(bus.round(tap, cuts).reply())
+    }
+
+    /// The session ends with STOP, and nobody hears any more.
+    pub fn end<T: Tap>(self, bus: &mut Bus, tap: &mut T) -> Role
+        requires fits { HandFits (Hand.Session self) bus.old.state }
+        ensures carried { Carries bus.old bus.new Event.EndDaa Reply.Ended (Hand.Role result) (Tells T.note_gives tap.old tap.new) }
+    {
+        tap.note(Symbol::Stop);
+        bus.end();
+        let Session { role } = self;
+        role
+    }
+}

@@ -1,0 +1,48 @@
+use i3c_base::Slot;
+use i3c_handoff::Role;
+use std::marker::Model;
+
+/// The role while a session is open. It is seen as the slot that holds it, and must be ended or retired.
+pub struct Session {
+    pub(crate) role: Role,
+}
+
+impl Model for Session {
+    ghost use Rattle.std.specs.Prelude.{ℕ};
+
+    ghost Value = { ℕ };
+
+    ghost view = { λ s. s.role };
+}
+
+/// The role, or the session that took its place.
+pub enum Hand {
+    Role(Role),
+    Session(Session),
+}
+
+impl Session {
+    ghost use Rattle.std.specs.Prelude.{◌≡◌};
+
+    /// The slot that holds it.
+    pub fn holder(&self) -> Slot
+        ensures { result ≡ self.now }
+    {
+        self.role.holder()
+    }
+}
+
+impl Hand {
+    ghost use Rattle.std.specs.Prelude.{◌≡◌};
+    ghost use Rattle.i3c_bus.specs.Hands.{holder_of};
+
+    /// The slot that holds it.
+    pub fn holder(&self) -> Slot
+        ensures { result ≡ holder_of self.now }
+    {
+        match self {
+            Hand::Role(role) => role.holder(),
+            Hand::Session(session) => session.holder(),
+        }
+    }
+}

@@ -1,0 +1,181 @@
+ghost use Rattle.std.specs.Prelude.{◌≡◌, ℕ, true, false, [], ◌∷◌, Some, None};
+ghost use Rattle.i3c_base.specs.declared.answers.Answer.{Answer as AnswerValue};
+ghost use Rattle.i3c_events.specs.Hearing.{answer_of};
+ghost use Rattle.i3c_frame.specs.Taps.{NotesAll};
+ghost use Rattle.i3c_frame.specs.declared.symbols.Symbol.{Symbol as SymbolValue};
+ghost use Rattle.i3c_word.specs.Parity.{IsAddressByte};
+ghost use Rattle.i3c_bus.specs.Telling.{begun};
+ghost use Rattle.i3c_bus.specs.Wire.{IsKindsWire, IsOpenWire, IsRoundWire, Tells, request_header};
+
+use i3c_base::{Addr7, Change, Kinds, Request};
+use i3c_ccc::{Code, byte_of};
+use i3c_entdaa::Round;
+use i3c_events::{NoAnswer, code_word, kinds_word};
+use i3c_frame::{Symbol, Tap};
+use i3c_header::header;
+use i3c_ibi::Reading;
+use i3c_word::{Word, address_byte, write_word};
+
+/// The address that every I3C device hears (I3C Basic 5.1.2.2.1).
+const BROADCAST: u8 = 0x7E;
+
+/// A header of the broadcast address.
+fn broadcast(read: bool, ack: bool) -> Symbol
+    ensures { result ≡ SymbolValue.Header 0x7E read ack }
+{
+    let address = Addr7::new(BROADCAST).unwrap();
+    Symbol::Header { address, read, ack }
+}
+
+/// The header of a request, with the controller's answer (I3C Basic 5.1.6.2).
+fn request_header(request: Request, ack: bool) -> Symbol
+    ensures { result ≡ request_header request ack }
+{
+    let (address, read) = header(request);
+    Symbol::Header { address, read, ack }
+}
+
+/// Tells START and the header of the request that won it.
+pub(crate) fn tell_request<T: Tap>(tap: &mut T, request: Request, ack: bool)
+    ensures { NotesAll T.note_gives tap.old (SymbolValue.Start ∷ request_header request ack ∷ []) tap.new }
+{
+    tap.note(Symbol::Start);
+    tap.note(request_header(request, ack));
+}
+
+/// Tells START and the broadcast header.
+pub(crate) fn tell_broadcast<T: Tap>(tap: &mut T, ack: bool)
+    ensures { NotesAll T.note_gives tap.old (SymbolValue.Start ∷ SymbolValue.Header 0x7E false ack ∷ []) tap.new }
+{
+    tap.note(Symbol::Start);
+    tap.note(broadcast(false, ack));
+}
+
+/// Tells the mandatory byte that was read, with the T that ended it or didn't.
+fn tell_byte<T: Tap>(tap: &mut T, byte: u8, t: bool)
+    ensures { NotesAll T.note_gives tap.old (SymbolValue.Word (record { byte = byte; t = t }) ∷ []) tap.new }
+{
+    tap.note(Symbol::Word(Word { byte, t }));
+}
+
+/// Tells the beginning of a frame: what came of its first request, or the broadcast header where nobody asked.
+pub(crate) fn tell_reading<T: Tap>(tap: &mut T, reading: &Reading, ack: bool)
+    ensures { NotesAll T.note_gives tap.old (begun reading.now ack) tap.new }
+{
+    match *reading {
+        Reading::Quiet => tell_broadcast(tap, ack),
+        Reading::Refused(request) => tell_request(tap, request, false),
+        Reading::Joined => tell_request(tap, Request::Join, true),
+        Reading::WantsRole(at) => tell_request(tap, Request::Role(at), true),
+        Reading::Due(record) => {
+            tell_request(tap, Request::Interrupt(record.at), true);
+            if let Some(byte) = record.byte {
+                tell_byte(tap, byte, false);
+            }
+        }
+        Reading::Torn(at, byte) => {
+            tell_request(tap, Request::Interrupt(at), true);
+            tell_byte(tap, byte, true);
+        }
+    }
+}
+
+/// Tells a repeated START and the broadcast header.
+pub(crate) fn tell_repeated<T: Tap>(tap: &mut T, ack: bool)
+    ensures { NotesAll T.note_gives tap.old (SymbolValue.Repeated ∷ SymbolValue.Header 0x7E false ack ∷ []) tap.new }
+{
+    tap.note(Symbol::Repeated);
+    tap.note(broadcast(false, ack));
+}
+
+/// Tells the code of ENTDAA.
+pub(crate) fn tell_open<T: Tap>(tap: &mut T)
+    ensures { Tells T.note_gives tap.old tap.new IsOpenWire }
+{
+    tap.note(Symbol::Word(write_word(byte_of(Code::Entdaa))));
+}
+
+/// Tells ENEC or DISEC as it was heard, up to its STOP.
+pub(crate) fn tell_command<T: Tap>(
+    tap: &mut T,
+    change: Change,
+    to: &Option<Addr7>,
+    kinds: Kinds,
+    heard: &Result<(), NoAnswer>,
+)
+    ensures { Tells T.note_gives tap.old tap.new (IsKindsWire change to.now kinds (answer_of heard.now)) }
+{
+    let Some(address) = to else {
+        tell_kinds(tap, change, kinds);
+        return;
+    };
+    match heard {
+        Ok(()) => tell_kinds_to(tap, change, *address, kinds),
+        Err(NoAnswer(_)) => tell_unanswered(tap, change, *address, kinds),
+    }
+}
+
+/// Tells ENEC or DISEC to all, up to its STOP.
+fn tell_kinds<T: Tap>(tap: &mut T, change: Change, kinds: Kinds)
+    ensures { Tells T.note_gives tap.old tap.new (IsKindsWire change None kinds AnswerValue.Done) }
+{
+    tap.note(Symbol::Word(code_word(change, None)));
+    tap.note(Symbol::Word(kinds_word(kinds)));
+    tap.note(Symbol::Stop);
+}
+
+/// Tells ENEC or DISEC to an address that acknowledges, up to its STOP.
+fn tell_kinds_to<T: Tap>(tap: &mut T, change: Change, address: Addr7, kinds: Kinds)
+    ensures { Tells T.note_gives tap.old tap.new (IsKindsWire change (Some address) kinds AnswerValue.Done) }
+{
+    tap.note(Symbol::Word(code_word(change, Some(address))));
+    tap.note(Symbol::Repeated);
+    tap.note(Symbol::Header {
+        address,
+        read: false,
+        ack: true,
+    });
+    tap.note(Symbol::Word(kinds_word(kinds)));
+    tap.note(Symbol::Stop);
+}
+
+/// Tells ENEC or DISEC to an address that nobody acknowledges, up to its STOP.
+fn tell_unanswered<T: Tap>(tap: &mut T, change: Change, address: Addr7, kinds: Kinds)
+    ensures { Tells T.note_gives tap.old tap.new (IsKindsWire change (Some address) kinds (AnswerValue.NoAnswer address)) }
+{
+    tap.note(Symbol::Word(code_word(change, Some(address))));
+    tap.note(Symbol::Repeated);
+    tap.note(Symbol::Header {
+        address,
+        read: false,
+        ack: false,
+    });
+    tap.note(Symbol::Stop);
+}
+
+/// Tells a round as it came out on the lines.
+pub(crate) fn tell_round<T: Tap>(tap: &mut T, round: &Round)
+    ensures { Tells T.note_gives tap.old tap.new (IsRoundWire round.now) }
+{
+    match *round {
+        Round::NoAddress => {}
+        Round::Done => {
+            tap.note(Symbol::Repeated);
+            tap.note(broadcast(true, false));
+        }
+        Round::Nobody { bits, address } => tell_identity(tap, bits, address, false),
+        Round::Assigned { bits, address, .. } => tell_identity(tap, bits, address, true),
+    }
+}
+
+/// Tells a round that somebody heard: its header, the bits of the identity as they were read, and the address byte.
+fn tell_identity<T: Tap>(tap: &mut T, bits: u64, address: Addr7, ack: bool)
+    ensures { Tells T.note_gives tap.old tap.new (λ wire. (byte : ℕ) × IsAddressByte address byte
+        × (wire ≡ SymbolValue.Repeated ∷ SymbolValue.Header 0x7E true true ∷ SymbolValue.Identity bits ∷ SymbolValue.AddressByte byte ack ∷ [])) }
+{
+    tap.note(Symbol::Repeated);
+    tap.note(broadcast(true, true));
+    tap.note(Symbol::Identity(bits));
+    let byte = address_byte(address);
+    tap.note(Symbol::AddressByte { byte, ack });
+}

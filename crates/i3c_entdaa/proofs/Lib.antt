@@ -1,0 +1,4 @@
+pub mod HearersLaws
+pub mod Picks
+pub mod ContestLaws
+pub mod RoundLaws
