@@ -1,0 +1,94 @@
+-- The contenders of a round: each is a hearer with its number, and each hearer is among them.
+use Rattle.std.proofs.Common.{◌≡◌, ℕ, suc, ◌+◌, ◌<◌, ◌≤◌, ◌^◌, true, false, List, [], ◌∷◌, ◌++◌, length, take, get_or, cond, Option, None, Some, inl, inr, refl, ap, sym, subst, ◌∙◌, arith, add-zero, zero-add, append-nil, append_assoc}
+use Rattle.std.specs.List.{All, Contains}
+use Rattle.std.proofs.lemmas.List.Elements.{All-append, All-nil, All-cons, Contains-append_left, Contains-push}
+use Rattle.std.proofs.lemmas.Bool.{cases_eq, cases_lt}
+use Rattle.std.proofs.lemmas.List.{get_or_past, length-take-le, take_all, take_more}
+use Rattle.std.proofs.lemmas.Option.{none-some}
+use Rattle.i3c_base.specs.declared.range.TheConstants.{SLOTS}
+use Rattle.i3c_base.specs.State.{Device}
+use Rattle.i3c_base.specs.Numbers.{IsInRange, number_of}
+use Rattle.i3c_entdaa.specs.Hearers.{contender, contenders_from, IsContenderKey}
+
+-- the contenders among the first slots
+pub record ContendersSoFar (devices : List (Option Device)) (upto : ℕ) (keys : List (ℕ × ℕ)) : Type 0 where
+  pub exact : keys ≡ contenders_from 0 (take upto devices)
+  pub short : length keys ≤ upto
+  pub slots : 0 < upto → length devices ≡ SLOTS
+  pub sound : All (IsContenderKey devices) keys
+  pub complete : (s : ℕ) (d : Device) → s < upto → get_or devices s None ≡ Some d → d.hearing ≡ true → Contains keys (s, number_of d.identity)
+
+pub contenders_none : (devices : List (Option Device)) → ContendersSoFar devices 0 []
+unfolding contenders_from
+contenders_none devices = record { exact = refl; short = omega arith; slots = λ l. absurd (omega (arith, l)); sound = All-nil (IsContenderKey devices); complete = λ s d l. absurd (omega (arith, l)) }
+
+-- the contender of one place
+new_sound : (devices : List (Option Device)) (s : ℕ) (place : Option Device) → get_or devices s None ≡ place
+    → ((d : Device) → place ≡ Some d → d.hearing ≡ true → IsInRange d.identity) → All (IsContenderKey devices) (contender s place)
+new_sound devices s None e r = All-nil (IsContenderKey devices)
+new_sound devices s (Some d) e r =
+    elim d.hearing as (λ b. d.hearing ≡ b → All (IsContenderKey devices) (cond b ((s, number_of d.identity) ∷ []) [])) [
+      | true ↦ λ h. All-cons (IsContenderKey devices) (s, number_of d.identity) [] (record { device = d; there = e; hearing = h; number = refl; in_range = r d refl h }) (All-nil (IsContenderKey devices))
+      | false ↦ λ h. All-nil (IsContenderKey devices)
+    ] refl
+
+entered : (devices : List (Option Device)) (s : ℕ) (keys : List (ℕ × ℕ)) (d : Device) → get_or devices s None ≡ Some d → d.hearing ≡ true
+    → Contains (keys ++ contender s (get_or devices s None)) (s, number_of d.identity)
+entered devices s keys d there hearing =
+    let is : contender s (get_or devices s None) ≡ (s, number_of d.identity) ∷ [] = ap (contender s) there ∙ ap (λ b. cond b ((s, number_of d.identity) ∷ []) []) hearing in
+    subst (λ ks. Contains (keys ++ ks) (s, number_of d.identity)) (sym is) (Contains-push keys (s, number_of d.identity))
+
+-- the contenders of one place more
+from_push : (places : List (Option Device)) (place : Option Device) (slot : ℕ) → contenders_from slot (places ++ place ∷ []) ≡ contenders_from slot places ++ contender (slot + length places) place
+unfolding contenders_from
+from_push [] place slot = append-nil (contender slot place) ∙ ap (λ k. contender k place) (sym (add-zero slot))
+from_push (p ∷ places) place slot =
+    ap (λ ks. contender slot p ++ ks) (from_push places place (suc slot) ∙ ap (λ k. contenders_from (suc slot) places ++ contender k place) (omega arith))
+    ∙ sym (append_assoc (contender slot p) (contenders_from (suc slot) places) (contender (slot + suc (length places)) place))
+
+exact_more : (devices : List (Option Device)) (upto : ℕ) (place : Option Device) (keys now : List (ℕ × ℕ)) → upto < length devices → get_or devices upto None ≡ place
+    → keys ≡ contenders_from 0 (take upto devices) → now ≡ keys ++ contender upto place → now ≡ contenders_from 0 (take (upto + 1) devices)
+exact_more devices upto place keys now l at e is =
+    let n : 0 + length (take upto devices) ≡ upto = zero-add (length (take upto devices)) ∙ length-take-le upto devices (omega (arith, l)) in
+    is ∙ ap (λ ks. ks ++ contender upto place) e
+    ∙ sym (
+    ap (contenders_from 0) (take_more devices upto None l ∙ ap (λ p. take upto devices ++ p ∷ []) at)
+    ∙ from_push (take upto devices) place 0
+    ∙ ap (λ k. contenders_from 0 (take upto devices) ++ contender k place) n
+    )
+
+-- one place more
+pub contenders_more : (devices : List (Option Device)) (upto : ℕ) (place : Option Device) (keys now : List (ℕ × ℕ)) → length devices ≡ SLOTS → upto < SLOTS → ContendersSoFar devices upto keys → get_or devices upto None ≡ place
+    → now ≡ keys ++ contender upto place → length now ≤ upto + 1 → ((d : Device) → place ≡ Some d → d.hearing ≡ true → IsInRange d.identity) → ContendersSoFar devices (upto + 1) now
+contenders_more devices upto place keys now sized inside h at is l r = record {
+  exact = exact_more devices upto place keys now (omega (arith, sized, inside)) at h.exact is;
+  short = l;
+  slots = λ m. sized;
+  sound = subst (All (IsContenderKey devices)) (sym is) (All-append (IsContenderKey devices) keys (contender upto place) h.sound (new_sound devices upto place at r));
+  complete = λ s d b there hearing. subst (λ ks. Contains ks (s, number_of d.identity)) (sym (is ∙ ap (λ p. keys ++ contender upto p) (sym at))) (elim (cases_eq s upto) [
+    | inl e ↦ subst (λ k. Contains (keys ++ contender upto (get_or devices upto None)) (k, number_of d.identity)) (sym e) (entered devices upto keys d (ap (λ k. get_or devices k None) (sym e) ∙ there) hearing)
+    | inr n ↦ Contains-append_left keys (contender upto (get_or devices upto None)) (s, number_of d.identity) (h.complete s d (omega arith) there hearing)
+  ]);
+}
+
+-- all places
+pub contenders_exact : (devices : List (Option Device)) (upto : ℕ) (keys : List (ℕ × ℕ)) → SLOTS ≤ upto → ContendersSoFar devices upto keys → keys ≡ contenders_from 0 devices
+contenders_exact devices upto keys past h =
+    let sized : length devices ≡ SLOTS = h.slots (omega (arith, past)) in
+    h.exact ∙ ap (contenders_from 0) (take_all upto devices (omega (arith, past, sized)))
+
+pub contenders_complete : (devices : List (Option Device)) (upto : ℕ) (keys : List (ℕ × ℕ)) → SLOTS ≤ upto → ContendersSoFar devices upto keys
+    → (s : ℕ) (d : Device) → get_or devices s None ≡ Some d → d.hearing ≡ true → Contains keys (s, number_of d.identity)
+contenders_complete devices upto keys past h s d there hearing =
+    let sized : length devices ≡ SLOTS = h.slots (omega (arith, past)) in elim (cases_lt s upto) [
+      | inl l ↦ h.complete s d l there hearing
+      | inr l ↦ absurd (none-some d (sym (get_or_past devices s None (omega (arith, past, sized, l))) ∙ there))
+    ]
+
+-- a contender's key is a number of 64 bits
+pub key_fits : (devices : List (Option Device)) (key : ℕ × ℕ) → IsContenderKey devices key → key.1 < 2 ^ 64
+key_fits devices key h =
+    let a : h.device.identity.pid < 2 ^ 48 = h.in_range.0 in
+    let b : h.device.identity.bcr.0 < 2 ^ 8 = h.in_range.1 in
+    let c : h.device.identity.dcr.0 < 2 ^ 8 = h.in_range.2 in
+    let n : key.1 ≡ number_of h.device.identity = h.number in omega arith

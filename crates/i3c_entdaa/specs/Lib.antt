@@ -1,0 +1,2 @@
+pub mod Hearers
+pub mod Rounds

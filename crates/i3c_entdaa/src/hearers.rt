@@ -1,0 +1,38 @@
+ghost use Rattle.std.specs.Prelude.{◌≡◌, ◌+◌, ◌<◌, ◌≤◌, ◌++◌, ℕ, Some, None, true, length, slice_index_or};
+ghost use Rattle.std.specs.List.{All, Contains};
+ghost use Rattle.i3c_base.specs.declared.range.TheConstants.{SLOTS as SLOT_COUNT};
+ghost use Rattle.i3c_base.specs.Numbers.{IsInRange, number_of};
+ghost use Rattle.i3c_base.specs.State.{Device as DeviceState};
+ghost use Rattle.i3c_entdaa.specs.Hearers.{contender, contenders_from, IsContenderKey};
+
+use arrayvec::ArrayVec;
+use i3c_base::{SLOTS, Slot};
+use i3c_device::Devices;
+
+/// Adds the contender of this slot, if its device hears.
+fn enter(keys: &mut ArrayVec<(Slot, u64), SLOTS>, devices: &Devices, slot: Slot)
+    requires room { length keys.old.items ≤ slot }
+    ensures entered { keys.new.items ≡ keys.old.items ++ contender slot (slice_index_or devices.now slot None) }
+    ensures short { length keys.new.items ≤ slot + 1 }
+    ensures in_range { (d : DeviceState) → slice_index_or devices.now slot None ≡ Some d → d.hearing ≡ true → IsInRange d.identity }
+    ensures slots { length devices.now ≡ SLOT_COUNT }
+{
+    if let Some(device) = devices.get(slot) {
+        if device.is_hearing() {
+            keys.push((slot, device.identity().number()));
+        }
+    }
+}
+
+/// Those who hear, each with the number of its identity.
+pub(crate) fn contenders(devices: &Devices) -> ArrayVec<(Slot, u64), SLOTS>
+    ensures exact { result.items ≡ contenders_from 0 devices.now }
+    ensures sound { All (IsContenderKey devices.now) result.items }
+    ensures complete { (s : ℕ) (d : DeviceState) → slice_index_or devices.now s None ≡ Some d → d.hearing ≡ true → Contains result.items (s, number_of d.identity) }
+{
+    let mut keys: ArrayVec<(Slot, u64), SLOTS> = ArrayVec::new();
+    for index in 0..SLOTS {
+        enter(&mut keys, devices, Slot::from_index(index));
+    }
+    keys
+}

@@ -1,0 +1,48 @@
+ghost use Rattle.std.specs.Prelude.{◌≡◌, MatchOption};
+ghost use Rattle.i3c_base.specs.Cutting.{lost_by};
+ghost use Rattle.i3c_base.specs.Round.{AllHearersLost};
+ghost use Rattle.i3c_base.specs.State.{State};
+ghost use Rattle.i3c_entdaa.specs.Rounds.{IsContest};
+
+use crate::hearers::contenders;
+use i3c_base::Cuts;
+use i3c_device::Devices;
+use i3c_wires::contest;
+
+/// The ninth bit of `7E`/R, where those who hear acknowledge: a round's first bit.
+pub(crate) const HEADER_ACK: u16 = 0;
+
+/// The first bit of the identities.
+const FIRST_IDENTITY_BIT: u16 = 1;
+
+/// The bits of an identity.
+const IDENTITY_BITS: u32 = 64;
+
+/// The ninth bit after the address byte, where the winners acknowledge: a round's last bit.
+pub(crate) const ADDRESS_ACK: u16 = 73;
+
+/// What is read of those who contend, and whether a winner acknowledges the address that is sent then.
+#[derive(Clone, Copy)]
+pub(crate) struct Contested {
+    pub bits: u64,
+    pub acknowledged: bool,
+}
+
+/// The contest of a round: all who hear drive their identities at once. `None` where nobody acknowledges the header.
+pub(crate) fn read_identity(devices: &Devices, cuts: &Cuts) -> Option<Contested>
+    ensures { (st : State) → st.devices ≡ devices.now → MatchOption result (AllHearersLost st (lost_by cuts.now 0)) (λ read. IsContest st cuts.now read.bits read.acknowledged) }
+{
+    let keys = contenders(devices);
+    if keys.iter().all(|key| cuts.is_lost(key.0, HEADER_ACK)) {
+        return None;
+    }
+    let outcome = contest(&keys, IDENTITY_BITS, &cuts.counted_from(FIRST_IDENTITY_BIT));
+    let acknowledged = outcome
+        .winners
+        .iter()
+        .any(|slot| !cuts.is_lost(*slot, ADDRESS_ACK));
+    Some(Contested {
+        bits: outcome.bits,
+        acknowledged,
+    })
+}
