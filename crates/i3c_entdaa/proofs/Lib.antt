@@ -1,1 +1,4 @@
 pub mod HearersLaws
+pub mod Picks
+pub mod ContestLaws
+pub mod RoundLaws

@@ -1,2 +1,3 @@
 pub mod Hearers
 pub mod Rounds
+pub mod Parts

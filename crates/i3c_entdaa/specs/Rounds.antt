@@ -1,13 +1,12 @@
 -- One round on the wire. Its bit 0 is the ninth bit of 7E/R, bits 1 to 64 are the identity's, bits 65 to 72 the address byte,
 -- and bit 73 is the ninth bit of that. A cut device drives nothing from its bit on.
-use Rattle.std.specs.Prelude.{◌≡◌, ℕ, ◌^◌, ◌<◌, ◌⊎◌, Bool, true, false, List, Option, ⊤}
+use Rattle.std.specs.Prelude.{◌≡◌, ℕ, ◌^◌, ◌<◌, List, Option, ⊤}
 use Rattle.i3c_base.specs.declared.answers.RoundReply.{RoundReply}
 use Rattle.i3c_base.specs.declared.identity.Identity.{Identity}
-use Rattle.i3c_base.specs.Covered.{Table}
 use Rattle.i3c_base.specs.Cutting.{CutList, counted_from, lost_by}
 use Rattle.i3c_base.specs.Numbers.{IsInRange, number_of}
-use Rattle.i3c_base.specs.Round.{AllHearersLost, IsAddressFor, IsBeatenByLost, IsContender, IsWinner}
-use Rattle.i3c_base.specs.State.{Device, State, IsKeptIn, IsPickIn, IsUnknownIn}
+use Rattle.i3c_base.specs.Round.{IsAddressFor, IsContender}
+use Rattle.i3c_base.specs.State.{Device, State}
 use Rattle.i3c_wires.specs.Contest.{EachBit}
 use Rattle.i3c_entdaa.specs.declared.outcome.Round.{Round}
 use Rattle.i3c_entdaa.specs.declared.outcome.Round.TheVariants.{NoAddress, Done, Nobody, Assigned}
@@ -50,14 +49,3 @@ reply_of NoAddress = RoundReply.NoAddress
 reply_of Done = RoundReply.Done
 reply_of (Nobody bits a) = RoundReply.Nobody
 reply_of (Assigned bits a i) = RoundReply.Assigned a i
-
--- the address that a table has for an identity: the one kept for it, else the pick
-abbrev pub IsAddressIn : Table → Identity → ℕ → Type 0
-IsAddressIn table i a = IsKeptIn table.given i a ⊎ (IsUnknownIn table.given i × IsPickIn table.given table.legacy a)
-
--- a contest behind an acknowledged header read these bits, and the address byte after them is acknowledged or not
-pub record IsContest (st : State) (cuts : CutList) (bits : ℕ) (acknowledged : Bool) : Type 0 where
-  pub heard : IsHeard st cuts
-  pub contested : IsContested cuts st.devices bits
-  pub won : acknowledged ≡ true → (i : Identity) × IsInRange i × (number_of i ≡ bits) × IsWinner st (lost_by cuts 73) i
-  pub lost : acknowledged ≡ false → (¬ IsTaken st cuts bits) × (AllHearersLost st (lost_by cuts 73) ⊎ IsBeatenByLost st (lost_by cuts 73))

@@ -5,7 +5,8 @@ ghost use Rattle.i3c_base.specs.Places.{changed};
 ghost use Rattle.i3c_base.specs.Round.{Rounds};
 ghost use Rattle.i3c_base.specs.State.{State, IsPickIn, kept_entry_of};
 ghost use Rattle.i3c_device.specs.Walks.{assigned_at};
-ghost use Rattle.i3c_entdaa.specs.Rounds.{IsAcknowledged, IsAddressIn, IsRead, reply_of};
+ghost use Rattle.i3c_entdaa.specs.Parts.{IsAddressIn};
+ghost use Rattle.i3c_entdaa.specs.Rounds.{IsAcknowledged, IsRead, reply_of};
 
 use crate::identities::{ADDRESS_ACK, HEADER_ACK, read_identity};
 use crate::outcome::Round;
@@ -27,13 +28,7 @@ fn address_for(table: &Table, identity: &Identity, picked: Addr7) -> Addr7
 }
 
 /// The winners acknowledged the address: they take it, and its row is put.
-fn give(
-    devices: &mut Devices,
-    table: &mut Table,
-    identity: Identity,
-    address: Addr7,
-    cuts: &Cuts,
-)
+fn give(devices: &mut Devices, table: &mut Table, identity: Identity, address: Addr7, cuts: &Cuts)
     requires chosen { IsAddressIn table.old identity address }
     requires dynamic { 8 ≤ address }
     ensures taken { devices.new ≡ changed (assigned_at (lost_by cuts.now 73) identity address) devices.old }

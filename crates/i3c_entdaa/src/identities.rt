@@ -1,11 +1,12 @@
-ghost use Rattle.std.specs.Prelude.{◌≡◌, MatchOption};
+ghost use Rattle.std.specs.Prelude.{◌≡◌, not, MatchOption};
+ghost use Rattle.std.specs.List.{list_all, list_any};
 ghost use Rattle.i3c_base.specs.Cutting.{lost_by};
 ghost use Rattle.i3c_base.specs.Round.{AllHearersLost};
 ghost use Rattle.i3c_base.specs.State.{State};
-ghost use Rattle.i3c_entdaa.specs.Rounds.{IsContest};
+ghost use Rattle.i3c_entdaa.specs.Parts.{IsContest};
 
 use crate::hearers::contenders;
-use i3c_base::Cuts;
+use i3c_base::{Cuts, Slot};
 use i3c_device::Devices;
 use i3c_wires::contest;
 
@@ -28,21 +29,31 @@ pub(crate) struct Contested {
     pub acknowledged: bool,
 }
 
+/// Whether each contender is lost by this bit.
+fn are_lost(keys: &[(Slot, u64)], cuts: &Cuts, last: u16) -> bool
+    ensures { result ≡ list_all (λ e. lost_by cuts.now last e.0) keys.now }
+{
+    keys.iter().all(|key| cuts.is_lost(key.0, last))
+}
+
+/// Whether one of these slots isn't lost by this bit.
+fn is_left(slots: &[Slot], cuts: &Cuts, last: u16) -> bool
+    ensures { result ≡ list_any (λ s. not (lost_by cuts.now last s)) slots.now }
+{
+    slots.iter().any(|slot| !cuts.is_lost(*slot, last))
+}
+
 /// The contest of a round: all who hear drive their identities at once. `None` where nobody acknowledges the header.
 pub(crate) fn read_identity(devices: &Devices, cuts: &Cuts) -> Option<Contested>
     ensures { (st : State) → st.devices ≡ devices.now → MatchOption result (AllHearersLost st (lost_by cuts.now 0)) (λ read. IsContest st cuts.now read.bits read.acknowledged) }
 {
     let keys = contenders(devices);
-    if keys.iter().all(|key| cuts.is_lost(key.0, HEADER_ACK)) {
+    if are_lost(&keys, cuts, HEADER_ACK) {
         return None;
     }
     let outcome = contest(&keys, IDENTITY_BITS, &cuts.counted_from(FIRST_IDENTITY_BIT));
-    let acknowledged = outcome
-        .winners
-        .iter()
-        .any(|slot| !cuts.is_lost(*slot, ADDRESS_ACK));
     Some(Contested {
         bits: outcome.bits,
-        acknowledged,
+        acknowledged: is_left(&outcome.winners, cuts, ADDRESS_ACK),
     })
 }

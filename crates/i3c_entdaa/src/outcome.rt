@@ -8,7 +8,10 @@ pub enum Round {
     /// Nobody acknowledged `7E`/R.
     Done,
     /// These 64 bits were read, the first one the most significant, and nobody acknowledged this address after them.
-    Nobody { bits: u64, address: Addr7 },
+    Nobody {
+        bits: u64,
+        address: Addr7,
+    },
     /// These bits were read, those of this identity, and whoever sent them took this address.
     Assigned {
         bits: u64,
@@ -30,7 +33,9 @@ impl Round {
             Round::Done => RoundReply::Done,
             Round::Nobody { .. } => RoundReply::Nobody,
             Round::Assigned {
-                address, identity, ..
+                address,
+                identity,
+                ..
             } => RoundReply::Assigned(*address, *identity),
         }
     }
