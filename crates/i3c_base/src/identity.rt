@@ -63,4 +63,19 @@ impl Identity {
     {
         self.pid.get() * 65536 + self.bcr.0 as u64 * 256 + self.dcr.0 as u64
     }
+
+    /// The identity of a number of 64 bits: its PID in the upper 48, then its BCR and its DCR.
+    pub fn from_number(number: u64) -> Identity
+        ensures same { number_of result ≡ number }
+        ensures in_range { IsInRange result }
+    {
+        let Ok(pid) = Pid::new(number / 65536) else {
+            unreachable!()
+        };
+        Identity {
+            pid,
+            bcr: Bcr((number / 256 % 256) as u8),
+            dcr: Dcr((number % 256) as u8),
+        }
+    }
 }

@@ -24,6 +24,7 @@ fn identities(rt: HostRuntime) -> Result<(), Fail> {
         dcr: Dcr(0x44),
     };
     assert_eq!(rt; thermometer.number(), 0x0204_0000_0010_0644);
+    assert_eq!(rt; Identity::from_number(0x0204_0000_0010_0644), thermometer);
     assert!(rt; !thermometer.bcr.capable());
     assert!(rt; thermometer.bcr.interrupts());
     assert!(rt; thermometer.bcr.has_byte());
