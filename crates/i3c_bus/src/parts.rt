@@ -3,7 +3,7 @@ ghost use Rattle.std.specs.Prelude.{◌≡◌};
 use crate::replies::{
     DropRefusal, JoinRefusal, OutOfMemory, RaiseRefusal, SlotTaken, StartFault,
 };
-use crate::tokens::{Hand, Session};
+use crate::tokens::Hand;
 use i3c_base::{Addr7, Record, SLOTS, Setup, Slot};
 use i3c_device::{Device, Devices};
 use i3c_handoff::{Active, Role, retire};
@@ -286,9 +286,11 @@ impl Bus {
             in_session: _,
             records,
         } = self;
-        match hand {
-            Hand::Role(role) | Hand::Session(Session { role }) => retire(active, role),
-        }
+        let role = match hand {
+            Hand::Role(role) => role,
+            Hand::Session(session) => session.into_role(),
+        };
+        retire(active, role);
         Records { list: records }
     }
 }

@@ -110,7 +110,6 @@ impl Session {
     {
         tap.note(Symbol::Stop);
         bus.end();
-        let Session { role } = self;
-        role
+        self.into_role()
     }
 }

@@ -30,6 +30,14 @@ impl Session {
     {
         self.role.holder()
     }
+
+    /// The role that the session holds.
+    pub(crate) fn into_role(self) -> Role
+        ensures { result ≡ self }
+    {
+        let Session { role } = self;
+        role
+    }
 }
 
 impl Hand {
