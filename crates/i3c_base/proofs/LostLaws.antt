@@ -1,5 +1,5 @@
 -- Devices that are lost by a bit.
-use Rattle.std.proofs.Common.{◌≡◌, ℕ, ◌+◌, ◌-◌, ◌≤◌, Bool, true, false, nat_le, Option, None, Some, option_map, refl, ap, inl, inr, sym, ◌∙◌, arith}
+use Rattle.std.proofs.Common.{◌≡◌, ℕ, ◌+◌, ◌-◌, ◌≤◌, true, false, Option, None, Some, option_map, refl, ap, inl, inr, sym, ◌∙◌, arith}
 use Rattle.std.proofs.Math.ListN.{get_or-map}
 use Rattle.std.proofs.lemmas.Bool.{both_ways, cases_Bool, cases_lt, le-leb, leb-true, lt-leb}
 use Rattle.i3c_base.specs.Cutting.{CutList, counted_from, cut_of, is_by, lost_by}

@@ -1,6 +1,6 @@
 -- Identities and their numbers.
 use Rattle.std.proofs.Common.{inl, inr, ◌≡◌, ◌<◌, arith}
-use Rattle.std.proofs.lemmas.Bool.{cases_eq, cases_lt}
+use Rattle.std.proofs.lemmas.Bool.{cases_lt}
 use Rattle.i3c_base.specs.declared.identity.Identity.{Identity}
 use Rattle.i3c_base.specs.Numbers.{IsBelow, IsInRange, number_of}
 
