@@ -1,20 +1,20 @@
 -- What the contest of a round says of the hearers: who wins, and why nobody does.
-use Rattle.std.proofs.Common.{◌≡◌, ℕ, ◌+◌, ◌<◌, ◌≤◌, ◌^◌, ◌==◌, Bool, true, false, not, ◌&&◌, ◌⊎◌, inl, inr, List, [], ◌∷◌, length, get_or, Option, None, Some, refl, ap, sym, subst, ◌∙◌, arith}
+use Rattle.std.proofs.Common.{◌≡◌, ℕ, ◌<◌, ◌≤◌, ◌^◌, ◌==◌, Bool, true, false, not, ◌&&◌, ◌⊎◌, inl, inr, List, [], ◌∷◌, get_or, Option, None, Some, refl, ap, sym, subst, ◌∙◌, arith}
 use Rattle.std.specs.List.{All, Contains, list_all, list_any}
-use Rattle.std.proofs.lemmas.Bool.{and_from, and_parts, both_ways, cases_Bool, cases_eq, eq-eqb, eqb-true, not-true, not-false}
+use Rattle.std.proofs.lemmas.Bool.{and_from, and_parts, both_ways, cases_eq, eq-eqb, eqb-true, not-true, not-false}
 use Rattle.std.proofs.lemmas.List.Elements.{All-contains}
 use Rattle.std.proofs.lemmas.Option.{same_Some}
 use Rattle.i3c_base.specs.declared.identity.Identity.{Identity}
 use Rattle.i3c_base.specs.Cutting.{CutList, counted_from, lost_by}
 use Rattle.i3c_base.specs.Numbers.{IsBelow, IsInRange, number_of}
-use Rattle.i3c_base.specs.Round.{AllHearersLost, IsBeatenByLost, IsContender, IsHearer, IsWinner}
-use Rattle.i3c_base.specs.State.{Device, State, device_at}
+use Rattle.i3c_base.specs.Round.{AllHearersLost, IsBeatenByLost, IsHearer, IsWinner}
+use Rattle.i3c_base.specs.State.{Device, State}
 use Rattle.i3c_base.proofs.NumberLaws.{below_number, number_below}
 use Rattle.i3c_base.proofs.LostLaws.{left_before, lost_counted, lost_later}
 use Rattle.i3c_wires.specs.Contest.{AllLost, EachBit, LostIsBelow, holders, is_lost}
 use Rattle.i3c_entdaa.specs.Hearers.{IsContenderKey, contenders_from}
 use Rattle.i3c_entdaa.specs.Parts.{IsContest}
-use Rattle.i3c_entdaa.specs.Rounds.{IsContested, IsHeard, IsTaken}
+use Rattle.i3c_entdaa.specs.Rounds.{IsTaken}
 use Rattle.i3c_entdaa.proofs.Picks.{some_fails, some_pick, unpicked}
 
 -- what a contest of these keys read

@@ -1,6 +1,6 @@
 -- Which elements of a list pass two tests.
-use Rattle.std.proofs.Common.{◌≡◌, ℕ, Bool, true, false, ◌&&◌, ◌||◌, cond, List, [], ◌∷◌, ◌++◌, map, inl, inr, refl, sym, subst}
-use Rattle.std.specs.List.{All, AllByRecursion, Contains, filter, list_all, list_any}
+use Rattle.std.proofs.Common.{◌≡◌, ℕ, Bool, true, false, ◌&&◌, cond, List, [], ◌∷◌, map, inl, inr, refl, sym, subst}
+use Rattle.std.specs.List.{AllByRecursion, Contains, filter, list_all, list_any}
 use Rattle.std.proofs.lemmas.Bool.{both_ways, cases_Bool, or_cases, or_parts, true≢false}
 use Rattle.std.proofs.lemmas.List.Elements.{All-contains, All-from_recursion, Contains-append_left, Contains-append_right, Contains-push}
 

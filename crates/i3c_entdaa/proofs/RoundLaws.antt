@@ -1,20 +1,19 @@
 -- A round's answers and what each leaves, where a table is that of the state.
-use Rattle.std.specs.Prelude.{map, slice_index_or}
-use Rattle.std.proofs.Common.{◌≡◌, ℕ, ◌<◌, Bool, true, false, ◌⊎◌, inl, inr, List, Option, None, Some, option_map, set, refl, ap, sym, subst, ◌∙◌}
+use Rattle.std.specs.Prelude.{slice_index_or}
+use Rattle.std.proofs.Common.{◌≡◌, ℕ, Bool, true, false, inl, inr, List, Option, None, Some, option_map, set, refl, ap, sym, subst, ◌∙◌}
 use Rattle.std.proofs.Math.ListN.{get_or-map}
 use Rattle.std.proofs.lemmas.Bool.{both_ways}
 use Rattle.std.proofs.lemmas.Option.{none-some}
 use Rattle.i3c_base.specs.declared.answers.RoundReply.{RoundReply}
 use Rattle.i3c_base.specs.declared.device.LegacyTarget.{LegacyTarget}
 use Rattle.i3c_base.specs.declared.identity.Identity.{Identity}
-use Rattle.i3c_base.specs.declared.identity.Lvr.{Lvr}
-use Rattle.i3c_base.specs.Covered.{IsTable, Table, lvrs}
+use Rattle.i3c_base.specs.Covered.{IsTable, Table}
 use Rattle.i3c_base.specs.Cutting.{CutList, Lost, lost_by}
 use Rattle.i3c_base.specs.Numbers.{IsInRange, number_of}
 use Rattle.i3c_base.specs.Places.{changed}
-use Rattle.i3c_base.specs.Round.{AllHearersLost, AnyHears, AnyPickable, IsAddressFor, IsWinner, Rounds, assigned}
+use Rattle.i3c_base.specs.Round.{AllHearersLost, AnyHears, IsAddressFor, IsWinner, Rounds, assigned}
 use Rattle.i3c_base.specs.Serve.{emptied}
-use Rattle.i3c_base.specs.State.{Device, Entry, State, IsFree, IsPick, IsPickIn, IsPickable, IsPickableIn, IsKeptIn, IsUnknownIn, kept_entry_of}
+use Rattle.i3c_base.specs.State.{Device, State, IsPick, IsPickIn, IsPickable, IsPickableIn, IsKeptIn, IsUnknownIn, kept_entry_of}
 use Rattle.i3c_base.proofs.NumberLaws.{same_number}
 use Rattle.i3c_device.specs.Walks.{assigned_at, left_at}
 use Rattle.i3c_entdaa.specs.Parts.{IsAddressIn, IsContest}

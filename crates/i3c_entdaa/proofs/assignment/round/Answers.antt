@@ -1,5 +1,4 @@
 -- Each answer of a round, by what the picker, the contest and the table said.
-use Rattle.std.proofs.Common.{◌≡◌, false}
 use Rattle.std.proofs.lemmas.Bool.{not-false, not-true}
 use Rattle.i3c_entdaa.proofs.RoundLaws.{assigned_acknowledged, assigned_read, assigned_round, done_round, heard_not, no_address_round, nobody_acknowledged, nobody_read, nobody_round}
 use Rattle.i3c_entdaa.proofs.assignment.round.Goals as goal

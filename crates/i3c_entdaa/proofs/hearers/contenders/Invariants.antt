@@ -1,5 +1,3 @@
-use Rattle.std.proofs.Common.{◌≡◌, length}
-use Rattle.i3c_base.specs.declared.range.TheConstants.{SLOTS}
 use Rattle.i3c_entdaa.proofs.HearersLaws.{ContendersSoFar}
 use Rattle.i3c_entdaa.proofs.hearers.contenders.Given as goal
 
