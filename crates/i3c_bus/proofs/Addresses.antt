@@ -124,7 +124,7 @@ NoneNew-change s f st steady = NoneNew-from st (change s f st) was refl (λ a l.
           identity = sym kept.identity ∙ ap (λ x. x.identity) from.2;
         }
 
-NoneNew-drop_off : (s : ℕ) (st : State) → NoneNew st (drop_off s st)
+pub NoneNew-drop_off : (s : ℕ) (st : State) → NoneNew st (drop_off s st)
 NoneNew-drop_off s st = NoneNew-from st (drop_off s st)
     (λ t a d p q. record { was = d; there = (drop_off_from s st t d p).1; address = q; identity = refl })
     refl (λ a l. l)
@@ -281,11 +281,11 @@ Addresses-assigned lost i a st for inv = record {
     new : (b : ℕ) (j : Identity) → b ≡ a → j ≡ i → (e : Entry) × (entry_at (assigned lost i a st) b ≡ Some e) × IsFor j e
     new b j e f = (kept_entry_of i, entry b ∙ cond-true (b == a) _ _ (eq-eqb b a e), record { bcr = ap (λ (k : Identity). k.bcr) (sym f); dcr = ap (λ (k : Identity). k.dcr) (sym f); kept = λ k l. sym (same_Some i k l) ∙ sym f })
 
-Addresses-emptied : (lost : Lost) (st : State) → Addresses st → Addresses (emptied lost st)
+pub Addresses-emptied : (lost : Lost) (st : State) → Addresses st → Addresses (emptied lost st)
 Addresses-emptied lost st inv = Addresses-none_new st (emptied lost st) (NoneNew-emptied lost st) inv
 
 -- a round keeps it
-Addresses-round : (old : State) (cuts : CutList) (answer : RoundReply) (new : State) → Rounds old cuts answer new → Addresses old → Addresses new
+pub Addresses-round : (old : State) (cuts : CutList) (answer : RoundReply) (new : State) → Rounds old cuts answer new → Addresses old → Addresses new
 Addresses-round old cuts RoundReply.NoAddress new h inv = subst Addresses (sym h.1) inv
 Addresses-round old cuts RoundReply.Done new h inv = subst Addresses (sym h.2) (Addresses-emptied _ old inv)
 Addresses-round old cuts RoundReply.Nobody new h inv = subst Addresses (sym h.3) (Addresses-emptied _ old inv)

@@ -17,10 +17,10 @@ use Rattle.i3c_base.specs.declared.requests.Served.TheVariants.{Quiet, Recorded,
 use Rattle.i3c_base.specs.Numbers.{KindSet, has_byte}
 use Rattle.i3c_base.specs.State.{Device, State, IsStart, device_at, each, in_slot, raised_at}
 use Rattle.i3c_base.specs.Cutting.{CutList, Lost, lost_by}
-use Rattle.i3c_base.specs.Local.{attach, raise}
+use Rattle.i3c_base.specs.Local.{ask_join, attach, drop_off, raise}
 use Rattle.i3c_base.specs.Serve.{Frame, Serves, drives, each_driver, emptied, tail, without_front, without_join, without_role}
 use Rattle.i3c_base.specs.Frames.{Rekinds, reaches, rekinded}
-use Rattle.i3c_base.specs.Round.{Rounds, assigned, hears, opened, unhearing, winner, wins}
+use Rattle.i3c_base.specs.Round.{Rounds, assigned, ended, hears, opened, unhearing, winner, wins}
 use Rattle.i3c_base.specs.Numbers.{same_bool}
 use Rattle.i3c_base.proofs.Lookups.{attach_from, change_from, drop_off_from, each_from, emptied_from}
 use Rattle.i3c_bus.specs.declared.events.Event.{Event}
@@ -28,7 +28,7 @@ use Rattle.i3c_bus.specs.declared.events.Event.TheVariants.{Attach, DropOff, Rai
 use Rattle.i3c_bus.specs.declared.replies.Reply.{Reply}
 use Rattle.i3c_bus.specs.Step.{Acts, Step, checks, first_refusal}
 use Rattle.i3c_bus.specs.Sound.{IsFitting, IsSound}
-use Rattle.i3c_bus.proofs.Addresses.{Addresses-none_new, Addresses-start, Addresses-step, NoneNew-rekinds, NoneNew-serves, start_device}
+use Rattle.i3c_bus.proofs.Addresses.{Addresses-emptied, Addresses-none_new, Addresses-round, Addresses-start, Addresses-step, NoneNew-attach, NoneNew-change, NoneNew-drop_off, NoneNew-ended, NoneNew-opened, NoneNew-rekinds, NoneNew-serves, start_device}
 use Rattle.i3c_bus.proofs.Steps.{no_test, step_cases}
 
 -- what waits in each device fits it
@@ -134,12 +134,18 @@ AllFit-frame old policy cuts served rest Own new own frame all =
     let mid : AllFit frame.mid = AllFit-serves old policy _ served frame.mid frame.serves all in
     subst AllFit (sym frame.left) (AllFit-emptied _ frame.done (own _ frame.mid frame.done frame.own mid))
 
+AllFit-drop_off : (s : ℕ) (st : State) → AllFit st → AllFit (drop_off s st)
+AllFit-drop_off s st all t d p = all t d (drop_off_from s st t d p).1
+
+AllFit-ask_join : (s : ℕ) (st : State) → AllFit st → AllFit (ask_join s st)
+AllFit-ask_join s st all t d p =
+    let x = change_from s (λ (y : Device). record y { join_wish = true }) st t d p in
+    subst IsFitting x.2 (Fits-if (t == s) x.0 (record x.0 { join_wish = true }) (all t x.0 x.1) (all t x.0 x.1))
+
 AllFit-acts : (old : State) (event : Event) (reply : Reply) (new : State) → first_refusal (checks old event) ≡ None → Acts old event reply new → AllFit old → AllFit new
 AllFit-acts old (Attach s setup) reply new free h all = subst AllFit (sym h.1) (AllFit-attach s setup old all)
-AllFit-acts old (DropOff s) reply new free h all = subst AllFit (sym h.1) (λ t d p. all t d (drop_off_from s old t d p).1)
-AllFit-acts old (AskJoin s) reply new free h all = subst AllFit (sym h.1) (λ t d p.
-    let x = change_from s (λ (y : Device). record y { join_wish = true }) old t d p in
-    subst IsFitting x.2 (Fits-if (t == s) x.0 (record x.0 { join_wish = true }) (all t x.0 x.1) (all t x.0 x.1)))
+AllFit-acts old (DropOff s) reply new free h all = subst AllFit (sym h.1) (AllFit-drop_off s old all)
+AllFit-acts old (AskJoin s) reply new free h all = subst AllFit (sym h.1) (AllFit-ask_join s old all)
 AllFit-acts old (Raise s byte) reply new free h all = subst AllFit (sym h.1) (AllFit-raise s byte old free all)
 AllFit-acts old (Serve policy cuts) reply new free h all = AllFit-frame old policy cuts _ _ _ new (λ lost mid done e fit. subst AllFit (sym e) fit) h.2 all
 AllFit-acts old (Enec to kinds policy cuts) reply new free h all = AllFit-frame old policy cuts _ _ _ new (AllFit-rekinds to _ _) h.2 all
@@ -169,6 +175,55 @@ pub sound_rekinds : (to : Option ℕ) (f : KindSet → KindSet) (answer : Answer
 sound_rekinds to f answer lost mid done h sound = record {
   addresses = Addresses-none_new mid done (NoneNew-rekinds to f answer lost mid done h) sound.addresses;
   fitting = AllFit-rekinds to f answer lost mid done h sound.fitting;
+}
+
+-- so does a device that enters an empty slot
+pub sound_attached : (s : ℕ) (setup : Setup) (st : State) → IsSound st → IsSound (attach s setup st)
+sound_attached s setup st sound = record {
+  addresses = Addresses-none_new st (attach s setup st) (NoneNew-attach s setup st) sound.addresses;
+  fitting = AllFit-attach s setup st sound.fitting;
+}
+
+-- one that drops off
+pub sound_dropped : (s : ℕ) (st : State) → IsSound st → IsSound (drop_off s st)
+sound_dropped s st sound = record {
+  addresses = Addresses-none_new st (drop_off s st) (NoneNew-drop_off s st) sound.addresses;
+  fitting = AllFit-drop_off s st sound.fitting;
+}
+
+-- one that wishes to join
+pub sound_wishes : (s : ℕ) (st : State) → IsSound st → IsSound (ask_join s st)
+sound_wishes s st sound = record {
+  addresses = Addresses-none_new st (ask_join s st) (NoneNew-change s (λ d. record d { join_wish = true }) st (λ d. record { identity = refl; address = λ a p. p })) sound.addresses;
+  fitting = AllFit-ask_join s st sound.fitting;
+}
+
+-- devices that are gone
+pub sound_emptied : (lost : Lost) (st : State) → IsSound st → IsSound (emptied lost st)
+sound_emptied lost st sound = record {
+  addresses = Addresses-emptied lost st sound.addresses;
+  fitting = AllFit-emptied lost st sound.fitting;
+}
+
+-- a session that is opened
+pub sound_opened : (st : State) → IsSound st → IsSound (opened st)
+sound_opened st sound = record {
+  addresses = Addresses-none_new st (opened st) (NoneNew-opened st) sound.addresses;
+  fitting = AllFit-opened st sound.fitting;
+}
+
+-- one that is ended
+pub sound_ended : (st : State) → IsSound st → IsSound (ended st)
+sound_ended st sound = record {
+  addresses = Addresses-none_new st (ended st) (NoneNew-ended st) sound.addresses;
+  fitting = AllFit-each (λ s d. unhearing d) st (λ s d f. f) sound.fitting;
+}
+
+-- and a round
+pub sound_round : (old : State) (cuts : CutList) (answer : RoundReply) (new : State) → Rounds old cuts answer new → IsSound old → IsSound new
+sound_round old cuts answer new h sound = record {
+  addresses = Addresses-round old cuts answer new h sound.addresses;
+  fitting = AllFit-round old cuts answer new h sound.fitting;
 }
 
 -- each step keeps it

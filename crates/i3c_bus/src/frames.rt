@@ -125,11 +125,18 @@ impl Bus {
             return Reply::Refused(Refusal::SessionOpen);
         };
         match *command {
-            Command::Serve => Reply::from(self.serve(role, policy, tap, cuts)),
-            Command::Enec(to, kinds) => Reply::from(self.enec(role, to, kinds, policy, tap, cuts)),
-            Command::Disec(to, kinds) => {
-                Reply::from(self.disec(role, to, kinds, policy, tap, cuts))
-            }
+            Command::Serve => match self.serve(role, policy, tap, cuts) {
+                Ok(served) => Reply::Served(served),
+                Err(fault) => Reply::from(fault),
+            },
+            Command::Enec(to, kinds) => match self.enec(role, to, kinds, policy, tap, cuts) {
+                Ok(framed) => Reply::Framed(framed),
+                Err(fault) => Reply::from(fault),
+            },
+            Command::Disec(to, kinds) => match self.disec(role, to, kinds, policy, tap, cuts) {
+                Ok(framed) => Reply::Framed(framed),
+                Err(fault) => Reply::from(fault),
+            },
         }
     }
 

@@ -68,7 +68,7 @@ impl Model for Bus {
 }
 
 impl Bus {
-    ghost use Rattle.std.specs.Prelude.{◌↔◌, true, is_some, IfOk, IsOk, OnOk, OnErr};
+    ghost use Rattle.std.specs.Prelude.{◌↔◌, true, false, is_some, IfOk, IsOk, OnOk, OnErr};
     ghost use Rattle.i3c_base.specs.Numbers.{is_capable};
     ghost use Rattle.i3c_base.specs.Covered.{IsTable};
     ghost use Rattle.i3c_base.specs.State.{device_at, IsStart, legacy_targets_of};

@@ -211,17 +211,16 @@ pub enum FrameFault {
     OutOfMemory,
 }
 
-impl From<Result<Served, FrameFault>> for Reply {
+impl From<FrameFault> for Reply {
     ghost use Rattle.std.specs.Prelude.{◌≡◌};
-    ghost use Rattle.i3c_bus.specs.Replies.{served_reply};
+    ghost use Rattle.i3c_bus.specs.Replies.{frame_fault_reply};
 
-    ghost from_gives = { λ outcome reply. reply ≡ served_reply outcome };
+    ghost from_gives = { λ fault reply. reply ≡ frame_fault_reply fault };
 
-    fn from(outcome: Result<Served, FrameFault>) -> Reply {
-        match outcome {
-            Ok(served) => Reply::Served(served),
-            Err(FrameFault::ActiveStays) => Reply::Refused(Refusal::ActiveStays),
-            Err(FrameFault::OutOfMemory) => Reply::OutOfMemory,
+    fn from(fault: FrameFault) -> Reply {
+        match fault {
+            FrameFault::ActiveStays => Reply::Refused(Refusal::ActiveStays),
+            FrameFault::OutOfMemory => Reply::OutOfMemory,
         }
     }
 }
@@ -240,18 +239,17 @@ pub enum TargetFault {
     OutOfMemory,
 }
 
-impl From<Result<Framed, TargetFault>> for Reply {
+impl From<TargetFault> for Reply {
     ghost use Rattle.std.specs.Prelude.{◌≡◌};
-    ghost use Rattle.i3c_bus.specs.Replies.{framed_reply};
+    ghost use Rattle.i3c_bus.specs.Replies.{target_fault_reply};
 
-    ghost from_gives = { λ outcome reply. reply ≡ framed_reply outcome };
+    ghost from_gives = { λ fault reply. reply ≡ target_fault_reply fault };
 
-    fn from(outcome: Result<Framed, TargetFault>) -> Reply {
-        match outcome {
-            Ok(framed) => Reply::Framed(framed),
-            Err(TargetFault::ActiveStays) => Reply::Refused(Refusal::ActiveStays),
-            Err(TargetFault::NoAnswer(address)) => Reply::Refused(Refusal::NoAnswer(address)),
-            Err(TargetFault::OutOfMemory) => Reply::OutOfMemory,
+    fn from(fault: TargetFault) -> Reply {
+        match fault {
+            TargetFault::ActiveStays => Reply::Refused(Refusal::ActiveStays),
+            TargetFault::NoAnswer(address) => Reply::Refused(Refusal::NoAnswer(address)),
+            TargetFault::OutOfMemory => Reply::OutOfMemory,
         }
     }
 }
