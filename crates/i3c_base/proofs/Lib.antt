@@ -1,3 +1,4 @@
 pub mod Lookups
 pub mod CutLaws
+pub mod CutTests
 pub mod NumberLaws
