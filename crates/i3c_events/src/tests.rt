@@ -105,10 +105,21 @@ fn a_broadcast_may_reach_nobody(rt: HostRuntime) -> Result<(), Fail> {
     let mut devices = Devices::new();
     devices.put(active, interrupting(0x08)?);
     assert_eq!(rt;
-        hear_kinds(&mut devices, active, None, Change::Disable, Kinds::INTERRUPT, &Cuts::new(), 0),
+        hear_kinds(
+            &mut devices,
+            active,
+            None,
+            Change::Disable,
+            Kinds::INTERRUPT,
+            &Cuts::new(),
+            0
+        ),
         Ok(())
     );
-    assert_eq!(rt; wanted(&devices, 0)?, Some(Request::Interrupt(Addr7::new(0x08)?)));
+    assert_eq!(rt;
+        wanted(&devices, 0)?,
+        Some(Request::Interrupt(Addr7::new(0x08)?))
+    );
     Ok(())
 }
 
@@ -129,7 +140,15 @@ fn a_direct_command_reaches_one_address(rt: HostRuntime) -> Result<(), Fail> {
     ] {
         let all = Kinds::from_bits_retain(0x0B);
         assert_eq!(rt;
-            hear_kinds(&mut devices, active, Some(low), change, all, &Cuts::new(), 0),
+            hear_kinds(
+                &mut devices,
+                active,
+                Some(low),
+                change,
+                all,
+                &Cuts::new(),
+                0
+            ),
             Ok(())
         );
         for (slot, request) in [
@@ -193,7 +212,15 @@ fn a_target_is_cut_at_its_acknowledgement(rt: HostRuntime) -> Result<(), Fail> {
         cuts.add(slot, bit);
         let kinds = Kinds::INTERRUPT;
         assert_eq!(rt;
-            hear_kinds(&mut devices, active, Some(at), Change::Disable, kinds, &cuts, begun),
+            hear_kinds(
+                &mut devices,
+                active,
+                Some(at),
+                Change::Disable,
+                kinds,
+                &cuts,
+                begun
+            ),
             answer,
             "cut at {bit}"
         );
