@@ -11,7 +11,7 @@ use lib.Bits.{bit_and}
 use Rattle.i3c_base.specs.Places.{masked_from}
 use Rattle.i3c_base.specs.Cutting.{IsUncut, cut_of}
 
-length-masked_from : (n mask : ℕ) (xs : List ℕ) → length (masked_from n mask xs) ≡ length xs
+pub length-masked_from : (n mask : ℕ) (xs : List ℕ) → length (masked_from n mask xs) ≡ length xs
 length-masked_from n mask [] = refl
 length-masked_from n mask (x ∷ xs) = ap suc (length-masked_from (suc n) mask xs)
 

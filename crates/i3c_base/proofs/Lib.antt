@@ -1,4 +1,5 @@
 pub mod Lookups
 pub mod CutLaws
+pub mod CutTests
 pub mod NumberLaws
 pub mod LostLaws

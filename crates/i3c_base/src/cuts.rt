@@ -94,3 +94,36 @@ impl Cuts {
         self.cut == 0
     }
 }
+
+/// Cuts are equal where they cut the same slots at the same bits.
+impl PartialEq for Cuts {
+    ghost use Rattle.std.specs.Prelude.{nat_eq};
+    ghost use Rattle.std.specs.Option.{option_eq};
+    ghost use Rattle.std.specs.Cmp.{partial_equiv_from_equiv};
+    ghost use Rattle.std.specs.Cmp.Lexicographic.{lists_per, options_equiv, pointwise};
+    ghost use Rattle.std.proofs.lemmas.Cmp.{nat_eq_equiv};
+
+    ghost eq = { pointwise (option_eq nat_eq) };
+
+    ghost laws = { lists_per (partial_equiv_from_equiv (options_equiv nat_eq_equiv)) };
+
+    fn eq(&self, other: &Cuts) -> bool {
+        if self.cut != other.cut {
+            return false;
+        }
+        for index in 0..SLOTS {
+            let slot = Slot::from_index(index);
+            if self.at(slot) != other.at(slot) {
+                return false;
+            }
+        }
+        true
+    }
+}
+
+impl Eq for Cuts {
+    ghost use Rattle.std.specs.Cmp.Lexicographic.{lists_equiv, options_equiv};
+    ghost use Rattle.std.proofs.lemmas.Cmp.{nat_eq_equiv};
+
+    ghost laws = { lists_equiv (options_equiv nat_eq_equiv) };
+}

@@ -1,5 +1,6 @@
 use crate::{
-    Addr7, Bcr, Cuts, Dcr, Fixed, Identity, Kinds, Pid, Record, Request, Served, Setup, Slot,
+    Addr7, Bcr, Cuts, Dcr, Fixed, Identity, Kinds, LegacyTarget, Pid, REGISTERS, Record, Request,
+    SLOTS, Served, Setup, Slot, WAITING, Waiting,
 };
 use bitflags::Flags;
 use std::mem::size_of;
@@ -13,6 +14,7 @@ fn limits(rt: HostRuntime) -> Result<(), Fail> {
     assert!(rt; Pid::new(1 << 48).is_err());
     assert_eq!(rt; Slot::new(15)?.index(), 15);
     assert!(rt; Slot::new(16).is_err());
+    assert_eq!(rt; (SLOTS, WAITING, REGISTERS), (16, 8, 16));
     Ok(())
 }
 
@@ -58,21 +60,71 @@ fn the_earlier_cut_is_kept(rt: HostRuntime) -> Result<(), Fail> {
     Ok(())
 }
 
+// A device that is cut at a bit drives that bit no more.
+#[test]
+fn a_cut_takes_effect_at_its_bit(rt: HostRuntime) -> Result<(), Fail> {
+    let (cut, last) = (Slot::new(0)?, Slot::new(15)?);
+    let mut cuts = Cuts::new();
+    cuts.add(cut, 9);
+    cuts.add(last, 65535);
+    assert!(rt; !cuts.is_lost(cut, 8));
+    assert!(rt; cuts.is_lost(cut, 9));
+    assert!(rt; !cuts.is_lost(last, 65534));
+    assert!(rt; cuts.is_lost(last, 65535));
+    assert!(rt; !cuts.is_lost(Slot::new(1)?, 65535));
+    Ok(())
+}
+
+// The bits of a part of a frame, which begins at bit 10.
+#[test]
+fn cuts_are_counted_from_a_later_bit(rt: HostRuntime) -> Result<(), Fail> {
+    let (before, behind) = (Slot::new(1)?, Slot::new(2)?);
+    let mut cuts = Cuts::new();
+    cuts.add(before, 9);
+    cuts.add(behind, 27);
+    let part = cuts.counted_from(10);
+    assert_eq!(rt; part.at(before), Some(0));
+    assert_eq!(rt; part.at(behind), Some(17));
+    assert_eq!(rt; part.at(Slot::new(3)?), None);
+    Ok(())
+}
+
+// The order in which cuts were named doesn't count, and a cut at bit 0 is one.
+#[test]
+fn cuts_are_compared_slot_by_slot(rt: HostRuntime) -> Result<(), Fail> {
+    let (low, high) = (Slot::new(1)?, Slot::new(15)?);
+    let mut cuts = Cuts::new();
+    let mut others = Cuts::new();
+    assert!(rt; cuts == others);
+    cuts.add(low, 0);
+    assert!(rt; cuts != others);
+    cuts.add(high, 9);
+    others.add(high, 17);
+    others.add(low, 0);
+    assert!(rt; cuts != others);
+    others.add(high, 9);
+    assert!(rt; cuts == others);
+    let mut exchanged = Cuts::new();
+    exchanged.add(low, 9);
+    exchanged.add(high, 0);
+    assert!(rt; cuts != exchanged);
+    Ok(())
+}
+
 // What events and records are made of, which are kept by the million.
 #[test]
-fn sizes(rt: HostRuntime) -> Result<(), Fail> {
-    println!(rt;
-        "Identity {} Setup {}",
-        size_of::<Identity>(),
-        size_of::<Setup>()
-    )?;
-    println!(rt; "Cuts {} Fixed {}", size_of::<Cuts>(), size_of::<Fixed>())?;
-    println!(rt;
-        "Request {} Served {}",
-        size_of::<Request>(),
-        size_of::<Served>()
-    )?;
-    println!(rt; "Record {}", size_of::<Record>())?;
-    assert_eq!(rt; size_of::<Cuts>(), 34);
-    Ok(())
+fn sizes(rt: HostRuntime) {
+    for (name, size, bytes) in [
+        ("Cuts", size_of::<Cuts>(), 34),
+        ("Identity", size_of::<Identity>(), 16),
+        ("Setup", size_of::<Setup>(), 24),
+        ("Fixed", size_of::<Fixed>(), 3),
+        ("Request", size_of::<Request>(), 2),
+        ("Served", size_of::<Served>(), 16),
+        ("Record", size_of::<Record>(), 24),
+        ("Waiting", size_of::<Waiting>(), 16),
+        ("LegacyTarget", size_of::<LegacyTarget>(), 17),
+    ] {
+        assert_eq!(rt; size, bytes, "{name}");
+    }
 }

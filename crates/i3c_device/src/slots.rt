@@ -79,12 +79,7 @@ impl Devices {
 
     /// The slot's device raises the interrupt after this many of its slot, and answers its number. The first fault
     /// refuses it, and changes nothing.
-    pub fn raise(
-        &mut self,
-        slot: Slot,
-        raised: u64,
-        byte: Option<u8>,
-    ) -> Result<u64, RaiseFault>
+    pub fn raise(&mut self, slot: Slot, raised: u64, byte: Option<u8>) -> Result<u64, RaiseFault>
         requires { (d : DeviceState) × (slice_index_or self.old slot None ≡ Some d) }
         ensures fault { (d : DeviceState) → slice_index_or self.old slot None ≡ Some d → MatchResult result (λ number. (number ≡ suc raised) × (next_fault d byte raised ≡ None)) (λ fault. next_fault d byte raised ≡ Some fault) }
         ensures raised { OnOk result (self.new ≡ slice_set self.old slot (option_map (with_raise (suc raised) byte) (slice_index_or self.old slot None))) }
@@ -135,7 +130,8 @@ impl Devices {
         ensures { IsTrue result ↔ SomeDrives active request.now (lost_by cuts.now last) self.now }
     {
         for (index, place) in self.places.iter().enumerate() {
-            if drives(place, index, active, request) && !cuts.is_lost(Slot::from_index(index), last)
+            if drives(place, index, active, request)
+                && !cuts.is_lost(Slot::from_index(index), last)
             {
                 return true;
             }

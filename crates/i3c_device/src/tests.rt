@@ -1,18 +1,22 @@
 ghost use Rattle.std.specs.Prelude.{◌≤◌};
 
-use crate::{Device, RaiseFault};
-use i3c_base::{Addr7, Bcr, Dcr, Identity, Pid, Request, Setup, Waiting};
+use crate::{Device, Devices, RaiseFault};
+use i3c_base::{Addr7, Bcr, Cuts, Dcr, Identity, Pid, Request, Setup, Slot, Waiting};
 use i3c_ccc::Code;
 use i3c_word::write_word;
 use std::test::Fail;
 
+fn identity(bcr: u8) -> Result<Identity, Fail> {
+    Ok(Identity {
+        pid: Pid::new(0x0204_0000_0010)?,
+        bcr: Bcr(bcr),
+        dcr: Dcr(0x44),
+    })
+}
+
 fn attached(bcr: u8) -> Result<Device, Fail> {
     Ok(Device::new(Setup {
-        identity: Identity {
-            pid: Pid::new(0x0204_0000_0010)?,
-            bcr: Bcr(bcr),
-            dcr: Dcr(0x44),
-        },
+        identity: identity(bcr)?,
         willing: false,
     }))
 }
@@ -46,17 +50,17 @@ fn the_first_fault_refuses(rt: HostRuntime) -> Result<(), Fail> {
     let mut device = attached(0x04)?;
     device.hear(Code::Disec, &mask);
     assert_eq!(rt; device.may_raise(None), Err(RaiseFault::NoAddress));
-    assert_eq!(rt; device.raise(1, None), Err(RaiseFault::NoAddress));
+    assert_eq!(rt; device.raise(0, None), Err(RaiseFault::NoAddress));
     device.take_address(Addr7::new(0x09)?);
-    assert_eq!(rt; device.raise(1, None), Err(RaiseFault::NotCapable));
+    assert_eq!(rt; device.raise(0, None), Err(RaiseFault::NotCapable));
     let mut button = addressed(0x02, 0x09)?;
     button.hear(Code::Disec, &mask);
-    assert_eq!(rt; button.raise(1, Some(0x20)), Err(RaiseFault::ByteMismatch));
-    assert_eq!(rt; button.raise(1, None), Err(RaiseFault::Masked));
+    assert_eq!(rt; button.raise(0, Some(0x20)), Err(RaiseFault::ByteMismatch));
+    assert_eq!(rt; button.raise(0, None), Err(RaiseFault::Masked));
     let mut thermometer = addressed(0x06, 0x0A)?;
     thermometer.hear(Code::Disec, &mask);
-    assert_eq!(rt; thermometer.raise(1, None), Err(RaiseFault::ByteMismatch));
-    assert_eq!(rt; thermometer.raise(1, Some(0x20)), Err(RaiseFault::Masked));
+    assert_eq!(rt; thermometer.raise(0, None), Err(RaiseFault::ByteMismatch));
+    assert_eq!(rt; thermometer.raise(0, Some(0x20)), Err(RaiseFault::Masked));
     assert_eq!(rt; thermometer.waiting(), 0);
     Ok(())
 }
@@ -64,26 +68,27 @@ fn the_first_fault_refuses(rt: HostRuntime) -> Result<(), Fail> {
 #[test]
 fn eight_interrupts_wait_and_a_ninth_is_refused(rt: HostRuntime) -> Result<(), Fail> {
     let mut device = addressed(0x02, 0x09)?;
-    for number in 1..9 {
+    for raised in 0..8 {
         assert_eq!(rt; device.may_raise(None), Ok(()));
-        assert_eq!(rt; device.raise(number, None), Ok(()));
+        assert_eq!(rt; device.raise(raised, None), Ok(raised + 1));
     }
     assert_eq!(rt; device.waiting(), 8);
     assert_eq!(rt; device.may_raise(None), Err(RaiseFault::Full));
-    assert_eq!(rt; device.raise(9, None), Err(RaiseFault::Full));
+    assert_eq!(rt; device.raise(8, None), Err(RaiseFault::Full));
     assert_eq!(rt; device.waiting(), 8);
     device.lose_front();
-    assert_eq!(rt; device.raise(9, None), Ok(()));
+    assert_eq!(rt; device.raise(u64::MAX, None), Err(RaiseFault::Full));
+    assert_eq!(rt; device.raise(8, None), Ok(9));
     device.hear(Code::Disec, &[write_word(0x01)]);
-    assert_eq!(rt; device.raise(10, None), Err(RaiseFault::Masked));
+    assert_eq!(rt; device.raise(9, None), Err(RaiseFault::Masked));
     Ok(())
 }
 
 #[test]
 fn the_oldest_interrupt_is_in_front(rt: HostRuntime) -> Result<(), Fail> {
     let mut device = addressed(0x06, 0x09)?;
-    for (number, byte) in [(1, 0x20), (2, 0x47), (3, 0x00)] {
-        assert_eq!(rt; device.raise(number, Some(byte)), Ok(()));
+    for (raised, byte) in [(0, 0x20), (1, 0x47), (2, 0x00)] {
+        assert_eq!(rt; device.raise(raised, Some(byte)), Ok(raised + 1));
     }
     for (number, byte) in [(1, 0x20), (2, 0x47), (3, 0x00)] {
         let byte = Some(byte);
@@ -154,7 +159,7 @@ fn only_enabled_kinds_are_asked_for(rt: HostRuntime) -> Result<(), Fail> {
 fn the_role_comes_before_the_interrupt(rt: HostRuntime) -> Result<(), Fail> {
     let at = Addr7::new(0x09)?;
     let mut device = addressed(0x42, 0x09)?;
-    assert_eq!(rt; device.raise(1, None), Ok(()));
+    assert_eq!(rt; device.raise(0, None), Ok(1));
     assert_eq!(rt; device.wants(), Some(Request::Interrupt(at)));
     device.wish_role();
     assert_eq!(rt; device.wants(), Some(Request::Role(at)));
@@ -165,5 +170,188 @@ fn the_role_comes_before_the_interrupt(rt: HostRuntime) -> Result<(), Fail> {
     device.hear(Code::Disec, &[write_word(0x01)]);
     assert_eq!(rt; device.wants(), None);
     assert_eq!(rt; device.waiting(), 1);
+    Ok(())
+}
+
+// A device at this address that interrupts without a byte, so many times.
+fn interrupting(value: u8, times: u64) -> Result<Device, Fail>
+    requires { 8 ≤ value }
+{
+    let mut device = addressed(0x42, value)?;
+    for raised in 0..times {
+        device.raise(raised, None)?;
+    }
+    Ok(device)
+}
+
+fn joining() -> Result<Device, Fail> {
+    let mut device = attached(0x06)?;
+    device.wish_join();
+    Ok(device)
+}
+
+fn wanted(devices: &Devices, slot: Slot) -> Option<Request> {
+    match devices.get(slot) {
+        Some(device) => device.wants(),
+        None => None,
+    }
+}
+
+fn address(devices: &Devices, slot: Slot) -> Option<Addr7> {
+    match devices.get(slot) {
+        Some(device) => device.address(),
+        None => None,
+    }
+}
+
+fn waiting(devices: &Devices, slot: Slot) -> Option<usize> {
+    match devices.get(slot) {
+        Some(device) => Some(device.waiting()),
+        None => None,
+    }
+}
+
+// The active controller drives none.
+#[test]
+fn each_device_drives_one_request(rt: HostRuntime) -> Result<(), Fail> {
+    let (active, last) = (Slot::new(0)?, Slot::new(15)?);
+    let (own, low, high) = (Addr7::new(0x08)?, Addr7::new(0x09)?, Addr7::new(0x0A)?);
+    let mut devices = Devices::new();
+    assert!(rt; devices.requests(active).is_empty());
+    devices.put(active, interrupting(0x08, 1)?);
+    devices.put(Slot::new(3)?, interrupting(0x0A, 2)?);
+    devices.put(Slot::new(5)?, joining()?);
+    devices.put(Slot::new(6)?, attached(0x06)?);
+    devices.put(last, interrupting(0x09, 1)?);
+    let requests = devices.requests(active);
+    assert_eq!(rt; requests.len(), 3);
+    for (request, lowest) in [
+        (Request::Interrupt(high), 3),
+        (Request::Join, 5),
+        (Request::Interrupt(low), 15),
+    ] {
+        assert!(rt; requests.contains(&request));
+        assert_eq!(rt;
+            devices.lowest_driver(active, &request),
+            Some(Slot::new(lowest)?)
+        );
+        assert!(rt; devices.drives(active, Slot::new(lowest)?, &request));
+    }
+    assert_eq!(rt;
+        devices.lowest_driver(active, &Request::Interrupt(own)),
+        None
+    );
+    assert!(rt; devices.drives(last, active, &Request::Interrupt(own)));
+    Ok(())
+}
+
+// All who drove it, and nobody else.
+#[test]
+fn an_accepted_request_leaves_its_drivers(rt: HostRuntime) -> Result<(), Fail> {
+    let active = Slot::new(0)?;
+    let (join, other_join) = (Slot::new(2)?, Slot::new(7)?);
+    let (interrupt, other_interrupt) = (Slot::new(3)?, Slot::new(4)?);
+    let asked = Request::Interrupt(Addr7::new(0x09)?);
+    let mut devices = Devices::new();
+    devices.put(active, interrupting(0x09, 1)?);
+    devices.put(join, joining()?);
+    devices.put(interrupt, interrupting(0x09, 1)?);
+    devices.put(other_interrupt, interrupting(0x09, 2)?);
+    devices.put(other_join, joining()?);
+    devices.accept(active, &Request::Join);
+    assert_eq!(rt; wanted(&devices, join), None);
+    assert_eq!(rt; wanted(&devices, other_join), None);
+    assert_eq!(rt; wanted(&devices, interrupt), Some(asked));
+    devices.accept(active, &asked);
+    assert_eq!(rt; wanted(&devices, interrupt), None);
+    assert_eq!(rt; wanted(&devices, other_interrupt), Some(asked));
+    assert_eq!(rt; waiting(&devices, other_interrupt), Some(1));
+    assert_eq!(rt; waiting(&devices, active), Some(1));
+    Ok(())
+}
+
+// A reset leaves the active controller's address, and the interrupts that wait; role wishes are gone.
+#[test]
+fn a_reset_takes_the_others_addresses(rt: HostRuntime) -> Result<(), Fail> {
+    let (active, target) = (Slot::new(0)?, Slot::new(1)?);
+    let (own, at) = (Addr7::new(0x08)?, Addr7::new(0x09)?);
+    let mut secondary = interrupting(0x09, 1)?;
+    secondary.wish_role();
+    let mut devices = Devices::new();
+    devices.put(active, interrupting(0x08, 1)?);
+    devices.put(target, secondary);
+    assert_eq!(rt; wanted(&devices, target), Some(Request::Role(at)));
+    devices.hear(active, &None, Code::Rstdaa, &[]);
+    assert_eq!(rt; address(&devices, active), Some(own));
+    assert_eq!(rt; address(&devices, target), None);
+    assert_eq!(rt; waiting(&devices, target), Some(1));
+    devices.open();
+    devices.assign(&identity(0x42)?, at, &Cuts::new(), 73);
+    assert_eq!(rt; wanted(&devices, target), Some(Request::Interrupt(at)));
+    Ok(())
+}
+
+// Who hears takes the address with all of its identity, unless it is cut by the last bit.
+#[test]
+fn a_session_is_heard_by_those_without_an_address(rt: HostRuntime) -> Result<(), Fail> {
+    let (given, had) = (Addr7::new(0x0A)?, Addr7::new(0x09)?);
+    let (first, second, cut) = (Slot::new(1)?, Slot::new(2)?, Slot::new(3)?);
+    let (addressed_one, later) = (Slot::new(4)?, Slot::new(5)?);
+    let mut devices = Devices::new();
+    for slot in [first, second, cut] {
+        devices.put(slot, joining()?);
+    }
+    devices.put(addressed_one, addressed(0x06, 0x09)?);
+    devices.open();
+    devices.put(later, joining()?);
+    let mut cuts = Cuts::new();
+    cuts.add(second, 74);
+    cuts.add(cut, 73);
+    cuts.add(Slot::new(9)?, 0);
+    devices.assign(&identity(0x06)?, given, &cuts, 73);
+    devices.drop_lost(&cuts, 73);
+    for slot in [first, second] {
+        assert_eq!(rt; address(&devices, slot), Some(given));
+        assert_eq!(rt; wanted(&devices, slot), None);
+    }
+    assert!(rt; devices.get(cut).is_none());
+    assert_eq!(rt; address(&devices, addressed_one), Some(had));
+    assert_eq!(rt; wanted(&devices, later), Some(Request::Join));
+    devices.open();
+    devices.silence();
+    devices.assign(&identity(0x06)?, Addr7::new(0x0B)?, &Cuts::new(), 73);
+    assert_eq!(rt; address(&devices, later), None);
+    Ok(())
+}
+
+// From the bit of its cut on a device drives nothing; the active controller neither drives nor hears.
+#[test]
+fn a_cut_device_drives_until_its_bit(rt: HostRuntime) -> Result<(), Fail> {
+    let (active, target) = (Slot::new(0)?, Slot::new(1)?);
+    let at = Addr7::new(0x09)?;
+    let (asked, to) = (Request::Interrupt(at), Some(at));
+    let mut devices = Devices::new();
+    devices.put(active, interrupting(0x09, 1)?);
+    assert!(rt; !devices.is_driven(active, &asked, &Cuts::new(), 0));
+    assert!(rt; !devices.is_heard(active, &None, &Cuts::new(), 0));
+    devices.put(target, interrupting(0x09, 1)?);
+    let mut cuts = Cuts::new();
+    cuts.add(target, 18);
+    assert!(rt; devices.is_driven(active, &asked, &cuts, 17));
+    assert!(rt; !devices.is_driven(active, &asked, &cuts, 18));
+    assert!(rt; devices.is_heard(active, &to, &cuts, 17));
+    assert!(rt; !devices.is_heard(active, &to, &cuts, 18));
+    assert!(rt; devices.is_heard(active, &None, &cuts, 17));
+    assert!(rt; !devices.is_heard(active, &Some(Addr7::new(0x0A)?), &cuts, 0));
+    Ok(())
+}
+
+#[test]
+fn the_last_slots_device_raises(rt: HostRuntime) -> Result<(), Fail> {
+    let last = Slot::new(15)?;
+    let mut devices = Devices::new();
+    devices.put(last, addressed(0x06, 0x09)?);
+    assert_eq!(rt; devices.raise(last, 6, Some(0xA5)), Ok(7));
+    assert_eq!(rt; waiting(&devices, last), Some(1));
     Ok(())
 }

@@ -2,8 +2,8 @@ ghost use Rattle.std.specs.Prelude.{◌≤◌};
 
 use crate::{Change, Kinds, NoAnswer, code_word, hear_kinds, kinds_word};
 use bitflags::Flags;
-use i3c_base::{Addr7, Bcr, Dcr, Identity, Pid, Request, Setup, Slot};
-use i3c_device::Device;
+use i3c_base::{Addr7, Bcr, Cuts, Dcr, Identity, Pid, Request, Setup, Slot};
+use i3c_device::{Device, Devices};
 use i3c_word::Word;
 use std::test::Fail;
 
@@ -24,7 +24,7 @@ fn interrupting(value: u8) -> Result<Device, Fail>
 {
     let mut device = attached()?;
     device.take_address(Addr7::new(value)?);
-    device.raise(1, None)?;
+    device.raise(0, None)?;
     Ok(device)
 }
 
@@ -35,11 +35,11 @@ fn joining() -> Result<Device, Fail> {
 }
 
 // The request of what stands in this slot.
-fn wanted(devices: &[Option<Device>], index: usize) -> Option<Request> {
-    match devices.get(index) {
-        Some(Some(device)) => device.wants(),
-        _ => None,
-    }
+fn wanted(devices: &Devices, slot: u8) -> Result<Option<Request>, Fail> {
+    Ok(match devices.get(Slot::new(slot)?) {
+        Some(device) => device.wants(),
+        None => None,
+    })
 }
 
 #[test]
@@ -74,121 +74,156 @@ fn kinds_words(rt: HostRuntime) {
 #[test]
 fn a_broadcast_reaches_all_but_the_active(rt: HostRuntime) -> Result<(), Fail> {
     let active = Slot::new(1)?;
-    let (low, high) = (Addr7::new(0x08)?, Addr7::new(0x09)?);
-    let mut devices = [
-        Some(interrupting(0x08)?),
-        Some(interrupting(0x09)?),
-        None,
-        Some(joining()?),
-    ];
+    let low = Request::Interrupt(Addr7::new(0x08)?);
+    let own = Request::Interrupt(Addr7::new(0x09)?);
+    let mut devices = Devices::new();
+    devices.put(Slot::new(0)?, interrupting(0x08)?);
+    devices.put(active, interrupting(0x09)?);
+    devices.put(Slot::new(15)?, joining()?);
     let all = Kinds::from_bits_retain(0xFF);
-    assert_eq!(rt;
-        hear_kinds(&mut devices, active, None, Change::Disable, all),
-        Ok(())
-    );
-    assert_eq!(rt; wanted(&devices, 0), None);
-    assert_eq!(rt; wanted(&devices, 1), Some(Request::Interrupt(high)));
-    assert_eq!(rt; wanted(&devices, 3), None);
-    assert_eq!(rt;
-        hear_kinds(&mut devices, active, None, Change::Enable, Kinds::INTERRUPT),
-        Ok(())
-    );
-    assert_eq!(rt; wanted(&devices, 0), Some(Request::Interrupt(low)));
-    assert_eq!(rt; wanted(&devices, 3), None);
-    assert_eq!(rt;
-        hear_kinds(&mut devices, active, None, Change::Enable, Kinds::JOIN),
-        Ok(())
-    );
-    assert_eq!(rt; wanted(&devices, 3), Some(Request::Join));
+    for (change, kinds, first, last) in [
+        (Change::Disable, Kinds::ROLE, Some(low), Some(Request::Join)),
+        (Change::Disable, all, None, None),
+        (Change::Enable, Kinds::INTERRUPT, Some(low), None),
+        (Change::Enable, Kinds::JOIN, Some(low), Some(Request::Join)),
+    ] {
+        assert_eq!(rt;
+            hear_kinds(&mut devices, active, None, change, kinds, &Cuts::new(), 0),
+            Ok(())
+        );
+        assert_eq!(rt; wanted(&devices, 0)?, first);
+        assert_eq!(rt; wanted(&devices, 1)?, Some(own));
+        assert_eq!(rt; wanted(&devices, 15)?, last);
+    }
     Ok(())
 }
 
-// Nobody else is on the bus: each broadcast is still carried out.
+// Nobody else is on the bus: the broadcast is carried out all the same.
 #[test]
 fn a_broadcast_may_reach_nobody(rt: HostRuntime) -> Result<(), Fail> {
     let active = Slot::new(0)?;
-    let at = Addr7::new(0x08)?;
-    let mut devices = [Some(interrupting(0x08)?), None];
+    let mut devices = Devices::new();
+    devices.put(active, interrupting(0x08)?);
     assert_eq!(rt;
         hear_kinds(
             &mut devices,
             active,
             None,
             Change::Disable,
-            Kinds::INTERRUPT
+            Kinds::INTERRUPT,
+            &Cuts::new(),
+            0
         ),
         Ok(())
     );
-    assert_eq!(rt; wanted(&devices, 0), Some(Request::Interrupt(at)));
+    assert_eq!(rt;
+        wanted(&devices, 0)?,
+        Some(Request::Interrupt(Addr7::new(0x08)?))
+    );
     Ok(())
 }
 
-// Two devices at one address hear it both.
+// Two devices at one address hear it both, and the active controller at it doesn't.
 #[test]
 fn a_direct_command_reaches_one_address(rt: HostRuntime) -> Result<(), Fail> {
     let active = Slot::new(0)?;
     let (low, high) = (Addr7::new(0x09)?, Addr7::new(0x0A)?);
-    let mut devices = [
-        Some(interrupting(0x09)?),
-        Some(interrupting(0x0A)?),
-        Some(interrupting(0x09)?),
-        Some(joining()?),
-        Some(interrupting(0x09)?),
-    ];
-    let all = Kinds::from_bits_retain(0x0B);
-    assert_eq!(rt;
-        hear_kinds(&mut devices, active, Some(low), Change::Disable, all),
-        Ok(())
-    );
-    for (index, request) in [
-        (0, Some(Request::Interrupt(low))),
-        (1, Some(Request::Interrupt(high))),
-        (2, None),
-        (3, Some(Request::Join)),
-        (4, None),
+    let mut devices = Devices::new();
+    devices.put(active, interrupting(0x09)?);
+    devices.put(Slot::new(1)?, interrupting(0x0A)?);
+    devices.put(Slot::new(2)?, interrupting(0x09)?);
+    devices.put(Slot::new(3)?, joining()?);
+    devices.put(Slot::new(4)?, interrupting(0x09)?);
+    for (change, heard) in [
+        (Change::Disable, None),
+        (Change::Enable, Some(Request::Interrupt(low))),
     ] {
-        assert_eq!(rt; wanted(&devices, index), request);
+        let all = Kinds::from_bits_retain(0x0B);
+        assert_eq!(rt;
+            hear_kinds(
+                &mut devices,
+                active,
+                Some(low),
+                change,
+                all,
+                &Cuts::new(),
+                0
+            ),
+            Ok(())
+        );
+        for (slot, request) in [
+            (0, Some(Request::Interrupt(low))),
+            (1, Some(Request::Interrupt(high))),
+            (2, heard),
+            (3, Some(Request::Join)),
+            (4, heard),
+        ] {
+            assert_eq!(rt; wanted(&devices, slot)?, request);
+        }
     }
-    assert_eq!(rt;
-        hear_kinds(&mut devices, active, Some(low), Change::Enable, all),
-        Ok(())
-    );
-    assert_eq!(rt; wanted(&devices, 2), Some(Request::Interrupt(low)));
-    assert_eq!(rt; wanted(&devices, 4), Some(Request::Interrupt(low)));
     Ok(())
 }
 
+// The active controller doesn't answer to itself.
 #[test]
 fn nobody_answers(rt: HostRuntime) -> Result<(), Fail> {
     let active = Slot::new(0)?;
-    let (own, free) = (Addr7::new(0x08)?, Addr7::new(0x0A)?);
-    let mut devices = [
-        Some(interrupting(0x08)?),
-        Some(interrupting(0x09)?),
-        Some(joining()?),
-    ];
-    let before = [
-        wanted(&devices, 0),
-        wanted(&devices, 1),
-        wanted(&devices, 2),
-    ];
-    for at in [own, free] {
+    let (own, at, free) = (Addr7::new(0x08)?, Addr7::new(0x09)?, Addr7::new(0x0A)?);
+    let mut devices = Devices::new();
+    devices.put(active, interrupting(0x08)?);
+    devices.put(Slot::new(1)?, interrupting(0x09)?);
+    for to in [own, free] {
+        assert_eq!(rt;
+            hear_kinds(
+                &mut devices,
+                active,
+                Some(to),
+                Change::Disable,
+                Kinds::INTERRUPT,
+                &Cuts::new(),
+                0
+            ),
+            Err(NoAnswer(to))
+        );
+        assert_eq!(rt; wanted(&devices, 0)?, Some(Request::Interrupt(own)));
+        assert_eq!(rt; wanted(&devices, 1)?, Some(Request::Interrupt(at)));
+    }
+    Ok(())
+}
+
+// The code is bits 1 to 9 and the header bits 10 to 18 of its frame, its acknowledgement last. A mandatory word and the
+// header that goes on after an interrupt, of nine bits each, may stand before them.
+#[test]
+fn a_target_is_cut_at_its_acknowledgement(rt: HostRuntime) -> Result<(), Fail> {
+    let (active, slot) = (Slot::new(0)?, Slot::new(1)?);
+    let at = Addr7::new(0x09)?;
+    for (begun, bit, answer) in [
+        (0, 0, Err(NoAnswer(at))),
+        (0, 18, Err(NoAnswer(at))),
+        (0, 19, Ok(())),
+        (9, 27, Err(NoAnswer(at))),
+        (9, 28, Ok(())),
+        (18, 36, Err(NoAnswer(at))),
+        (18, 37, Ok(())),
+    ] {
+        let mut devices = Devices::new();
+        devices.put(slot, interrupting(0x09)?);
+        let mut cuts = Cuts::new();
+        cuts.add(slot, bit);
+        let kinds = Kinds::INTERRUPT;
         assert_eq!(rt;
             hear_kinds(
                 &mut devices,
                 active,
                 Some(at),
                 Change::Disable,
-                Kinds::INTERRUPT
+                kinds,
+                &cuts,
+                begun
             ),
-            Err(NoAnswer(at))
+            answer,
+            "cut at {bit}"
         );
-        let after = [
-            wanted(&devices, 0),
-            wanted(&devices, 1),
-            wanted(&devices, 2),
-        ];
-        assert_eq!(rt; after, before);
     }
     Ok(())
 }

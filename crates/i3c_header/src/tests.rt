@@ -1,7 +1,7 @@
 ghost use Rattle.std.specs.Prelude.{◌≡◌, ◌<◌, ◌≤◌};
 ghost use Rattle.i3c_header.specs.Keys.{IsLawful};
 
-use crate::{Request, arbitrate, key};
+use crate::{Request, arbitrate, header, key};
 use i3c_base::Addr7;
 
 fn address(value: u8) -> Addr7
@@ -16,6 +16,14 @@ fn keys(rt: HostRuntime) {
     assert_eq!(rt; key(Request::Join), 0x04);
     assert_eq!(rt; key(Request::Role(address(0x09))), 0x12);
     assert_eq!(rt; key(Request::Interrupt(address(0x09))), 0x13);
+}
+
+// A Hot-Join is a write to 02.
+#[test]
+fn headers(rt: HostRuntime) {
+    assert_eq!(rt; header(Request::Join), (address(0x02), false));
+    assert_eq!(rt; header(role(0x09)), (address(0x09), false));
+    assert_eq!(rt; header(interrupt(0x77)), (address(0x77), true));
 }
 
 fn role(value: u8) -> Request

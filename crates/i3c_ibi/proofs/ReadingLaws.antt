@@ -102,8 +102,8 @@ reads_from st cuts at slot own both front lowest fronted e tog left bit l all =
     (tog.bits bit l).1 (
       subst (λ x. bit_at x bit ≡ 1) (sym (driven_left (cut_of cuts slot) own (left slot lowest))) (all slot own (lowest, (front, fronted, e))),
       λ s v m k.
-        let f = beside_from st cuts (Interrupt at) slot s v k in
-        subst (λ x. bit_at x bit ≡ 1) (sym (driven_left (cut_of cuts s) f.0 (left s f.1.0)) ∙ f.2) (all s f.0 f.1),
+          let f = beside_from st cuts (Interrupt at) slot s v k in
+          subst (λ x. bit_at x bit ≡ 1) (sym (driven_left (cut_of cuts s) f.0 (left s f.1.0)) ∙ f.2) (all s f.0 f.1),
     )
 
 -- a reading of the bytes
@@ -116,24 +116,32 @@ reading_at st cuts at slot front byte lowest fronted read small =
     go : (o : Option ℕ) → front.byte ≡ o → (byte : Option ℕ) → MatchOption o (byte ≡ None) (λ own. IsSomeAnd byte (BytesRead st cuts at slot own)) → IfSome byte (λ v. v < 256)
         → IsReading st cuts at (record { slot = slot; number = front.number; at = at; byte = byte })
     go None e byte none small = record {
-      front = front; lowest = lowest; fronted = fronted; number = refl; address = refl;
+      front = front;
+      lowest = lowest;
+      fronted = fronted;
+      number = refl;
+      address = refl;
       present = ap is_some (none ∙ sym e);
       alone = λ h l. none ∙ sym e;
       together = λ h v k. absurd (none-some v (sym none ∙ k));
     }
     go (Some own) e None nothing small = absurd nothing
     go (Some own) e (Some both) tog small = record {
-      front = front; lowest = lowest; fronted = fronted; number = refl; address = refl;
+      front = front;
+      lowest = lowest;
+      fronted = fronted;
+      number = refl;
+      address = refl;
       present = ap is_some (sym e);
       alone = λ h l. ap Some (tog.alone (λ s m. beside_none st cuts (Interrupt at) slot s h) ∙ driven_left (cut_of cuts slot) own l) ∙ sym e;
       together = λ h v k.
-        let is : both ≡ v = same_Some both v k in (
-          subst (λ x. x < 256) is small,
-          λ bit l. (
-            λ b s u d. reads_to st cuts at slot own both front fronted e tog h bit l (subst (λ x. bit_at x bit ≡ 1) (sym is) b) s u d,
-            λ all. subst (λ x. bit_at x bit ≡ 1) is (reads_from st cuts at slot own both front lowest.0 fronted e tog h bit l all),
-          ),
-        );
+          let is : both ≡ v = same_Some both v k in (
+            subst (λ x. x < 256) is small,
+            λ bit l. (
+              λ b s u d. reads_to st cuts at slot own both front fronted e tog h bit l (subst (λ x. bit_at x bit ≡ 1) (sym is) b) s u d,
+              λ all. subst (λ x. bit_at x bit ≡ 1) is (reads_from st cuts at slot own both front lowest.0 fronted e tog h bit l all),
+            ),
+          );
     }
 
 -- the same of a bus with the devices that were scanned
@@ -143,7 +151,7 @@ moved_to st devices active has = λ k. record st { devices = sym has.0 k; active
 pub reading_of : (st : State) (devices : List (Option Device)) (active : ℕ) (cuts : CutList) (at slot : ℕ) (front : Waiting) (byte : Option ℕ) → HasDevices st devices active
     → IsLowest active (Interrupt at) devices slot × IsFrontOf (get_or devices slot None) front
     → MatchOption (slot_byte (get_or devices slot None)) (byte ≡ None)
-      (λ own. IsSomeAnd byte (Together (λ s. byte_beside cuts active (Interrupt at) slot s (get_or devices s None)) (driven (cut_of cuts slot) own) (length devices)))
+    (λ own. IsSomeAnd byte (Together (λ s. byte_beside cuts active (Interrupt at) slot s (get_or devices s None)) (driven (cut_of cuts slot) own) (length devices)))
     → IfSome byte (λ v. v < 256) → IsReading st cuts at (record { slot = slot; number = front.number; at = at; byte = byte })
 reading_of st devices active cuts at slot front byte has h read small =
     subst (λ s. IsReading s cuts at (record { slot = slot; number = front.number; at = at; byte = byte })) (moved_to st devices active has)

@@ -105,7 +105,7 @@ due_served st cuts at r old new active has fits first known h ended e = record {
     read = read_of st cuts at rest r h ended;
     placed = refl;
     left = ap (recorded r) (left_by st (Interrupt at) old new active has e)
-      ∙ ap (λ (q : Record). recorded q (each_driver (Interrupt at) without_front st)) (λ k. record { slot = r.slot; number = h.number k; at = h.address k; byte = r.byte });
+        ∙ ap (λ (q : Record). recorded q (each_driver (Interrupt at) without_front st)) (λ k. record { slot = r.slot; number = h.number k; at = h.address k; byte = r.byte });
   };
   word = (at, first, ap (λ b. if b then 9 else 0) (h.present ∙ fits at r.slot h.front h.lowest.0 h.fronted));
   first = subst (λ a. IsFirst st (Interrupt a)) (sym h.address) first;

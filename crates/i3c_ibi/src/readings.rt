@@ -61,13 +61,7 @@ fn byte_beside(
 
 /// The byte that is read behind the interrupt at this address, which the device in this slot drives, the lowest of those
 /// who do: the AND of what they drive. `None` where its front has none.
-fn byte_read(
-    devices: &Devices,
-    active: Slot,
-    at: Addr7,
-    lowest: Slot,
-    cuts: &Cuts,
-) -> Option<u8>
+fn byte_read(devices: &Devices, active: Slot, at: Addr7, lowest: Slot, cuts: &Cuts) -> Option<u8>
     ensures read { MatchOption (slot_byte (slice_index_or devices.now lowest None)) (result ≡ None)
         (λ own. IsSomeAnd result (Together (λ s. byte_beside cuts.now active (RequestValue.Interrupt at) lowest s (slice_index_or devices.now s None)) (driven (cut_of cuts.now lowest) own) (length devices.now))) }
     ensures byte { IfSome result (λ v. v < 256) }
@@ -105,13 +99,7 @@ fn fronts_read(devices: &Devices, active: Slot, at: Addr7, cuts: &Cuts) -> Recor
 
 /// What is recorded of the accepted interrupt at this address, which some device drives: the controller reads the
 /// mandatory byte where one is due (I3C Basic 5.1.6.2).
-pub(crate) fn reading(
-    devices: &Devices,
-    active: Slot,
-    at: Addr7,
-    due: bool,
-    cuts: &Cuts,
-) -> Record
+pub(crate) fn reading(devices: &Devices, active: Slot, at: Addr7, due: bool, cuts: &Cuts) -> Record
     requires driven { AnyDrives active (RequestValue.Interrupt at) devices.now }
     ensures read { HaveBytes active devices.now at due → (st : State) → HasDevices st devices.now active → IsReading st cuts.now at result }
     ensures due { HaveBytes active devices.now at due → is_some result.byte ≡ due }

@@ -33,13 +33,7 @@ pub enum Reading {
 }
 
 /// Reads the accepted interrupt at this address, which some device drives.
-fn interrupt(
-    devices: &mut Devices,
-    active: Slot,
-    table: &Table,
-    at: Addr7,
-    cuts: &Cuts,
-) -> Reading
+fn interrupt(devices: &mut Devices, active: Slot, table: &Table, at: Addr7, cuts: &Cuts) -> Reading
     requires driven { AnyDrives active (RequestValue.Interrupt at) devices.old }
     ensures served { (st : State) → HasDevices st devices.old active → st.given ≡ table.now.given → FitsTable st → IsFirst st (RequestValue.Interrupt at)
         → is_known st.given (RequestValue.Interrupt at) ≡ true → IsServing st cuts.now result devices.new }

@@ -1,12 +1,8 @@
-ghost use Rattle.std.specs.Prelude.{⊤, ◌≤◌, length};
-ghost use Rattle.i3c_base.specs.declared.range.TheConstants.{SLOTS as SLOT_COUNT};
+ghost use Rattle.std.specs.Prelude.{⊤, ◌≤◌};
 
-use crate::drivers::drives;
-use crate::{
-    Fixed, Policy, Record, Verdict, answer_drivers, byte_is_due, decide, first_request, reading,
-};
-use i3c_base::{Addr7, Bcr, Dcr, Identity, Pid, Request, Setup, Slot};
-use i3c_device::Device;
+use crate::{Fixed, Policy, Reading, Record, Verdict, decide, first_request, serve};
+use i3c_base::{Addr7, Bcr, Cuts, Dcr, Identity, Pid, Request, Setup, Slot};
+use i3c_device::{Device, Devices};
 use i3c_table::{Legacies, Row, Table};
 use std::process::Abort;
 use std::test::Fail;
@@ -22,21 +18,13 @@ fn attached(bcr: u8) -> Result<Device, Fail> {
     }))
 }
 
-fn addressed(bcr: u8, value: u8) -> Result<Device, Fail>
+// A device at this address whose interrupt waits, the one after so many raises.
+fn interrupting(value: u8, raised: u64, byte: Option<u8>) -> Result<Device, Fail>
     requires { 8 ≤ value }
 {
-    let mut device = attached(bcr)?;
+    let mut device = attached(if byte.is_some() { 0x46 } else { 0x42 })?;
     device.take_address(Addr7::new(value)?);
-    Ok(device)
-}
-
-// A device at this address whose interrupt waits.
-fn interrupting(value: u8, number: u64, byte: Option<u8>) -> Result<Device, Fail>
-    requires { 8 ≤ value }
-{
-    let bcr = if byte.is_some() { 0x06 } else { 0x02 };
-    let mut device = addressed(bcr, value)?;
-    device.raise(number, byte)?;
+    device.raise(raised, byte)?;
     Ok(device)
 }
 
@@ -44,188 +32,6 @@ fn joining() -> Result<Device, Fail> {
     let mut device = attached(0x06)?;
     device.wish_join();
     Ok(device)
-}
-
-// What is recorded of the interrupt at this address, which this slot drives.
-fn read(
-    rt: &impl Abort,
-    devices: &[Option<Device>],
-    active: Slot,
-    at: Addr7,
-    slot: Slot,
-    due: bool,
-) -> Record
-    requires { length devices.now ≤ SLOT_COUNT }
-{
-    let index = slot.index();
-    assert!(rt; index < devices.len());
-    assert!(rt; drives(&devices[index], index, active, &Request::Interrupt(at)));
-    reading(devices, active, at, due)
-}
-
-#[test]
-fn nobody_asks(rt: HostRuntime) -> Result<(), Fail> {
-    let active = Slot::new(0)?;
-    assert_eq!(rt; first_request(&[], active), None);
-    let devices = [Some(addressed(0x06, 0x08)?), None, Some(attached(0x06)?)];
-    assert_eq!(rt; first_request(&devices, active), None);
-    Ok(())
-}
-
-#[test]
-fn the_lower_address_is_first(rt: HostRuntime) -> Result<(), Fail> {
-    let active = Slot::new(0)?;
-    let (low, high) = (Addr7::new(0x09)?, Addr7::new(0x0A)?);
-    let mut devices = [
-        Some(addressed(0x06, 0x08)?),
-        Some(interrupting(0x0A, 1, Some(0x20))?),
-        None,
-        Some(interrupting(0x09, 1, Some(0x47))?),
-    ];
-    assert_eq!(rt;
-        first_request(&devices, active),
-        Some(Request::Interrupt(low))
-    );
-    answer_drivers(&mut devices, active, &Request::Interrupt(low));
-    assert_eq!(rt;
-        first_request(&devices, active),
-        Some(Request::Interrupt(high))
-    );
-    answer_drivers(&mut devices, active, &Request::Interrupt(high));
-    assert_eq!(rt; first_request(&devices, active), None);
-    Ok(())
-}
-
-#[test]
-fn a_join_is_first(rt: HostRuntime) -> Result<(), Fail> {
-    let active = Slot::new(0)?;
-    let at = Addr7::new(0x09)?;
-    let mut devices = [
-        None,
-        Some(interrupting(0x09, 1, None)?),
-        Some(joining()?),
-        Some(joining()?),
-    ];
-    assert_eq!(rt; first_request(&devices, active), Some(Request::Join));
-    answer_drivers(&mut devices, active, &Request::Join);
-    assert_eq!(rt;
-        first_request(&devices, active),
-        Some(Request::Interrupt(at))
-    );
-    Ok(())
-}
-
-// Its address counts first, and only at one address the role request comes before the interrupt.
-#[test]
-fn a_role_request_loses_to_a_lower_interrupt(rt: HostRuntime) -> Result<(), Fail> {
-    let active = Slot::new(0)?;
-    let (low, high) = (Addr7::new(0x09)?, Addr7::new(0x0A)?);
-    let mut secondary = interrupting(0x0A, 1, None)?;
-    secondary.wish_role();
-    let mut devices = [None, Some(secondary), Some(interrupting(0x09, 1, None)?)];
-    for first in [
-        Request::Interrupt(low),
-        Request::Role(high),
-        Request::Interrupt(high),
-    ] {
-        assert_eq!(rt; first_request(&devices, active), Some(first));
-        answer_drivers(&mut devices, active, &first);
-    }
-    assert_eq!(rt; first_request(&devices, active), None);
-    Ok(())
-}
-
-#[test]
-fn the_active_controller_asks_for_nothing(rt: HostRuntime) -> Result<(), Fail> {
-    let at = Addr7::new(0x09)?;
-    let devices = [None, Some(interrupting(0x09, 1, None)?)];
-    assert_eq!(rt; first_request(&devices, Slot::new(1)?), None);
-    assert_eq!(rt;
-        first_request(&devices, Slot::new(0)?),
-        Some(Request::Interrupt(at))
-    );
-    Ok(())
-}
-
-#[test]
-fn a_policy_has_a_verdict_for_each_kind(rt: HostRuntime) -> Result<(), Fail> {
-    let at = Addr7::new(0x09)?;
-    let (yes, no) = (Verdict::Accept, Verdict::Refuse);
-    for (join, role, interrupt) in [
-        (yes, yes, yes),
-        (no, no, no),
-        (yes, no, no),
-        (no, yes, no),
-        (no, no, yes),
-    ] {
-        let mut policy = Fixed {
-            join,
-            role,
-            interrupt,
-        };
-        assert_eq!(rt; policy.verdict(Request::Join), join);
-        assert_eq!(rt; policy.verdict(Request::Role(at)), role);
-        assert_eq!(rt; policy.verdict(Request::Interrupt(at)), interrupt);
-    }
-    Ok(())
-}
-
-#[test]
-fn one_devices_byte_is_read(rt: HostRuntime) -> Result<(), Fail> {
-    let active = Slot::new(0)?;
-    let (low, high) = (Addr7::new(0x09)?, Addr7::new(0x0A)?);
-    let devices = [
-        None,
-        Some(interrupting(0x0A, 7, Some(0x20))?),
-        Some(interrupting(0x09, 5, None)?),
-    ];
-    let (first, second) = (Slot::new(1)?, Slot::new(2)?);
-    assert_eq!(rt;
-        read(&rt, &devices, active, high, first, true),
-        Record {
-            slot: first,
-            number: 7,
-            at: high,
-            byte: Some(0x20),
-        }
-    );
-    assert_eq!(rt;
-        read(&rt, &devices, active, low, second, false),
-        Record {
-            slot: second,
-            number: 5,
-            at: low,
-            byte: None,
-        }
-    );
-    Ok(())
-}
-
-// The lowest slot's raise is recorded; the line is low where any of them drives it low.
-#[test]
-fn bytes_at_one_address_are_and(rt: HostRuntime) -> Result<(), Fail> {
-    let active = Slot::new(0)?;
-    let at = Addr7::new(0x09)?;
-    let lowest = Slot::new(1)?;
-    let devices = [
-        Some(interrupting(0x09, 1, Some(0x00))?),
-        Some(interrupting(0x09, 2, Some(0xFC))?),
-        Some(interrupting(0x0A, 3, Some(0x00))?),
-        Some(interrupting(0x09, 4, Some(0x3F))?),
-        Some(interrupting(0x09, 5, Some(0xEF))?),
-    ];
-    for driver in [lowest, Slot::new(3)?, Slot::new(4)?] {
-        assert_eq!(rt;
-            read(&rt, &devices, active, at, driver, true),
-            Record {
-                slot: lowest,
-                number: 2,
-                at,
-                byte: Some(0x2C),
-            }
-        );
-    }
-    Ok(())
 }
 
 // A table with one row, of this BCR.
@@ -244,45 +50,240 @@ fn table(rt: &impl Abort, value: u8, bcr: u8) -> Result<Table, Fail> {
     Ok(table)
 }
 
-// The controller's own table says whether a byte is due.
+// One verdict for all requests.
+fn always(verdict: Verdict) -> Fixed {
+    Fixed {
+        join: verdict,
+        role: verdict,
+        interrupt: verdict,
+    }
+}
+
+fn waiting(devices: &Devices, slot: Slot) -> usize {
+    match devices.get(slot) {
+        Some(device) => device.waiting(),
+        None => 0,
+    }
+}
+
+// The byte is in bits 1 to 8, the highest first, and T in bit 9; what nobody drives is read as 1.
 #[test]
-fn bytes_are_due_by_the_table(rt: HostRuntime) -> Result<(), Fail> {
+fn a_cut_device_tears_its_byte(rt: HostRuntime) -> Result<(), Fail> {
+    let (active, slot) = (Slot::new(0)?, Slot::new(1)?);
     let at = Addr7::new(0x09)?;
-    assert!(rt; byte_is_due(&table(&rt, 0x09, 0x06)?, at));
-    assert!(rt; !byte_is_due(&table(&rt, 0x09, 0x02)?, at));
-    assert!(rt; !byte_is_due(&table(&rt, 0x0A, 0x06)?, at));
+    let rows = table(&rt, 0x09, 0x46)?;
+    let whole = Record {
+        slot,
+        number: 7,
+        at,
+        byte: Some(0xA5),
+    };
+    for (bit, reading) in [
+        (0, Reading::Torn(at, 0xFF)),
+        (1, Reading::Torn(at, 0xFF)),
+        (3, Reading::Torn(at, 0xBF)),
+        (5, Reading::Torn(at, 0xAF)),
+        (7, Reading::Torn(at, 0xA7)),
+        (9, Reading::Torn(at, 0xA5)),
+        (10, Reading::Due(whole)),
+    ] {
+        let mut devices = Devices::new();
+        devices.put(slot, interrupting(0x09, 6, Some(0xA5))?);
+        let mut cuts = Cuts::new();
+        cuts.add(slot, bit);
+        let mut policy = always(Verdict::Accept);
+        let served = serve(&mut devices, active, &rows, &mut policy, &cuts);
+        assert_eq!(rt; served, reading, "cut at {bit}");
+        assert_eq!(rt; waiting(&devices, slot), 0);
+    }
+    Ok(())
+}
+
+#[test]
+fn an_interrupt_without_a_byte_is_not_torn(rt: HostRuntime) -> Result<(), Fail> {
+    let (active, slot) = (Slot::new(0)?, Slot::new(1)?);
+    let at = Addr7::new(0x09)?;
+    let mut devices = Devices::new();
+    devices.put(slot, interrupting(0x09, 6, None)?);
+    let mut cuts = Cuts::new();
+    cuts.add(slot, 0);
+    let mut policy = always(Verdict::Accept);
+    assert_eq!(rt;
+        serve(
+            &mut devices,
+            active,
+            &table(&rt, 0x09, 0x42)?,
+            &mut policy,
+            &cuts
+        ),
+        Reading::Due(Record {
+            slot,
+            number: 7,
+            at,
+            byte: None,
+        })
+    );
+    Ok(())
+}
+
+// Two devices of one identity: the line is low where one of them drives it low, the lowest slot's raise is recorded, and
+// both fronts leave.
+#[test]
+fn bytes_at_one_address_are_and(rt: HostRuntime) -> Result<(), Fail> {
+    let (active, low, high, other) = (Slot::new(0)?, Slot::new(2)?, Slot::new(5)?, Slot::new(1)?);
+    let at = Addr7::new(0x09)?;
+    let rows = table(&rt, 0x09, 0x46)?;
+    for (first, second) in [(0xFF, 0x0F), (0x0F, 0xFF), (0x3F, 0xCF)] {
+        let mut devices = Devices::new();
+        devices.put(active, interrupting(0x08, 0, Some(0x00))?);
+        devices.put(other, interrupting(0x0A, 0, Some(0x00))?);
+        devices.put(low, interrupting(0x09, 6, Some(first))?);
+        devices.put(high, interrupting(0x09, 2, Some(second))?);
+        let mut policy = always(Verdict::Accept);
+        let mut cuts = Cuts::new();
+        cuts.add(high, 10);
+        assert_eq!(rt;
+            serve(&mut devices, active, &rows, &mut policy, &cuts),
+            Reading::Due(Record {
+                slot: low,
+                number: 7,
+                at,
+                byte: Some(0x0F),
+            })
+        );
+        assert_eq!(rt; waiting(&devices, low), 0);
+        assert_eq!(rt; waiting(&devices, high), 0);
+        assert_eq!(rt; waiting(&devices, active), 1);
+        assert_eq!(rt; waiting(&devices, other), 1);
+    }
+    Ok(())
+}
+
+// Of two at one address the one that is left ends the byte.
+#[test]
+fn one_of_two_ends_the_byte(rt: HostRuntime) -> Result<(), Fail> {
+    let (active, low, high) = (Slot::new(0)?, Slot::new(2)?, Slot::new(5)?);
+    let at = Addr7::new(0x09)?;
+    let mut devices = Devices::new();
+    devices.put(low, interrupting(0x09, 6, Some(0x00))?);
+    devices.put(high, interrupting(0x09, 2, Some(0x0F))?);
+    let mut cuts = Cuts::new();
+    cuts.add(low, 1);
+    let mut policy = always(Verdict::Accept);
+    assert_eq!(rt;
+        serve(
+            &mut devices,
+            active,
+            &table(&rt, 0x09, 0x46)?,
+            &mut policy,
+            &cuts
+        ),
+        Reading::Due(Record {
+            slot: low,
+            number: 7,
+            at,
+            byte: Some(0x0F),
+        })
+    );
+    Ok(())
+}
+
+// A join comes before all else, then at one address the role request before the interrupt.
+#[test]
+fn requests_are_served_in_order(rt: HostRuntime) -> Result<(), Fail> {
+    let (active, slot) = (Slot::new(0)?, Slot::new(3)?);
+    let at = Addr7::new(0x09)?;
+    let rows = table(&rt, 0x09, 0x42)?;
+    let mut secondary = interrupting(0x09, 6, None)?;
+    secondary.wish_role();
+    let mut devices = Devices::new();
+    devices.put(Slot::new(1)?, joining()?);
+    devices.put(Slot::new(4)?, joining()?);
+    devices.put(slot, secondary);
+    let mut policy = always(Verdict::Accept);
+    for reading in [
+        Reading::Joined,
+        Reading::WantsRole(at),
+        Reading::Due(Record {
+            slot,
+            number: 7,
+            at,
+            byte: None,
+        }),
+        Reading::Quiet,
+    ] {
+        assert_eq!(rt;
+            serve(&mut devices, active, &rows, &mut policy, &Cuts::new()),
+            reading
+        );
+    }
+    Ok(())
+}
+
+// What is turned down stays as it was.
+#[test]
+fn a_policy_refuses(rt: HostRuntime) -> Result<(), Fail> {
+    let (active, slot) = (Slot::new(0)?, Slot::new(3)?);
+    let request = Request::Interrupt(Addr7::new(0x09)?);
+    let rows = table(&rt, 0x09, 0x42)?;
+    let mut devices = Devices::new();
+    devices.put(slot, interrupting(0x09, 6, None)?);
+    let mut policy = always(Verdict::Refuse);
+    for _time in 0..2 {
+        assert_eq!(rt;
+            serve(&mut devices, active, &rows, &mut policy, &Cuts::new()),
+            Reading::Refused(request)
+        );
+    }
+    assert_eq!(rt; waiting(&devices, slot), 1);
+    assert_eq!(rt; first_request(&devices, active), Some(request));
+    assert_eq!(rt; first_request(&devices, slot), None);
+    Ok(())
+}
+
+#[test]
+fn a_policy_has_a_verdict_for_each_kind(rt: HostRuntime) -> Result<(), Fail> {
+    let at = Addr7::new(0x09)?;
+    let rows = table(&rt, 0x09, 0x42)?;
+    let (yes, no) = (Verdict::Accept, Verdict::Refuse);
+    for (join, role, interrupt) in [(yes, no, no), (no, yes, no), (no, no, yes)] {
+        let mut policy = Fixed {
+            join,
+            role,
+            interrupt,
+        };
+        assert_eq!(rt; decide(&rows, &mut policy, &Request::Join), join);
+        assert_eq!(rt; decide(&rows, &mut policy, &Request::Role(at)), role);
+        assert_eq!(rt;
+            decide(&rows, &mut policy, &Request::Interrupt(at)),
+            interrupt
+        );
+    }
     Ok(())
 }
 
 // A request at an address that the table doesn't know is refused, and the policy isn't asked.
 #[test]
 fn unknown_requests_are_refused_unasked(rt: HostRuntime) -> Result<(), Fail> {
+    let active = Slot::new(0)?;
     let at = Addr7::new(0x09)?;
-    let known = table(&rt, 0x09, 0x06)?;
+    let rows = table(&rt, 0x0A, 0x42)?;
+    let mut secondary = interrupting(0x09, 6, None)?;
+    secondary.wish_role();
+    let mut devices = Devices::new();
+    devices.put(Slot::new(1)?, secondary);
     let mut policy = Counting { asked: 0 };
     assert_eq!(rt;
-        decide(&known, &mut policy, &Request::Interrupt(at)),
-        Verdict::Accept
+        serve(&mut devices, active, &rows, &mut policy, &Cuts::new()),
+        Reading::Refused(Request::Role(at))
     );
+    assert_eq!(rt; policy.asked, 0);
+    devices.put(Slot::new(2)?, joining()?);
     assert_eq!(rt;
-        decide(&known, &mut policy, &Request::Role(at)),
-        Verdict::Accept
+        serve(&mut devices, active, &rows, &mut policy, &Cuts::new()),
+        Reading::Joined
     );
-    assert_eq!(rt;
-        decide(&known, &mut policy, &Request::Join),
-        Verdict::Accept
-    );
-    assert_eq!(rt; policy.asked, 3);
-    let unknown = table(&rt, 0x0A, 0x06)?;
-    assert_eq!(rt;
-        decide(&unknown, &mut policy, &Request::Interrupt(at)),
-        Verdict::Refuse
-    );
-    assert_eq!(rt;
-        decide(&unknown, &mut policy, &Request::Role(at)),
-        Verdict::Refuse
-    );
-    assert_eq!(rt; policy.asked, 3);
+    assert_eq!(rt; policy.asked, 1);
     Ok(())
 }
 

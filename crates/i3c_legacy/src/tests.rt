@@ -1,4 +1,4 @@
-use crate::{LEGACIES, Legacies, LegacyFault};
+use crate::{LEGACIES, Legacies, LegacyFault, LegacyTargets};
 use i3c_base::{Addr7, Lvr};
 use std::test::Fail;
 
@@ -14,10 +14,18 @@ fn declared_targets_are_found(rt: HostRuntime) -> Result<(), Fail> {
     assert_eq!(rt; legacies.lvr_at(first), Some(Lvr(0x20)));
     assert_eq!(rt; legacies.lvr_at(last), Some(Lvr(0x40)));
     assert_eq!(rt; legacies.lvr_at(Addr7::new(0x09)?), None);
+    for (address, lvr) in legacies.by_address().iter().enumerate() {
+        let declared = match address {
+            0x08 => Some(Lvr(0x20)),
+            0x77 => Some(Lvr(0x40)),
+            _ => None,
+        };
+        assert_eq!(rt; *lvr, declared, "at {address}");
+    }
     Ok(())
 }
 
-// A full list turns down another address, but says first that the address is wrong or taken.
+// A full list turns down a seventeenth address, but says first that the address is wrong or taken.
 #[test]
 fn refusals_come_in_order(rt: HostRuntime) -> Result<(), Fail> {
     let mut legacies = Legacies::new();
@@ -45,5 +53,7 @@ fn refusals_come_in_order(rt: HostRuntime) -> Result<(), Fail> {
     );
     assert_eq!(rt; legacies.lvr_at(Addr7::new(0x10)?), Some(Lvr(0x10)));
     assert_eq!(rt; legacies.lvr_at(Addr7::new(0x20)?), None);
+    let _sixteen = LegacyTargets::new(&legacies);
+    assert_eq!(rt; legacies.len(), 16);
     Ok(())
 }

@@ -18,7 +18,7 @@ loop-bit-preserved c =
     record {
       long = length-set c.loop-bit.bit-items i c.saturating_sub.result ∙ long;
       counted = ap (λ v. set c.loop-bit.bit-items i v) c.saturating_sub.ensures
-        ∙ map_over_more (λ n. n - c.args.first) c.self.inside.bits c.loop-bit.bit-items i (get_or c.loop-bit.bit-items i 0) (omega arith) c.loop-bit.invariant.counted
+          ∙ map_over_more (λ n. n - c.args.first) c.self.inside.bits c.loop-bit.bit-items i (get_or c.loop-bit.bit-items i 0) (omega arith) c.loop-bit.invariant.counted
           (get_or_default c.loop-bit.bit-items i 0 (get_or c.loop-bit.bit-items i 0) (omega (arith, long)));
     }
 

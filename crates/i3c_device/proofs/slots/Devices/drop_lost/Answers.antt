@@ -15,7 +15,7 @@ loop-index-preserved c =
     record {
       long = length-set c.loop-index.place-items c.loop-index.index c.drop_lost.new.place ∙ c.loop-index.invariant.long;
       walked = ap (set c.loop-index.place-items c.loop-index.index) (c.drop_lost.ensures ∙ ap (change c.loop-index.index) (sym c.place-item.is))
-        ∙ changed_over_more change c.self.inside.places c.loop-index.place-items c.loop-index.index c.place-item.result (omega (arith, c.self.invariant)) c.loop-index.invariant.walked c.place-item.is;
+          ∙ changed_over_more change c.self.inside.places c.loop-index.place-items c.loop-index.index c.place-item.result (omega (arith, c.self.invariant)) c.loop-index.invariant.walked c.place-item.is;
     }
 
 pub returns : goal.returns

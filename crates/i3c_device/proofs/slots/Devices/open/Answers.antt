@@ -15,7 +15,7 @@ loop-place-preserved c =
     record {
       long = length-set c.loop-place.place-items c.loop-place.place-index c.open.new.place ∙ c.loop-place.invariant.long;
       walked = ap (set c.loop-place.place-items c.loop-place.place-index) (c.open.ensures ∙ ap (change c.loop-place.place-index) (sym c.place-item.is))
-        ∙ changed_over_more change c.self.inside.places c.loop-place.place-items c.loop-place.place-index c.place-item.result (omega (arith, c.self.invariant)) c.loop-place.invariant.walked c.place-item.is;
+          ∙ changed_over_more change c.self.inside.places c.loop-place.place-items c.loop-place.place-index c.place-item.result (omega (arith, c.self.invariant)) c.loop-place.invariant.walked c.place-item.is;
     }
 
 pub returns : goal.returns
