@@ -19,3 +19,6 @@ mod starting;
 
 pub use faults::{OutOfMemory, PlainFault};
 pub use plain::{Choice, Plain};
+
+#[cfg(test)]
+mod tests;
