@@ -1,25 +1,21 @@
--- The least identity of those who hear.
-use Rattle.std.proofs.Common.{◌≡◌, ℕ, zero, suc, ◌<◌, Bool, true, false, cond, List, [], ◌∷◌, map, filter, fold, length, get_or, Option, Some, None, option_map, MatchOption, Contains, ◌⊎◌, inl, inr, sym, refl, ap, ◌∙◌, subst, arith, Ordering, Less, Equal, Greater, is_lt, nat_cmp}
+-- The least identity of those who hear and are lost, or are left.
+use Rattle.std.proofs.Common.{◌≡◌, ◌↔◌, ℕ, zero, suc, ◌<◌, Bool, true, false, cond, List, [], ◌∷◌, map, filter, fold, length, get_or, Option, Some, None, option_map, MatchOption, Contains, ◌⊎◌, inl, inr, sym, refl, ap, ◌∙◌, subst, arith, Ordering, Less, Equal, Greater, is_lt, nat_cmp}
 use Rattle.std.specs.Ordering.{min_by_ordering, ordering_reverse, ordering_then}
 use Rattle.std.specs.Cmp.{IsStrictWeakOrder, IsTotalOrder, nat_cmp_is}
 use Rattle.std.specs.List.{reduce}
-use Rattle.std.specs.BTreeMap.{IsOrdered, get}
-use Rattle.std.specs.Map.{values_of}
-use Rattle.std.proofs.lemmas.Bool.{cases_Bool, false≢true}
+use Rattle.std.specs.BTreeMap.{IsOrdered}
+use Rattle.std.proofs.lemmas.Bool.{cases_Bool, cases_order, false≢true}
 use Rattle.std.proofs.lemmas.Cmp.{nat_cmp_total, on_total, then_total}
 use Rattle.std.proofs.lemmas.List.MinMax.{ranks_by}
-use Rattle.std.proofs.lemmas.Map.Lookups.{exact_unsigned}
-use Rattle.std.proofs.lemmas.Map.Views.{btree_map_get_iff}
 use Rattle.i3c_base.specs.declared.identity.Identity.{Identity}
 use Rattle.i3c_base.specs.Numbers.{IsBelow}
-use Rattle.i3c_base.specs.Round.{AnyHears, IsHearer, IsWinner}
+use Rattle.i3c_base.specs.Cutting.{Lost}
+use Rattle.i3c_base.specs.Round.{AllHearersLost, IsBeatenByLost, IsHearer, IsWinner}
 use Rattle.i3c_base.specs.State.{Device, State}
-use Rattle.i3c_base.proofs.Lookups.{option_map_from}
-use Rattle.i3c_base.specs.Cutting.{nobody}
-use Rattle.i3c_model.specs.declared.device.PlainDevice.{PlainDevice}
+use Rattle.i3c_model.specs.Meaning.{IsLeastHearer, NoHearer}
 use Rattle.i3c_model.specs.declared.plain.Plain.TheInside.{Inside}
-use Rattle.i3c_model.specs.Views.{IsWithinPlaces, device_of, state_of}
-use Rattle.i3c_model.proofs.States.{device_there}
+use Rattle.i3c_model.specs.Views.{IsWithinPlaces, state_of}
+use Rattle.i3c_model.proofs.Entries.{entry_in_slot, slot_in_entries}
 
 -- an item of a list
 abbrev pub In : {A : Type 0} → A → List A → Type 0
@@ -88,64 +84,122 @@ below_less i j h = elim h [
   ]
 ]
 
--- the identities of those who hear, of a map's entries
-abbrev pub heard : List (ℕ × PlainDevice) → List Identity
-heard es = map (λ d. d.identity) (filter (λ d. d.hearing) (values_of es))
+-- the order is total
+below_total : (i j : Identity) → IsBelow i j ⊎ (IsBelow j i ⊎ (i ≡ j))
+below_total i j = elim (cases_order i.pid j.pid) [
+  | inl p ↦ elim (cases_order i.bcr.0 j.bcr.0) [
+    | inl q ↦ elim (cases_order i.dcr.0 j.dcr.0) [
+      | inl r ↦ inr (inr (λ k. record { pid = p k; bcr = record { 0 = q k }; dcr = record { 0 = r k } }))
+      | inr o ↦ elim o [ inl l ↦ inl (inr (inr (p, q, l))) | inr g ↦ inr (inl (inr (inr (sym p, sym q, g)))) ]
+    ]
+    | inr o ↦ elim o [ inl l ↦ inl (inr (inl (p, l))) | inr g ↦ inr (inl (inr (inl (sym p, g)))) ]
+  ]
+  | inr o ↦ elim o [ inl l ↦ inl (inl l) | inr g ↦ inr (inl (inl g)) ]
+]
 
--- an entry hears, and has the identity
-abbrev Hears : List (ℕ × PlainDevice) → Identity → Type 0
-Hears es i = (s : ℕ) × (d : PlainDevice) × Contains es (s, d) × (d.hearing ≡ true) × (d.identity ≡ i)
+pub less_from : (o : Ordering) → is_lt o ≡ true → o ≡ Less
+less_from Less h = refl
+less_from Equal h = absurd (false≢true h)
+less_from Greater h = absurd (false≢true h)
 
-later : (e : ℕ × PlainDevice) (es : List (ℕ × PlainDevice)) (i : Identity) → Hears es i → Hears (e ∷ es) i
-later e es i h = let l = h.2.1 in (h.0, h.1, (suc h.2.0, (omega arith), h.2.2), h.3, h.4)
+-- the converse
+less_below : (i j : Identity) → identity_cmp i j ≡ Less → IsBelow i j
+less_below i j e = elim (below_total i j) [
+  | inl b ↦ b
+  | inr o ↦ elim o [
+    | inl b ↦ let g : Greater ≡ Less = sym (identity_total.antisymm i j ∙ ap ordering_reverse (below_less j i b)) ∙ e in cc
+    | inr same ↦ absurd (false≢true (sym (irrefl identity_cmp identity_total i) ∙ (ap (λ k. is_lt (identity_cmp i k)) same ∙ ap is_lt e)))
+  ]
+]
 
-heard_from : (es : List (ℕ × PlainDevice)) (i : Identity) → In i (heard es) → Hears es i
-heard_from [] i h = absurd h
-heard_from (e ∷ es) i h = go e.1.hearing refl (λ k. heard_from es i k) h
+-- the identities of those who pass a test, of a map's entries
+abbrev pub heard : (ℕ × Device → Bool) → List (ℕ × Device) → List Identity
+heard test es = map (λ (e : ℕ × Device). e.1.identity) (filter test es)
+
+-- an entry passes the test, and has the identity
+abbrev Passes : (ℕ × Device → Bool) → List (ℕ × Device) → Identity → Type 0
+Passes test es i = (s : ℕ) × (d : Device) × Contains es (s, d) × (test (s, d) ≡ true) × (d.identity ≡ i)
+
+later : (test : ℕ × Device → Bool) (e : ℕ × Device) (es : List (ℕ × Device)) (i : Identity) → Passes test es i → Passes test (e ∷ es) i
+later test e es i h = let l = h.2.1 in (h.0, h.1, (suc h.2.0, (omega arith), h.2.2), h.3, h.4)
+
+heard_from : (test : ℕ × Device → Bool) (es : List (ℕ × Device)) (i : Identity) → In i (heard test es) → Passes test es i
+heard_from test [] i h = absurd h
+heard_from test (e ∷ es) i h = go (test e) refl (λ k. heard_from test es i k) h
   where
-    go : (b : Bool) → e.1.hearing ≡ b → (In i (heard es) → Hears es i) → In i (map (λ (d : PlainDevice). d.identity) (cond b (e.1 ∷ filter (λ d. d.hearing) (values_of es)) (filter (λ d. d.hearing) (values_of es)))) → Hears (e ∷ es) i
-    go true is rest k = elim k [ inl same ↦ (e.0, e.1, (0, omega arith, refl), is, same) | inr m ↦ later e es i (rest m) ]
-    go false is rest k = later e es i (rest k)
+    go : (b : Bool) → test e ≡ b → (In i (heard test es) → Passes test es i) → In i (map (λ (x : ℕ × Device). x.1.identity) (cond b (e ∷ filter test es) (filter test es))) → Passes test (e ∷ es) i
+    go true is rest k = elim k [ inl same ↦ (e.0, e.1, (0, omega arith, refl), is, same) | inr m ↦ later test e es i (rest m) ]
+    go false is rest k = later test e es i (rest k)
 
-heard_there : (es : List (ℕ × PlainDevice)) (k s : ℕ) (d : PlainDevice) → k < length es → get_or es k (s, d) ≡ (s, d) → d.hearing ≡ true → In d.identity (heard es)
-heard_there [] k s d l e hears = absurd (omega arith)
-heard_there (x ∷ es) k s d l e hears = go x.1.hearing refl (λ j below same. heard_there es j s d below same hears) k l e
+heard_there : (test : ℕ × Device → Bool) (es : List (ℕ × Device)) (k s : ℕ) (d : Device) → k < length es → get_or es k (s, d) ≡ (s, d) → test (s, d) ≡ true → In d.identity (heard test es)
+heard_there test [] k s d l e hears = absurd (omega arith)
+heard_there test (x ∷ es) k s d l e hears = go (test x) refl (λ j below same. heard_there test es j s d below same hears) k l e
   where
-    go : (b : Bool) → x.1.hearing ≡ b → ((j : ℕ) → j < length es → get_or es j (s, d) ≡ (s, d) → In d.identity (heard es)) → (k : ℕ) → k < length (x ∷ es) → get_or (x ∷ es) k (s, d) ≡ (s, d)
-        → In d.identity (map (λ (d : PlainDevice). d.identity) (cond b (x.1 ∷ filter (λ d. d.hearing) (values_of es)) (filter (λ d. d.hearing) (values_of es))))
-    go true is rest zero l same = inl (ap (λ (p : ℕ × PlainDevice). p.1.identity) same)
+    go : (b : Bool) → test x ≡ b → ((j : ℕ) → j < length es → get_or es j (s, d) ≡ (s, d) → In d.identity (heard test es)) → (k : ℕ) → k < length (x ∷ es) → get_or (x ∷ es) k (s, d) ≡ (s, d)
+        → In d.identity (map (λ (y : ℕ × Device). y.1.identity) (cond b (x ∷ filter test es) (filter test es)))
+    go true is rest zero l same = inl (ap (λ (p : ℕ × Device). p.1.identity) same)
     go true is rest (suc k) l same = inr (rest k (omega arith) same)
-    go false is rest zero l same = absurd (false≢true (sym is ∙ (ap (λ (p : ℕ × PlainDevice). p.1.hearing) same ∙ hears)))
+    go false is rest zero l same = absurd (false≢true (sym is ∙ (ap test same ∙ hears)))
     go false is rest (suc k) l same = rest k (omega arith) same
 
-module _ (p : Inside) (st : State) (seen : state_of p ≡ st) (within : IsWithinPlaces p) (ordered : IsOrdered nat_cmp p.devices) where
-  entry_hears : (s : ℕ) (d : Device) → IsHearer st s d → In d.identity (heard p.devices.entries)
-  entry_hears s d h =
-      let from = option_map_from device_of (get nat_cmp p.devices s) d (sym (device_there p st seen within s) ∙ h.0) in
-      let at = (btree_map_get_iff nat_cmp_total exact_unsigned p.devices ordered s from.0).0 from.1 in
-      subst (λ i. In i (heard p.devices.entries)) (ap (λ (x : Device). x.identity) from.2)
-      (heard_there p.devices.entries at.0 s from.0 at.1 at.2 (ap (λ (x : Device). x.hearing) from.2 ∙ h.1))
+module _ (p : Inside) (st : State) (seen : state_of p ≡ st) (within : IsWithinPlaces p) (ordered : IsOrdered nat_cmp p.devices) (lost : Lost) (which : Bool) (test : ℕ × Device → Bool)
+    (tests : (s : ℕ) (d : Device) → (test (s, d) ≡ true) ↔ ((d.hearing ≡ true) × (lost s ≡ which))) where
+  entry_hears : (s : ℕ) (d : Device) → IsHearer st s d → lost s ≡ which → In d.identity (heard test p.devices.entries)
+  entry_hears s d h l =
+      let at = slot_in_entries p st seen within ordered s d h.0 in
+      heard_there test p.devices.entries at.0 s d at.1 at.2 ((tests s d).1 (h.1, l))
 
-  hears_there : (i : Identity) → In i (heard p.devices.entries) → (s : ℕ) × (d : Device) × IsHearer st s d × (d.identity ≡ i)
+  hears_there : (i : Identity) → In i (heard test p.devices.entries) → (s : ℕ) × (d : Device) × IsHearer st s d × (lost s ≡ which) × (d.identity ≡ i)
   hears_there i h =
-      let at = heard_from p.devices.entries i h in
-      let found = (btree_map_get_iff nat_cmp_total exact_unsigned p.devices ordered at.0 at.1).1 at.2 in
-      (at.0, device_of at.1, (device_there p st seen within at.0 ∙ ap (option_map device_of) found, at.3), at.4)
+      let at = heard_from test p.devices.entries i h in
+      let passes = (tests at.0 at.1).0 at.3 in
+      (at.0, at.1, (entry_in_slot p st seen within ordered at.0 at.1 at.2, passes.0), passes.1, at.4)
 
-  nobody_hears : heard p.devices.entries ≡ [] → AnyHears st → ⊥
-  nobody_hears none any = subst (In any.1.identity) none (entry_hears any.0 any.1 any.2)
+  nobody_hears : heard test p.devices.entries ≡ [] → NoHearer st lost which
+  nobody_hears none s d h l = subst (In d.identity) none (entry_hears s d h l)
 
-  wins : (i : Identity) → IsLeast identity_cmp identity_total (heard p.devices.entries) i → IsWinner st nobody i
-  wins i least =
-      let at = hears_there i least.0 in (
-        (at.0, at.1, at.2, refl, at.3),
-        λ j contender below. false≢true (sym (least.1 j (subst (λ k. In k (heard p.devices.entries)) contender.4 (entry_hears contender.0 contender.1 contender.2))) ∙ ap is_lt (below_less j i below)),
-      )
+  least_hears : (i : Identity) → IsLeast identity_cmp identity_total (heard test p.devices.entries) i → IsLeastHearer st lost which i
+  least_hears i least = (
+    hears_there i least.0,
+    λ s d h l below. false≢true (sym (least.1 d.identity (entry_hears s d h l)) ∙ ap is_lt (below_less d.identity i below)),
+  )
 
-  -- the least of the hearers' identities wins
-  pub winner_of : (r : Option Identity) → r ≡ reduce (lesser identity_cmp) (heard p.devices.entries) → MatchOption r (AnyHears st → ⊥) (IsWinner st nobody)
-  winner_of r e = subst (λ o. MatchOption o (AnyHears st → ⊥) (IsWinner st nobody)) (sym e) (go (reduce (lesser identity_cmp) (heard p.devices.entries)) (least_of identity_cmp identity_total (heard p.devices.entries)))
+  -- the least of the identities
+  pub least_hearer_of : (r : Option Identity) → r ≡ reduce (lesser identity_cmp) (heard test p.devices.entries) → MatchOption r (NoHearer st lost which) (IsLeastHearer st lost which)
+  least_hearer_of r e =
+      subst (λ o. MatchOption o (NoHearer st lost which) (IsLeastHearer st lost which)) (sym e) (go (reduce (lesser identity_cmp) (heard test p.devices.entries)) (least_of identity_cmp identity_total (heard test p.devices.entries)))
     where
-      go : (o : Option Identity) → MatchOption o (heard p.devices.entries ≡ []) (IsLeast identity_cmp identity_total (heard p.devices.entries)) → MatchOption o (AnyHears st → ⊥) (IsWinner st nobody)
+      go : (o : Option Identity) → MatchOption o (heard test p.devices.entries ≡ []) (IsLeast identity_cmp identity_total (heard test p.devices.entries)) → MatchOption o (NoHearer st lost which) (IsLeastHearer st lost which)
       go None h = nobody_hears h
-      go (Some i) h = wins i h
+      go (Some i) h = least_hears i h
+
+-- who wins: the least of those who are left, and nobody where there is none
+pub left_wins : (st : State) (lost : Lost) (i : Identity) → IsLeastHearer st lost false i → IsWinner st lost i
+left_wins st lost i h = (h.0, λ j c below. h.1 c.0 c.1 c.2 c.3 (subst (λ k. IsBelow k i) (sym c.4) below))
+
+pub none_left : (st : State) (lost : Lost) → NoHearer st lost false → AllHearersLost st lost
+none_left st lost none s d h = go (lost s) refl
+  where
+    go : (b : Bool) → lost s ≡ b → b ≡ true
+    go true e = refl
+    go false e = absurd (none s d h e)
+
+-- the least of those who are lost beats all who are left, if it is below the least of these
+pub lost_beats : (st : State) (lost : Lost) (i j : Identity) → IsLeastHearer st lost true i → IsLeastHearer st lost false j → identity_cmp i j ≡ Less → IsBeatenByLost st lost
+lost_beats st lost i j l r less =
+    (l.0.0, l.0.1, l.0.2, l.0.3, λ k c. subst (λ x. IsBelow x k) (sym l.0.4) (below_all k (λ b. r.1 c.0 c.1 c.2 c.3 (subst (λ x. IsBelow x j) (sym c.4) b))))
+  where
+    -- whoever isn't below j is above i
+    below_all : (k : Identity) → ¬ IsBelow k j → IsBelow i k
+    below_all k above = go (is_lt (identity_cmp i k)) refl
+      where
+        not_below : is_lt (identity_cmp k j) ≡ false
+        not_below = decide (is_lt (identity_cmp k j)) refl
+          where
+            decide : (b : Bool) → is_lt (identity_cmp k j) ≡ b → b ≡ false
+            decide true e = absurd (above (less_below k j (less_from (identity_cmp k j) e)))
+            decide false e = refl
+
+        go : (b : Bool) → is_lt (identity_cmp i k) ≡ b → IsBelow i k
+        go true e = less_below i k (less_from (identity_cmp i k) e)
+        go false e = absurd (false≢true (sym ((order identity_cmp identity_total).chain i k j e not_below) ∙ ap is_lt less))

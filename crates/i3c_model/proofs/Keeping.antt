@@ -10,28 +10,27 @@ use Rattle.std.proofs.lemmas.Map.Lookups.{exact_unsigned}
 use Rattle.std.proofs.lemmas.Map.Views.{btree_map_get_iff}
 use Rattle.std.proofs.lemmas.Option.{none-some}
 use Rattle.i3c_base.specs.declared.identity.Identity.{Identity}
-use Rattle.i3c_base.specs.State.{State, IsKept, IsUnknown, entry_at, kept_of}
-use Rattle.i3c_model.specs.declared.device.PlainEntry.{PlainEntry}
+use Rattle.i3c_base.specs.State.{Entry, State, IsKept, IsUnknown, entry_at, kept_of}
 use Rattle.i3c_model.specs.declared.plain.Plain.TheInside.{Inside}
-use Rattle.i3c_model.specs.Views.{IsWithinPlaces, entry_from, state_of}
+use Rattle.i3c_model.specs.Views.{IsWithinPlaces, state_of}
 use Rattle.i3c_model.proofs.States.{entry_there}
 
 -- an entry is kept for the identity, or isn't
-abbrev pub Keeps : Identity → ℕ × PlainEntry → Type 0
+abbrev pub Keeps : Identity → ℕ × Entry → Type 0
 Keeps i e = e.1.kept ≡ Some i
 
-abbrev pub Spares : Identity → ℕ × PlainEntry → Type 0
+abbrev pub Spares : Identity → ℕ × Entry → Type 0
 Spares i e = e.1.kept ≡ Some i → ⊥
 
-kept_from : (i : Identity) (o : Option PlainEntry) → kept_of (option_map entry_from o) ≡ Some i → (e : PlainEntry) × (o ≡ Some e) × (e.kept ≡ Some i)
+kept_from : (i : Identity) (o : Option Entry) → kept_of o ≡ Some i → (e : Entry) × (o ≡ Some e) × (e.kept ≡ Some i)
 kept_from i None h = absurd (none-some i h)
 kept_from i (Some e) h = (e, refl, h)
 
 module _ (p : Inside) (st : State) (seen : state_of p ≡ st) (within : IsWithinPlaces p) (ordered : IsOrdered nat_cmp p.given) (i : Identity) where
-  kept_there : (a : ℕ) → kept_of (entry_at st a) ≡ Some i → (e : PlainEntry) × (get nat_cmp p.given a ≡ Some e) × (e.kept ≡ Some i)
+  kept_there : (a : ℕ) → kept_of (entry_at st a) ≡ Some i → (e : Entry) × (get nat_cmp p.given a ≡ Some e) × (e.kept ≡ Some i)
   kept_there a h = kept_from i (get nat_cmp p.given a) (ap kept_of (sym (entry_there p st seen within a)) ∙ h)
 
-  place_of : (a : ℕ) (e : PlainEntry) → get nat_cmp p.given a ≡ Some e → (k : ℕ) × (k < length p.given.entries) × (get_or p.given.entries k (a, e) ≡ (a, e))
+  place_of : (a : ℕ) (e : Entry) → get nat_cmp p.given a ≡ Some e → (k : ℕ) × (k < length p.given.entries) × (get_or p.given.entries k (a, e) ≡ (a, e))
   place_of a e h = (btree_map_get_iff nat_cmp_total exact_unsigned p.given ordered a e).0 h
 
   -- none of the entries is kept for it
@@ -39,23 +38,23 @@ module _ (p : Inside) (st : State) (seen : state_of p ≡ st) (within : IsWithin
   unknown spares a h =
       let there = kept_there a h in
       let at = place_of a there.0 there.1 in
-      spares at.0 (a, there.0) (omega arith) at.1 (ap (λ (x : ℕ × PlainEntry). x.1.kept) at.2 ∙ there.2)
+      spares at.0 (a, there.0) (omega arith) at.1 (ap (λ (x : ℕ × Entry). x.1.kept) at.2 ∙ there.2)
 
-  key_at : (k : ℕ) (e : ℕ × PlainEntry) → k < length p.given.entries → get_or p.given.entries k e ≡ e → get_or (keys p.given) k 0 ≡ e.0
-  key_at k e l at = get_or-map (λ (x : ℕ × PlainEntry). x.0) p.given.entries k e 0 l ∙ ap (λ (x : ℕ × PlainEntry). x.0) at
+  key_at : (k : ℕ) (e : ℕ × Entry) → k < length p.given.entries → get_or p.given.entries k e ≡ e → get_or (keys p.given) k 0 ≡ e.0
+  key_at k e l at = get_or-map (λ (x : ℕ × Entry). x.0) p.given.entries k e 0 l ∙ ap (λ (x : ℕ × Entry). x.0) at
 
   keys_long : (k : ℕ) → k < length p.given.entries → k < length (keys p.given)
-  keys_long k l = rw (length-map {A = ℕ × PlainEntry} {B = ℕ}) l
+  keys_long k l = rw (length-map {A = ℕ × Entry} {B = ℕ}) l
 
   -- the first one that is kept for it has the least address
-  kept : (e : ℕ × PlainEntry) (k : ℕ) → Keeps i e → k < length p.given.entries → HoldsAt (λ y. y ≡ e) p.given.entries k → AllWithin (Spares i) p.given.entries 0 k → IsKept st i e.0
+  kept : (e : ℕ × Entry) (k : ℕ) → Keeps i e → k < length p.given.entries → HoldsAt (λ y. y ≡ e) p.given.entries k → AllWithin (Spares i) p.given.entries 0 k → IsKept st i e.0
   kept e k keeps l at spares = (
-    ap kept_of (entry_there p st seen within e.0 ∙ ap (option_map entry_from) ((btree_map_get_iff nat_cmp_total exact_unsigned p.given ordered e.0 e.1).1 (k, l, at e))) ∙ keeps,
+    ap kept_of (entry_there p st seen within e.0 ∙ (btree_map_get_iff nat_cmp_total exact_unsigned p.given ordered e.0 e.1).1 (k, l, at e)) ∙ keeps,
     λ b below h.
         let there = kept_there b h in
         let other = place_of b there.0 there.1 in
         elim (cases_lt other.0 k) [
-          | inl before ↦ spares other.0 (b, there.0) (omega arith) before (ap (λ (x : ℕ × PlainEntry). x.1.kept) other.2 ∙ there.2)
+          | inl before ↦ spares other.0 (b, there.0) (omega arith) before (ap (λ (x : ℕ × Entry). x.1.kept) other.2 ∙ there.2)
           | inr after ↦ elim (cases_eq other.0 k) [
             | inl same ↦ let e0 = key_at k e l (at e) in let b0 = key_at other.0 (b, there.0) other.1 other.2 in let j : get_or (keys p.given) other.0 0 ≡ get_or (keys p.given) k 0 = ap (λ n. get_or (keys p.given) n 0) same in omega arith
             | inr apart ↦
@@ -68,7 +67,7 @@ module _ (p : Inside) (st : State) (seen : state_of p ≡ st) (within : IsWithin
   )
 
   -- the address of the first entry that is kept for it
-  pub kept_first : {A : Type 0} (v : A → ℕ × PlainEntry) (o : Option A) (r : Option ℕ) (Gives : A → ℕ → Type 0)
+  pub kept_first : {A : Type 0} (v : A → ℕ × Entry) (o : Option A) (r : Option ℕ) (Gives : A → ℕ → Type 0)
       → MatchOption o (AllWithin (Spares i) p.given.entries 0 (length p.given.entries)) (λ x. Keeps i (v x) × (k : ℕ) × (k < length p.given.entries) × HoldsAt (λ y. y ≡ v x) p.given.entries k × AllWithin (Spares i) p.given.entries 0 k)
       → MatchOption o (r ≡ None) (λ x. IsSomeAnd r (Gives x)) → ((x : A) (a : ℕ) → Gives x a → a ≡ (v x).0) → MatchOption r (IsUnknown st i) (IsKept st i)
   kept_first v None r Gives h e same = subst (λ q. MatchOption q (IsUnknown st i) (IsKept st i)) (sym e) (unknown h)

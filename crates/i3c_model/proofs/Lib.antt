@@ -1,9 +1,11 @@
 pub mod PlaceLaws
 pub mod KindLaws
 pub mod States
-pub mod Stepping
+pub mod Entries
 pub mod Hearing
 pub mod Keeping
-pub mod Starting
+pub mod Starts
 pub mod Requests
 pub mod Readings
+pub mod Framing
+pub mod Stepping

@@ -1,31 +1,34 @@
 -- What is read behind an accepted interrupt.
 use Rattle.std.specs.Int.{bit_at}
-use Rattle.std.specs.Int.Bits.{bit_and}
-use Rattle.std.proofs.lemmas.Bool.{and_parts, both_ways, cases_eq, cond-true, eqb-false, ne_eqb, not-true}
-use Rattle.std.proofs.lemmas.Nat.Bits.{bit_at-lt, bit_at_and}
+use Rattle.std.specs.Int.Bits.{and_lt, bit_and}
+use Rattle.std.proofs.lemmas.Bool.{and_parts, both_ways, cases_eq}
+use Rattle.std.proofs.lemmas.Nat.Bits.{bit_at-lt, bit_at_and, bit_at_ones}
 use Rattle.std.proofs.lemmas.Option.{none-some, same_Some}
-use Rattle.std.proofs.Common.{◌≡◌, ◌↔◌, ℕ, ◌+◌, ◌<◌, Bool, true, false, not, ◌&&◌, ◌==◌, if◌then◌else◌, List, [], ◌∷◌, length, slice_get, Option, Some, None, is_some, MatchOption, option_and_then, inl, inr, sym, refl, ap, ◌∙◌, subst, arith}
-use Rattle.i3c_base.specs.declared.requests.Request.{Request}
+use Rattle.std.proofs.Common.{◌≡◌, ◌↔◌, ℕ, ◌+◌, ◌<◌, ◌≤◌, ◌^◌, Bool, true, false, not, ◌&&◌, ◌==◌, List, [], ◌∷◌, length, slice_get, lit<, Option, Some, None, is_some, MatchOption, inl, inr, sym, refl, ap, ◌∙◌, subst, arith}
 use Rattle.i3c_base.specs.declared.requests.Request.TheVariants.{Interrupt}
 use Rattle.i3c_base.specs.declared.device.Waiting.{Waiting}
+use Rattle.i3c_base.specs.Cutting.{Lost}
 use Rattle.i3c_base.specs.State.{Device, State, device_at, has_address, in_slot}
-use Rattle.i3c_base.specs.Serve.{DrivesByte, IsFront, IsLowestDriver, asks, drives, is_empty}
-use Rattle.i3c_model.specs.Driving.{IsReading, Together, byte_beside, front_byte}
+use Rattle.i3c_base.specs.Serve.{DrivesByte, IsAnd, IsFront, IsRead, asks, drives, is_empty}
+use Rattle.i3c_bus.proofs.Uniqueness.{and_unique}
 use Rattle.i3c_model.proofs.Requests.{drives_in}
 
--- the AND of bytes
-pub together_none : (bytes : ℕ → Option ℕ) (own : ℕ) → Together bytes own 0 own
-together_none bytes own = record { bits = λ bit l. (λ h. (h, λ s v k. absurd (omega arith)), λ h. h.0); alone = λ h. refl }
+-- the bytes that the slots below n drive
+abbrev pub DrivenBelow : State → ℕ → ℕ → ℕ → ℕ → Type 0
+DrivenBelow st at n s v = (s < n) × DrivesByte st (Interrupt at) s v
 
-pub together_skip : (bytes : ℕ → Option ℕ) (own n both : ℕ) → Together bytes own n both → bytes n ≡ None → Together bytes own (n + 1) both
-together_skip bytes own n both h none = record {
-  bits = λ bit l. (
-    λ b. let k = (h.bits bit l).0 b in
-        (k.0, λ s v m e. elim (cases_eq s n) [ inl same ↦ absurd (none-some v (sym none ∙ (ap bytes (sym same) ∙ e))) | inr ne ↦ k.1 s v (omega arith) e ]),
-    λ k. (h.bits bit l).1 (k.0, λ s v m e. k.1 s v (omega arith) e),
-  );
-  alone = λ k. h.alone (λ s m. k s (omega arith));
-}
+pub and_none : (st : State) (at : ℕ) → IsAnd 255 (DrivenBelow st at 0)
+and_none st at = (lit< tt, λ bit l. (λ h s v d. let none : s < 0 = d.0 in absurd (omega arith), λ h. bit_at_ones 8 bit l))
+
+-- one slot more, which drives no byte
+pub and_skip : (st : State) (at n both : ℕ) → IsAnd both (DrivenBelow st at n) → ((v : ℕ) → DrivesByte st (Interrupt at) n v → ⊥) → IsAnd both (DrivenBelow st at (n + 1))
+and_skip st at n both h none = (
+  h.0,
+  λ bit l. (
+    λ b s v d. elim (cases_eq s n) [ inl e ↦ absurd (none v (subst (λ k. DrivesByte st (Interrupt at) k v) e d.1)) | inr ne ↦ (h.1 bit l).0 b s v ((let m = d.0 in omega arith), d.1) ],
+    λ all. (h.1 bit l).1 (λ s v d. all s v ((let m = d.0 in omega arith), d.1)),
+  ),
+)
 
 bits_both : (a b bit : ℕ) → bit_at (bit_and a b) bit ≡ 1 → (bit_at a bit ≡ 1) × (bit_at b bit ≡ 1)
 bits_both a b bit h =
@@ -35,36 +38,6 @@ bits_both a b bit h =
 both_bits : (a b bit : ℕ) → bit_at a bit ≡ 1 → bit_at b bit ≡ 1 → bit_at (bit_and a b) bit ≡ 1
 both_bits a b bit p q = let m = bit_at_and a b bit in omega (arith, m, p, q)
 
-pub together_and : (bytes : ℕ → Option ℕ) (own n both byte : ℕ) → Together bytes own n both → bytes n ≡ Some byte → Together bytes own (n + 1) (bit_and both byte)
-together_and bytes own n both byte h some = record {
-  bits = λ bit l. (
-    λ b. let p = bits_both both byte bit b in let k = (h.bits bit l).0 p.0 in (
-      k.0,
-      λ s v m e. elim (cases_eq s n) [
-        | inl same ↦ let is : byte ≡ v = same_Some byte v (sym some ∙ (ap bytes (sym same) ∙ e)) in subst (λ x. bit_at x bit ≡ 1) is p.1
-        | inr ne ↦ k.1 s v (omega arith) e
-      ],
-    ),
-    λ k. both_bits both byte bit ((h.bits bit l).1 (k.0, λ s v m e. k.1 s v (omega arith) e)) (k.1 n byte (omega arith) some),
-  );
-  alone = λ k. absurd (none-some byte (sym (k n (omega arith)) ∙ some));
-}
-
-and_join : (a b : Bool) → a ≡ true → b ≡ true → (a && b) ≡ true
-and_join a b p q = ap (λ x. x && b) p ∙ q
-
--- the front's byte, there and back
-front_byte_of : (st : State) (s : ℕ) (w : Waiting) (v : ℕ) → IsFront st s w → w.byte ≡ Some v → front_byte (device_at st s) ≡ Some v
-front_byte_of st s w v f e = ap front_byte f.2 ∙ (ap (λ ws. option_and_then (λ (x : Waiting). x.byte) (slice_get ws 0)) f.3 ∙ e)
-
-front_byte_from : (st : State) (s v : ℕ) (o : Option Device) → device_at st s ≡ o → front_byte o ≡ Some v → (w : Waiting) × IsFront st s w × (w.byte ≡ Some v)
-front_byte_from st s v None at e = absurd (none-some v e)
-front_byte_from st s v (Some d) at e = go d.waiting refl e
-  where
-    go : (ws : List Waiting) → d.waiting ≡ ws → option_and_then (λ (x : Waiting). x.byte) (slice_get ws 0) ≡ Some v → (w : Waiting) × IsFront st s w × (w.byte ≡ Some v)
-    go [] is k = absurd (none-some v k)
-    go (w ∷ ws) is k = (w, (d, ws, at, is), k)
-
 -- one front in one slot
 one_front : (st : State) (s : ℕ) (v w : Waiting) → IsFront st s v → IsFront st s w → v ≡ w
 one_front st s v w f g =
@@ -72,72 +45,63 @@ one_front st s v w f g =
     let lists : (v ∷ f.1) ≡ (w ∷ g.1) = sym f.3 ∙ (ap (λ (d : Device). d.waiting) same ∙ g.3) in
     cc
 
--- the byte beside the lowest slot's, there and back
-beside_of : (st : State) (r : Request) (slot s v : ℕ) (w : Waiting) → (s ≡ slot → ⊥) → drives st r s ≡ true → IsFront st s w → w.byte ≡ Some v → byte_beside st r slot s ≡ Some v
-beside_of st r slot s v w ne d f e =
-    cond-true (not (s == slot) && drives st r s) _ None (and_join _ _ (ap not (ne_eqb s slot ne)) d) ∙ front_byte_of st s w v f e
+one_byte : (st : State) (at s u v : ℕ) → DrivesByte st (Interrupt at) s u → DrivesByte st (Interrupt at) s v → u ≡ v
+one_byte st at s u v f g =
+    let same : f.1.0 ≡ g.1.0 = one_front st s f.1.0 g.1.0 f.1.1 g.1.1 in
+    same_Some u v (sym f.1.2 ∙ (ap (λ (w : Waiting). w.byte) same ∙ g.1.2))
 
-beside_from : (st : State) (r : Request) (slot s v : ℕ) → byte_beside st r slot s ≡ Some v → DrivesByte st r s v
-beside_from st r slot s v e = go (not (s == slot) && drives st r s) refl e
+-- one slot more, which drives this byte
+pub and_more : (st : State) (at n both byte : ℕ) → byte < 256 → IsAnd both (DrivenBelow st at n) → DrivesByte st (Interrupt at) n byte → IsAnd (bit_and both byte) (DrivenBelow st at (n + 1))
+and_more st at n both byte low h driven = (
+  and_lt 8 both byte h.0 low,
+  λ bit l. (
+    λ b s v d. let p = bits_both both byte bit b in elim (cases_eq s n) [
+      | inl e ↦ subst (λ x. bit_at x bit ≡ 1) (one_byte st at n byte v driven (subst (λ k. DrivesByte st (Interrupt at) k v) e d.1)) p.1
+      | inr ne ↦ (h.1 bit l).0 p.0 s v ((let m = d.0 in omega arith), d.1)
+    ],
+    λ all. both_bits both byte bit ((h.1 bit l).1 (λ s v d. all s v ((let m = d.0 in omega arith), d.1))) (all n byte (omega arith, driven)),
+  ),
+)
+
+-- past the last slot nobody drives
+pub and_all : (st : State) (at n both : ℕ) → length st.devices ≤ n → IsAnd both (DrivenBelow st at n) → IsAnd both (DrivesByte st (Interrupt at))
+and_all st at n both past h = (
+  h.0,
+  λ bit l. (
+    λ b s v d. (h.1 bit l).0 b s v ((let m = drives_in st (Interrupt at) s d.0 in omega arith), d),
+    λ all. (h.1 bit l).1 (λ s v d. all s v d.1),
+  ),
+)
+
+-- what is read where no byte is driven, and where one is
+pub read_none : (st : State) (at : ℕ) (lost : Lost) (s : ℕ) (front : Waiting) → ((v : ℕ) → DrivesByte st (Interrupt at) s v → ⊥) → drives st (Interrupt at) s ≡ true → IsFront st s front
+    → IsRead st lost (Interrupt at) s front None
+read_none st at lost s front none driven fronted = record { alone = λ k. sym is; together = λ l v k. absurd (none-some v k); present = ap is_some (sym is) }
   where
-    go : (b : Bool) → (not (s == slot) && drives st r s) ≡ b → (if b then front_byte (device_at st s) else None) ≡ Some v → DrivesByte st r s v
-    go true is k = ((and_parts (not (s == slot)) (drives st r s) is).1, front_byte_from st s v (device_at st s) refl k)
-    go false is k = absurd (none-some v k)
+    go : (o : Option ℕ) → front.byte ≡ o → o ≡ None
+    go None e = refl
+    go (Some v) e = absurd (none v (driven, (front, fronted, e)))
 
--- where only the lowest slot drives, there is none beside it
-beside_none : (st : State) (r : Request) (slot s : ℕ) → ((t : ℕ) → drives st r t ≡ true → t ≡ slot) → byte_beside st r slot s ≡ None
-beside_none st r slot s h = go (not (s == slot) && drives st r s) refl
-  where
-    go : (b : Bool) → (not (s == slot) && drives st r s) ≡ b → (if b then front_byte (device_at st s) else None) ≡ None
-    go true is = let p = and_parts (not (s == slot)) (drives st r s) is in absurd (eqb-false s slot (not-true _ p.0) (h s p.1))
-    go false is = refl
+    is : front.byte ≡ None
+    is = go front.byte refl
 
--- an interrupt without a byte
-pub reading_none : (st : State) (at slot : ℕ) (front : Waiting) → IsLowestDriver st (Interrupt at) slot × IsFront st slot front → front.byte ≡ None
-    → IsReading st at (record { slot = slot; number = front.number; at = at; byte = None })
-reading_none st at slot front h e = record {
-  front = front;
-  lowest = h.0;
-  fronted = h.1;
-  number = refl;
-  address = refl;
-  read = record { alone = λ k. sym e; together = λ l v k. absurd (none-some v k); present = ap is_some (sym e) };
-}
+own_and : (st : State) (at s own : ℕ) → own < 256 → DrivesByte st (Interrupt at) s own → ((t : ℕ) → drives st (Interrupt at) t ≡ true → t ≡ s) → IsAnd own (DrivesByte st (Interrupt at))
+own_and st at s own low driven alone = (
+  low,
+  λ bit l. (
+    λ b t v d. subst (λ x. bit_at x bit ≡ 1) (one_byte st at s own v driven (subst (λ k. DrivesByte st (Interrupt at) k v) (alone t d.0) d)) b,
+    λ all. all s own driven,
+  ),
+)
 
--- one with a byte
-pub reading_some : (st : State) (at slot : ℕ) (front : Waiting) (index own both : ℕ) → IsLowestDriver st (Interrupt at) slot × IsFront st slot front → front.byte ≡ Some own → index ≡ slot
-    → Together (byte_beside st (Interrupt at) index) own (length st.devices) both → both < 256
-    → IsReading st at (record { slot = slot; number = front.number; at = at; byte = Some both })
-reading_some st at slot front index own both h e is_index seen low = record {
-  front = front;
-  lowest = h.0;
-  fronted = h.1;
-  number = refl;
-  address = refl;
-  read = record {
-    alone = λ k. ap Some (tog.alone (λ s l. beside_none st (Interrupt at) slot s k)) ∙ sym e;
-    together = λ k v same. let is : both ≡ v = same_Some both v same in subst (λ x. (x < 256) × ((bit : ℕ) → bit < 8 → ((bit_at x bit ≡ 1) ↔ ((s u : ℕ) → DrivesByte st (Interrupt at) s u → bit_at u bit ≡ 1)))) is (low, λ bit l. (to bit l, from bit l));
-    present = ap is_some (sym e);
-  };
-}
-  where
-    tog : Together (byte_beside st (Interrupt at) slot) own (length st.devices) both
-    tog = subst (λ k. Together (byte_beside st (Interrupt at) k) own (length st.devices) both) is_index seen
-
-    to : (bit : ℕ) → bit < 8 → bit_at both bit ≡ 1 → (s u : ℕ) → DrivesByte st (Interrupt at) s u → bit_at u bit ≡ 1
-    to bit l b s u d =
-        let k = (tog.bits bit l).0 b in
-        elim (cases_eq s slot) [
-          | inl same ↦
-              let f : IsFront st slot d.1.0 = subst (λ t. IsFront st t d.1.0) same d.1.1 in
-              let one : d.1.0 ≡ front = one_front st slot d.1.0 front f h.1 in
-              let byte : own ≡ u = same_Some own u (sym e ∙ (ap (λ (w : Waiting). w.byte) (sym one) ∙ d.1.2)) in
-              subst (λ x. bit_at x bit ≡ 1) byte k.0
-          | inr ne ↦ k.1 s u (drives_in st (Interrupt at) s d.0) (beside_of st (Interrupt at) slot s u d.1.0 ne d.0 d.1.1 d.1.2)
-        ]
-
-    from : (bit : ℕ) → bit < 8 → ((s u : ℕ) → DrivesByte st (Interrupt at) s u → bit_at u bit ≡ 1) → bit_at both bit ≡ 1
-    from bit l all = (tog.bits bit l).1 (all slot own (h.0.0, (front, h.1, e)), λ s u m k. all s u (beside_from st (Interrupt at) slot s u k))
+pub read_some : (st : State) (at own both : ℕ) (lost : Lost) (s : ℕ) (front : Waiting) → own < 256 → DrivesByte st (Interrupt at) s own → IsAnd both (DrivesByte st (Interrupt at)) → IsFront st s front
+    → IsRead st lost (Interrupt at) s front (Some both)
+read_some st at own both lost s front low driven h fronted =
+    let is : front.byte ≡ Some own = ap (λ (w : Waiting). w.byte) (one_front st s front driven.1.0 fronted driven.1.1) ∙ driven.1.2 in record {
+      alone = λ k. ap Some (and_unique both own (DrivesByte st (Interrupt at)) h (own_and st at s own low driven k)) ∙ sym is;
+      together = λ l v k. subst (λ x. IsAnd x (DrivesByte st (Interrupt at))) (same_Some both v k) h;
+      present = ap is_some (sym is);
+    }
 
 -- the front of a slot that drives an interrupt
 no_front : (d : Device) (at : ℕ) → d.waiting ≡ [] → asks d (Interrupt at) ≡ true → ⊥
@@ -157,6 +121,12 @@ front_there st s at d o driven there is = go d.waiting refl o is
     go [] e p q = absurd (no_front d at e asked)
     go (w ∷ ws) e p q = subst (λ x. MatchOption x (drives st (Interrupt at) s ≡ false) (λ v. (drives st (Interrupt at) s ≡ true) × IsFront st s v)) (sym q) (driven, (d, ws, there, e))
 
--- the byte of a slot that drives beside the lowest
-pub beside_there : (st : State) (r : Request) (lowest s : ℕ) → (s ≡ lowest → ⊥) → drives st r s ≡ true → byte_beside st r lowest s ≡ front_byte (device_at st s)
-beside_there st r lowest s ne d = cond-true (not (s == lowest) && drives st r s) _ None (and_join _ _ (ap not (ne_eqb s lowest ne)) d)
+-- the byte of a slot's front is driven exactly if the slot drives the interrupt and the front has it
+pub byte_front : (st : State) (at s : ℕ) (w : Waiting) → drives st (Interrupt at) s ≡ true → IsFront st s w → (v : ℕ) → (w.byte ≡ Some v) ↔ DrivesByte st (Interrupt at) s v
+byte_front st at s w driven f v = (
+  λ e. (driven, (w, f, e)),
+  λ d. ap (λ (x : Waiting). x.byte) (one_front st s w d.1.0 f d.1.1) ∙ d.1.2,
+)
+
+pub byte_none : (st : State) (at s : ℕ) → drives st (Interrupt at) s ≡ false → (v : ℕ) → (◌≡◌ {A = Option ℕ} None (Some v)) ↔ DrivesByte st (Interrupt at) s v
+byte_none st at s undriven v = (λ e. absurd (none-some v e), λ d. absurd (both_ways _ undriven d.0))

@@ -6,9 +6,7 @@ use Rattle.std.specs.Prelude.{⊤}
 use Rattle.std.proofs.Common.{◌≡◌, ◌↔◌, ℕ, ◌+◌, ◌<◌, ◌≤◌, Bool, true, false, not, ◌&&◌, ◌==◌, length, IfSome, IsTrue, Option, Some, None, MatchOption, ◌⊎◌, inl, inr, refl, sym, ap, subst, arith, ◌∙◌}
 use Rattle.i3c_base.specs.declared.requests.Request.{Request}
 use Rattle.i3c_base.specs.State.{Device, IsTargetAt, State, device_at, has_address, in_slot, is_the}
-use Rattle.i3c_base.specs.Serve.{asks, drives, rank}
-use Rattle.i3c_model.specs.Driving.{IsFirstOf}
-use Rattle.i3c_model.proofs.States.{and_false}
+use Rattle.i3c_base.specs.Serve.{IsFirstRequest, asks, drives, rank}
 
 -- no slot below n drives a request
 abbrev pub NoneBelow : State → ℕ → Type 0
@@ -61,6 +59,10 @@ first_more st n (Some g) r f h d alone one least still = record {
   ];
 }
 
+and_false : (b : Bool) → (b && false) ≡ false
+and_false true = refl
+and_false false = refl
+
 -- past the last slot nobody drives
 drives_none : (s active : ℕ) (o : Option Device) (q : Request) → o ≡ None → (not (s == active) && in_slot (λ d. asks d q) o) ≡ true → ⊥
 drives_none s active None q e d = both_ways _ (and_false (not (s == active))) d
@@ -77,7 +79,7 @@ not_true true h = absurd (h refl)
 not_true false h = refl
 
 -- so what came first of all slots is first
-pub first_all : (st : State) (n : ℕ) (first : Option Request) → n ≡ length st.devices → IsFirstSoFar st n first → IsFirstOf st first
+pub first_all : (st : State) (n : ℕ) (first : Option Request) → n ≡ length st.devices → IsFirstSoFar st n first → IsFirstRequest st first
 first_all st n None e h = λ s q. not_true _ (λ d. both_ways _ (h s q (let l = drives_in st q s d in omega arith)) d)
 first_all st n (Some r) e h = record {
   driven = h.driven;
@@ -99,27 +101,6 @@ pub wanted_alone : (st : State) (s : ℕ) (d : Device) (o : Option Request) → 
 wanted_alone st s d None ne at h = h
 wanted_alone st s d (Some r) ne at h = λ q k. h q (sym (drives_of st s d q ne at) ∙ k)
 
--- an empty slot drives nothing, and has no address
+-- an empty slot drives nothing
 pub none_driven : (st : State) (s : ℕ) (q : Request) → device_at st s ≡ None → drives st q s ≡ false
 none_driven st s q at = ap (λ o. not (s == st.active) && in_slot (λ x. asks x q) o) at ∙ and_false (not (s == st.active))
-
-pub none_at : (st : State) (a s : ℕ) → device_at st s ≡ None → IsTrue false ↔ ((d : Device) × IsTargetAt st a s d)
-none_at st a s at = ((λ h. absurd (both_ways _ refl h)), λ h. absurd (none-some h.0 (sym at ∙ h.1.0)))
-
--- a device there is a target exactly if it has the address
-the_address : (a : ℕ) (o : Option ℕ) → is_the a o ≡ true → o ≡ Some a
-the_address a None h = absurd (both_ways _ refl h)
-the_address a (Some b) h = ap Some (eqb-true b a h)
-
-pub at_there : (st : State) (a s : ℕ) (d : Device) (b : Bool) → (s ≡ st.active → ⊥) → device_at st s ≡ Some d → b ≡ has_address a d → IsTrue b ↔ ((x : Device) × IsTargetAt st a s x)
-at_there st a s d b ne at e = (
-  (λ h. (d, (at, the_address a d.address (sym e ∙ h), ne))),
-  λ h. e ∙ (ap (has_address a) (same_Some d h.0 (sym at ∙ h.1.0)) ∙ (ap (is_the a) h.1.1 ∙ eq-eqb a a refl)),
-)
-
--- each device is in a slot
-pub at_in : (st : State) (s : ℕ) (d : Device) → device_at st s ≡ Some d → s < length st.devices
-at_in st s d at = elim (cases_lt s (length st.devices)) [
-  | inl l ↦ l
-  | inr past ↦ absurd (none-some d (sym (get_or_past st.devices s None past) ∙ at))
-]

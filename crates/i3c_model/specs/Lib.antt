@@ -1,4 +1,3 @@
-pub mod Events
-pub mod Kinds
 pub mod Views
-pub mod Driving
+pub mod Meaning
+pub mod Storing

@@ -1,31 +1,31 @@
 use crate::plain::Plain;
-use i3c_base::Request;
+use i3c_base::{Cuts, Fixed, Request, Slot, Verdict};
 
 impl Plain {
-    ghost use Rattle.std.specs.Prelude.{◌≡◌, false, true, IfSome, MatchOption};
+    ghost use Rattle.std.specs.Prelude.{◌≡◌, ◌↔◌, ℕ, false, true, IfSome, IsTrue, MatchOption};
     ghost use Rattle.i3c_base.specs.declared.requests.Request.{Request as RequestValue};
-    ghost use Rattle.i3c_base.specs.Serve.{drives};
-    ghost use Rattle.i3c_model.specs.Driving.{IsFirstOf};
+    ghost use Rattle.i3c_base.specs.Cutting.{lost_by};
+    ghost use Rattle.i3c_base.specs.Serve.{IsFirstRequest, drives, verdict};
 
-    // The request that a slot drives. The active controller drives none.
-    fn driven(&self, index: usize) -> Option<Request>
-        ensures asked { MatchOption result ((q : RequestValue) → drives self.now q index ≡ false) (λ r. drives self.now r index ≡ true) }
-        ensures alone { IfSome result (λ r. (q : RequestValue) → drives self.now q index ≡ true → q ≡ r) }
+    // The request that a slot's device drives. The active controller drives none.
+    fn driven(&self, slot: Slot) -> Option<Request>
+        ensures asked { MatchOption result ((q : RequestValue) → drives self.now q slot ≡ false) (λ r. drives self.now r slot ≡ true) }
+        ensures alone { IfSome result (λ r. (q : RequestValue) → drives self.now q slot ≡ true → q ≡ r) }
     {
-        if index == self.active().index() {
+        if slot == self.active {
             return None;
         }
-        match self.device(index) {
+        match self.device(slot) {
             Some(device) => device.wants(),
             None => None,
         }
     }
 
-    // Whether a slot drives this request.
-    pub(crate) fn drives(&self, index: usize, request: &Request) -> bool
-        ensures { result ≡ drives self.now request.now index }
+    // Whether a slot's device drives this request.
+    pub(crate) fn drives(&self, slot: Slot, request: &Request) -> bool
+        ensures { result ≡ drives self.now request.now slot }
     {
-        match self.driven(index) {
+        match self.driven(slot) {
             Some(driven) => driven == *request,
             None => false,
         }
@@ -33,15 +33,48 @@ impl Plain {
 
     // The first request of those that the slots drive.
     pub(crate) fn first_request(&self) -> Option<Request>
-        ensures { IsFirstOf self.now result }
+        ensures { IsFirstRequest self.now result }
     {
         let mut first: Option<Request> = None;
         for index in 0..self.slots() {
-            if let Some(request) = self.driven(index) {
+            if let Some(request) = self.driven(Slot::from_index(index)) {
                 first = Some(earlier(&first, &request));
             }
         }
         first
+    }
+
+    // Whether somebody who drives this request isn't lost by this bit.
+    pub(crate) fn is_driver_left(&self, request: &Request, cuts: &Cuts, last: u16) -> bool
+        ensures { IsTrue result ↔ ((s : ℕ) × (drives self.now request.now s ≡ true) × (lost_by cuts.now last s ≡ false)) }
+    {
+        let active = self.active;
+        self.devices.iter().any(|(slot, device)| {
+            *slot != active && device.asks(request) && !cuts.is_lost(*slot, last)
+        })
+    }
+
+    // The policy's verdict on a request. One at an address without an entry is refused unasked.
+    pub(crate) fn verdict(&self, policy: &Fixed, request: &Request) -> Verdict
+        ensures { result ≡ verdict self.now policy.now request.now }
+    {
+        match request {
+            Request::Join => policy.join,
+            Request::Role(at) => {
+                if self.is_given(*at) {
+                    policy.role
+                } else {
+                    Verdict::Refuse
+                }
+            }
+            Request::Interrupt(at) => {
+                if self.is_given(*at) {
+                    policy.interrupt
+                } else {
+                    Verdict::Refuse
+                }
+            }
+        }
     }
 }
 

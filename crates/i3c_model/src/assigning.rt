@@ -1,86 +1,71 @@
 use crate::device::PlainEntry;
 use crate::faults::OutOfMemory;
-use crate::plain::Plain;
+use crate::plain::{Choice, Plain};
 use i3c_base::{Addr7, Cuts, Identity, RoundReply, Served};
-use i3c_bus::{Refusal, Reply};
 
 impl Plain {
-    ghost use Rattle.std.specs.Prelude.{◌≡◌, ◌≢◌, ◌↔◌, ◌<◌, ℕ, IfOk, OnOk, OnErr, IsTrue, MatchOption};
-    ghost use Rattle.i3c_base.specs.Cutting.{IsUncut};
+    ghost use Rattle.std.specs.Prelude.{◌≡◌, ◌+◌, ◌↔◌, ◌<◌, ◌⊎◌, ℕ, IfOk, OnOk, OnErr, IsTrue, MatchBool, MatchOption};
     ghost use Rattle.i3c_base.specs.declared.range.TheConstants.{ADDRESSES};
-    ghost use Rattle.i3c_base.specs.Round.{assigned, AnyHears, IsWinner};
+    ghost use Rattle.i3c_base.specs.Cutting.{lost_by};
+    ghost use Rattle.i3c_base.specs.Round.{AllHearersLost, AnyHears, IsBeatenByLost, IsWinner, Rounds, assigned, ended, opened};
+    ghost use Rattle.i3c_base.specs.Serve.{Frame, header_bits, refuse_all};
     ghost use Rattle.i3c_base.specs.State.{IsKept, IsPick, IsPickable, IsUnknown};
-    ghost use Rattle.i3c_bus.specs.Step.{Step};
-    ghost use Rattle.i3c_bus.specs.declared.events.Event.{Event};
-    ghost use Rattle.i3c_bus.specs.declared.replies.Reply.{Reply};
-    ghost use Rattle.i3c_base.specs.Cutting.{nobody};
+    ghost use Rattle.i3c_bus.specs.Step.{Becomes};
+    ghost use Rattle.i3c_model.specs.Meaning.{IsLeastHearer, NoHearer};
+    ghost use Rattle.i3c_model.specs.Storing.{MayAssign};
 
     // Opens a session, which each device without an address hears. The first request is refused.
-    pub(crate) fn open_daa(&mut self, cuts: &Cuts) -> Reply
-        requires uncut { IsUncut cuts.now }
-        ensures step { Step self.old (Event.OpenDaa cuts.now) result self.new }
-        ensures own { result ≢ Reply.OutOfMemory }
+    pub(crate) fn open_daa(&mut self, cuts: &Cuts) -> Served
+        ensures { Frame self.old refuse_all cuts.now result (header_bits result + 9) (Becomes opened) self.new }
     {
-        if self.in_session {
-            return Reply::Refused(Refusal::SessionOpen);
-        }
-        if cuts.at(self.active).is_some() {
-            return Reply::Refused(Refusal::ActiveStays);
-        }
         let served = match self.first_request() {
-            Some(_request) => Served::Refused,
+            Some(_) => Served::Refused,
             None => Served::Quiet,
         };
+        let last = self.header_bits() + 9;
         self.in_session = true;
         // every device stays
         self.devices.retain(|_, device| {
-            if device.address.is_none() {
-                device.hearing = true;
-            }
+            device.hear();
             true
         });
-        Reply::Opened(served)
+        self.empty(cuts, last);
+        served
     }
 
     // One round of the session: the least identity of those who hear gets its address.
-    pub(crate) fn round(&mut self, cuts: &Cuts) -> Result<Reply, OutOfMemory>
-        requires uncut { IsUncut cuts.now }
-        ensures step { IfOk result (λ reply. Step self.old (Event.Round cuts.now) reply self.new) }
-        ensures own { IfOk result (λ reply. reply ≢ Reply.OutOfMemory) }
+    pub(crate) fn round(&mut self, cuts: &Cuts, choice: Choice) -> Result<RoundReply, OutOfMemory>
+        ensures rounds { IfOk result (λ answer. Rounds self.old cuts.now answer self.new) }
         ensures unchanged { OnErr result (self.new ≡ self.old) }
+        ensures memory { OnErr result (MayAssign self.old cuts.now) }
     {
-        if !self.in_session {
-            return Ok(Reply::Refused(Refusal::NoSession));
-        }
-        if cuts.at(self.active).is_some() {
-            return Ok(Reply::Refused(Refusal::ActiveStays));
-        }
         let Some(pick) = self.pick() else {
-            return Ok(Reply::Round(RoundReply::NoAddress));
+            return Ok(RoundReply::NoAddress);
         };
-        let Some(identity) = self.least_hearer() else {
-            return Ok(Reply::Round(RoundReply::Done));
+        if self.is_over(cuts, choice) {
+            self.empty(cuts, 0);
+            return Ok(RoundReply::Done);
+        }
+        let Some(identity) = self.winner(cuts, choice) else {
+            self.empty(cuts, ROUND_END);
+            return Ok(RoundReply::Nobody);
         };
         let address = self.address_kept(&identity).unwrap_or(pick);
-        self.assign(address, &identity)?;
-        Ok(Reply::Round(RoundReply::Assigned(address, identity)))
+        self.assign(address, &identity, cuts)?;
+        self.empty(cuts, ROUND_END);
+        Ok(RoundReply::Assigned(address, identity))
     }
 
     // Ends the session. Nobody hears any more.
-    pub(crate) fn end_daa(&mut self) -> Reply
-        ensures step { Step self.old Event.EndDaa result self.new }
-        ensures own { result ≢ Reply.OutOfMemory }
+    pub(crate) fn end_daa(&mut self)
+        ensures { self.new ≡ ended self.old }
     {
-        if !self.in_session {
-            return Reply::Refused(Refusal::NoSession);
-        }
         self.in_session = false;
         // every device stays
         self.devices.retain(|_, device| {
-            device.hearing = false;
+            device.fall_silent();
             true
         });
-        Reply::Ended
     }
 
     // The least address that may be given.
@@ -105,21 +90,45 @@ impl Plain {
         if self.is_given(address) {
             return false;
         }
-        if self.legacies.lvr_at(address).is_some() {
+        if self.legacy.contains_key(&address) {
             return false;
         }
         is_usable(address)
     }
 
-    // The least identity of those who hear the session.
-    fn least_hearer(&self) -> Option<Identity>
-        ensures { MatchOption result (¬ AnyHears self.now) (IsWinner self.now nobody) }
+    // Whether nobody acknowledges the header: nobody hears, or that is chosen and whoever hears is lost by then.
+    fn is_over(&self, cuts: &Cuts, choice: Choice) -> bool
+        ensures { MatchBool result (AllHearersLost self.now (lost_by cuts.now 0)) (AnyHears self.now) }
+    {
+        let may_be_silent = choice == Choice::Silent;
+        !self.devices.iter().any(|(slot, device)| {
+            device.is_hearing() && !(may_be_silent && cuts.is_lost(*slot, 0))
+        })
+    }
+
+    // The least identity of the hearers that the round loses, or of those that it doesn't lose.
+    fn least_hearer(&self, cuts: &Cuts, lost: bool) -> Option<Identity>
+        ensures { MatchOption result (NoHearer self.now (lost_by cuts.now 73) lost) (IsLeastHearer self.now (lost_by cuts.now 73) lost) }
     {
         self.devices
-            .values()
-            .filter(|device| device.hearing)
-            .map(|device| device.identity)
+            .iter()
+            .filter(|(slot, device)| {
+                device.is_hearing() && cuts.is_lost(**slot, ROUND_END) == lost
+            })
+            .map(|(_, device)| device.identity())
             .min()
+    }
+
+    // Who gets an address, if somebody does: the least identity of those who aren't lost, unless it is chosen that one who
+    // is lost has beaten it.
+    fn winner(&self, cuts: &Cuts, choice: Choice) -> Option<Identity>
+        ensures { MatchOption result (AllHearersLost self.now (lost_by cuts.now 73) ⊎ IsBeatenByLost self.now (lost_by cuts.now 73)) (IsWinner self.now (lost_by cuts.now 73)) }
+    {
+        let left = self.least_hearer(cuts, false)?;
+        match self.least_hearer(cuts, true) {
+            Some(lost) if choice == Choice::Lost && lost.cmp(&left).is_lt() => None,
+            _ => Some(left),
+        }
     }
 
     // The least address that is kept for an identity.
@@ -132,31 +141,33 @@ impl Plain {
             .map(|(address, _)| *address)
     }
 
-    // The hearers of an identity take an address, which is kept for it from now on.
-    fn assign(&mut self, address: Addr7, identity: &Identity) -> Result<(), OutOfMemory>
+    // The hearers of an identity that the round doesn't lose take an address, which is kept for it from now on.
+    fn assign(
+        &mut self,
+        address: Addr7,
+        identity: &Identity,
+        cuts: &Cuts,
+    ) -> Result<(), OutOfMemory>
         requires { address < ADDRESSES }
-        ensures done { OnOk result (self.new ≡ assigned nobody identity.now address self.old) }
+        ensures done { OnOk result (self.new ≡ assigned (lost_by cuts.now 73) identity.now address self.old) }
         ensures unchanged { OnErr result (self.new ≡ self.old) }
     {
-        let entry = PlainEntry {
-            bcr: identity.bcr,
-            dcr: identity.dcr,
-            kept: Some(*identity),
-        };
-        self.given.insert(address, entry)?;
+        self.given.insert(address, PlainEntry::kept(identity))?;
         self.listed = false;
         // every device stays
-        self.devices.retain(|_, device| {
-            if device.hearing && device.identity == *identity {
-                device.address = Some(address);
-                device.hearing = false;
-                device.join_wish = false;
+        self.devices.retain(|slot, device| {
+            let is_left = !cuts.is_lost(*slot, ROUND_END);
+            if device.is_hearing() && is_left && device.identity() == *identity {
+                device.take_address(address);
             }
             true
         });
         Ok(())
     }
 }
+
+// The last bit of a round, its address byte's ACK.
+const ROUND_END: u16 = 73;
 
 ghost use Rattle.std.specs.Prelude.{◌↔◌, IsTrue};
 ghost use Rattle.i3c_base.specs.State.{IsUsable};

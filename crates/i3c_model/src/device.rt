@@ -1,60 +1,123 @@
-ghost use Rattle.std.specs.Prelude.{◌≡◌, ◌↔◌, false, true, IfSome, MatchOption, Some, IsTrue};
+ghost use Rattle.std.specs.Prelude.{◌≡◌, ◌↔◌, ◌++◌, ◌∷◌, [], false, true, length, slice_get, IfSome, IsTrue, MatchOption, OnErr, OnOk, Some};
+ghost use Rattle.i3c_base.specs.Frames.{changed_kinds};
+ghost use Rattle.i3c_base.specs.Round.{hears, unhearing, winner};
+ghost use Rattle.i3c_base.specs.Serve.{asks, without};
 ghost use Rattle.i3c_base.specs.State.{attached, has_address};
-ghost use Rattle.i3c_base.specs.Serve.{asks};
 ghost use Rattle.i3c_base.specs.declared.requests.Request.{Request as RequestValue};
-ghost use Rattle.i3c_model.specs.Driving.{is_meant, losing};
-ghost use Rattle.i3c_model.specs.Views.{device_of};
+ghost use Rattle.i3c_model.specs.Meaning.{is_meant};
 
+use crate::faults::OutOfMemory;
 use crate::kinds::PlainKinds;
-use crate::queue::Queue;
-use i3c_base::{Addr7, Bcr, Dcr, Identity, Request, Setup};
+use i3c_base::{Addr7, Bcr, Change, Dcr, Identity, Kinds, REGISTERS, Request, Setup, Waiting};
 use std::alloc::Global;
+use std::marker::Model;
 
 // A device in its slot.
 #[derive(Drop)]
 pub(crate) struct PlainDevice {
-    pub(crate) identity: Identity,
-    pub(crate) willing: bool,
-    pub(crate) address: Option<Addr7>,
-    pub(crate) kinds: PlainKinds,
-    pub(crate) waiting: Queue,
-    pub(crate) join_wish: bool,
-    pub(crate) role_wish: bool,
+    identity: Identity,
+    willing: bool,
+    address: Option<Addr7>,
+    kinds: PlainKinds,
+    // its interrupts that wait, the oldest first
+    waiting: Vec<Waiting>,
+    join_wish: bool,
+    role_wish: bool,
     // it hears the open session
-    pub(crate) hearing: bool,
+    hearing: bool,
+    registers: [u8; REGISTERS],
 }
 
-// What the table keeps of an address that was given.
-#[derive(Drop)]
-pub(crate) struct PlainEntry {
-    pub(crate) bcr: Bcr,
-    pub(crate) dcr: Dcr,
-    // the identity that the address is kept for
-    pub(crate) kept: Option<Identity>,
+impl Model for PlainDevice {
+    ghost use Rattle.i3c_base.specs.State.{Device};
+
+    ghost Value = { Device };
+
+    ghost view = { λ d. record {
+      identity = d.identity;
+      willing = d.willing;
+      address = d.address;
+      kinds = d.kinds;
+      waiting = d.waiting.items;
+      join_wish = d.join_wish;
+      role_wish = d.role_wish;
+      hearing = d.hearing;
+      registers = d.registers;
+    } };
 }
 
 impl PlainDevice {
     // A device just attached.
     pub(crate) fn new(alloc: Global, setup: &Setup) -> PlainDevice
-        ensures { device_of result ≡ attached setup.now }
+        ensures { result ≡ attached setup.now }
     {
         PlainDevice {
             identity: setup.identity,
             willing: setup.willing,
             address: None,
             kinds: PlainKinds::all(),
-            waiting: Queue::new(alloc),
+            waiting: Vec::new(alloc),
             join_wish: false,
             role_wish: false,
             hearing: false,
+            registers: [0; REGISTERS],
         }
+    }
+
+    // What it is.
+    pub(crate) fn identity(&self) -> Identity
+        ensures { result ≡ self.now.identity }
+    {
+        self.identity
+    }
+
+    // Its address, if it has one.
+    pub(crate) fn address(&self) -> Option<Addr7>
+        ensures { result ≡ self.now.address }
+    {
+        self.address
+    }
+
+    // How many of its interrupts wait.
+    pub(crate) fn waiting(&self) -> usize
+        ensures { result ≡ length self.now.waiting }
+    {
+        self.waiting.len()
+    }
+
+    // The oldest interrupt that waits.
+    pub(crate) fn front(&self) -> Option<Waiting>
+        ensures { result ≡ slice_get self.now.waiting 0 }
+    {
+        self.waiting.first().copied()
+    }
+
+    // Whether its interrupts are enabled.
+    pub(crate) fn may_interrupt(&self) -> bool
+        ensures { result ≡ self.now.kinds.interrupt }
+    {
+        self.kinds.interrupt
+    }
+
+    // Whether its joins are enabled.
+    pub(crate) fn may_join(&self) -> bool
+        ensures { result ≡ self.now.kinds.join }
+    {
+        self.kinds.join
+    }
+
+    // Whether it hears the open session.
+    pub(crate) fn is_hearing(&self) -> bool
+        ensures { result ≡ self.now.hearing }
+    {
+        self.hearing
     }
 
     // The request that it drives: a join without an address, else the role request before the interrupt, its choice
     // only while that kind is enabled.
     pub(crate) fn wants(&self) -> Option<Request>
-        ensures asked { MatchOption result ((r : RequestValue) → asks (device_of self.now) r ≡ false) (λ r. asks (device_of self.now) r ≡ true) }
-        ensures alone { IfSome result (λ r. (q : RequestValue) → asks (device_of self.now) q ≡ true → q ≡ r) }
+        ensures asked { MatchOption result ((r : RequestValue) → asks self.now r ≡ false) (λ r. asks self.now r ≡ true) }
+        ensures alone { IfSome result (λ r. (q : RequestValue) → asks self.now q ≡ true → q ≡ r) }
     {
         let Some(address) = self.address else {
             return if self.join_wish && self.kinds.join {
@@ -79,7 +142,7 @@ impl PlainDevice {
 
     // Whether it drives this request.
     pub(crate) fn asks(&self, request: &Request) -> bool
-        ensures { result ≡ asks (device_of self.now) request.now }
+        ensures { result ≡ asks self.now request.now }
     {
         match self.wants() {
             Some(wanted) => wanted == *request,
@@ -89,14 +152,14 @@ impl PlainDevice {
 
     // Whether it has this address.
     pub(crate) fn has(&self, address: Addr7) -> bool
-        ensures { result ≡ has_address address (device_of self.now) }
+        ensures { result ≡ has_address address self.now }
     {
         self.address == Some(address)
     }
 
     // Whether a command means it: it has the address, if one is named.
     pub(crate) fn is_meant(&self, to: &Option<Addr7>) -> bool
-        ensures { result ≡ is_meant to.now (device_of self.now) }
+        ensures { result ≡ is_meant to.now self.now }
     {
         match to {
             Some(address) => self.has(*address),
@@ -106,21 +169,126 @@ impl PlainDevice {
 
     // The request was accepted: the wish or the oldest interrupt is gone.
     pub(crate) fn lose(&mut self, request: &Request)
-        ensures { self.new ≡ losing request.now self.old }
+        ensures { self.new ≡ without request.now self.old }
     {
         match request {
             Request::Join => self.join_wish = false,
             Request::Role(_) => self.role_wish = false,
-            Request::Interrupt(_) => self.waiting.drop_front(),
+            Request::Interrupt(_) => {
+                if !self.waiting.is_empty() {
+                    self.waiting.remove(0);
+                }
+            }
         }
+    }
+
+    // One more interrupt waits, as the last one.
+    pub(crate) fn raise(&mut self, raised: Waiting) -> Result<(), OutOfMemory>
+        ensures raised { OnOk result (self.new ≡ record self.old { waiting = self.old.waiting ++ raised ∷ [] }) }
+        ensures unchanged { OnErr result (self.new ≡ self.old) }
+    {
+        self.waiting.push(raised)?;
+        Ok(())
+    }
+
+    // It wishes to join.
+    pub(crate) fn wish_join(&mut self)
+        ensures { self.new ≡ record self.old { join_wish = true } }
+    {
+        self.join_wish = true;
+    }
+
+    // More of its kinds are enabled, or some are disabled.
+    pub(crate) fn change_kinds(&mut self, change: Change, kinds: Kinds)
+        ensures { self.new ≡ record self.old { kinds = changed_kinds change kinds self.old.kinds } }
+    {
+        self.kinds.change(change, kinds);
+    }
+
+    // A session is opened, which it hears if it has no address.
+    pub(crate) fn hear(&mut self)
+        ensures { self.new ≡ hears self.old }
+    {
+        if self.address.is_none() {
+            self.hearing = true;
+        }
+    }
+
+    // The session ends: it hears no more.
+    pub(crate) fn fall_silent(&mut self)
+        ensures { self.new ≡ unhearing self.old }
+    {
+        self.hearing = false;
+    }
+
+    // It has won this address, hears no more and has lost its join wish.
+    pub(crate) fn take_address(&mut self, address: Addr7)
+        ensures { self.new ≡ winner address self.old }
+    {
+        self.address = Some(address);
+        self.hearing = false;
+        self.join_wish = false;
     }
 }
 
+// What the table keeps of an address that was given.
+#[derive(Drop)]
+pub(crate) struct PlainEntry {
+    pub(crate) bcr: Bcr,
+    pub(crate) dcr: Dcr,
+    // the identity that the address is kept for
+    pub(crate) kept: Option<Identity>,
+}
+
+impl Model for PlainEntry {
+    ghost use Rattle.i3c_base.specs.State.{Entry};
+
+    ghost Value = { Entry };
+
+    ghost view = { λ e. record {
+      bcr = e.bcr;
+      dcr = e.dcr;
+      kept = e.kept;
+    } };
+}
+
 impl PlainEntry {
+    ghost use Rattle.i3c_base.specs.Numbers.{has_byte};
+    ghost use Rattle.i3c_base.specs.State.{entry_of, kept_entry_of};
+
+    // The entry for an identity, which isn't kept for it.
+    pub(crate) fn new(identity: &Identity) -> PlainEntry
+        ensures { result ≡ entry_of identity.now }
+    {
+        PlainEntry {
+            bcr: identity.bcr,
+            dcr: identity.dcr,
+            kept: None,
+        }
+    }
+
+    // The entry for an identity, which is kept for it.
+    pub(crate) fn kept(identity: &Identity) -> PlainEntry
+        ensures { result ≡ kept_entry_of identity.now }
+    {
+        PlainEntry {
+            bcr: identity.bcr,
+            dcr: identity.dcr,
+            kept: Some(*identity),
+        }
+    }
+
     // Whether the address is kept for an identity.
     pub(crate) fn is_kept_for(&self, identity: &Identity) -> bool
         ensures { IsTrue result ↔ (self.now.kept ≡ Some identity.now) }
     {
         self.kept == Some(*identity)
+    }
+
+    // Whether interrupts at the address have a mandatory byte.
+    pub(crate) fn has_byte(&self) -> bool
+        ensures { result ≡ has_byte self.now.bcr }
+    {
+        self.bcr.has_byte()
     }
 }

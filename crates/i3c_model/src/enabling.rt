@@ -1,96 +1,67 @@
+ghost use Rattle.std.specs.Prelude.{◌≡◌};
+ghost use Rattle.i3c_base.specs.Frames.{kinds_bits};
+
 use crate::faults::OutOfMemory;
-use crate::kinds::Change;
-use crate::plain::Plain;
-use i3c_base::{Addr7, Answer, Cuts, Fixed};
-use i3c_bus::{Framed, Refusal, Reply};
+use crate::plain::{Choice, Plain};
+use i3c_base::{Addr7, Answer, Change, Cuts, Fixed, Kinds};
+use i3c_bus::Framed;
 
 impl Plain {
-    ghost use Rattle.std.specs.Prelude.{◌≡◌, ◌≢◌, ◌++◌, ◌↔◌, IsTrue, IfOk, OnErr};
-    ghost use Rattle.i3c_base.specs.Cutting.{IsUncut};
-    ghost use Rattle.i3c_base.specs.Frames.{AnyAt, Rekinds, rekinded};
-    ghost use Rattle.i3c_base.specs.State.{Device, IsTargetAt};
-    ghost use Rattle.i3c_bus.specs.Step.{Step, first_refusal, frame_checks, is_no_target, target_checks};
-    ghost use Rattle.i3c_bus.specs.declared.replies.Reply.{Reply};
-    ghost use Rattle.i3c_base.specs.Cutting.{nobody};
-    ghost use Rattle.i3c_model.specs.Events.{rekinding};
-    ghost use Rattle.i3c_model.specs.Kinds.{changed_by};
-
-    // Whether the table has no entry at an address, or it is the active controller's own.
-    fn is_no_target(&self, address: Addr7) -> bool
-        ensures { result ≡ is_no_target self.now address }
-    {
-        !self.is_given(address) || self.address(self.active()) == Some(address)
-    }
-
-    // Why a command to these is refused, if it is.
-    fn command_refusal(&self, to: &Option<Addr7>, cuts: &Cuts) -> Option<Refusal>
-        ensures { result ≡ first_refusal (frame_checks self.now cuts.now ++ target_checks self.now to.now) }
-    {
-        if let Some(refusal) = self.frame_refusal(cuts) {
-            return Some(refusal);
-        }
-        match to {
-            Some(address) => {
-                if self.is_no_target(*address) {
-                    Some(Refusal::NoAnswer(*address))
-                } else {
-                    None
-                }
-            }
-            None => None,
-        }
-    }
-
-    // Whether a slot's device is a target at this address.
-    fn is_at(&self, index: usize, address: Addr7) -> bool
-        ensures { IsTrue result ↔ ((d : Device) × IsTargetAt self.now address index d) }
-    {
-        if index == self.active().index() {
-            return false;
-        }
-        match self.device(index) {
-            Some(device) => device.has(address),
-            None => false,
-        }
-    }
+    ghost use Rattle.std.specs.Prelude.{◌≡◌, ◌+◌, ◌↔◌, IsTrue, IfOk, OnErr};
+    ghost use Rattle.i3c_base.specs.Cutting.{lost_by};
+    ghost use Rattle.i3c_base.specs.Frames.{AnyAt, Rekinds, SomeLeftAt, changed_kinds, kinds_bits, rekinded};
+    ghost use Rattle.i3c_base.specs.Serve.{Frame, header_bits};
+    ghost use Rattle.i3c_model.specs.Meaning.{MayAnswer};
+    ghost use Rattle.i3c_model.specs.Storing.{IsRecordDue};
 
     // Whether some device other than the active controller has this address.
-    fn any_at(&self, address: Addr7) -> bool
+    fn is_any_at(&self, address: Addr7) -> bool
         ensures { IsTrue result ↔ AnyAt self.now address }
     {
-        for index in 0..self.slots() {
-            if self.is_at(index, address) {
-                return true;
-            }
+        let active = self.active;
+        self.devices
+            .iter()
+            .any(|(slot, device)| *slot != active && device.has(address))
+    }
+
+    // Whether some such device isn't lost by this bit.
+    fn is_any_left_at(&self, address: Addr7, cuts: &Cuts, last: u16) -> bool
+        ensures { IsTrue result ↔ SomeLeftAt self.now address (lost_by cuts.now last) }
+    {
+        let active = self.active;
+        self.devices.iter().any(|(slot, device)| {
+            *slot != active && device.has(address) && !cuts.is_lost(*slot, last)
+        })
+    }
+
+    // The answer of a command to these, whose header to one address ends with this bit: nobody acknowledges that header
+    // where nobody is there, or where that is chosen and nobody is left.
+    fn answer_of(&self, to: &Option<Addr7>, cuts: &Cuts, header_end: u16, choice: Choice) -> Answer
+        ensures { MayAnswer self.now to.now (lost_by cuts.now header_end) result }
+    {
+        let Some(address) = to else {
+            return Answer::Done;
+        };
+        let is_silent = choice == Choice::Silent
+            && !self.is_any_left_at(*address, cuts, header_end);
+        if is_silent || !self.is_any_at(*address) {
+            return Answer::NoAnswer(*address);
         }
-        false
+        Answer::Done
     }
 
     // The enabled kinds of whom a command reaches are changed.
-    fn change_kinds(&mut self, to: &Option<Addr7>, change: &Change)
-        ensures { self.new ≡ rekinded to.now (changed_by change.now) self.old }
+    fn change_kinds(&mut self, to: &Option<Addr7>, change: Change, kinds: Kinds)
+        ensures { self.new ≡ rekinded to.now (changed_kinds change kinds) self.old }
     {
-        let active = self.active.index();
+        let active = self.active;
         // every device stays
-        self.devices.retain(|index, device| {
-            if *index != active && device.is_meant(to) {
-                device.kinds.change(change);
+        self.devices.retain(|slot, device| {
+            if *slot != active && device.is_meant(to) {
+                device.change_kinds(change, kinds);
             }
             true
         });
-    }
-
-    // The command's own part, after the request that its frame served.
-    fn change_those(&mut self, to: &Option<Addr7>, change: &Change) -> Answer
-        ensures { Rekinds to.now (changed_by change.now) result nobody self.old self.new }
-    {
-        if let Some(address) = to {
-            if !self.any_at(*address) {
-                return Answer::NoAnswer(*address);
-            }
-        }
-        self.change_kinds(to, change);
-        Answer::Done
     }
 
     // Enables or disables kinds of events: of the devices at an address, or without one of all but the active
@@ -98,20 +69,35 @@ impl Plain {
     pub(crate) fn rekind(
         &mut self,
         to: &Option<Addr7>,
-        change: &Change,
+        change: Change,
+        kinds: Kinds,
         policy: &Fixed,
         cuts: &Cuts,
-    ) -> Result<Reply, OutOfMemory>
-        requires uncut { IsUncut cuts.now }
-        ensures step { IfOk result (λ reply. Step self.old (rekinding to.now change.now policy.now cuts.now) reply self.new) }
-        ensures own { IfOk result (λ reply. reply ≢ Reply.OutOfMemory) }
+        choice: Choice,
+    ) -> Result<Framed, OutOfMemory>
+        ensures frame { IfOk result (λ framed. Frame self.old policy.now cuts.now framed.served (header_bits framed.served + kinds_bits to.now framed.answer) (Rekinds to.now (changed_kinds change kinds) framed.answer) self.new) }
         ensures unchanged { OnErr result (self.new ≡ self.old) }
+        ensures memory { OnErr result (IsRecordDue self.old policy.now) }
     {
-        if let Some(refusal) = self.command_refusal(to, cuts) {
-            return Ok(Reply::Refused(refusal));
+        let begin = self.word_bits(policy) + self.header_bits();
+        let answer = self.answer_of(to, cuts, begin + 18, choice);
+        let last = begin + kinds_bits(to, &answer);
+        let served = self.serve_first(policy, cuts, last, choice)?;
+        if let Answer::Done = answer {
+            self.change_kinds(to, change, kinds);
         }
-        let served = self.serve_first(policy)?;
-        let answer = self.change_those(to, change);
-        Ok(Reply::Framed(Framed { served, answer }))
+        self.empty(cuts, last);
+        Ok(Framed { served, answer })
+    }
+}
+
+// The bits of a command with this answer: two words, or a word, a header and after its ACK a word.
+fn kinds_bits(to: &Option<Addr7>, answer: &Answer) -> u16
+    ensures { result ≡ kinds_bits to.now answer.now }
+{
+    match (to, answer) {
+        (None, _) => 18,
+        (Some(_), Answer::NoAnswer(_)) => 18,
+        _ => 27,
     }
 }

@@ -1,10 +1,11 @@
 ghost use Rattle.std.specs.Prelude.{◌≡◌};
+ghost use Rattle.i3c_base.specs.Frames.{changed_kinds};
 ghost use Rattle.i3c_base.specs.Numbers.{kind_set};
 ghost use Rattle.i3c_base.specs.State.{all_kinds};
-ghost use Rattle.i3c_model.specs.Kinds.{changed_by, kinds_from, kinds_in};
 
 use bitflags::Flags;
-use i3c_base::Kinds;
+use i3c_base::{Change, Kinds};
+use std::marker::Model;
 
 // The kinds of events that a device has enabled.
 #[derive(Drop)]
@@ -14,17 +15,22 @@ pub(crate) struct PlainKinds {
     pub(crate) join: bool,
 }
 
-// What a command makes of the enabled kinds.
-#[derive(Drop)]
-pub(crate) enum Change {
-    Enable(Kinds),
-    Disable(Kinds),
+impl Model for PlainKinds {
+    ghost use Rattle.i3c_base.specs.Numbers.{KindSet};
+
+    ghost Value = { KindSet };
+
+    ghost view = { λ k. record {
+      interrupt = k.interrupt;
+      role = k.role;
+      join = k.join;
+    } };
 }
 
 impl PlainKinds {
     // All three kinds.
     pub(crate) fn all() -> PlainKinds
-        ensures { kinds_in result ≡ all_kinds }
+        ensures { result ≡ all_kinds }
     {
         PlainKinds {
             interrupt: true,
@@ -34,19 +40,19 @@ impl PlainKinds {
     }
 
     // More kinds are enabled, or some are disabled.
-    pub(crate) fn change(&mut self, change: &Change)
-        ensures { self.new ≡ kinds_from (changed_by change.now (kinds_in self.old)) }
+    pub(crate) fn change(&mut self, change: Change, kinds: Kinds)
+        ensures { self.new ≡ changed_kinds change kinds self.old }
     {
         match change {
-            Change::Enable(kinds) => {
-                self.interrupt = self.interrupt || names_interrupts(*kinds);
-                self.role = self.role || names_roles(*kinds);
-                self.join = self.join || names_joins(*kinds);
+            Change::Enable => {
+                self.interrupt = self.interrupt || names_interrupts(kinds);
+                self.role = self.role || names_roles(kinds);
+                self.join = self.join || names_joins(kinds);
             }
-            Change::Disable(kinds) => {
-                self.interrupt = self.interrupt && !names_interrupts(*kinds);
-                self.role = self.role && !names_roles(*kinds);
-                self.join = self.join && !names_joins(*kinds);
+            Change::Disable => {
+                self.interrupt = self.interrupt && !names_interrupts(kinds);
+                self.role = self.role && !names_roles(kinds);
+                self.join = self.join && !names_joins(kinds);
             }
         }
     }

@@ -1,7 +1,7 @@
 //! A plain, slow reference machine of an I3C bus, to be believed by reading.
 //!
 //! It keeps maps and lists and does one event at a time, as `i3c_bus`'s definition of a legal step says. It knows no
-//! wires, bits, contests or rows.
+//! wires, contests or rows; of bits it knows how many a frame has sent, which says whose drop-off falls into it.
 #![tactic(auto)]
 
 mod asking;
@@ -10,11 +10,12 @@ mod device;
 mod enabling;
 mod faults;
 mod kinds;
+mod local;
 mod plain;
-mod queue;
-mod raising;
 mod reading;
+mod refusals;
 mod serving;
+mod starting;
 
 pub use faults::{OutOfMemory, PlainFault};
 pub use plain::{Choice, Plain};

@@ -1,21 +1,21 @@
 use crate::device::{PlainDevice, PlainEntry};
-use crate::faults::{OutOfMemory, PlainFault};
-use crate::kinds::Change;
-use i3c_base::{Addr7, Record, SLOTS, Setup, Slot};
-use i3c_bus::{Event, Refusal, Reply};
-use i3c_legacy::{LEGACIES, Legacies};
+use crate::faults::OutOfMemory;
+use i3c_base::{Addr7, Change, LegacyTarget, Record, SLOTS, Slot};
+use i3c_bus::{Event, Reply};
 use std::alloc::Global;
 use std::collections::BTreeMap;
 use std::marker::Model;
 
-/// What the bus is free to do where a cut leaves the outcome open. It has no effect yet, since no event is cut.
+/// What the bus does where drop-offs leave open what comes of an event. A choice that isn't lawful gives way to the first
+/// lawful one of the three, and where nothing is open it has no effect.
 #[derive(Clone, Copy, Debug, PartialEq, Eq)]
 pub enum Choice {
-    /// What was sent before the cut was heard.
+    /// What a lost device sent last was heard: an interrupt is recorded, an identity gets its address, a command to one
+    /// address is done.
     Heard,
-    /// What was sent was lost.
+    /// It was lost on the way: a mandatory byte is torn, an address that is assigned reaches nobody.
     Lost,
-    /// Nothing was sent.
+    /// It sent nothing: the header of a round, or of a command to one address, isn't acknowledged.
     Silent,
 }
 
@@ -25,11 +25,12 @@ pub enum Choice {
 #[derive(Drop)]
 pub struct Plain {
     pub(crate) alloc: Global,
-    pub(crate) devices: BTreeMap<usize, PlainDevice>,
+    pub(crate) devices: BTreeMap<Slot, PlainDevice>,
     // by slot, over all its stays
     pub(crate) raised: [u64; SLOTS],
     pub(crate) active: Slot,
-    pub(crate) legacies: Legacies,
+    // by static address
+    pub(crate) legacy: BTreeMap<Addr7, LegacyTarget>,
     pub(crate) given: BTreeMap<Addr7, PlainEntry>,
     pub(crate) in_session: bool,
     // the list of DEFTGTS is current
@@ -50,54 +51,12 @@ impl Model for Plain {
 }
 
 impl Plain {
-    ghost use Rattle.std.specs.Prelude.{◌≡◌, ◌≢◌, ◌↔◌, false, IfOk, OnErr, IsErrOf, IsTrue, length, is_some, option_and_then, option_map};
-    ghost use Rattle.i3c_base.specs.Numbers.{is_capable};
+    ghost use Rattle.std.specs.Prelude.{◌≡◌, ◌≢◌, ◌↔◌, IfOk, IsTrue, None, OnErr, length, is_some, option_and_then, option_map};
     ghost use Rattle.i3c_base.specs.declared.range.TheConstants.{SLOTS as SLOT_COUNT};
-    ghost use Rattle.i3c_base.specs.State.{device_at, entry_at, legacy_targets_of, IsPresent, IsStart};
-    ghost use Rattle.i3c_bus.specs.Step.{IsUncutEvent, Step};
-    ghost use Rattle.i3c_bus.specs.declared.events.Event.{Event};
+    ghost use Rattle.i3c_base.specs.State.{device_at, entry_at, IsPresent};
+    ghost use Rattle.i3c_bus.specs.Step.{Acts, Step, checks, first_refusal};
     ghost use Rattle.i3c_bus.specs.declared.replies.Reply.{Reply};
-    ghost use Rattle.i3c_model.specs.Events.{MayStore};
-    ghost use Rattle.i3c_model.specs.Views.{device_of};
-
-    /// A machine with its main controller, in slot 0 at the least pickable address, beside these legacy targets.
-    /// It answers `NotCapable` where the main device's BCR isn't a controller's.
-    pub fn new(alloc: Global, main: Setup, legacies: Legacies) -> Result<Plain, PlainFault>
-        ensures capable { IsErrOf result PlainFault.NotCapable ↔ (is_capable main.identity.bcr ≡ false) }
-        ensures start { IfOk result (IsStart main (legacy_targets_of legacies)) }
-    {
-        let bcr = main.identity.bcr;
-        let dcr = main.identity.dcr;
-        if !bcr.capable() {
-            return Err(PlainFault::NotCapable);
-        }
-        // so few that one of the 108 usable addresses is left
-        prove!(legacies.len() <= LEGACIES);
-        let mut plain = Plain {
-            alloc,
-            devices: BTreeMap::new(alloc),
-            raised: [0; SLOTS],
-            active: Slot::default(),
-            legacies,
-            given: BTreeMap::new(alloc),
-            in_session: false,
-            listed: false,
-            records: Vec::new(alloc),
-        };
-        let Some(address) = plain.pick() else {
-            unreachable!();
-        };
-        let mut controller = PlainDevice::new(alloc, &main);
-        controller.address = Some(address);
-        let entry = PlainEntry {
-            bcr,
-            dcr,
-            kept: None,
-        };
-        plain.devices.insert(plain.active.index(), controller)?;
-        plain.given.insert(address, entry)?;
-        Ok(plain)
-    }
+    ghost use Rattle.i3c_model.specs.Storing.{MayStore, Stores};
 
     /// The active controller's slot.
     pub fn active(&self) -> Slot
@@ -110,41 +69,69 @@ impl Plain {
     pub fn present(&self, slot: Slot) -> bool
         ensures { IsTrue result ↔ IsPresent self.now slot }
     {
-        self.devices.contains_key(&slot.index())
+        self.devices.contains_key(&slot)
     }
 
     /// The dynamic address of a slot's device, if there is a device and it has one.
     pub fn address(&self, slot: Slot) -> Option<Addr7>
         ensures { result ≡ option_and_then (λ d. d.address) (device_at self.now slot) }
     {
-        match self.devices.get(&slot.index()) {
-            Some(device) => device.address,
+        match self.device(slot) {
+            Some(device) => device.address(),
             None => None,
         }
     }
 
-    /// Does an event, in which nobody is cut. Where memory ran out nothing has changed, and the event is one that stores
-    /// something: that is this machine's own fault, and no reply.
-    pub fn step(&mut self, event: &Event, _choice: Choice) -> Result<Reply, OutOfMemory>
-        requires uncut { IsUncutEvent event.now }
+    /// Does an event, and decides by the choice what its drop-offs leave open. Where memory ran out nothing has changed,
+    /// and the event is one that isn't refused and stores something: that is this machine's own fault, and no reply.
+    pub fn step(&mut self, event: &Event, choice: Choice) -> Result<Reply, OutOfMemory>
         ensures step { IfOk result (λ reply. Step self.old event.now reply self.new) }
         ensures own { IfOk result (λ reply. reply ≢ Reply.OutOfMemory) }
         ensures unchanged { OnErr result (self.new ≡ self.old) }
-        ensures memory { OnErr result (MayStore event.now) }
+        ensures memory { OnErr result (MayStore self.old event.now) }
+    {
+        match self.refusal(event) {
+            Some(why) => Ok(Reply::Refused(why)),
+            None => self.act(event, choice),
+        }
+    }
+
+    // Does an event that isn't refused.
+    fn act(&mut self, event: &Event, choice: Choice) -> Result<Reply, OutOfMemory>
+        requires allowed { first_refusal (checks self.old event.now) ≡ None }
+        ensures acts { IfOk result (λ reply. Acts self.old event.now reply self.new) }
+        ensures unchanged { OnErr result (self.new ≡ self.old) }
+        ensures memory { OnErr result (Stores self.old event.now) }
     {
         match event {
-            Event::Attach(slot, setup) => self.attach(*slot, setup),
-            Event::Raise(slot, byte) => self.raise(*slot, *byte),
-            Event::Serve(policy, cuts) => self.serve(policy, cuts),
+            Event::Attach(slot, setup) => {
+                self.attach(*slot, setup)?;
+                Ok(Reply::Attached)
+            }
+            Event::DropOff(slot) => {
+                self.drop_off(*slot);
+                Ok(Reply::Dropped)
+            }
+            Event::Raise(slot, byte) => Ok(Reply::Raised(self.raise(*slot, *byte)?)),
+            Event::AskJoin(slot) => {
+                self.ask_join(*slot);
+                Ok(Reply::Asked)
+            }
+            Event::Serve(policy, cuts) => Ok(Reply::Served(self.serve(policy, cuts, choice)?)),
             Event::Enec(to, kinds, policy, cuts) => {
-                self.rekind(to, &Change::Enable(*kinds), policy, cuts)
+                let framed = self.rekind(to, Change::Enable, *kinds, policy, cuts, choice)?;
+                Ok(Reply::Framed(framed))
             }
             Event::Disec(to, kinds, policy, cuts) => {
-                self.rekind(to, &Change::Disable(*kinds), policy, cuts)
+                let framed = self.rekind(to, Change::Disable, *kinds, policy, cuts, choice)?;
+                Ok(Reply::Framed(framed))
             }
-            Event::OpenDaa(cuts) => Ok(self.open_daa(cuts)),
-            Event::Round(cuts) => self.round(cuts),
-            Event::EndDaa => Ok(self.end_daa()),
+            Event::OpenDaa(cuts) => Ok(Reply::Opened(self.open_daa(cuts))),
+            Event::Round(cuts) => Ok(Reply::Round(self.round(cuts, choice)?)),
+            Event::EndDaa => {
+                self.end_daa();
+                Ok(Reply::Ended)
+            }
         }
     }
 
@@ -158,10 +145,10 @@ impl Plain {
     }
 
     // The device in a slot, if there is one.
-    pub(crate) fn device(&self, index: usize) -> Option<&PlainDevice>
-        ensures { option_map (λ d. device_of d.now) result ≡ device_at self.now index }
+    pub(crate) fn device(&self, slot: Slot) -> Option<&PlainDevice>
+        ensures { option_map (λ d. d.now) result ≡ device_at self.now slot }
     {
-        self.devices.get(&index)
+        self.devices.get(&slot)
     }
 
     // Whether an address was given.
@@ -169,20 +156,5 @@ impl Plain {
         ensures { result ≡ is_some (entry_at self.now address) }
     {
         self.given.contains_key(&address)
-    }
-
-    // A device enters a slot, without an address.
-    fn attach(&mut self, slot: Slot, setup: &Setup) -> Result<Reply, OutOfMemory>
-        ensures step { IfOk result (λ reply. Step self.old (Event.Attach slot setup.now) reply self.new) }
-        ensures own { IfOk result (λ reply. reply ≢ Reply.OutOfMemory) }
-        ensures unchanged { OnErr result (self.new ≡ self.old) }
-    {
-        let index = slot.index();
-        if self.devices.contains_key(&index) {
-            return Ok(Reply::Refused(Refusal::SlotTaken));
-        }
-        self.devices
-            .insert(index, PlainDevice::new(self.alloc, setup))?;
-        Ok(Reply::Attached)
     }
 }

@@ -1,89 +1,70 @@
 use crate::plain::Plain;
-use i3c_base::{Addr7, Record, Request, Slot, Waiting};
+use i3c_base::{Addr7, Request, Slot, Waiting};
 
 impl Plain {
-    ghost use Rattle.std.specs.Prelude.{◌≡◌, ℕ, false, true, length, MatchOption};
+    ghost use Rattle.std.specs.Prelude.{◌≡◌, ◌<◌, ◌↔◌, ℕ, false, true, length, IfSome, MatchOption, Some};
+    ghost use Rattle.i3c_base.specs.declared.device.Waiting.{Waiting as WaitingValue};
     ghost use Rattle.i3c_base.specs.declared.requests.Request.{Request as RequestValue};
-    ghost use Rattle.i3c_base.specs.Serve.{IsFront, IsLowestDriver, drives};
-    ghost use Rattle.i3c_model.specs.Driving.{IsReading, Together, UndrivenBelow, byte_beside};
+    ghost use Rattle.i3c_base.specs.Cutting.{Lost};
+    ghost use Rattle.i3c_base.specs.Serve.{DrivesByte, IsAnd, IsFront, IsLowestDriver, IsRead, drives};
 
-    // The front of a slot's waiting list, if it drives an interrupt at this address.
-    fn front_driven(&self, index: usize, at: Addr7) -> Option<Waiting>
-        ensures { MatchOption result (drives self.now (RequestValue.Interrupt at) index ≡ false) (λ w. (drives self.now (RequestValue.Interrupt at) index ≡ true) × IsFront self.now index w) }
+    // The front of a slot's waiting list, if its device drives an interrupt at this address.
+    fn front_driven(&self, slot: Slot, at: Addr7) -> Option<Waiting>
+        ensures { MatchOption result (drives self.now (RequestValue.Interrupt at) slot ≡ false) (λ w. (drives self.now (RequestValue.Interrupt at) slot ≡ true) × IsFront self.now slot w) }
     {
-        if !self.drives(index, &Request::Interrupt(at)) {
+        if !self.drives(slot, &Request::Interrupt(at)) {
             return None;
         }
-        match self.device(index) {
-            Some(device) => device.waiting.front(),
+        match self.device(slot) {
+            Some(device) => device.front(),
             None => None,
         }
     }
 
     // The lowest slot that drives an interrupt at this address, and its front.
-    fn lowest_front(&self, at: Addr7) -> Option<(Slot, Waiting)>
-        ensures { MatchOption result (UndrivenBelow self.now (RequestValue.Interrupt at) (length self.now.devices)) (λ f. IsLowestDriver self.now (RequestValue.Interrupt at) f.0 × IsFront self.now f.0 f.1) }
+    pub(crate) fn lowest_front(&self, at: Addr7) -> Option<(Slot, Waiting)>
+        ensures { MatchOption result ((s : ℕ) → drives self.now (RequestValue.Interrupt at) s ≡ false) (λ f. IsLowestDriver self.now (RequestValue.Interrupt at) f.0 × IsFront self.now f.0 f.1) }
     {
         for index in 0..self.slots() {
-            if let Some(front) = self.front_driven(index, at) {
-                if let Ok(slot) = Slot::new(index as u8) {
-                    return Some((slot, front));
-                }
+            let slot = Slot::from_index(index);
+            if let Some(front) = self.front_driven(slot, at) {
+                return Some((slot, front));
             }
         }
         None
     }
 
-    // The byte that a slot drives behind this request, beside that of the lowest slot.
-    fn byte_beside(&self, index: usize, request: &Request, lowest: usize) -> Option<u8>
-        ensures { result ≡ byte_beside self.now request.now lowest index }
+    // The byte at the front of a slot, if its device drives an interrupt at this address and its front has one.
+    fn byte_driven(&self, slot: Slot, at: Addr7) -> Option<u8>
+        ensures driven { (v : ℕ) → (result ≡ Some v) ↔ DrivesByte self.now (RequestValue.Interrupt at) slot v }
+        ensures byte { IfSome result (λ v. v < 256) }
     {
-        if index == lowest || !self.drives(index, request) {
-            return None;
-        }
-        match self.device(index) {
-            Some(device) => match device.waiting.front() {
-                Some(front) => front.byte,
-                None => None,
-            },
+        match self.front_driven(slot, at) {
+            Some(front) => front.byte,
             None => None,
         }
     }
 
-    // The AND of the lowest slot's byte and those of the others that drive the request.
-    fn together(&self, request: &Request, lowest: usize, own: u8) -> u8
-        ensures { Together (byte_beside self.now request.now lowest) own (length self.now.devices) result }
+    // The AND of the bytes at the fronts of those who drive an interrupt at this address.
+    fn bytes_together(&self, at: Addr7) -> u8
+        ensures { IsAnd result (DrivesByte self.now (RequestValue.Interrupt at)) }
     {
-        let mut both = own;
+        let mut both = u8::MAX;
         for index in 0..self.slots() {
-            match self.byte_beside(index, request, lowest) {
-                Some(byte) => {
-                    both &= byte;
-                }
-                None => {}
+            if let Some(byte) = self.byte_driven(Slot::from_index(index), at) {
+                both &= byte;
             }
         }
         both
     }
 
-    // What is recorded of the accepted interrupt at this address, which some device drives.
-    pub(crate) fn reading(&self, at: Addr7) -> Record
-        requires { (s : ℕ) × (drives self.now (RequestValue.Interrupt at) s ≡ true) }
-        ensures { IsReading self.now at result }
+    // What is read behind the interrupt at this address, which this slot drives: no byte where its front has none.
+    pub(crate) fn byte_read(&self, slot: Slot, at: Addr7) -> Option<u8>
+        ensures { (lost : Lost) (front : WaitingValue) → drives self.now (RequestValue.Interrupt at) slot ≡ true → IsFront self.now slot front → IsRead self.now lost (RequestValue.Interrupt at) slot front result }
     {
-        let Some((slot, front)) = self.lowest_front(at) else {
-            unreachable!()
-        };
-        let request = Request::Interrupt(at);
-        let byte = match front.byte {
-            Some(own) => Some(self.together(&request, slot.index(), own)),
+        match self.byte_driven(slot, at) {
+            Some(_) => Some(self.bytes_together(at)),
             None => None,
-        };
-        Record {
-            slot,
-            number: front.number,
-            at,
-            byte,
         }
     }
 }

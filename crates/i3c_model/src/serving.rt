@@ -1,41 +1,54 @@
 use crate::faults::OutOfMemory;
-use crate::plain::Plain;
-use i3c_base::{Addr7, Cuts, Fixed, Request, Served, Verdict};
-use i3c_bus::{Refusal, Reply};
+use crate::plain::{Choice, Plain};
+use i3c_base::{Addr7, Cuts, Fixed, Record, Request, Served, Verdict};
 
 impl Plain {
-    ghost use Rattle.std.specs.Prelude.{◌≡◌, ◌≢◌, IfOk, OnErr};
+    ghost use Rattle.std.specs.Prelude.{◌≡◌, ◌≤◌, IfOk, OnErr, OnOk};
     ghost use Rattle.i3c_base.specs.declared.requests.Fixed.{Fixed as FixedValue};
     ghost use Rattle.i3c_base.specs.declared.requests.Request.{Request as RequestValue};
+    ghost use Rattle.i3c_base.specs.declared.requests.Served.{Served as ServedValue};
     ghost use Rattle.i3c_base.specs.declared.requests.Verdict.{Verdict as VerdictValue};
-    ghost use Rattle.i3c_base.specs.Cutting.{IsUncut};
-    ghost use Rattle.i3c_base.specs.Serve.{IsFirst, Serves, each_driver, verdict};
-    ghost use Rattle.i3c_bus.specs.Step.{Step, first_refusal, frame_checks};
-    ghost use Rattle.i3c_bus.specs.declared.events.Event.{Event};
-    ghost use Rattle.i3c_bus.specs.declared.replies.Reply.{Reply};
-    ghost use Rattle.i3c_model.specs.Driving.{without};
-    ghost use Rattle.i3c_base.specs.Cutting.{nobody};
+    ghost use Rattle.i3c_base.specs.Cutting.{Lost, lost_by};
+    ghost use Rattle.i3c_base.specs.Serve.{Frame, IsFirst, IsWordBits, Serves, byte_due, each_driver, emptied, header_bits, recorded, verdict, without};
+    ghost use Rattle.i3c_base.specs.State.{State, entry_at};
+    ghost use Rattle.i3c_bus.specs.Step.{Nothing};
+    ghost use Rattle.i3c_model.specs.Storing.{IsRecordDue};
 
-    // The policy's verdict on a request. One at an address without an entry is refused unasked.
-    fn verdict(&self, policy: &Fixed, request: &Request) -> Verdict
-        ensures { result ≡ verdict self.now policy.now request.now }
+    // Whether the interrupts at an address have a mandatory byte, by the BCR in the table.
+    fn is_byte_due(&self, at: Addr7) -> bool
+        ensures { result ≡ byte_due (entry_at self.now at) }
     {
+        match self.given.get(&at) {
+            Some(entry) => entry.has_byte(),
+            None => false,
+        }
+    }
+
+    // The bits of the mandatory word that a frame with this policy reads.
+    pub(crate) fn word_bits(&self, policy: &Fixed) -> u16
+        ensures sent { (lost : Lost) (served : ServedValue) (new : State) → Serves self.now policy.now lost served new → IsWordBits self.now served result }
+        ensures few { result ≤ 9 }
+    {
+        let Some(request) = self.first_request() else {
+            return 0;
+        };
+        if self.verdict(policy, &request) == Verdict::Refuse {
+            return 0;
+        }
         match request {
-            Request::Join => policy.join,
-            Request::Role(at) => {
-                if self.is_given(*at) {
-                    policy.role
-                } else {
-                    Verdict::Refuse
-                }
-            }
-            Request::Interrupt(at) => {
-                if self.is_given(*at) {
-                    policy.interrupt
-                } else {
-                    Verdict::Refuse
-                }
-            }
+            Request::Interrupt(at) => { if self.is_byte_due(at) { 9 } else { 0 } }
+            Request::Join | Request::Role(_) => 0,
+        }
+    }
+
+    // The bits of the header that goes on with a frame after a request.
+    pub(crate) fn header_bits(&self) -> u16
+        ensures sent { (policy : FixedValue) (lost : Lost) (served : ServedValue) (new : State) → Serves self.now policy lost served new → result ≡ header_bits served }
+        ensures few { result ≤ 9 }
+    {
+        match self.first_request() {
+            Some(_) => 9,
+            None => 0,
         }
     }
 
@@ -43,33 +56,80 @@ impl Plain {
     fn answer(&mut self, request: &Request)
         ensures { self.new ≡ each_driver request.now (without request.now) self.old }
     {
-        let active = self.active.index();
+        let active = self.active;
         // every device stays
-        self.devices.retain(|index, device| {
-            if *index != active && device.asks(request) {
+        self.devices.retain(|slot, device| {
+            if *slot != active && device.asks(request) {
                 device.lose(request);
             }
             true
         });
     }
 
+    // One record more.
+    fn keep(&mut self, taken: Record) -> Result<(), OutOfMemory>
+        ensures kept { OnOk result (self.new ≡ recorded taken self.old) }
+        ensures unchanged { OnErr result (self.new ≡ self.old) }
+    {
+        self.records.push(taken)?;
+        Ok(())
+    }
+
     // The interrupt at this address, which comes first, was accepted: the lowest slot's raise is recorded.
     fn record(&mut self, at: Addr7) -> Result<Served, OutOfMemory>
         requires first { IsFirst self.old (RequestValue.Interrupt at) }
-        ensures serves { (policy : FixedValue) → verdict self.old policy (RequestValue.Interrupt at) ≡ VerdictValue.Accept → IfOk result (λ served. Serves self.old policy nobody served self.new) }
+        ensures serves { (policy : FixedValue) (lost : Lost) → verdict self.old policy (RequestValue.Interrupt at) ≡ VerdictValue.Accept → IfOk result (λ served. Serves self.old policy lost served self.new) }
         ensures unchanged { OnErr result (self.new ≡ self.old) }
     {
-        let reading = self.reading(at);
-        self.records.push(reading)?;
+        let Some((slot, front)) = self.lowest_front(at) else {
+            unreachable!()
+        };
+        let number = front.number;
+        let byte = self.byte_read(slot, at);
+        self.keep(Record {
+            slot,
+            number,
+            at,
+            byte,
+        })?;
         self.answer(&Request::Interrupt(at));
         Ok(Served::Recorded(self.records.len()))
     }
 
-    // This request, which comes first, was accepted.
-    fn accept(&mut self, request: &Request) -> Result<Served, OutOfMemory>
-        requires first { IsFirst self.old request.now }
-        ensures serves { (policy : FixedValue) → verdict self.old policy request.now ≡ VerdictValue.Accept → IfOk result (λ served. Serves self.old policy nobody served self.new) }
+    // The interrupt at this address, which comes first, was accepted: it is recorded, or torn where that is chosen and
+    // nobody is left to end its mandatory byte.
+    fn take(
+        &mut self,
+        at: Addr7,
+        cuts: &Cuts,
+        last: u16,
+        choice: Choice,
+    ) -> Result<Served, OutOfMemory>
+        requires first { IsFirst self.old (RequestValue.Interrupt at) }
+        ensures serves { (policy : FixedValue) → verdict self.old policy (RequestValue.Interrupt at) ≡ VerdictValue.Accept → IfOk result (λ served. Serves self.old policy (lost_by cuts.now last) served self.new) }
         ensures unchanged { OnErr result (self.new ≡ self.old) }
+    {
+        let request = Request::Interrupt(at);
+        let may_tear = self.is_byte_due(at) && !self.is_driver_left(&request, cuts, last);
+        if choice == Choice::Lost && may_tear {
+            self.answer(&request);
+            return Ok(Served::Torn);
+        }
+        self.record(at)
+    }
+
+    // This request, which comes first, was accepted.
+    fn accept(
+        &mut self,
+        request: &Request,
+        cuts: &Cuts,
+        last: u16,
+        choice: Choice,
+    ) -> Result<Served, OutOfMemory>
+        requires first { IsFirst self.old request.now }
+        ensures serves { (policy : FixedValue) → verdict self.old policy request.now ≡ VerdictValue.Accept → IfOk result (λ served. Serves self.old policy (lost_by cuts.now last) served self.new) }
+        ensures unchanged { OnErr result (self.new ≡ self.old) }
+        ensures memory { (policy : FixedValue) → verdict self.old policy request.now ≡ VerdictValue.Accept → OnErr result (IsRecordDue self.old policy) }
     {
         match request {
             Request::Join => {
@@ -80,47 +140,52 @@ impl Plain {
                 self.answer(request);
                 Ok(Served::WantsRole(*at))
             }
-            Request::Interrupt(at) => self.record(*at),
+            Request::Interrupt(at) => self.take(*at, cuts, last, choice),
         }
     }
 
-    // Serves the first request.
-    pub(crate) fn serve_first(&mut self, policy: &Fixed) -> Result<Served, OutOfMemory>
-        ensures serves { IfOk result (λ served. Serves self.old policy.now nobody served self.new) }
+    // Serves the first request of a frame whose last bit is this one.
+    pub(crate) fn serve_first(
+        &mut self,
+        policy: &Fixed,
+        cuts: &Cuts,
+        last: u16,
+        choice: Choice,
+    ) -> Result<Served, OutOfMemory>
+        ensures serves { IfOk result (λ served. Serves self.old policy.now (lost_by cuts.now last) served self.new) }
         ensures unchanged { OnErr result (self.new ≡ self.old) }
+        ensures memory { OnErr result (IsRecordDue self.old policy.now) }
     {
         let Some(request) = self.first_request() else {
             return Ok(Served::Quiet);
         };
         match self.verdict(policy, &request) {
-            Verdict::Accept => self.accept(&request),
+            Verdict::Accept => self.accept(&request, cuts, last, choice),
             Verdict::Refuse => Ok(Served::Refused),
         }
     }
 
-    // Why a frame is refused, if it is.
-    pub(crate) fn frame_refusal(&self, cuts: &Cuts) -> Option<Refusal>
-        ensures { result ≡ first_refusal (frame_checks self.now cuts.now) }
+    // The devices that are cut by this bit, a frame's last, are gone.
+    pub(crate) fn empty(&mut self, cuts: &Cuts, last: u16)
+        ensures { self.new ≡ emptied (lost_by cuts.now last) self.old }
     {
-        if self.in_session {
-            return Some(Refusal::SessionOpen);
-        }
-        if cuts.at(self.active).is_some() {
-            return Some(Refusal::ActiveStays);
-        }
-        None
+        self.devices.retain(|slot, _| !cuts.is_lost(*slot, last));
     }
 
     // Serves the first request, and nothing else.
-    pub(crate) fn serve(&mut self, policy: &Fixed, cuts: &Cuts) -> Result<Reply, OutOfMemory>
-        requires uncut { IsUncut cuts.now }
-        ensures step { IfOk result (λ reply. Step self.old (Event.Serve policy.now cuts.now) reply self.new) }
-        ensures own { IfOk result (λ reply. reply ≢ Reply.OutOfMemory) }
+    pub(crate) fn serve(
+        &mut self,
+        policy: &Fixed,
+        cuts: &Cuts,
+        choice: Choice,
+    ) -> Result<Served, OutOfMemory>
+        ensures frame { IfOk result (λ served. Frame self.old policy.now cuts.now served 0 Nothing self.new) }
         ensures unchanged { OnErr result (self.new ≡ self.old) }
+        ensures memory { OnErr result (IsRecordDue self.old policy.now) }
     {
-        if let Some(refusal) = self.frame_refusal(cuts) {
-            return Ok(Reply::Refused(refusal));
-        }
-        Ok(Reply::Served(self.serve_first(policy)?))
+        let last = self.word_bits(policy);
+        let served = self.serve_first(policy, cuts, last, choice)?;
+        self.empty(cuts, last);
+        Ok(served)
     }
 }

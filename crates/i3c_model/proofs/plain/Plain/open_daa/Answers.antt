@@ -1,18 +1,32 @@
 use borrow.Author.Tests.{tests}
-use Rattle.std.proofs.Common.{rules, ap, sym, ◌∙◌}
+use Rattle.std.proofs.Common.{true, rules, refl, ap, ◌∙◌, ◌+◌}
 use Rattle.std.proofs.lemmas.Map.Made.{map_same_pairs}
-use Rattle.i3c_base.specs.State.{State}
-use Rattle.i3c_model.proofs.States.{listening, opened_there}
-use Rattle.i3c_model.proofs.Stepping.{open_quiet, open_refused}
-use Rattle.i3c_model.proofs.plain.Plain.open_daa.Goals as goal
+use Rattle.i3c_base.specs.declared.requests.Served.TheVariants.{Quiet, Refused}
+use Rattle.i3c_base.specs.Cutting.{lost_by}
+use Rattle.i3c_base.specs.Round.{hears}
+use Rattle.i3c_base.specs.Serve.{Serves, emptied, refuse_all}
+use Rattle.i3c_model.proofs.Framing.{open_frame, refuses}
+use Rattle.i3c_model.proofs.States.{each_there}
 use Rattle.i3c_model.proofs.plain.Plain.open_daa.Goals.{in-Some, in-None}
+use Rattle.i3c_model.proofs.plain.Plain.open_daa.Goals as goal
 
-pub returns-clause-step : goal.returns-clause-step
-returns-clause-step c =
-    let each = map_same_pairs _ listening _ (λ k v b w f q. search (rules, tests)) _ _ c.retain.ensures.filtered in
-    let left = opened_there c.self.inside c.args.self.now c.self.view_is c.self.invariant c.retain.new.self each in
-    let closed = ap (λ (st : State). st.in_session) (sym c.self.view_is) ∙ c.if-self.false in
+pub invariant_of-self : goal.invariant_of-self
+invariant_of-self c = record {
+  slots = λ k h. c.self.invariant.slots k (c.retain.ensures.no_new_key k h);
+  statics = c.self.invariant.statics;
+  addresses = c.self.invariant.addresses;
+}
+
+pub returns : goal.returns
+returns c =
+    let st = c.args.self.now in
+    let each = map_same_pairs _ hears _ (λ k v b w f q. search rules) _ _ c.retain.ensures.filtered in
+    let e = each_there c.self.inside c.args.self.now c.self.view_is c.self.invariant c.retain.new.self (λ s. hears) (λ s. hears) (λ s d at. refl) each in
+    let lost = lost_by c.args.cuts.now (c.header_bits-last.result + 9) in
+    let left = c.empty.ensures ∙ (λ t. emptied lost (record (c.self.view_is t) { devices = e t; in_session = true })) in
     elim c.match-first_request.branch [
-      | in-Some w ↦ rw w.served-is (open_refused c.args.self.now c.args.cuts.now _ _ c.requires.uncut closed w.in-Some.ensures left)
-      | in-None w ↦ rw w.served-is (open_quiet c.args.self.now c.args.cuts.now _ c.requires.uncut closed w.in-None.ensures left)
+      | in-Some w ↦ rw w.served-is (let serves : Serves st refuse_all lost Refused st = ((w.in-Some.field-0, w.in-Some.ensures, refuses st w.in-Some.field-0), refl) in
+          open_frame st c.args.cuts.now Refused c.header_bits-last.result c.empty.new.self refl serves (c.header_bits-last.ensures.sent refuse_all lost Refused st serves) left)
+      | in-None w ↦ rw w.served-is (let serves : Serves st refuse_all lost Quiet st = (w.in-None.ensures, refl) in
+          open_frame st c.args.cuts.now Quiet c.header_bits-last.result c.empty.new.self refl serves (c.header_bits-last.ensures.sent refuse_all lost Quiet st serves) left)
     ]

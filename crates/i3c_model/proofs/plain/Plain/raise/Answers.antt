@@ -1,41 +1,50 @@
-use Rattle.std.proofs.Common.{◌≡◌, ◌+◌, ℕ, suc, ◌∙◌, Some, ap, arith, get_or, option_map, subst, sym}
+use Rattle.std.proofs.Common.{◌+◌, ℕ, suc, Some, ap, arith, get_or, set, subst, sym, ◌∙◌, ◌≡◌}
 use Rattle.std.specs.BTreeMap.{Updates}
 use Rattle.std.specs.Ordering.{nat_cmp}
 use Rattle.i3c_base.specs.Local.{raise}
-use Rattle.i3c_base.specs.State.{State, raised_at}
-use Rattle.i3c_model.specs.declared.device.PlainDevice.{PlainDevice}
-use Rattle.i3c_model.specs.Views.{device_of}
-use Rattle.i3c_model.proofs.PlaceLaws.{written_puts, written_same}
+use Rattle.i3c_base.specs.State.{Device}
+use Rattle.i3c_base.specs.declared.range.TheConstants.{SLOTS}
+use Rattle.i3c_model.specs.Views.{state_of}
+use Rattle.i3c_model.proofs.PlaceLaws.{below_put, written_puts, written_same}
 use Rattle.i3c_model.proofs.States.{after_error, device_there, raised_there, same_devices}
-use Rattle.i3c_model.proofs.Stepping.{raise_acts, raise_there}
+use Rattle.i3c_model.proofs.Stepping.{raise_there}
 use Rattle.i3c_model.proofs.plain.Plain.raise.Goals as goal
 
 one_more : (n : ℕ) → n + 1 ≡ suc n
 one_more n = omega arith
 
 pub unreachable-requires : goal.unreachable-requires
-unreachable-requires c =
-    let missed = rw c.index-index.ensures.same at c.in_default-get_mut.ensures.value in
-    raise_there c.args.self.now c.args.slot c.args.byte c.in_default.ensures
-    (device_there c.self.inside c.args.self.now c.self.view_is c.self.invariant c.args.slot ∙ ap (option_map device_of) (sym missed))
+unreachable-requires c = raise_there c.args.self.now c.args.slot c.args.byte c.requires.allowed (device_there c.self.inside c.args.self.now c.self.view_is c.self.invariant c.args.slot ∙ sym c.in_default.ensures.value)
 
-pub returns-in_err-push-clause-unchanged : goal.returns-in_err-push-clause-unchanged
-returns-in_err-push-clause-unchanged c =
-    let d = c.in-Some-get_mut.device.now in
-    let same : ◌≡◌ {A = PlainDevice} (record d { waiting = c.push.new.self }) d = λ t. record d { waiting = c.in_err-push.ensures.unchanged t } in
-    after_error _ (same_devices c.self.inside c.args.self.now c.self.view_is c.self.invariant (c.get_mut.follows.lender (record d { waiting = c.push.new.self }))
-    (written_same c.self.inside.devices (c.get_mut.follows.lender (record d { waiting = c.push.new.self })) c.index-index.result d (record d { waiting = c.push.new.self })
-    (c.get_mut.follows.holds (record d { waiting = c.push.new.self })) c.in-Some-get_mut.ensures.value same))
+pub invariant_of-self : goal.invariant_of-self
+invariant_of-self c =
+    let put = written_puts c.self.inside.devices (c.get_mut.follows.lender c.raise.new.self) c.args.slot c.in-Some.device.now c.raise.new.self (c.get_mut.follows.holds c.raise.new.self) c.in-Some.ensures.value in
+    record {
+      slots = below_put SLOTS c.self.inside.devices (c.get_mut.follows.lender c.raise.new.self) c.args.slot _ c.self.invariant.slots c.index-index.ensures.in_range put;
+      statics = c.self.invariant.statics;
+      addresses = c.self.invariant.addresses;
+    }
 
-pub returns-clause-step : goal.returns-clause-step
-returns-clause-step c =
-    let d = c.in-Some-get_mut.device.now in
-    let w : PlainDevice = record d { waiting = c.push.new.self } in
-    let number = get_or c.self.inside.raised c.index-index.result 0 + 1 in
-    let put = written_puts c.self.inside.devices (c.get_mut.follows.lender w) c.index-index.result d w (c.get_mut.follows.holds w) c.in-Some-get_mut.ensures.value in
-    let more = subst (λ (x : PlainDevice). Updates nat_cmp c.self.inside.devices (c.get_mut.follows.lender w) c.index-index.result (Some x)) (λ t. record d { waiting = c.in_ok-push.ensures.pushed t }) put in
-    let left = raised_there c.self.inside c.args.self.now c.self.view_is c.self.invariant (c.get_mut.follows.lender w) c.index-index.result d c.args.byte number
-    (rw c.index-index.ensures.same c.index-index.ensures.in_range) (sym c.in-Some-get_mut.ensures.value) (one_more (get_or c.self.inside.raised c.index-index.result 0)) more in
-    raise_acts c.args.self.now c.args.slot c.args.byte number _ c.in_default.ensures
-    (one_more (get_or c.self.inside.raised c.index-index.result 0) ∙ (ap (λ (st : State). suc (raised_at st c.index-index.result)) c.self.view_is ∙ ap (λ s. suc (raised_at c.args.self.now s)) c.index-index.ensures.same))
-    (left ∙ ap (λ s. raise s c.args.byte c.args.self.now) c.index-index.ensures.same)
+pub returns-in_err-raise-clause-unchanged : goal.returns-in_err-raise-clause-unchanged
+returns-in_err-raise-clause-unchanged c =
+    after_error _ (same_devices c.self.inside c.args.self.now c.self.view_is c.self.invariant (c.get_mut.follows.lender c.raise.new.self)
+    (written_same c.self.inside.devices (c.get_mut.follows.lender c.raise.new.self) c.args.slot c.in-Some.device.now c.raise.new.self (c.get_mut.follows.holds c.raise.new.self) c.in-Some.ensures.value c.in_err-raise.ensures.unchanged))
+
+pub invariant_of-self-2 : goal.invariant_of-self-2
+invariant_of-self-2 c =
+    let put = written_puts c.self.inside.devices (c.get_mut.follows.lender c.raise.new.self) c.args.slot c.in-Some.device.now c.raise.new.self (c.get_mut.follows.holds c.raise.new.self) c.in-Some.ensures.value in
+    record {
+      slots = below_put SLOTS c.self.inside.devices (c.get_mut.follows.lender c.raise.new.self) c.args.slot _ c.self.invariant.slots c.index-index.ensures.in_range put;
+      statics = c.self.invariant.statics;
+      addresses = c.self.invariant.addresses;
+    }
+
+pub returns-clause-raised : goal.returns-clause-raised
+returns-clause-raised c =
+    let put = written_puts c.self.inside.devices (c.get_mut.follows.lender c.raise.new.self) c.args.slot c.in-Some.device.now c.raise.new.self (c.get_mut.follows.holds c.raise.new.self) c.in-Some.ensures.value in
+    let more = subst (λ (x : Device). Updates nat_cmp c.self.inside.devices (c.get_mut.follows.lender c.raise.new.self) c.args.slot (Some x)) c.in_ok-raise.ensures.raised put in
+    subst
+    (λ k. state_of (record c.self.inside { devices = c.get_mut.follows.lender c.raise.new.self; raised = set c.self.inside.raised k (get_or c.self.inside.raised k 0 + 1) }) ≡ raise c.args.slot c.args.byte c.args.self.now)
+    (sym c.index-index.ensures.same)
+    (raised_there c.self.inside c.args.self.now c.self.view_is c.self.invariant (c.get_mut.follows.lender c.raise.new.self) c.args.slot c.in-Some.device.now c.args.byte (get_or c.self.inside.raised c.args.slot 0 + 1) c.index-index.ensures.in_range c.in-Some.ensures.value
+    (one_more (get_or c.self.inside.raised c.args.slot 0)) (rw c.index-index.ensures.same at more))

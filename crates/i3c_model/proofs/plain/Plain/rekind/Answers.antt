@@ -1,8 +1,36 @@
-use Rattle.std.proofs.Common.{sym}
-use Rattle.i3c_model.proofs.Stepping.{rekind_acts}
+use Rattle.std.proofs.Common.{◌≡◌, ◌+◌, ℕ, ap, sym, refl, ◌∙◌, subst, arith}
+use Rattle.i3c_base.specs.declared.answers.Answer.{Answer}
+use Rattle.i3c_base.specs.Cutting.{lost_by}
+use Rattle.i3c_base.specs.Frames.{Rekinds, changed_kinds, kinds_bits, rekinded}
+use Rattle.i3c_base.specs.Numbers.{KindSet}
+use Rattle.i3c_base.specs.Serve.{header_bits}
+use Rattle.i3c_model.proofs.Framing.{frame_of, rekinds_of, serves_keeps}
+use Rattle.i3c_model.proofs.plain.Plain.rekind.Goals.{in-Done, in_default}
 use Rattle.i3c_model.proofs.plain.Plain.rekind.Goals as goal
 
-pub returns-clause-step : goal.returns-clause-step
-returns-clause-step c =
-    rekind_acts c.args.self.now c.args.to.now c.args.change.now c.args.policy.now c.args.cuts.now c.in_ok-served.served c.change_those-answer.result c.serve_first.new.self _
-    c.requires.uncut (sym c.in_default.ensures) c.in_ok-served.ensures.serves c.change_those-answer.ensures
+pub returns-clause-frame : goal.returns-clause-frame
+returns-clause-frame c =
+    let old = c.args.self.now in
+    let mid = c.serve_first.new.self in
+    let done = c.match-answer.self in
+    let to = c.args.to.now in
+    let f : KindSet → KindSet = changed_kinds c.args.change c.args.kinds in
+    let served = c.in_ok-served.served in
+    let answer = c.answer_of-answer.result in
+    let begin = c.word_bits.result + c.header_bits.result in
+    let last = begin + c.kinds_bits.result in
+    let serves = c.in_ok-served.ensures.serves in
+    let header : c.header_bits.result ≡ header_bits served = c.header_bits.ensures.sent c.args.policy.now (lost_by c.args.cuts.now last) served mid serves in
+    let bits : c.kinds_bits.result ≡ kinds_bits to answer = c.kinds_bits.ensures in
+    let did : answer ≡ Answer.Done → done ≡ rekinded to f mid = λ e. elim c.match-answer.branch [
+      | in-Done w ↦ w.self-is ∙ w.change_kinds.ensures
+      | in_default w ↦ absurd (w.in_default.not-Done e)
+    ] in
+    let did_not : ¬ (answer ≡ Answer.Done) → done ≡ mid = λ no_done. elim c.match-answer.branch [
+      | in-Done w ↦ absurd (no_done w.in-Done.is)
+      | in_default w ↦ w.self-is
+    ] in
+    let own = rekinds_of to f answer c.args.cuts.now begin old mid done (serves_keeps old c.args.policy.now (lost_by c.args.cuts.now last) served mid serves) c.answer_of-answer.ensures did did_not in
+    frame_of old c.args.policy.now c.args.cuts.now served (header_bits served + kinds_bits to answer) c.word_bits.result last (Rekinds to f answer) mid done c.empty.new.self
+    (omega (arith, header, bits)) (c.word_bits.ensures.sent (lost_by c.args.cuts.now last) served mid serves) serves
+    (subst (λ n. Rekinds to f answer (lost_by c.args.cuts.now (begin + n)) mid done) (sym bits) own) c.empty.ensures

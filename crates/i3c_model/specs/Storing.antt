@@ -1,0 +1,38 @@
+-- Which events store something, and so may want memory.
+use Rattle.std.specs.Prelude.{◌≡◌, ℕ, None, ⊤}
+use Rattle.i3c_base.specs.declared.identity.Identity.{Identity}
+use Rattle.i3c_base.specs.declared.requests.Fixed.{Fixed}
+use Rattle.i3c_base.specs.declared.requests.Request.TheVariants.{Interrupt}
+use Rattle.i3c_base.specs.declared.requests.Verdict.TheVariants.{Accept}
+use Rattle.i3c_base.specs.Cutting.{CutList, lost_by}
+use Rattle.i3c_base.specs.Round.{AnyPickable, IsWinner}
+use Rattle.i3c_base.specs.Serve.{IsFirst, verdict}
+use Rattle.i3c_base.specs.State.{State}
+use Rattle.i3c_bus.specs.declared.events.Event.{Event}
+use Rattle.i3c_bus.specs.declared.events.Event.TheVariants.{Attach, DropOff, Raise, AskJoin, Serve, Enec, Disec, OpenDaa, Round, EndDaa}
+use Rattle.i3c_bus.specs.Step.{checks, first_refusal}
+
+-- an interrupt comes first and is accepted, so a record may be due
+abbrev pub IsRecordDue : State → Fixed → Type 0
+IsRecordDue st policy = (a : ℕ) × IsFirst st (Interrupt a) × (verdict st policy (Interrupt a) ≡ Accept)
+
+-- a round may assign an address
+abbrev pub MayAssign : State → CutList → Type 0
+MayAssign st cuts = AnyPickable st × ((i : Identity) × IsWinner st (lost_by cuts 73) i)
+
+-- what the event stores: a device, an interrupt, a record, or an entry for a winner
+abbrev pub Stores : State → Event → Type 0
+Stores st (Attach s setup) = ⊤
+Stores st (Raise s byte) = ⊤
+Stores st (Serve policy cuts) = IsRecordDue st policy
+Stores st (Enec to kinds policy cuts) = IsRecordDue st policy
+Stores st (Disec to kinds policy cuts) = IsRecordDue st policy
+Stores st (Round cuts) = MayAssign st cuts
+Stores st (DropOff s) = ⊥
+Stores st (AskJoin s) = ⊥
+Stores st (OpenDaa cuts) = ⊥
+Stores st EndDaa = ⊥
+
+-- the event isn't refused, and stores something
+abbrev pub MayStore : State → Event → Type 0
+MayStore st event = (first_refusal (checks st event) ≡ None) × Stores st event

@@ -1,0 +1,159 @@
+use crate::plain::Plain;
+use i3c_base::{Addr7, Cuts, Slot, WAITING};
+use i3c_bus::{Event, Refusal};
+
+impl Plain {
+    ghost use Rattle.std.specs.Prelude.{◌≡◌, ◌++◌};
+    ghost use Rattle.i3c_base.specs.declared.device.Setup.{Setup};
+    ghost use Rattle.i3c_bus.specs.Step.{checks, first_refusal, frame_checks, is_no_target, target_checks};
+    ghost use Rattle.i3c_bus.specs.declared.events.Event.{Event as EventValue};
+
+    // Why an event is refused, if it is.
+    pub(crate) fn refusal(&self, event: &Event) -> Option<Refusal>
+        ensures { result ≡ first_refusal (checks self.now event.now) }
+    {
+        match event {
+            Event::Attach(slot, _) => self.attach_refusal(*slot),
+            Event::DropOff(slot) => self.drop_refusal(*slot),
+            Event::Raise(slot, byte) => self.raise_refusal(*slot, *byte),
+            Event::AskJoin(slot) => self.join_refusal(*slot),
+            Event::Serve(_, cuts) => self.frame_refusal(cuts),
+            Event::Enec(to, _, _, cuts) => self.command_refusal(to, cuts),
+            Event::Disec(to, _, _, cuts) => self.command_refusal(to, cuts),
+            Event::OpenDaa(cuts) => self.frame_refusal(cuts),
+            Event::Round(cuts) => self.round_refusal(cuts),
+            Event::EndDaa => self.end_refusal(),
+        }
+    }
+
+    // Why no device enters a slot.
+    fn attach_refusal(&self, slot: Slot) -> Option<Refusal>
+        ensures { (setup : Setup) → result ≡ first_refusal (checks self.now (EventValue.Attach slot setup)) }
+    {
+        if self.device(slot).is_some() {
+            return Some(Refusal::SlotTaken);
+        }
+        None
+    }
+
+    // Why a slot's device doesn't drop off.
+    fn drop_refusal(&self, slot: Slot) -> Option<Refusal>
+        ensures { result ≡ first_refusal (checks self.now (EventValue.DropOff slot)) }
+    {
+        if self.device(slot).is_none() {
+            return Some(Refusal::NoDevice);
+        }
+        if slot == self.active {
+            return Some(Refusal::ActiveStays);
+        }
+        None
+    }
+
+    // Why a slot's device raises no interrupt with this byte.
+    fn raise_refusal(&self, slot: Slot, byte: Option<u8>) -> Option<Refusal>
+        ensures { result ≡ first_refusal (checks self.now (EventValue.Raise slot byte)) }
+    {
+        let Some(device) = self.device(slot) else {
+            return Some(Refusal::NoDevice);
+        };
+        if slot == self.active {
+            return Some(Refusal::IsActive);
+        }
+        if device.address().is_none() {
+            return Some(Refusal::NoAddress);
+        }
+        let bcr = device.identity().bcr;
+        if !bcr.interrupts() {
+            return Some(Refusal::NotCapable);
+        }
+        if bcr.has_byte() != byte.is_some() {
+            return Some(Refusal::ByteMismatch);
+        }
+        if !device.may_interrupt() {
+            return Some(Refusal::Masked);
+        }
+        if device.waiting() >= WAITING || self.raised[slot.index()] == u64::MAX {
+            return Some(Refusal::Full);
+        }
+        None
+    }
+
+    // Why a slot's device doesn't wish to join.
+    fn join_refusal(&self, slot: Slot) -> Option<Refusal>
+        ensures { result ≡ first_refusal (checks self.now (EventValue.AskJoin slot)) }
+    {
+        let Some(device) = self.device(slot) else {
+            return Some(Refusal::NoDevice);
+        };
+        if device.address().is_some() {
+            return Some(Refusal::HasAddress);
+        }
+        if !device.may_join() {
+            return Some(Refusal::Masked);
+        }
+        None
+    }
+
+    // Why a frame isn't sent.
+    fn frame_refusal(&self, cuts: &Cuts) -> Option<Refusal>
+        ensures { result ≡ first_refusal (frame_checks self.now cuts.now) }
+    {
+        if self.in_session {
+            return Some(Refusal::SessionOpen);
+        }
+        if cuts.at(self.active).is_some() {
+            return Some(Refusal::ActiveStays);
+        }
+        None
+    }
+
+    // Why a command to these isn't sent.
+    fn command_refusal(&self, to: &Option<Addr7>, cuts: &Cuts) -> Option<Refusal>
+        ensures { result ≡ first_refusal (frame_checks self.now cuts.now ++ target_checks self.now to.now) }
+    {
+        if let Some(refusal) = self.frame_refusal(cuts) {
+            return Some(refusal);
+        }
+        match to {
+            Some(address) => {
+                if self.is_no_target(*address) {
+                    Some(Refusal::NoAnswer(*address))
+                } else {
+                    None
+                }
+            }
+            None => None,
+        }
+    }
+
+    // Whether the table has no entry at an address, or it is the active controller's own.
+    fn is_no_target(&self, address: Addr7) -> bool
+        ensures { result ≡ is_no_target self.now address }
+    {
+        !self.is_given(address) || self.address(self.active) == Some(address)
+    }
+
+    // Why no round is sent.
+    fn round_refusal(&self, cuts: &Cuts) -> Option<Refusal>
+        ensures { result ≡ first_refusal (checks self.now (EventValue.Round cuts.now)) }
+    {
+        if !self.in_session {
+            return Some(Refusal::NoSession);
+        }
+        if cuts.at(self.active).is_some() {
+            return Some(Refusal::ActiveStays);
+        }
+        None
+    }
+
+    // Why no session is ended.
+    fn end_refusal(&self) -> Option<Refusal>
+        ensures { result ≡ first_refusal (checks self.now EventValue.EndDaa) }
+    {
+        if self.in_session {
+            None
+        } else {
+            Some(Refusal::NoSession)
+        }
+    }
+}
