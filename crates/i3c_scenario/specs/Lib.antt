@@ -4,3 +4,4 @@ pub mod Policies
 pub mod Reading
 pub mod Slots
 pub mod Stops
+pub mod Asking

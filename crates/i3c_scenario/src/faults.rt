@@ -1,9 +1,8 @@
 ghost use Rattle.std.specs.Prelude.{◌≡◌};
-ghost use Rattle.i3c_scenario.specs.declared.faults.Refusal.TheVariants.{SlotTaken as taken, ActiveStays as stays};
 ghost use Rattle.i3c_scenario.specs.declared.faults.Stop.TheVariants.{Refused, Memory, Write};
 
-use i3c_base::{Addr7, Answer};
-use i3c_bus::{ActiveStays, FrameFault, RaiseRefusal, SlotTaken, TargetFault};
+use i3c_base::{Addr7, Answer, RoundReply};
+use i3c_bus::Reply;
 use i3c_legacy::LegacyFault;
 use std::alloc::AllocError;
 use std::io;
@@ -53,6 +52,8 @@ pub(crate) enum Refusal {
     SlotTaken,
     #[error("SessionOpen")]
     SessionOpen,
+    #[error("NoSession")]
+    NoSession,
     #[error("ActiveStays")]
     ActiveStays,
     /// No name like this was given.
@@ -90,51 +91,25 @@ impl From<LegacyFault> for Refusal {
     }
 }
 
-impl From<SlotTaken> for Refusal {
-    ghost from_gives = { λ _ refusal. refusal ≡ taken };
+impl From<i3c_bus::Refusal> for Refusal {
+    ghost use Rattle.i3c_scenario.specs.Stops.{bus_refusal};
 
-    fn from(_taken: SlotTaken) -> Refusal {
-        Refusal::SlotTaken
-    }
-}
+    ghost from_gives = { λ why refusal. refusal ≡ bus_refusal why };
 
-impl From<ActiveStays> for Refusal {
-    ghost from_gives = { λ _ refusal. refusal ≡ stays };
-
-    fn from(_stays: ActiveStays) -> Refusal {
-        Refusal::ActiveStays
-    }
-}
-
-impl From<RaiseRefusal> for Refusal {
-    ghost use Rattle.i3c_scenario.specs.Stops.{raise_refusal};
-
-    ghost from_gives = { λ why refusal. refusal ≡ raise_refusal why };
-
-    fn from(why: RaiseRefusal) -> Refusal {
+    fn from(why: i3c_bus::Refusal) -> Refusal {
         match why {
-            RaiseRefusal::NoDevice => Refusal::NoDevice,
-            RaiseRefusal::IsActive => Refusal::IsActive,
-            RaiseRefusal::NoAddress => Refusal::NoAddress,
-            RaiseRefusal::NotCapable => Refusal::NotCapable,
-            RaiseRefusal::ByteMismatch => Refusal::ByteMismatch,
-            RaiseRefusal::Masked => Refusal::Masked,
-            RaiseRefusal::Full => Refusal::Full,
-        }
-    }
-}
-
-impl Refusal {
-    ghost use Rattle.i3c_scenario.specs.Stops.{answer_refusal};
-
-    /// The refusal that a frame's answer is printed as, if it is one.
-    pub fn of_answer(answer: &Answer) -> Option<Refusal>
-        ensures { result ≡ answer_refusal answer.now }
-    {
-        match answer {
-            Answer::Done | Answer::Bytes(_) => None,
-            Answer::NoAnswer(address) => Some(Refusal::NoAnswer(*address)),
-            Answer::NoEnd => Some(Refusal::NoEnd),
+            i3c_bus::Refusal::SessionOpen => Refusal::SessionOpen,
+            i3c_bus::Refusal::NoSession => Refusal::NoSession,
+            i3c_bus::Refusal::ActiveStays => Refusal::ActiveStays,
+            i3c_bus::Refusal::SlotTaken => Refusal::SlotTaken,
+            i3c_bus::Refusal::NoDevice => Refusal::NoDevice,
+            i3c_bus::Refusal::IsActive => Refusal::IsActive,
+            i3c_bus::Refusal::NoAddress => Refusal::NoAddress,
+            i3c_bus::Refusal::NotCapable => Refusal::NotCapable,
+            i3c_bus::Refusal::ByteMismatch => Refusal::ByteMismatch,
+            i3c_bus::Refusal::Masked => Refusal::Masked,
+            i3c_bus::Refusal::Full => Refusal::Full,
+            i3c_bus::Refusal::NoAnswer(address) => Refusal::NoAnswer(address),
         }
     }
 }
@@ -175,29 +150,35 @@ impl From<io::Error> for Stop {
     }
 }
 
-impl From<FrameFault> for Stop {
-    ghost use Rattle.i3c_scenario.specs.Stops.{frame_stop};
+impl Stop {
+    ghost use Rattle.i3c_scenario.specs.Stops.{answer_stop, reply_stop};
 
-    ghost from_gives = { λ fault stop. stop ≡ frame_stop fault };
-
-    fn from(fault: FrameFault) -> Stop {
-        match fault {
-            FrameFault::ActiveStays => Stop::Refused(Refusal::ActiveStays),
-            FrameFault::OutOfMemory => Stop::Memory,
+    /// What stops a line at the bus's reply, if anything does: the one place for refusals and for want of memory.
+    pub fn of_reply(reply: &Reply) -> Option<Stop>
+        ensures { result ≡ reply_stop reply.now }
+    {
+        match reply {
+            Reply::Refused(why) => Some(Stop::Refused(Refusal::from(*why))),
+            Reply::OutOfMemory => Some(Stop::Memory),
+            Reply::Framed(framed) => Stop::of_answer(&framed.answer),
+            Reply::Round(RoundReply::NoAddress) => Some(Stop::Refused(Refusal::NoAddress)),
+            Reply::Round(_)
+            | Reply::Attached
+            | Reply::Raised(_)
+            | Reply::Served(_)
+            | Reply::Opened(_)
+            | Reply::Ended => None,
         }
     }
-}
 
-impl From<TargetFault> for Stop {
-    ghost use Rattle.i3c_scenario.specs.Stops.{target_stop};
-
-    ghost from_gives = { λ fault stop. stop ≡ target_stop fault };
-
-    fn from(fault: TargetFault) -> Stop {
-        match fault {
-            TargetFault::ActiveStays => Stop::Refused(Refusal::ActiveStays),
-            TargetFault::NoAnswer(address) => Stop::Refused(Refusal::NoAnswer(address)),
-            TargetFault::OutOfMemory => Stop::Memory,
+    /// What stops a line at the answer to a frame's own part, if anything does.
+    fn of_answer(answer: &Answer) -> Option<Stop>
+        ensures { result ≡ answer_stop answer.now }
+    {
+        match answer {
+            Answer::Done | Answer::Bytes(_) => None,
+            Answer::NoAnswer(address) => Some(Stop::Refused(Refusal::NoAnswer(*address))),
+            Answer::NoEnd => Some(Stop::Refused(Refusal::NoEnd)),
         }
     }
 }

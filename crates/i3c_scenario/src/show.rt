@@ -1,4 +1,4 @@
-use crate::names::{Names, Place};
+use crate::names::Names;
 use i3c_base::{ADDRESSES, Addr7, Record, SLOTS, Served, Slot};
 use i3c_bus::Bus;
 use std::io::Write;
@@ -62,7 +62,7 @@ fn show_devices<W: Write>(bus: &Bus, names: &Names, out: &mut W) -> io::Result<(
         if !bus.present(slot) {
             continue;
         }
-        if let Some(name) = names.at(Place::Slot(slot)) {
+        if let Some(name) = names.in_slot(slot) {
             let address = ShownAddress(bus.address(slot));
             let waiting = bus.waiting(slot);
             writeln!(out, "{name} {address} waiting {waiting}")?;
@@ -75,7 +75,7 @@ fn show_devices<W: Write>(bus: &Bus, names: &Names, out: &mut W) -> io::Result<(
 fn show_legacies<W: Write>(names: &Names, out: &mut W) -> io::Result<()> {
     for number in 0..ADDRESSES as u8 {
         let address = Addr7::new(number).unwrap();
-        if let Some(name) = names.at(Place::Legacy(address)) {
+        if let Some(name) = names.at_address(address) {
             writeln!(out, "{name} {number:02X} legacy")?;
         }
     }

@@ -1,5 +1,5 @@
 use crate::faults::Refusal;
-use crate::names::{Name, Names, Place};
+use crate::names::{Name, Names};
 use crate::{ScriptFault, Tally, run_script};
 use i3c_base::Slot;
 use std::alloc::Global;
@@ -479,7 +479,7 @@ fn names_and_devices(rt: HostRuntime) {
     prints(&rt, rt.alloc(), script, wanted, 9);
 }
 
-// A name stays known where another device takes its slot, and may be given again.
+// A name stays known where another device takes its slot, and may be given again. A slot knows its name.
 #[test]
 fn names_of_devices_that_are_gone(rt: HostRuntime) -> Result<(), Fail> {
     let first = Name::parse("t").ok_or("a name")?;
@@ -487,16 +487,24 @@ fn names_of_devices_that_are_gone(rt: HostRuntime) -> Result<(), Fail> {
     let (one, two) = (Slot::new(1)?, Slot::new(2)?);
     let mut names = Names::new(rt.alloc());
     assert!(rt; names.slot_of(&first) == Err(Refusal::NoName));
-    names.give(first, Place::Slot(one))?;
-    names.give(first, Place::Slot(one))?;
+    assert!(rt; names.in_slot(one).is_none());
+    names.give_slot(&first, one)?;
+    names.give_slot(&first, one)?;
     assert!(rt; names.slot_of(&first) == Ok(one));
-    names.give(second, Place::Slot(one))?;
+    names.give_slot(&second, one)?;
     assert!(rt; names.slot_of(&first) == Err(Refusal::NoDevice));
     assert!(rt; names.slot_of(&second) == Ok(one));
-    assert!(rt; names.at(Place::Slot(one)) == Some(&second));
-    names.give(first, Place::Slot(two))?;
+    assert!(rt; names.in_slot(one) == Some(&second));
+    names.give_slot(&first, two)?;
     assert!(rt; names.slot_of(&first) == Ok(two));
     assert!(rt; names.slot_of(&second) == Ok(one));
+    // a name that was given to another slot stands there, though its old slot is taken by a new name
+    names.give_slot(&second, two)?;
+    names.give_slot(&first, one)?;
+    assert!(rt; names.slot_of(&first) == Ok(one));
+    assert!(rt; names.slot_of(&second) == Ok(two));
+    assert!(rt; names.in_slot(one) == Some(&first));
+    assert!(rt; names.in_slot(two) == Some(&second));
     Ok(())
 }
 

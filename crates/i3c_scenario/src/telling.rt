@@ -1,0 +1,93 @@
+ghost use Rattle.std.specs.Prelude.{◌≡◌, ◌⊎◌, None, Some, MatchResult};
+ghost use Rattle.i3c_scenario.specs.Stops.{reply_stop};
+ghost use Rattle.i3c_scenario.specs.declared.faults.Stop.TheVariants.{Write};
+
+use crate::faults::Stop;
+use crate::names::Names;
+use crate::show::ShownServed;
+use i3c_base::{Addr7, Answer, Identity, RoundReply, Served};
+use i3c_bus::{Event, Framed, Reply};
+use std::io;
+use std::io::Write;
+
+/// Prints the bus's reply to an event. What the line is refused or stopped by is answered, and not printed here.
+pub(crate) fn tell<W: Write>(
+    names: &Names,
+    event: &Event,
+    reply: &Reply,
+    out: &mut W,
+) -> Result<(), Stop>
+    ensures { MatchResult result (λ _. reply_stop reply.now ≡ None) (λ stop. (stop ≡ Stop.Write) ⊎ (reply_stop reply.now ≡ Some stop)) }
+{
+    show_reply(names, event, reply, out)?;
+    match Stop::of_reply(reply) {
+        Some(stop) => Err(stop),
+        None => Ok(()),
+    }
+}
+
+/// Prints what a reply has to say, but for refusals.
+fn show_reply<W: Write>(
+    names: &Names,
+    event: &Event,
+    reply: &Reply,
+    out: &mut W,
+) -> io::Result<()> {
+    match reply {
+        Reply::Refused(_) | Reply::OutOfMemory | Reply::Ended => Ok(()),
+        Reply::Attached => show_attached(names, event, out),
+        Reply::Raised(number) => writeln!(out, "raised {number}"),
+        Reply::Served(served) => writeln!(out, "{}", ShownServed(*served)),
+        Reply::Framed(framed) => show_framed(framed, out),
+        Reply::Opened(served) => show_served(*served, out),
+        Reply::Round(answer) => show_round(answer, out),
+    }
+}
+
+/// Prints the name and the slot of a device that was attached.
+fn show_attached<W: Write>(names: &Names, event: &Event, out: &mut W) -> io::Result<()> {
+    let Event::Attach(slot, _) = event else {
+        return Ok(());
+    };
+    match names.in_slot(*slot) {
+        Some(name) => writeln!(out, "{name} slot {}", slot.index()),
+        None => Ok(()),
+    }
+}
+
+/// Prints what a frame served before its own part, unless nobody asked.
+fn show_served<W: Write>(served: Served, out: &mut W) -> io::Result<()> {
+    match served {
+        Served::Quiet => Ok(()),
+        _ => writeln!(out, "{}", ShownServed(served)),
+    }
+}
+
+/// Prints what a frame served, and that its own part was carried out, if it was.
+fn show_framed<W: Write>(framed: &Framed, out: &mut W) -> io::Result<()> {
+    show_served(framed.served, out)?;
+    match framed.answer {
+        Answer::Done | Answer::Bytes(_) => writeln!(out, "done"),
+        Answer::NoAnswer(_) | Answer::NoEnd => Ok(()),
+    }
+}
+
+/// Prints a round.
+fn show_round<W: Write>(answer: &RoundReply, out: &mut W) -> io::Result<()> {
+    match answer {
+        RoundReply::Assigned(address, identity) => show_assigned(*address, identity, out),
+        RoundReply::Nobody => writeln!(out, "nobody"),
+        RoundReply::Done => writeln!(out, "done"),
+        RoundReply::NoAddress => Ok(()),
+    }
+}
+
+/// Prints an address and the identity that got it.
+fn show_assigned<W: Write>(address: Addr7, identity: &Identity, out: &mut W) -> io::Result<()> {
+    let (pid, bcr, dcr) = (identity.pid.get(), identity.bcr.0, identity.dcr.0);
+    writeln!(
+        out,
+        "assigned {:02X} {pid:012X} {bcr:02X} {dcr:02X}",
+        address.get()
+    )
+}
