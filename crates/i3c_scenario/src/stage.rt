@@ -42,10 +42,7 @@ impl Stage {
                 Command::Legacy { name, address, lvr } => {
                     declare(legacies, names, name, *address, *lvr, out)
                 }
-                Command::Main { name, setup } => {
-                    let running = start(alloc, legacies, names, name, *setup)?;
-                    self.begin(running, name, out)
-                }
+                Command::Main { name, setup } => self.begin(alloc, names, name, *setup, out),
                 Command::Event(_)
                 | Command::Policy(_)
                 | Command::Daa
@@ -55,11 +52,22 @@ impl Stage {
         }
     }
 
-    /// The bus runs from now on. It prints its main controller.
+    /// `main`: the bus runs from now on. It prints its main controller.
     // kept apart, so that no other line pays for the room that a bus takes on the stack
     #[cold]
     #[inline(never)]
-    fn begin<W: Write>(&mut self, running: Running, name: &Name, out: &mut W) -> Result<(), Stop> {
+    fn begin<W: Write>(
+        &mut self,
+        alloc: Global,
+        names: &mut Names,
+        name: &Name,
+        setup: Setup,
+        out: &mut W,
+    ) -> Result<(), Stop> {
+        let Stage::Before(legacies) = self else {
+            return Err(Refusal::BusMade.into());
+        };
+        let running = start(alloc, legacies, names, name, setup)?;
         let slot = running.bus().active();
         let address = ShownAddress(running.bus().address(slot));
         mem::replace(self, Stage::Running(running)).retire();
@@ -108,10 +116,7 @@ fn admit(names: &mut Names, name: &Name, bcr: Bcr) -> Result<(), Stop>
     Ok(())
 }
 
-/// `main`: makes the bus, with this device as its main controller. What is refused leaves the legacy targets as they
-/// were.
-#[cold]
-#[inline(never)]
+/// Makes the bus, with this device as its main controller. What is refused leaves the legacy targets as they were.
 fn start(
     alloc: Global,
     legacies: &mut Legacies,
