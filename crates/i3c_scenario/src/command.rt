@@ -60,21 +60,22 @@ impl Command {
     pub fn parse(line: &str) -> Option<Command> {
         let mut words = line.split(' ');
         let command = match words.next()? {
-            "legacy" => parse_legacy(&mut words)?,
-            "main" => {
-                let (name, setup) = parse_device(&mut words)?;
-                Command::Main { name, setup }
-            }
+            // the lines of which scripts have most come first
+            "raise" => Command::Event(parse_raise(&mut words)?),
+            "serve" => Command::Event(Wish::Serve),
+            "daa" => Command::Daa,
+            "enec" => Command::Event(Wish::Enec(parse_choice(&mut words)?)),
+            "disec" => Command::Event(Wish::Disec(parse_choice(&mut words)?)),
+            "policy" => Command::Policy(policy(words.next()?)?),
             "attach" => {
                 let (name, setup) = parse_device(&mut words)?;
                 Command::Event(Wish::Attach { name, setup })
             }
-            "raise" => Command::Event(parse_raise(&mut words)?),
-            "policy" => Command::Policy(policy(words.next()?)?),
-            "serve" => Command::Event(Wish::Serve),
-            "enec" => Command::Event(Wish::Enec(parse_choice(&mut words)?)),
-            "disec" => Command::Event(Wish::Disec(parse_choice(&mut words)?)),
-            "daa" => Command::Daa,
+            "main" => {
+                let (name, setup) = parse_device(&mut words)?;
+                Command::Main { name, setup }
+            }
+            "legacy" => parse_legacy(&mut words)?,
             "show" => Command::Show,
             "symbols" => Command::Symbols,
             _ => return None,

@@ -1,5 +1,5 @@
 use crate::names::Names;
-use i3c_base::{ADDRESSES, Addr7, Record, SLOTS, Served, Slot};
+use i3c_base::{ADDRESSES, Addr7, Record, SLOTS, Slot};
 use i3c_bus::Bus;
 use std::io::Write;
 use std::{fmt, io};
@@ -26,23 +26,6 @@ impl fmt::Display for ShownByte {
         match self.0 {
             Some(byte) => write!(f, "{byte:02X}"),
             None => f.write_str(NONE),
-        }
-    }
-}
-
-/// What a frame served, as it is printed.
-#[derive(Clone, Copy)]
-pub(crate) struct ShownServed(pub Served);
-
-impl fmt::Display for ShownServed {
-    fn fmt<W: fmt::Write>(&self, f: &mut fmt::Formatter<W>) -> fmt::Result {
-        match self.0 {
-            Served::Quiet => f.write_str("quiet"),
-            Served::Recorded(place) => write!(f, "recorded {place}"),
-            Served::Refused => f.write_str("turned down"),
-            Served::Torn => f.write_str("torn"),
-            Served::Joining => f.write_str("joining"),
-            Served::WantsRole(address) => write!(f, "wants role {}", ShownAddress(Some(address))),
         }
     }
 }

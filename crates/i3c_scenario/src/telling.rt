@@ -4,7 +4,6 @@ ghost use Rattle.i3c_scenario.specs.declared.faults.Stop.TheVariants.{Write};
 
 use crate::faults::Stop;
 use crate::names::Names;
-use crate::show::ShownServed;
 use i3c_base::{Addr7, Answer, Identity, RoundReply, Served};
 use i3c_bus::{Event, Framed, Reply};
 use std::io;
@@ -37,9 +36,9 @@ fn show_reply<W: Write>(
         Reply::Refused(_) | Reply::OutOfMemory | Reply::Ended => Ok(()),
         Reply::Attached => show_attached(names, event, out),
         Reply::Raised(number) => writeln!(out, "raised {number}"),
-        Reply::Served(served) => writeln!(out, "{}", ShownServed(*served)),
+        Reply::Served(served) => show_served(served, out),
         Reply::Framed(framed) => show_framed(framed, out),
-        Reply::Opened(served) => show_served(*served, out),
+        Reply::Opened(served) => show_request(served, out),
         Reply::Round(answer) => show_round(answer, out),
     }
 }
@@ -55,19 +54,31 @@ fn show_attached<W: Write>(names: &Names, event: &Event, out: &mut W) -> io::Res
     }
 }
 
+/// Prints what became of the request in a frame's first header.
+fn show_served<W: Write>(served: &Served, out: &mut W) -> io::Result<()> {
+    match served {
+        Served::Quiet => out.write_all(b"quiet\n"),
+        Served::Recorded(place) => writeln!(out, "recorded {place}"),
+        Served::Refused => out.write_all(b"turned down\n"),
+        Served::Torn => out.write_all(b"torn\n"),
+        Served::Joining => out.write_all(b"joining\n"),
+        Served::WantsRole(address) => writeln!(out, "wants role {:02X}", address.get()),
+    }
+}
+
 /// Prints what a frame served before its own part, unless nobody asked.
-fn show_served<W: Write>(served: Served, out: &mut W) -> io::Result<()> {
+fn show_request<W: Write>(served: &Served, out: &mut W) -> io::Result<()> {
     match served {
         Served::Quiet => Ok(()),
-        _ => writeln!(out, "{}", ShownServed(served)),
+        _ => show_served(served, out),
     }
 }
 
 /// Prints what a frame served, and that its own part was carried out, if it was.
 fn show_framed<W: Write>(framed: &Framed, out: &mut W) -> io::Result<()> {
-    show_served(framed.served, out)?;
+    show_request(&framed.served, out)?;
     match framed.answer {
-        Answer::Done | Answer::Bytes(_) => writeln!(out, "done"),
+        Answer::Done | Answer::Bytes(_) => out.write_all(b"done\n"),
         Answer::NoAnswer(_) | Answer::NoEnd => Ok(()),
     }
 }
@@ -76,8 +87,8 @@ fn show_framed<W: Write>(framed: &Framed, out: &mut W) -> io::Result<()> {
 fn show_round<W: Write>(answer: &RoundReply, out: &mut W) -> io::Result<()> {
     match answer {
         RoundReply::Assigned(address, identity) => show_assigned(*address, identity, out),
-        RoundReply::Nobody => writeln!(out, "nobody"),
-        RoundReply::Done => writeln!(out, "done"),
+        RoundReply::Nobody => out.write_all(b"nobody\n"),
+        RoundReply::Done => out.write_all(b"done\n"),
         RoundReply::NoAddress => Ok(()),
     }
 }
