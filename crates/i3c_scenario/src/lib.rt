@@ -23,4 +23,6 @@ pub use faults::ScriptFault;
 pub use script::{Tally, run_script};
 
 #[cfg(test)]
+mod library;
+#[cfg(test)]
 mod tests;
