@@ -7,18 +7,27 @@ use i3c_legacy::Legacies;
 use std::alloc::Global;
 use std::test::Fail;
 
-/// A sensor with this identity.
+/// Each request is accepted.
+const ALL: Fixed = Fixed {
+    join: Verdict::Accept,
+    role: Verdict::Accept,
+    interrupt: Verdict::Accept,
+};
+
+/// A device of this identity, which would take over as controller.
 fn device(pid: u64, bcr: u8, dcr: u8) -> Result<Setup, Fail> {
     let (pid, bcr, dcr) = (Pid::new(pid)?, Bcr(bcr), Dcr(dcr));
     let identity = Identity { pid, bcr, dcr };
-    Ok(Setup { identity, willing: true })
+    Ok(Setup {
+        identity,
+        willing: true,
+    })
 }
 
 /// A sensor gets an address, raises an alarm, and is served: what was recorded.
 fn alarm(alloc: Global) -> Result<Records, Fail> {
-    let accept = Verdict::Accept;
-    let all = Fixed { join: accept, role: accept, interrupt: accept };
-    let (hub, sensor) = (device(0x0204_0000_0001, 0x46, 0xC0)?, device(0x0204_0000_0010, 0x06, 0x44)?);
+    let hub = device(0x0204_0000_0001, 0x46, 0xC0)?;
+    let sensor = device(0x0204_0000_0010, 0x06, 0x44)?;
     let slot = Slot::new(1)?;
     let (mut bus, role) = Bus::new(alloc, hub, Legacies::new())?;
     let wire = &mut Silent;
@@ -28,7 +37,7 @@ fn alarm(alloc: Global) -> Result<Records, Fail> {
     let (hand, _) = bus.step(hand, &Event::Round(Cuts::new()), wire);
     let (hand, _) = bus.step(hand, &Event::EndDaa, wire);
     let (hand, _) = bus.step(hand, &Event::Raise(slot, Some(0x11)), wire);
-    let (hand, _) = bus.step(hand, &Event::Serve(all, Cuts::new()), wire);
+    let (hand, _) = bus.step(hand, &Event::Serve(ALL, Cuts::new()), wire);
     Ok(bus.retire(hand))
 }
 
