@@ -5,3 +5,5 @@ pub mod Reading
 pub mod Slots
 pub mod Stops
 pub mod Asking
+pub mod Hex
+pub mod Printed

@@ -1,5 +1,6 @@
 ghost use Rattle.std.specs.Prelude.{◌≡◌, ◌+◌, ◌<◌, ◌≤◌, length, min, IfErr, IfSome, OnOk};
-ghost use Rattle.std.specs.Io.KnownBytes.{IsAtEnd};
+ghost use Rattle.std.specs.Io.KnownBytes.{Appends, IsAtEnd};
+ghost use Rattle.i3c_scenario.specs.Printed.{end_text};
 ghost use Rattle.i3c_scenario.specs.Stops.{EndsLine, IsLineFault, refusals};
 
 use crate::faults::{ScriptFault, Stop};
@@ -144,6 +145,7 @@ impl Script {
         out: &mut W,
     ) -> Result<(), ScriptFault>
         ensures ended { EndsLine outcome result }
+        ensures told { OnOk result (Appends (W.contents out.old) (W.contents out.new) (end_text outcome)) }
         ensures counted { self.new.refused ≡ min (self.old.refused + refusals outcome) u64.MAX }
     {
         let refused = self.refused;

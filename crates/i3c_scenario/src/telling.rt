@@ -1,4 +1,6 @@
-ghost use Rattle.std.specs.Prelude.{◌≡◌, ◌⊎◌, None, Some, MatchResult};
+ghost use Rattle.std.specs.Prelude.{◌≡◌, ◌⊎◌, None, Some, IfSome, MatchResult, OnOk};
+ghost use Rattle.std.specs.Io.KnownBytes.{Appends};
+ghost use Rattle.i3c_scenario.specs.Printed.{reply_text, request_text, round_text, served_text};
 ghost use Rattle.i3c_scenario.specs.Stops.{reply_stop};
 ghost use Rattle.i3c_scenario.specs.declared.faults.Stop.TheVariants.{Write};
 
@@ -16,7 +18,8 @@ pub(crate) fn tell<W: Write>(
     reply: &Reply,
     out: &mut W,
 ) -> Result<(), Stop>
-    ensures { MatchResult result (λ _. reply_stop reply.now ≡ None) (λ stop. (stop ≡ Stop.Write) ⊎ (reply_stop reply.now ≡ Some stop)) }
+    ensures stop { MatchResult result (λ _. reply_stop reply.now ≡ None) (λ stop. (stop ≡ Stop.Write) ⊎ (reply_stop reply.now ≡ Some stop)) }
+    ensures told { OnOk result (IfSome (reply_text reply.now) (Appends (W.contents out.old) (W.contents out.new))) }
 {
     show_reply(names, event, reply, out)?;
     match Stop::of_reply(reply) {
@@ -26,12 +29,9 @@ pub(crate) fn tell<W: Write>(
 }
 
 /// Prints what a reply has to say, but for refusals.
-fn show_reply<W: Write>(
-    names: &Names,
-    event: &Event,
-    reply: &Reply,
-    out: &mut W,
-) -> io::Result<()> {
+fn show_reply<W: Write>(names: &Names, event: &Event, reply: &Reply, out: &mut W) -> io::Result<()>
+    ensures { OnOk result (IfSome (reply_text reply.now) (Appends (W.contents out.old) (W.contents out.new))) }
+{
     match reply {
         Reply::Refused(_) | Reply::OutOfMemory | Reply::Ended => Ok(()),
         Reply::Attached => show_attached(names, event, out),
@@ -55,7 +55,9 @@ fn show_attached<W: Write>(names: &Names, event: &Event, out: &mut W) -> io::Res
 }
 
 /// Prints what became of the request in a frame's first header.
-fn show_served<W: Write>(served: &Served, out: &mut W) -> io::Result<()> {
+fn show_served<W: Write>(served: &Served, out: &mut W) -> io::Result<()>
+    ensures { OnOk result (IfSome (served_text served.now) (Appends (W.contents out.old) (W.contents out.new))) }
+{
     match served {
         Served::Quiet => out.write_all(b"quiet\n"),
         Served::Recorded(place) => writeln!(out, "recorded {place}"),
@@ -67,7 +69,9 @@ fn show_served<W: Write>(served: &Served, out: &mut W) -> io::Result<()> {
 }
 
 /// Prints what a frame served before its own part, unless nobody asked.
-fn show_request<W: Write>(served: &Served, out: &mut W) -> io::Result<()> {
+fn show_request<W: Write>(served: &Served, out: &mut W) -> io::Result<()>
+    ensures { OnOk result (IfSome (request_text served.now) (Appends (W.contents out.old) (W.contents out.new))) }
+{
     match served {
         Served::Quiet => Ok(()),
         _ => show_served(served, out),
@@ -75,7 +79,9 @@ fn show_request<W: Write>(served: &Served, out: &mut W) -> io::Result<()> {
 }
 
 /// Prints what a frame served, and that its own part was carried out, if it was.
-fn show_framed<W: Write>(framed: &Framed, out: &mut W) -> io::Result<()> {
+fn show_framed<W: Write>(framed: &Framed, out: &mut W) -> io::Result<()>
+    ensures { OnOk result (IfSome (reply_text (Reply.Framed framed.now)) (Appends (W.contents out.old) (W.contents out.new))) }
+{
     show_request(&framed.served, out)?;
     match framed.answer {
         Answer::Done | Answer::Bytes(_) => out.write_all(b"done\n"),
@@ -84,7 +90,9 @@ fn show_framed<W: Write>(framed: &Framed, out: &mut W) -> io::Result<()> {
 }
 
 /// Prints a round.
-fn show_round<W: Write>(answer: &RoundReply, out: &mut W) -> io::Result<()> {
+fn show_round<W: Write>(answer: &RoundReply, out: &mut W) -> io::Result<()>
+    ensures { OnOk result (IfSome (round_text answer.now) (Appends (W.contents out.old) (W.contents out.new))) }
+{
     match answer {
         RoundReply::Assigned(address, identity) => show_assigned(*address, identity, out),
         RoundReply::Nobody => out.write_all(b"nobody\n"),

@@ -1,7 +1,9 @@
-use crate::faults::Refusal;
+use crate::faults::{Refusal, Stop};
 use crate::names::{Name, Names};
+use crate::telling::tell;
 use crate::{ScriptFault, Tally, run_script};
-use i3c_base::{Addr7, Slot};
+use i3c_base::{Addr7, Answer, RoundReply, Served, Slot};
+use i3c_bus::{Event, Framed, Reply};
 use i3c_frame::read_trace;
 use std::alloc::Global;
 use std::io::{ErrorKind, Read, Write};
@@ -832,6 +834,42 @@ fn words_of_refusals(rt: HostRuntime) -> Result<(), Fail> {
     for (refusal, wanted) in cases {
         let word = format!(in rt.alloc(); "{refusal}")?;
         assert_eq!(rt; word.as_str(), wanted);
+    }
+    Ok(())
+}
+
+// What is printed for replies that no line gets today, and what stops their lines.
+#[test]
+fn texts_of_replies(rt: HostRuntime) -> Result<(), Fail> {
+    let nine = Addr7::new(9)?;
+    let unanswered = Framed {
+        served: Served::Torn,
+        answer: Answer::NoEnd,
+    };
+    let silent = Stop::Refused(Refusal::NoEnd);
+    let none_left = Stop::Refused(Refusal::NoAddress);
+    let cases = [
+        (Reply::Served(Served::Torn), "torn\n", None),
+        (Reply::Served(Served::Joining), "joining\n", None),
+        (
+            Reply::Served(Served::WantsRole(nine)),
+            "wants role 09\n",
+            None,
+        ),
+        (Reply::Opened(Served::Quiet), "", None),
+        (Reply::Opened(Served::Recorded(3)), "recorded 3\n", None),
+        (Reply::Framed(unanswered), "torn\n", Some(silent)),
+        (Reply::Round(RoundReply::Nobody), "nobody\n", None),
+        (Reply::Round(RoundReply::NoAddress), "", Some(none_left)),
+        (Reply::OutOfMemory, "", Some(Stop::Memory)),
+        (Reply::Ended, "", None),
+    ];
+    let names = Names::new(rt.alloc());
+    for (reply, wanted, stop) in cases {
+        let mut printed = Vec::new(rt.alloc());
+        let told = tell(&names, &Event::EndDaa, &reply, &mut printed);
+        assert_eq!(rt; printed.as_slice(), wanted.as_bytes());
+        assert_eq!(rt; told.err(), stop);
     }
     Ok(())
 }
