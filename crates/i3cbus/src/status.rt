@@ -14,10 +14,7 @@ const REFUSED: u8 = 1;
 const FAULT: u8 = 2;
 
 /// What a run came to: how its script ended, and whether all that it printed was taken.
-pub(crate) fn came_to(
-    outcome: Result<Tally, ScriptFault>,
-    flushed: bool,
-) -> Result<Tally, Fault>
+pub(crate) fn came_to(outcome: Result<Tally, ScriptFault>, flushed: bool) -> Result<Tally, Fault>
     ensures { result ≡ ending outcome flushed }
 {
     let tally = outcome?;
@@ -33,13 +30,7 @@ pub(crate) fn status_of(outcome: &Result<Tally, Fault>) -> u8
     ensures { result ≡ exit_status outcome.now }
 {
     match outcome {
-        Ok(tally) => {
-            if tally.refused == 0 {
-                DONE
-            } else {
-                REFUSED
-            }
-        }
+        Ok(tally) => { if tally.refused == 0 { DONE } else { REFUSED } }
         Err(_) => FAULT,
     }
 }
