@@ -30,7 +30,8 @@ pub(crate) fn status_of(outcome: &Result<Tally, Fault>) -> u8
     ensures { result ≡ exit_status outcome.now }
 {
     match outcome {
-        Ok(tally) => { if tally.refused == 0 { DONE } else { REFUSED } }
+        Ok(tally) if tally.refused == 0 => DONE,
+        Ok(_) => REFUSED,
         Err(_) => FAULT,
     }
 }
