@@ -1,13 +1,15 @@
 -- The least key is that of the first request.
-use Rattle.std.proofs.Common.{◌≡◌, ℕ, suc, ◌+◌, ◌-◌, ◌*◌, ◌^◌, ◌<◌, ◌≤◌, true, false, List, [], ◌∷◌, ◌++◌, length, get_or, map, cond, ◌==◌, take, refl, ap, sym, subst, ◌∙◌, arith, add-zero, length-take-le}
+use Rattle.std.proofs.Common.{◌≡◌, ℕ, suc, ◌+◌, ◌-◌, ◌*◌, ◌^◌, ◌<◌, ◌≤◌, true, false, List, [], ◌∷◌, ◌++◌, length, get_or, map, cond, ◌==◌, take, refl, ap, sym, subst, ◌∙◌, arith, ◌⊎◌, add-zero, length-take-le}
 use Rattle.std.specs.List.{All, AllByRecursion, filter}
-use Rattle.std.proofs.lemmas.Bool.{eqb-true}
+use Rattle.std.proofs.lemmas.Bool.{eqb-false, eqb-true}
 use Rattle.std.proofs.lemmas.List.Elements.{All-append, All-nil, All-cons, All-from_recursion, recursion_from_All, All-get_or}
 use Rattle.std.proofs.lemmas.List.{get_or_default, take_all, take_more}
 use Rattle.i3c_base.specs.declared.requests.Request.{Request}
 use Rattle.i3c_base.specs.declared.requests.Request.TheVariants.{Join, Role, Interrupt}
+use Rattle.i3c_base.specs.Cutting.{CutList, IsUncut}
 use Rattle.i3c_base.specs.Serve.{rank}
-use Rattle.i3c_wires.specs.Contest.{holders}
+use Rattle.i3c_wires.specs.Contest.{AllLost, LostIsBelow}
+use Rattle.i3c_wires.proofs.Uncut.{uncut_none}
 use Rattle.i3c_header.specs.Keys.{IsFirstOf, IsLawful, address_of, rnw_of}
 use Rattle.i3c_header.specs.Keyed.{keyed}
 
@@ -67,7 +69,11 @@ Stands-later q rs n bits w h = let step : w - n ≡ suc (w - suc n) = omega (ari
   key = h.key;
 }
 
-stands_each : (rs : List Request) (n bits : ℕ) → AllByRecursion (Stands rs n bits) (holders (keyed n rs) bits)
+-- the places whose key is this number
+abbrev pub places_of : List (ℕ × ℕ) → ℕ → List ℕ
+places_of keys number = map (λ e. e.0) (filter (λ e. e.1 == number) keys)
+
+stands_each : (rs : List Request) (n bits : ℕ) → AllByRecursion (Stands rs n bits) (places_of (keyed n rs) bits)
 stands_each [] n bits = tt
 stands_each (r ∷ rs) n bits =
     let none : n - n ≡ 0 = omega arith in
@@ -80,15 +86,20 @@ stands_each (r ∷ rs) n bits =
     shift [] h = tt
     shift (w ∷ ws) h = (Stands-later r rs n bits w h.0, shift ws h.1)
 
-    later : (qs : List Request) → AllByRecursion (Stands rs (suc n) bits) (holders (keyed (suc n) rs) bits) → AllByRecursion (Stands (r ∷ rs) n bits) (holders (keyed (suc n) rs) bits)
-    later qs h = shift (holders (keyed (suc n) rs) bits) h
+    later : (qs : List Request) → AllByRecursion (Stands rs (suc n) bits) (places_of (keyed (suc n) rs) bits) → AllByRecursion (Stands (r ∷ rs) n bits) (places_of (keyed (suc n) rs) bits)
+    later qs h = shift (places_of (keyed (suc n) rs) bits) h
+
+-- where someone contends and nobody is cut, someone wins
+pub someone_wins : (cuts : CutList) (keys : List (ℕ × ℕ)) (width : ℕ) (winners now : List ℕ) → IsUncut cuts → (length keys == 0) ≡ false → (winners ≡ [] → AllLost cuts keys width ⊎ LostIsBelow cuts keys width) → now ≡ winners → 0 < length now
+someone_wins cuts keys width winners [] uncut some none e = absurd (eqb-false (length keys) 0 some (ap length (uncut_none cuts keys width uncut (none (sym e)))))
+someone_wins cuts keys width winners (w ∷ ws) uncut some none e = omega arith
 
 -- the winner's place holds a request whose key was read
-pub winner_stands : (rs : List Request) (bits : ℕ) (keys : List (ℕ × ℕ)) (winners now : List ℕ) (w i : ℕ) → keys ≡ keyed 0 rs → winners ≡ holders keys bits → now ≡ winners → 0 < length now → w ≡ get_or now 0 w → i ≡ w
+pub winner_stands : (rs : List Request) (bits : ℕ) (keys : List (ℕ × ℕ)) (winners now : List ℕ) (w i : ℕ) → keys ≡ keyed 0 rs → winners ≡ places_of keys bits → now ≡ winners → 0 < length now → w ≡ get_or now 0 w → i ≡ w
     → Stands rs 0 bits i
 winner_stands rs bits keys winners now w i k e n l at same =
     subst (Stands rs 0 bits) (sym (same ∙ at))
-    (All-get_or (Stands rs 0 bits) now 0 w l (subst (All (Stands rs 0 bits)) (sym (n ∙ (e ∙ ap (λ ks. holders ks bits) k))) (All-from_recursion (Stands rs 0 bits) (holders (keyed 0 rs) bits) (stands_each rs 0 bits))))
+    (All-get_or (Stands rs 0 bits) now 0 w l (subst (All (Stands rs 0 bits)) (sym (n ∙ (e ∙ ap (λ ks. places_of ks bits) k))) (All-from_recursion (Stands rs 0 bits) (places_of (keyed 0 rs) bits) (stands_each rs 0 bits))))
 
 -- lawful requests are ordered as their keys are
 pub key_order : (r q : Request) → IsLawful r → IsLawful q → key_of r ≤ key_of q → rank r ≤ rank q

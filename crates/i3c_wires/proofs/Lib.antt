@@ -1,1 +1,4 @@
+pub mod MaskLaws
+pub mod PlaneLaws
 pub mod Reading
+pub mod Uncut

@@ -1,96 +1,53 @@
-ghost use Rattle.std.specs.Prelude.{◌≡◌, ◌≢◌, ◌-◌, ◌^◌, ◌<◌, ◌≤◌, ◌||◌, not, [], map};
-ghost use Rattle.std.specs.List.{list_all, filter, All};
-ghost use Rattle.i3c_base.specs.Cutting.{IsUncut};
-ghost use Rattle.i3c_wires.specs.Contest.{EachBit, drives_one, holders};
+ghost use Rattle.std.specs.Prelude.{◌≡◌, ◌⊎◌, ◌-◌, ◌^◌, ◌<◌, ◌≤◌, false, []};
+ghost use Rattle.std.specs.List.{All};
+ghost use Rattle.i3c_wires.specs.Contest.{AllLost, EachBit, LostIsBelow, holders, is_lost};
 
-use crate::lines::Lines;
+use crate::masks::{drops_of, first_places, planes_of, slots_at};
 use crate::outcome::Contest;
 use arrayvec::ArrayVec;
 use i3c_base::{Cuts, SLOTS, Slot};
 
-/// Whether a contender drives 1 at the bit after which `left` bits of its key follow.
-fn drives_one(contender: (Slot, u64), left: u32) -> bool
-    requires { left < 64 }
-    ensures { result ≡ drives_one left contender }
-{
-    (contender.1 >> left) % 2 == 1
-}
-
-/// What the contenders drive at the bit after which `left` bits follow.
-fn driven_by(still: &ArrayVec<(Slot, u64), SLOTS>, left: u32) -> ArrayVec<bool, SLOTS>
-    requires { left < 64 }
-    ensures { result.items ≡ map (drives_one left) still.now.items }
-{
-    let mut driven = ArrayVec::new();
-    for contender in still.iter() {
-        driven.push(drives_one(*contender, left));
-    }
-    driven
-}
-
-/// Clocks the bit after which `left` bits follow. A contender that drives 1 and reads 0 drives nothing more: it is out.
-fn clock_bit(still: &mut ArrayVec<(Slot, u64), SLOTS>, left: u32) -> bool
-    requires { left < 64 }
-    ensures read { result ≡ list_all (drives_one left) still.old.items }
-    ensures kept { still.new.items ≡ filter (λ e. result || not (drives_one left e)) still.old.items }
-{
-    let read = Lines::clock(&driven_by(still, left));
-    still.retain(|contender| read || !drives_one(*contender, left));
-    read
-}
-
-/// A copy of the keys, which keeps those still in.
-fn copy_of(keys: &ArrayVec<(Slot, u64), SLOTS>) -> ArrayVec<(Slot, u64), SLOTS>
-    ensures { result.items ≡ keys.now.items }
-{
-    let mut copy = ArrayVec::new();
-    for contender in keys.iter() {
-        copy.push(*contender);
-    }
-    copy
-}
-
-/// The slots of these contenders.
-fn slots_of(still: &ArrayVec<(Slot, u64), SLOTS>) -> ArrayVec<Slot, SLOTS>
-    ensures { result.items ≡ map (λ e. e.0) still.now.items }
-{
-    let mut slots = ArrayVec::new();
-    for contender in still.iter() {
-        slots.push(contender.0);
-    }
-    slots
-}
-
 /// The contest of these slots, each with its key of `width` bits (1 to 64): all drive their keys at once, the most
 /// significant bit first, and one that drives 1 and reads 0 drives nothing more (I3C Basic 5.1.2.2.1, 5.1.4).
 ///
-/// The least key is read, and its holders win. With no contender every bit reads 1, and nobody wins.
-/// The cuts are empty for now: devices that drop off inside a frame aren't built yet.
+/// The cuts count bits from the contest's first one, which is 0: a contender that is cut drives nothing from that bit on.
+/// The winners are those who are cut at no bit of the contest and whose whole key was read, which is then the least key
+/// of all who aren't cut. Nobody wins where all are cut, nor where the others had lost to one that was cut after that.
+/// With no contender every bit reads 1.
 pub fn contest(keys: &ArrayVec<(Slot, u64), SLOTS>, width: u32, cuts: &Cuts) -> Contest
     requires some_bits { 0 < width }
     requires few_bits { width ≤ 64 }
     requires fit { All (λ e. e.1 < 2 ^ width) keys.now.items }
-    requires uncut { IsUncut cuts.now }
 
-    // the winners are the slots whose key is the number read, which is the least key
-    ensures winners { result.winners.items ≡ holders keys.now.items result.bits }
-    ensures least { All (λ e. result.bits ≤ e.1) keys.now.items }
-    ensures held { keys.now.items ≢ [] → result.winners.items ≢ [] }
+    // the winners are those whose key was read and who aren't lost, that is, cut at the last bit or before; of all who
+    // aren't lost nobody has a lower key
+    ensures winners { result.winners.items ≡ holders cuts.now keys.now.items width result.bits }
+    ensures least { All (λ e. is_lost cuts.now width e ≡ false → result.bits ≤ e.1) keys.now.items }
 
-    // each bit is the AND of the contenders still in: those whose key agrees with what was read on all bits above
-    ensures each_bit { EachBit keys.now.items width result.bits }
+    // nobody wins only if all are lost, or one of the lost has a lower key than all who aren't
+    ensures none { result.winners.items ≡ [] → AllLost cuts.now keys.now.items width ⊎ LostIsBelow cuts.now keys.now.items width }
+
+    // each bit is the AND of the contenders still in and not cut there
+    ensures each_bit { EachBit cuts.now keys.now.items width result.bits }
 
     // nobody drives: every bit reads 1
     ensures idle { keys.now.items ≡ [] → result.bits ≡ 2 ^ width - 1 }
     ensures in_width { result.bits < 2 ^ width }
 {
-    let uncut = cuts.is_empty();
-    prove!(uncut);
-    let mut still = copy_of(keys);
+    let planes = planes_of(keys);
+    let drops = drops_of(keys, cuts);
+    let mut still = first_places(keys.len());
     let mut bits = 0;
     for left in (0..width).rev() {
-        bits = 2 * bits + clock_bit(&mut still, left) as u64;
+        still &= !drops[(width - 1 - left) as usize];
+        let low = still & !planes[left as usize];
+        if low == 0 {
+            bits = 2 * bits + 1;
+        } else {
+            still = low;
+            bits = 2 * bits;
+        }
     }
-    let winners = slots_of(&still);
+    let winners = slots_at(keys, still);
     Contest { winners, bits }
 }

@@ -7,6 +7,7 @@
 
 mod arbitration;
 mod lines;
+mod masks;
 mod outcome;
 
 pub use arbitration::contest;
