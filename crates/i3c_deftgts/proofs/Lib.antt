@@ -4,3 +4,5 @@ pub mod TableLaws
 pub mod GatheringLaws
 pub mod ReadingLaws
 pub mod FaultLaws
+pub mod PickLaws
+pub mod CopyLaws
