@@ -198,7 +198,7 @@ no_target : (entry : Entry) (row : Row) → row_in entry ≡ Some row → target
 no_target (Device address dcr bcr fixed) row h = refl
 no_target (Legacy address lvr) row h = absurd (none-some row h)
 
-abbrev row_address : Row → ℕ
+abbrev pub row_address : Row → ℕ
 row_address row = row.address
 
 module _ (list : List Entry) (i : ℕ) (entry : Entry) (table : Table) where

@@ -6,3 +6,6 @@ pub mod ReadingLaws
 pub mod FaultLaws
 pub mod PickLaws
 pub mod CopyLaws
+pub mod DistinctLaws
+pub mod WrittenLaws
+pub mod CopyOfLaws
