@@ -1,7 +1,7 @@
 -- The rows and the legacy targets of a list, one after the other.
-use Rattle.std.proofs.Common.{◌≡◌, ◌≢◌, ℕ, zero, suc, min, length-append, ◌+◌, ◌≤◌, ◌<◌, ◌⊎◌, inl, inr, Bool, true, false, ◌&&◌, not, nat_eq, nat_le, ◌==◌, cond, if◌then◌else◌, List, [], ◌∷◌, ◌++◌, length, map, take, get_or, set, Option, Some, None, option_map, is_some, count_by, Result, Ok, Err, MatchResult, OnOk, OnErr, sym, refl, ap, ◌∙◌, arith}
+use Rattle.std.proofs.Common.{◌≡◌, ◌≢◌, ℕ, zero, suc, min, length-append, ◌+◌, ◌≤◌, ◌<◌, ◌⊎◌, inl, inr, Bool, true, false, not, nat_eq, nat_le, ◌==◌, cond, if◌then◌else◌, List, [], ◌∷◌, ◌++◌, length, map, take, get_or, set, Option, Some, None, option_map, is_some, count_by, Result, Ok, Err, MatchResult, OnOk, OnErr, sym, refl, ap, ◌∙◌, arith}
 use Rattle.std.specs.List.{cons_option, filter_map, AllByRecursion, IsDistinct}
-use Rattle.std.proofs.lemmas.Bool.{and_parts, cases_lt, cond-true, cond-false, eqb-true, eqb-false, ne_eqb, eq-eqb, le-leb, lt-leb, leb-true, false≢true}
+use Rattle.std.proofs.lemmas.Bool.{and_parts, cases_lt, cond-true, cond-false, eq-eqb, le-leb, lt-leb, leb-true}
 use Rattle.std.proofs.lemmas.List.{append-nil, length-take, take-map, take-append-le, take_all, take_more}
 use Rattle.std.proofs.lemmas.List.Elements.{filter_map-append, All-take}
 use Rattle.std.proofs.lemmas.Map.Keys.{IsDistinct-cons, IsDistinct-head, IsDistinct-tail}
@@ -61,6 +61,7 @@ same_row (Device address dcr bcr fixed) row h = at (is_usable address) h
   where
     made : Row
     made = record { address = address; bcr = bcr; dcr = dcr; identity = None }
+
     at : (b : Bool) → cond b (Some (record { address = address; bcr = bcr; dcr = dcr; identity = None })) None ≡ Some row → row.address ≡ address
     at true e = ap (λ (r : Row). r.address) (sym (same_Some _ row e))
     at false e = absurd (none-some row e)
@@ -135,34 +136,47 @@ module _ {T : Type 0} (r : Result T LegacyFault) (list : List Entry) (i a : ℕ)
     where
       parts : (has_twice (take i list) ≡ false) × (is_among (address_of entry) (take i list) ≡ false)
       parts = before list i entry h l is
+
       own : HasOwnAddresses static_of targets
       own = own_picked static_of target_in same_target small_target (take i list) parts.0
+
       none : row_at static_of targets a ≡ None
       none = row_unpicked static_of target_in same_target a (take i list) (ap (λ e. is_among (address_of e) (take i list)) (sym here) ∙ parts.1)
+
       next : (o : Option Target) → target_in entry ≡ o → legacies_in (take (i + 1) list) ≡ places static_of lvr_of (take LEGACIES (targets ++ cons_option o []))
       next o e = ap (λ t. places static_of lvr_of (take LEGACIES t)) (picked_more target_in list i entry l is ∙ ap (λ p. targets ++ cons_option p []) e)
+
       by_room : is_static a ≡ true → new ≡ legacies_in (take (i + 1) list)
       by_room s = at (cases_lt (length targets) LEGACIES)
         where
           target : Target
           target = (a, lvr)
+
           e : target_in entry ≡ Some (a, lvr)
           e = ap target_in here ∙ cond-true (is_static a) (Some (a, lvr)) None s
+
           kept : List Target
           kept = take LEGACIES targets
+
           own_kept : HasOwnAddresses static_of (take LEGACIES targets)
           own_kept = own_take LEGACIES targets own
+
           absent : row_at static_of (take LEGACIES targets) a ≡ None
           absent = take_absent static_of targets a LEGACIES none
+
           free : is_some (get_or legacies a None) ≡ false
           free = ap (λ g. is_some (get_or g a None)) so_far ∙ (ap is_some (places_at static_of lvr_of (take LEGACIES targets) a own_kept.in_range) ∙ ap (λ o. is_some (option_map lvr_of o)) absent)
+
           many : count_by is_some legacies ≡ length (take LEGACIES targets)
           many = ap (count_by is_some) so_far ∙ count-places static_of lvr_of (take LEGACIES targets) own_kept
+
           fault_is : (b : Bool) → nat_le LEGACIES (count_by is_some legacies) ≡ b → first_fault legacies a ≡ chosen true false b
           fault_is b full = ap (λ x. chosen x (is_some (get_or legacies a None)) (nat_le LEGACIES (count_by is_some legacies))) s
               ∙ (ap (λ x. chosen true x (nat_le LEGACIES (count_by is_some legacies))) free ∙ ap (chosen true false) full)
+
           long : length (take LEGACIES targets) ≡ min LEGACIES (length targets)
           long = length-take LEGACIES targets
+
           at : (length targets < LEGACIES) ⊎ (LEGACIES ≤ length targets) → new ≡ legacies_in (take (i + 1) list)
           at (inl room) =
               let whole : take LEGACIES targets ≡ targets = take_all LEGACIES targets (omega arith) in
@@ -173,6 +187,7 @@ module _ {T : Type 0} (r : Result T LegacyFault) (list : List Entry) (i a : ℕ)
           at (inr full) =
               left r (first_fault legacies a) TooManyLegacy (fault_is true (le-leb LEGACIES (count_by is_some legacies) (omega (arith, many, long, full)))) tested err
               ∙ (so_far ∙ sym (next (Some (a, lvr)) e ∙ ap (places static_of lvr_of) (take-append-le LEGACIES targets ((a, lvr) ∷ []) full)))
+
       by_static : (b : Bool) → is_static a ≡ b → new ≡ legacies_in (take (i + 1) list)
       by_static false s =
           left r (first_fault legacies a) LegacyAddress (ap (λ b. chosen b (is_some (get_or legacies a None)) (nat_le LEGACIES (count_by is_some legacies))) s) tested err
@@ -217,14 +232,18 @@ module _ (list : List Entry) (i : ℕ) (entry : Entry) (table : Table) where
     where
       own_rows : HasOwnAddresses row_address (filter_map row_in (take i list))
       own_rows = own_picked row_address row_in same_row small_row (take i list) (before list i entry h l is).0
+
       own_targets : HasOwnAddresses static_of (take LEGACIES (filter_map target_in list))
       own_targets = own_take LEGACIES (filter_map target_in list) (own_picked static_of target_in same_target small_target list h)
+
       free_row : get_or table.given row.address None ≡ None
       free_row = ap (λ t. get_or t.given row.address None) so_far
           ∙ (places_at row_address entry_of_row (filter_map row_in (take i list)) row.address own_rows.in_range ∙ ap (option_map entry_of_row) (no_row h l is row here))
+
       absent : row_at static_of (filter_map target_in list) row.address ≡ None
       absent = ap (row_at static_of (filter_map target_in list)) (same_row entry row here ∙ ap address_of is)
           ∙ passed_over static_of target_in same_target list i entry h l (ap target_in (sym is) ∙ no_target entry row here)
+
       free_target : get_or table.legacy row.address None ≡ None
       free_target = ap (λ t. get_or t.legacy row.address None) so_far
           ∙ (places_at static_of lvr_of (take LEGACIES (filter_map target_in list)) row.address own_targets.in_range

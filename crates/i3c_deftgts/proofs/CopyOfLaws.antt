@@ -1,11 +1,9 @@
 -- The list of a table gives the table back, but for what is kept for identities.
-use Rattle.std.proofs.Common.{◌≡◌, ◌≢◌, ℕ, zero, suc, ◌+◌, ◌≤◌, ◌<◌, Bool, true, false, not, ◌||◌, ◌==◌, cond, List, [], ◌∷◌, ◌++◌, length, map, take, get_or, set, Option, Some, None, IfSome, IsTrue, is_some, count_by, option_map, inl, inr, sym, refl, ap, ◌∙◌, arith, length-append, subst}
+use Rattle.std.proofs.Common.{◌≡◌, ℕ, zero, suc, ◌+◌, ◌≤◌, true, false, not, ◌==◌, List, [], ◌∷◌, ◌++◌, length, map, take, get_or, set, Option, Some, None, IfSome, IsTrue, is_some, count_by, option_map, inl, inr, sym, refl, ap, ◌∙◌, arith, subst}
 use Rattle.std.specs.List.{cons_option, filter_map}
-use Rattle.std.specs.Option.{option_or}
 use Rattle.std.proofs.lemmas.Bool.{and_from, cases_eq, cond-true, cond-false, eq-eqb, le-leb, ne_eqb}
 use Rattle.std.proofs.lemmas.List.{append-nil, ext_get_or, get_or-map, get_or-set_other, length-map, take_all}
 use Rattle.std.proofs.lemmas.List.Elements.{filter_map-append}
-use Rattle.std.proofs.lemmas.List.Folds.{find-append}
 use Rattle.i3c_base.specs.declared.range.TheConstants.{ADDRESSES}
 use Rattle.i3c_base.specs.declared.identity.Lvr.{Lvr}
 use Rattle.i3c_base.specs.Covered.{Table}
@@ -17,7 +15,6 @@ use Rattle.i3c_legacy.proofs.RowLaws.{length-places, places_at}
 use Rattle.i3c_table.specs.declared.row.Row.{Row}
 use Rattle.i3c_table.specs.Rows.{entries, entry_of_row}
 use Rattle.i3c_deftgts.specs.declared.entries.Entry.{Entry}
-use Rattle.i3c_deftgts.specs.declared.entries.Entry.TheVariants.{Device, Legacy}
 use Rattle.i3c_deftgts.specs.Copies.{copy_of, is_usable, legacies_in, row_in, table_of, target_in}
 use Rattle.i3c_deftgts.specs.Entries.{address_of, device_at, entries_of, has_twice, legacy_at, upwards}
 use Rattle.i3c_deftgts.proofs.CopyLaws.{lvr_of, row_address, same_row, same_target, small_row, small_target, static_of, Target}
@@ -129,7 +126,7 @@ module _ (table : Table) (own : ℕ) (g : Given) (here : entry_in table.given ow
     | inr other ↦
         ap (option_map entry_of_row) (cond-false (own == a) (Some (row_of own g)) (row_at row_address (filter_map row_in others) a) (ne_eqb own a other)
         ∙ picked_at device_at (λ n x. refl) row_address row_in same_row row_of (set table.given own None) a
-          (λ k. if_stands (IsUsable k) (get_or (set table.given own None) k None) (λ x. row_in (device_at k x) ≡ Some (row_of k x)) (λ there. some_at (IsUsable k) (entry_in table.given k) (usable k) (stood_before table.given own k there)) (λ x u. device_row k x u)))
+        (λ k. if_stands (IsUsable k) (get_or (set table.given own None) k None) (λ x. row_in (device_at k x) ≡ Some (row_of k x)) (λ there. some_at (IsUsable k) (entry_in table.given k) (usable k) (stood_before table.given own k there)) (λ x u. device_row k x u)))
         ∙ (entry_back (get_or (set table.given own None) a None) a ∙ ap (option_map unkept) (get_or-set_other table.given own a None None (λ e. other (sym e))))
   ]
 
@@ -138,7 +135,7 @@ module _ (table : Table) (own : ℕ) (g : Given) (here : entry_in table.given ow
       ext_get_or None (entries (filter_map row_in list)) (map (option_map unkept) table.given)
       (length-places row_address entry_of_row (filter_map row_in list) ∙ sym (length-map table.given (option_map unkept) ∙ long))
       (λ a below. places_at row_address entry_of_row (filter_map row_in list) a (own_picked row_address row_in same_row small_row list once).in_range
-          ∙ (row_found a ∙ sym (get_or-map (option_map unkept) table.given a None None (let whole = length-places row_address entry_of_row (filter_map row_in list) in omega (arith, below, whole, long)))))
+      ∙ (row_found a ∙ sym (get_or-map (option_map unkept) table.given a None None (let whole = length-places row_address entry_of_row (filter_map row_in list) in omega (arith, below, whole, long)))))
 
   targets_are : filter_map target_in list ≡ filter_map target_in targets
   targets_are = filter_map-append target_in others targets ∙ ap (λ ts. ts ++ filter_map target_in targets) (none_picked device_at target_in (λ n x. refl) (set table.given own None) 0)
@@ -150,7 +147,7 @@ module _ (table : Table) (own : ℕ) (g : Given) (here : entry_in table.given ow
   target_found : (a : ℕ) → option_map lvr_of (row_at static_of (filter_map target_in targets) a) ≡ get_or table.legacy a None
   target_found a =
       ap (option_map lvr_of) (picked_at legacy_at (λ n x. refl) static_of target_in same_target target_of table.legacy a
-        (λ k. if_stands (IsTrue (is_static k)) (get_or table.legacy k None) (λ lvr. target_in (legacy_at k lvr) ≡ Some (target_of k lvr)) (some_at (IsTrue (is_static k)) (get_or table.legacy k None) (static k)) (λ lvr s. cond-true (is_static k) (Some (target_of k lvr)) None s)))
+      (λ k. if_stands (IsTrue (is_static k)) (get_or table.legacy k None) (λ lvr. target_in (legacy_at k lvr) ≡ Some (target_of k lvr)) (some_at (IsTrue (is_static k)) (get_or table.legacy k None) (static k)) (λ lvr s. cond-true (is_static k) (Some (target_of k lvr)) None s)))
       ∙ lvr_back (get_or table.legacy a None) a
 
   legacy_back : length table.legacy ≡ ADDRESSES → count_by is_some table.legacy ≤ LEGACIES → places static_of lvr_of (take LEGACIES (filter_map target_in list)) ≡ table.legacy

@@ -1,5 +1,5 @@
 -- The entries of a table's list have addresses of their own.
-use Rattle.std.proofs.Common.{◌≡◌, ◌≢◌, ℕ, zero, suc, ◌+◌, ◌≤◌, ◌<◌, Bool, true, false, ◌||◌, ◌==◌, List, [], ◌∷◌, ◌++◌, length, get_or, set, Option, Some, None, IfSome, is_some, option_map, inl, inr, sym, refl, ap, ◌∙◌, arith}
+use Rattle.std.proofs.Common.{◌≡◌, ℕ, zero, suc, ◌+◌, ◌<◌, Bool, true, false, ◌||◌, ◌==◌, List, [], ◌∷◌, ◌++◌, length, get_or, set, Option, Some, None, IfSome, is_some, option_map, inl, inr, sym, refl, ap, ◌∙◌, arith}
 use Rattle.std.specs.Option.{option_to_list}
 use Rattle.std.proofs.lemmas.Bool.{cases_eq, cases_lt, eq-eqb, ne_eqb, or_from, or_parts}
 use Rattle.std.proofs.lemmas.List.{get_or-set_other, get_or-set_same, get_or_past, set_past}
@@ -80,11 +80,11 @@ entries_once table own g e apart =
     let others : List Entry = upwards device_at 0 (set table.given own None) in
     let targets : List Entry = upwards legacy_at 0 table.legacy in
     let free : (a : ℕ) → is_some (entry_in table.given a) ≡ true → is_among a targets ≡ false =
-        λ a there. among legacy_at (λ n x. refl) table.legacy a ∙ ap is_some (some_at (IsFree table.legacy a) (entry_in table.given a) (apart a) there) in
+    λ a there. among legacy_at (λ n x. refl) table.legacy a ∙ ap is_some (some_at (IsFree table.legacy a) (entry_in table.given a) (apart a) there) in
     let rest : has_twice (others ++ targets) ≡ false =
-        twice_append others targets (once device_at (λ n x. refl) (set table.given own None) 0) (once legacy_at (λ n x. refl) table.legacy 0)
-        (λ a there. free a (stood_before table.given own a (sym (among device_at (λ n x. refl) (set table.given own None) a) ∙ there))) in
+    twice_append others targets (once device_at (λ n x. refl) (set table.given own None) 0) (once legacy_at (λ n x. refl) table.legacy 0)
+    (λ a there. free a (stood_before table.given own a (sym (among device_at (λ n x. refl) (set table.given own None) a) ∙ there))) in
     let alone : is_among own (others ++ targets) ≡ false =
-        list_any-append (λ entry. address_of entry == own) others targets
-        ∙ or_from (is_among own others) (is_among own targets) (among device_at (λ n x. refl) (set table.given own None) own ∙ none_else table.given own) (free own (ap is_some e)) in
+    list_any-append (λ entry. address_of entry == own) others targets
+    ∙ or_from (is_among own others) (is_among own targets) (among device_at (λ n x. refl) (set table.given own None) own ∙ none_else table.given own) (free own (ap is_some e)) in
     ap (λ es. has_twice (es ++ (others ++ targets))) (own_is table own g e) ∙ or_from (is_among own (others ++ targets)) (has_twice (others ++ targets)) alone rest

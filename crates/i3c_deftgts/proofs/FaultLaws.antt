@@ -1,12 +1,12 @@
 -- The first of the five faults, and the entries where there is none.
-use Rattle.std.proofs.Common.{◌≡◌, ◌≢◌, ℕ, zero, suc, ◌+◌, ◌*◌, ◌-◌, ◌≤◌, ◌<◌, ◌%◌, ◌/◌, Bool, true, false, not, ◌||◌, nat_lt, ◌==◌, List, [], ◌∷◌, ◌++◌, length, map, take, drop, get_or, Option, Some, None, option_map, Result, Ok, Err, MatchResult, sym, refl, ap, ◌∙◌, arith}
+use Rattle.std.proofs.Common.{◌≡◌, ◌≢◌, ℕ, ◌+◌, ◌-◌, ◌≤◌, ◌<◌, ◌%◌, ◌/◌, Bool, true, false, not, ◌||◌, nat_lt, ◌==◌, List, [], ◌∷◌, length, map, take, drop, get_or, Option, Some, None, option_map, Result, Ok, Err, MatchResult, sym, refl, ap, ◌∙◌, arith}
 use Rattle.std.specs.List.{position_from}
-use Rattle.std.proofs.lemmas.Bool.{eq-eqb, eqb-true, le-ltb, lt-ltb, ne_eqb}
+use Rattle.std.proofs.lemmas.Bool.{eq-eqb, le-ltb, lt-ltb, ne_eqb}
 use Rattle.std.proofs.lemmas.List.{length-drop, take_all}
 use Rattle.i3c_word.specs.declared.Word.{Word}
 use Rattle.i3c_deftgts.specs.declared.entries.Entry.{Entry}
 use Rattle.i3c_deftgts.specs.declared.faults.ListFault.{ListFault}
-use Rattle.i3c_deftgts.specs.declared.faults.ListFault.TheVariants.{Parity, Truncated, Count, Address, Twice}
+use Rattle.i3c_deftgts.specs.declared.faults.ListFault.TheVariants.{Parity, Truncated, Count}
 use Rattle.i3c_deftgts.specs.Layout.{bytes}
 use Rattle.i3c_deftgts.specs.Reading.{entries_in, entry_fault, first_entry, first_fault, first_of, has_wrong_t, is_count, is_cut_short, is_miscounted, later_entries, said, ReadAs}
 

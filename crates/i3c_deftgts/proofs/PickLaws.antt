@@ -1,7 +1,7 @@
 -- Rows that are picked from entries with addresses of their own.
-use Rattle.std.proofs.Common.{◌≡◌, ◌≢◌, ℕ, zero, suc, ◌+◌, ◌≤◌, ◌<◌, Bool, true, false, not, ◌||◌, nat_eq, ◌==◌, List, [], ◌∷◌, ◌++◌, length, map, take, get_or, Option, Some, None, sym, refl, ap, ◌∙◌, arith, cond}
-use Rattle.std.specs.List.{cons_option, All, AllByRecursion, IsDistinct, filter_map}
-use Rattle.std.proofs.lemmas.Bool.{cond-false, eqb-false, ne_eqb, or_parts, eq-eqb}
+use Rattle.std.proofs.Common.{◌≡◌, ℕ, zero, suc, ◌+◌, ◌<◌, Bool, true, false, ◌||◌, nat_eq, ◌==◌, List, [], ◌∷◌, ◌++◌, length, map, take, get_or, Option, Some, None, sym, refl, ap, ◌∙◌, arith, cond}
+use Rattle.std.specs.List.{cons_option, AllByRecursion, IsDistinct, filter_map}
+use Rattle.std.proofs.lemmas.Bool.{cond-false, eqb-false, ne_eqb, or_parts}
 use Rattle.std.proofs.lemmas.List.{take_more}
 use Rattle.std.proofs.lemmas.List.Elements.{All-from_recursion}
 use Rattle.std.proofs.lemmas.Option.{none-some}
@@ -96,6 +96,7 @@ module _ {R : Type 0} (address : R → ℕ) (pick : Entry → Option R) (same : 
       apart a [] k away below = absurd (omega arith)
       apart a (other ∷ others) zero away below = (or_parts (address_of other == a) (is_among a others) away).0
       apart a (other ∷ others) (suc k) away below = apart a others k (or_parts (address_of other == a) (is_among a others) away).1 (omega arith)
+
       of_pick : (o : Option R) → pick entry ≡ o → (address_of (get_or rest i d) == address_of entry) ≡ false → row_at address (filter_map pick rest) (address_of (get_or rest i d)) ≡ None → row_at address (cons_option o (filter_map pick rest)) (address_of (get_or rest i d)) ≡ None
       of_pick None e other rest_none = rest_none
       of_pick (Some row) e other rest_none =

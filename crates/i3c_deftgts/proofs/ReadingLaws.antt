@@ -1,11 +1,11 @@
 -- Words that are read as entries.
-use Rattle.std.proofs.Common.{◌≡◌, ◌≢◌, ℕ, zero, suc, ◌+◌, ◌*◌, ◌-◌, ◌≤◌, ◌<◌, ◌%◌, ◌/◌, Bool, true, false, not, ◌||◌, List, [], ◌∷◌, ◌++◌, length, map, drop, get_or, Option, Some, None, option_map, is_none, is_some, MatchOption, add-zero, sym, refl, ap, ◌∙◌, arith, append_assoc, length-append}
+use Rattle.std.proofs.Common.{◌≡◌, ℕ, ◌+◌, ◌*◌, ◌≤◌, ◌<◌, Bool, true, false, ◌||◌, List, [], ◌∷◌, ◌++◌, length, map, drop, get_or, Option, Some, None, option_map, is_none, is_some, MatchOption, sym, refl, ap, ◌∙◌, arith, append_assoc, length-append}
 use Rattle.std.specs.List.{filter_map, position_from}
 use Rattle.std.proofs.lemmas.List.{append-nil, map_push}
 use Rattle.i3c_word.specs.declared.Word.{Word}
 use Rattle.i3c_deftgts.specs.declared.entries.Entry.{Entry}
 use Rattle.i3c_deftgts.specs.declared.faults.ListFault.{ListFault}
-use Rattle.i3c_deftgts.specs.declared.faults.ListFault.TheVariants.{Parity, Truncated, Count, Address, Twice}
+use Rattle.i3c_deftgts.specs.declared.faults.ListFault.TheVariants.{Address, Twice}
 use Rattle.i3c_deftgts.specs.Entries.{address_of, has_twice, is_among}
 use Rattle.i3c_deftgts.specs.Layout.{bytes}
 use Rattle.i3c_deftgts.specs.Reading.{entry_fault, first_of, later_entries, later_entry, said, same_address}
@@ -109,8 +109,8 @@ whole first words rest gathered twice number is = ap (λ es. Some first ∷ es) 
 pub lacks : (first : Entry) (words rest more : List Word) (gathered : List Entry) (twice : Bool) (number : ℕ) → IsReading first words rest gathered twice number → later_entries (bytes rest) ≡ None ∷ later_entries (bytes more) → entry_fault (Some first ∷ later_entries (bytes words)) ≡ Some (Address (number + 1))
 lacks first words rest more gathered twice number is next =
     let at : position_from is_none 1 (Some first ∷ later_entries (bytes words)) ≡ Some (number + 1) =
-        ap (position_from is_none 1) (whole first words rest gathered twice number is) ∙ (position_past (first ∷ is.done) (later_entries (bytes rest)) 1
-        ∙ (ap (position_from is_none (1 + length (first ∷ is.done))) next ∙ ap Some (let had = is.counted in omega (arith, had)))) in
+    ap (position_from is_none 1) (whole first words rest gathered twice number is) ∙ (position_past (first ∷ is.done) (later_entries (bytes rest)) 1
+    ∙ (ap (position_from is_none (1 + length (first ∷ is.done))) next ∙ ap Some (let had = is.counted in omega (arith, had)))) in
     ap (λ p. first_of (option_map Address p ∷ same_address (Some first ∷ later_entries (bytes words)) ∷ [])) at
 
 -- entries that are there have no fault but one address twice

@@ -1,7 +1,7 @@
 -- What is written is read.
-use Rattle.std.proofs.Common.{◌≡◌, ◌≢◌, ℕ, zero, suc, ◌+◌, ◌*◌, ◌-◌, ◌≤◌, ◌<◌, ◌%◌, ◌/◌, Bool, true, false, not, ◌||◌, ◌==◌, List, [], ◌∷◌, ◌++◌, length, map, get_or, set, Option, Some, None, IfSome, is_some, option_map, count_ones, nat_le, IsTrue, sym, refl, ap, ◌∙◌, arith, subst}
-use Rattle.std.specs.List.{All, AllByRecursion, flat_map, position_from}
-use Rattle.std.proofs.lemmas.Bool.{and_parts, cases_eq, cond-false, leb-true, eq-eqb, ne_eqb}
+use Rattle.std.proofs.Common.{◌≡◌, ◌≢◌, ℕ, suc, ◌+◌, ◌*◌, ◌-◌, ◌≤◌, ◌<◌, ◌%◌, ◌/◌, Bool, true, false, not, ◌||◌, ◌==◌, List, [], ◌∷◌, ◌++◌, length, map, get_or, set, Option, Some, None, IfSome, is_some, option_map, count_ones, nat_le, IsTrue, sym, refl, ap, ◌∙◌, arith, subst}
+use Rattle.std.specs.List.{AllByRecursion, flat_map, position_from}
+use Rattle.std.proofs.lemmas.Bool.{and_parts, cond-false, leb-true, eq-eqb, ne_eqb}
 use Rattle.std.proofs.lemmas.List.{length-map}
 use Rattle.std.proofs.lemmas.List.Elements.{recursion_from_All}
 use Rattle.i3c_base.specs.declared.identity.Bcr.{Bcr}
@@ -13,9 +13,9 @@ use Rattle.i3c_word.specs.declared.Word.{Word}
 use Rattle.i3c_word.specs.Parity.{bit_of, HasOddParity}
 use Rattle.i3c_deftgts.specs.declared.entries.Entry.{Entry}
 use Rattle.i3c_deftgts.specs.declared.entries.Entry.TheVariants.{Device, Legacy}
-use Rattle.i3c_deftgts.specs.Entries.{address_of, device_at, entries_of, has_twice, legacy_at, upwards}
+use Rattle.i3c_deftgts.specs.Entries.{device_at, entries_of, has_twice, legacy_at, upwards}
 use Rattle.i3c_deftgts.specs.Layout.{bytes, bytes_of, list_bytes, static_byte, Carry}
-use Rattle.i3c_deftgts.specs.Reading.{address_in, entries_in, entry_at, entry_fault, is_count, is_miscounted, first_entry, first_fault, first_static, has_wrong_t, is_cut_short, later_entries, later_entry, ReadAs}
+use Rattle.i3c_deftgts.specs.Reading.{address_in, entries_in, entry_at, entry_fault, is_count, is_miscounted, has_wrong_t, later_entries, ReadAs}
 use Rattle.i3c_deftgts.proofs.DistinctLaws.{entries_once, own_is, some_at, stood_before}
 use Rattle.i3c_deftgts.proofs.FaultLaws.{told_addresses, whole_is_not}
 use Rattle.i3c_deftgts.proofs.LayoutLaws.{length-carried, length-flat_bytes}
@@ -75,9 +75,9 @@ read_back entries words some carried back own =
     let many : length (entries_in (bytes words)) ≡ length entries = ap length same ∙ length-map entries Some in
     let one_less : (length entries - 1) + 1 ≡ length entries = omega (arith, some) in
     let right : is_miscounted (bytes words) (length (entries_in (bytes words))) ≡ false =
-        ap (λ bs. is_miscounted bs (length (entries_in (bytes words)))) carried.same
-        ∙ (ap (λ n. not (is_count (length entries - 1) n)) many
-        ∙ ap not (ap (λ b. ((length entries - 1) == length entries) || b) (eq-eqb ((length entries - 1) + 1) (length entries) one_less) ∙ or_true ((length entries - 1) == length entries))) in
+    ap (λ bs. is_miscounted bs (length (entries_in (bytes words)))) carried.same
+    ∙ (ap (λ n. not (is_count (length entries - 1) n)) many
+    ∙ ap not (ap (λ b. ((length entries - 1) == length entries) || b) (eq-eqb ((length entries - 1) + 1) (length entries) one_less) ∙ or_true ((length entries - 1) == length entries))) in
     record {
       flawless = told_addresses words (none_wrong words 1 (recursion_from_All HasOddParity words carried.odd)) (whole_is_not (length words) (omega (arith, long, some)) (omega (arith, long, some))) right
           ∙ (ap entry_fault same ∙ no_entry_fault entries own);
@@ -100,6 +100,7 @@ module _ {A : Type 0} (entry : ℕ → A → Entry) where
     where
       first : HasAddress (entry b x)
       first = let e : b + 0 ≡ b = omega arith in let P : ℕ → Type 0 = λ n. HasAddress (entry n x) in subst P e (h 0)
+
       later : (xs : List (Option A)) (b k : ℕ) → IfSome (get_or xs k None) (λ x. HasAddress (entry (b + suc k) x)) → IfSome (get_or xs k None) (λ x. HasAddress (entry (suc b + k) x))
       later xs b k = let e : b + suc k ≡ suc b + k = omega arith in let P : ℕ → Type 0 = λ n. IfSome (get_or xs k None) (λ x. HasAddress (entry n x)) in subst P e
 
@@ -115,18 +116,23 @@ entries_read table own words stands usable apart static carried = of_own (entry_
   where
     not_zero : (a : ℕ) → 0x08 ≤ a → a ≢ 0
     not_zero a low e = omega (arith, low, e)
+
     others : List Entry
     others = upwards device_at 0 (set table.given own None)
+
     targets : List Entry
     targets = upwards legacy_at 0 table.legacy
+
     others_have : HaveAddresses (upwards device_at 0 (set table.given own None))
     others_have = have_upwards device_at (set table.given own None) 0 (λ k. if_stands (IsUsable k) (get_or (set table.given own None) k None) (λ x. HasAddress (device_at (0 + k) x))
         (λ there. some_at (IsUsable k) (entry_in table.given k) (usable k) (stood_before table.given own k there))
         (λ x u. (not_zero (0 + k) (let low = u.0 in omega (arith, low)), tt)))
+
     targets_have : HaveAddresses (upwards legacy_at 0 table.legacy)
     targets_have = have_upwards legacy_at table.legacy 0 (λ k. if_stands (IsTrue (is_static k)) (get_or table.legacy k None) (λ x. HasAddress (legacy_at (0 + k) x))
         (λ there. some_at (IsTrue (is_static k)) (get_or table.legacy k None) (static k) there)
         (λ x s. not_zero (0 + k) (let low = leb-true 0x08 k (and_parts (nat_le 0x08 k) (nat_le k 0x77) s).0 in omega (arith, low))))
+
     of_own : (o : Option Given) → entry_in table.given own ≡ o → is_some o ≡ true → ReadAs words (entries_of table own)
     of_own None e there = cc
     of_own (Some g) e there =

@@ -86,11 +86,11 @@ abbrev pub first_fault : List Word → Option ListFault
 first_fault words =
     let entries = entries_in (bytes words) in
     first_of (
-      option_map Parity (position_from has_wrong_t 1 words)
-      ∷ said (is_cut_short (length words)) Truncated
-      ∷ said (is_miscounted (bytes words) (length entries)) Count
-      ∷ entry_fault entries
-      ∷ [])
+    option_map Parity (position_from has_wrong_t 1 words)
+    ∷ said (is_cut_short (length words)) Truncated
+    ∷ said (is_miscounted (bytes words) (length entries)) Count
+    ∷ entry_fault entries
+    ∷ [])
 
 -- the words are read as these entries
 pub record ReadAs (words : List Word) (entries : List Entry) : Type 0 where

@@ -47,7 +47,10 @@ fn row_in(entry: &Entry) -> Option<Row>
 {
     match entry {
         Entry::Device {
-            address, dcr, bcr, ..
+            address,
+            dcr,
+            bcr,
+            ..
         } if is_usable(*address) => Some(Row {
             address: *address,
             bcr: *bcr,

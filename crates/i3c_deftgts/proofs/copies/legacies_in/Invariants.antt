@@ -1,6 +1,5 @@
 use Rattle.std.proofs.Common.{◌≡◌, take}
 use Rattle.i3c_deftgts.specs.Copies.{legacies_in}
-use Rattle.i3c_deftgts.proofs.PickLaws.{row_unpicked}
 use Rattle.i3c_deftgts.proofs.copies.legacies_in.Given as goal
 
 abbrev pub invariant-loop-entry : goal.invariant-loop-entry

@@ -1,11 +1,11 @@
-use Rattle.std.proofs.Common.{◌≡◌, ℕ, ◌+◌, ◌<◌, ◌≤◌, ◌++◌, length, count_by, is_some, get_or, set, None, IfSome, IsTrue, option_map, ap, sym, ◌∙◌, arith, append_assoc}
+use Rattle.std.proofs.Common.{◌≡◌, ℕ, ◌<◌, ◌≤◌, ◌++◌, length, count_by, is_some, get_or, set, None, IfSome, IsTrue, option_map, ap, sym, ◌∙◌, arith, append_assoc}
 use Rattle.std.proofs.lemmas.List.{length-map}
 use Rattle.i3c_base.specs.declared.range.TheConstants.{ADDRESSES}
 use Rattle.i3c_legacy.specs.declared.legacies.TheConstants.{LEGACIES}
 use Rattle.i3c_legacy.specs.Declaring.{is_static}
 use Rattle.i3c_table.specs.Rows.{entry_of_row}
 use Rattle.i3c_deftgts.specs.Copies.{table_of}
-use Rattle.i3c_deftgts.specs.Entries.{device_at, entries_of, legacy_at, own_entry, row_entry, upwards}
+use Rattle.i3c_deftgts.specs.Entries.{device_at, entries_of, legacy_at, own_entry, upwards}
 use Rattle.i3c_deftgts.proofs.CopyOfLaws.{copied_back}
 use Rattle.i3c_deftgts.proofs.WrittenLaws.{entries_read}
 use Rattle.i3c_deftgts.proofs.TableLaws.{first_room, second_room, two_parts}

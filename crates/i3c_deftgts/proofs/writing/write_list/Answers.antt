@@ -1,6 +1,5 @@
-use Rattle.std.proofs.Common.{◌-◌, length, take, ap, sym, ◌∙◌, arith, subst}
-use Rattle.std.specs.List.{flat_map}
-use Rattle.i3c_deftgts.specs.Layout.{bytes_of, list_bytes, Carry}
+use Rattle.std.proofs.Common.{◌-◌, length, sym, arith}
+use Rattle.i3c_deftgts.specs.Layout.{list_bytes, Carry}
 use Rattle.i3c_deftgts.proofs.LayoutLaws.{carried_all, carried_next, carried_room}
 use Rattle.i3c_deftgts.proofs.writing.write_list.Goals as goal
 
