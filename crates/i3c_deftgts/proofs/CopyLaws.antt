@@ -59,9 +59,6 @@ pub same_row : (entry : Entry) (row : Row) → row_in entry ≡ Some row → row
 same_row (Legacy address lvr) row h = absurd (none-some row h)
 same_row (Device address dcr bcr fixed) row h = at (is_usable address) h
   where
-    made : Row
-    made = record { address = address; bcr = bcr; dcr = dcr; identity = None }
-
     at : (b : Bool) → cond b (Some (record { address = address; bcr = bcr; dcr = dcr; identity = None })) None ≡ Some row → row.address ≡ address
     at true e = ap (λ (r : Row). r.address) (sym (same_Some _ row e))
     at false e = absurd (none-some row e)
@@ -149,14 +146,8 @@ module _ {T : Type 0} (r : Result T LegacyFault) (list : List Entry) (i a : ℕ)
       by_room : is_static a ≡ true → new ≡ legacies_in (take (i + 1) list)
       by_room s = at (cases_lt (length targets) LEGACIES)
         where
-          target : Target
-          target = (a, lvr)
-
           e : target_in entry ≡ Some (a, lvr)
           e = ap target_in here ∙ cond-true (is_static a) (Some (a, lvr)) None s
-
-          kept : List Target
-          kept = take LEGACIES targets
 
           own_kept : HasOwnAddresses static_of (take LEGACIES targets)
           own_kept = own_take LEGACIES targets own
