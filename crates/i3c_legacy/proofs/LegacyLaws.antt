@@ -1,7 +1,9 @@
 -- The declared targets, seen as the LVRs at their addresses.
-use Rattle.std.proofs.Common.{◌≡◌, ◌≢◌, ℕ, ◌<◌, Bool, true, false, not, List, [], ◌∷◌, ◌++◌, length, get_or, set, Option, Some, None, option_map, is_some, count_by, nat_le, sym, refl, ap, ◌∙◌, arith, if◌then◌else◌}
+use Rattle.std.proofs.Common.{◌≡◌, ◌≢◌, ℕ, ◌<◌, Bool, true, false, not, List, [], ◌∷◌, ◌++◌, length, get_or, set, take, Option, Some, None, option_map, is_some, count_by, nat_le, IsTrue, IfSome, ◌+◌, ◌≤◌, sym, refl, ap, ◌∙◌, arith, if◌then◌else◌}
 use Rattle.std.specs.List.{All, HoldsAt}
 use Rattle.std.proofs.lemmas.Bool.{and_parts, le-leb, leb-true, lt-leb}
+use Rattle.std.proofs.lemmas.List.{take_all}
+use Rattle.std.proofs.lemmas.List.Elements.{All-contains, All-push}
 use Rattle.i3c_base.specs.declared.range.TheConstants.{ADDRESSES}
 use Rattle.i3c_base.specs.declared.identity.Lvr.{Lvr}
 use Rattle.i3c_base.specs.State.{no_lvrs}
@@ -11,7 +13,7 @@ use Rattle.i3c_legacy.specs.declared.legacies.Declared.{Declared}
 use Rattle.i3c_legacy.specs.declared.legacies.TheConstants.{LEGACIES}
 use Rattle.i3c_legacy.specs.Declaring.{first_fault, is_static}
 use Rattle.i3c_legacy.specs.Rows.{places, row_at, HasOwnAddresses}
-use Rattle.i3c_legacy.proofs.RowLaws.{length-places, no_rows, places-nil, places_at, places_push, row_here, row_none, row_missing, own_push, count-places}
+use Rattle.i3c_legacy.proofs.RowLaws.{length-places, no_rows, places-nil, places_at, places_more, places_push, row_from, row_here, row_none, row_missing, own_push, count-places}
 
 abbrev pub address_of : Declared → ℕ
 address_of d = d.address
@@ -77,3 +79,24 @@ own_more rows legacy d own view s n = own_push address_of rows d own (static_bel
 pub view_more : (rows : List Declared) (legacy : List (Option Lvr)) (d : Declared) → HasOwnAddresses address_of rows → lvrs_of rows ≡ legacy → is_static d.address ≡ true → is_some (get_or legacy d.address None) ≡ false → lvrs_of (rows ++ d ∷ []) ≡ set legacy d.address (Some d.lvr)
 view_more rows legacy d own view s n =
     places_push address_of (λ r. r.lvr) rows d (static_below d.address s) (none_there rows legacy d.address own view n) ∙ ap (λ g. set g d.address (Some d.lvr)) view
+
+pub static_more : (rows : List Declared) (d : Declared) → All (λ r. IsTrue (is_static r.address)) rows → is_static d.address ≡ true → All (λ r. IsTrue (is_static r.address)) (rows ++ d ∷ [])
+static_more rows d all s = All-push (λ r. IsTrue (is_static r.address)) rows d all s
+
+-- the targets so far, seen by address
+pub first_more : (rows : List Declared) (lvrs : List (Option Lvr)) (i : ℕ) (d : Declared) → HasOwnAddresses address_of rows → i < length rows → d ≡ get_or rows i d → lvrs ≡ lvrs_of (take i rows) → set lvrs d.address (Some d.lvr) ≡ lvrs_of (take (i + 1) rows)
+first_more rows lvrs i d own l is so_far = rw so_far (sym (places_more address_of (λ r. r.lvr) rows i d own l is))
+
+pub first_all : (rows : List Declared) (legacy lvrs : List (Option Lvr)) (i : ℕ) → lvrs_of rows ≡ legacy → length rows ≤ i → lvrs ≡ lvrs_of (take i rows) → lvrs ≡ legacy
+first_all rows legacy lvrs i view past so_far = so_far ∙ (ap lvrs_of (take_all i rows past) ∙ view)
+
+-- a target stands at static addresses alone
+pub static_alone : (rows : List Declared) (legacy : List (Option Lvr)) (a : ℕ) → HasOwnAddresses address_of rows → All (λ r. IsTrue (is_static r.address)) rows → lvrs_of rows ≡ legacy → IfSome (get_or legacy a None) (λ _. IsTrue (is_static a))
+static_alone rows legacy a own all view = from (row_at address_of rows a) refl (sym (places_at address_of (λ r. r.lvr) rows a own.in_range) ∙ ap (λ g. get_or g a None) view)
+  where
+    from : (o : Option Declared) → row_at address_of rows a ≡ o → option_map (λ (r : Declared). r.lvr) (row_at address_of rows a) ≡ get_or legacy a None → IfSome (get_or legacy a None) (λ _. IsTrue (is_static a))
+    from None e h = rw (sym h ∙ ap (option_map (λ (r : Declared). r.lvr)) e) tt
+    from (Some d) e h =
+        let at = row_from address_of rows a d e in
+        let its : IsTrue (is_static d.address) = All-contains (λ (r : Declared). IsTrue (is_static r.address)) rows d all at.1 in
+        rw (sym h ∙ ap (option_map (λ (r : Declared). r.lvr)) e) (rw (sym at.0) its)

@@ -1,9 +1,10 @@
 -- What stands at an address, of rows with addresses of their own.
-use Rattle.std.proofs.Common.{◌≡◌, ◌≢◌, ℕ, zero, suc, ◌+◌, ◌<◌, Bool, true, false, cond, List, [], ◌∷◌, ◌++◌, map, length, get_or, set, replicate, Option, Some, None, option_map, is_some, count_by, nat_eq, ◌==◌, sym, refl, ap, ◌∙◌, arith, inl, inr, zero-add}
+use Rattle.std.proofs.Common.{◌≡◌, ◌≢◌, ℕ, zero, suc, ◌+◌, ◌<◌, Bool, true, false, cond, List, [], ◌∷◌, ◌++◌, map, length, get_or, set, take, replicate, Option, Some, None, option_map, is_some, count_by, nat_eq, ◌==◌, sym, refl, ap, ◌∙◌, arith, inl, inr, zero-add}
 use Rattle.std.specs.List.{All, AllByRecursion, Contains, IsDistinct, range_with_len}
 use Rattle.std.specs.Option.{option_or}
 use Rattle.std.proofs.lemmas.Bool.{cases_eq, cases_lt, cond-true, cond-false, eq-eqb, eqb-true, ne_eqb, eqb-false}
-use Rattle.std.proofs.lemmas.List.{get_or-set_other, get_or-set_same, get_or_past, length-set, length-replicate, get_or-replicate, map_push}
+use Rattle.std.proofs.lemmas.List.{get_or-set_other, get_or-set_same, get_or_past, length-set, take_more, length-replicate, get_or-replicate, map_push}
+use Rattle.std.proofs.lemmas.Simd.{map-map}
 use Rattle.std.proofs.Math.Seq.{map-set_same}
 use Rattle.std.proofs.lemmas.List.Elements.{All-from_recursion, All-push, recursion_from_All}
 use Rattle.std.proofs.lemmas.List.Folds.{find-append, find_past, list_any_none, sum_by-replicate}
@@ -45,6 +46,14 @@ module _ {R : Type 0} (address : R → ℕ) where
   row_here (row ∷ rows) (suc i) d h l =
       cond-false (address row == address (get_or rows i d)) (Some row) (row_at address rows (address (get_or rows i d))) (ne_eqb (address row) (address (get_or rows i d)) (apart_at (address row) rows i d (IsDistinct-head nat_eq (address row) (map address rows) h) (omega arith)))
       ∙ row_here rows i d (IsDistinct-tail nat_eq (address row) (map address rows) h) (omega arith)
+
+  -- the rows before one have other addresses
+  pub row_before : (rows : List R) (i : ℕ) (d : R) → IsDistinct nat_eq (map address rows) → i < length rows → row_at address (take i rows) (address (get_or rows i d)) ≡ None
+  row_before [] i d h l = absurd (omega arith)
+  row_before (row ∷ rows) zero d h l = refl
+  row_before (row ∷ rows) (suc i) d h l =
+      cond-false (address row == address (get_or rows i d)) (Some row) (row_at address (take i rows) (address (get_or rows i d))) (ne_eqb (address row) (address (get_or rows i d)) (apart_at (address row) rows i d (IsDistinct-head nat_eq (address row) (map address rows) h) (omega arith)))
+      ∙ row_before rows i d (IsDistinct-tail nat_eq (address row) (map address rows) h) (omega arith)
 
   row_from_cond : (row : R) (rows : List R) (a : ℕ) (b : Bool) → (b ≡ true → address row ≡ a) → ((y : R) → row_at address rows a ≡ Some y → (address y ≡ a) × Contains rows y) → (y : R) → cond b (Some row) (row_at address rows a) ≡ Some y → (address y ≡ a) × Contains (row ∷ rows) y
   row_from_cond row rows a true here rest y h =
@@ -148,6 +157,13 @@ module _ {R A : Type 0} (address : R → ℕ) (value : R → A) where
       ap (λ r. row_at address (set rows i row) (address r)) (sym put) ∙ (row_here address (set rows i row) i row kept (omega (arith, length-set rows i row)) ∙ ap Some put) in
       places_written rows (set rows i row) row l found (λ a n. row_set_other address rows i row d a same n)
 
+  -- one row more of the first ones
+  pub places_more : (rows : List R) (i : ℕ) (row : R) → HasOwnAddresses address rows → i < length rows → row ≡ get_or rows i row → places address value (take (i + 1) rows) ≡ set (places address value (take i rows)) (address row) (Some (value row))
+  places_more rows i row own l is =
+      let seven_bits : address row < ADDRESSES = let at = own.in_range i row l in let same = ap address is in omega (arith, at, same) in
+      let none : row_at address (take i rows) (address row) ≡ None = ap (λ r. row_at address (take i rows) (address r)) is ∙ row_before address rows i row own.distinct l in
+      ap (places address value) (take_more rows i row l ∙ ap (λ r. take i rows ++ r ∷ []) (sym is)) ∙ places_push (take i rows) row seven_bits none
+
   places_cons : (rows : List R) (row : R) → address row < ADDRESSES → places address value (row ∷ rows) ≡ set (places address value rows) (address row) (Some (value row))
   places_cons rows row l = places_written rows (row ∷ rows) row l
       (cond-true (address row == address row) (Some row) (row_at address rows (address row)) (eq-eqb (address row) (address row) refl))
@@ -175,3 +191,18 @@ module _ {R A : Type 0} (address : R → ℕ) (value : R → A) where
   -- as many addresses as rows
   pub count-places : (rows : List R) → HasOwnAddresses address rows → count_by is_some (places address value rows) ≡ length rows
   count-places rows h = count_by_recursion rows h.distinct (recursion_from_All (λ row. address row < ADDRESSES) rows h.in_range)
+
+-- a function of what stands at each address
+map_values : {R A B : Type 0} (value : R → A) (f : A → B) (o : Option R) → option_map f (option_map value o) ≡ option_map (λ row. f (value row)) o
+map_values value f None = refl
+map_values value f (Some row) = refl
+
+map_alike : {X A : Type 0} (f g : X → A) (xs : List X) → ((x : X) → f x ≡ g x) → map f xs ≡ map g xs
+map_alike f g [] same = refl
+map_alike f g (x ∷ xs) same = ap (λ y. y ∷ map f xs) (same x) ∙ ap (λ ys. g x ∷ ys) (map_alike f g xs same)
+
+pub map-places : {R A B : Type 0} (address : R → ℕ) (value : R → A) (f : A → B) (rows : List R) → map (option_map f) (places address value rows) ≡ places address (λ row. f (value row)) rows
+unfolding places
+map-places address value f rows =
+    map-map (option_map f) (λ a. option_map value (row_at address rows a)) (range_with_len 0 ADDRESSES)
+    ∙ map_alike (λ a. option_map f (option_map value (row_at address rows a))) (λ a. option_map (λ row. f (value row)) (row_at address rows a)) (range_with_len 0 ADDRESSES) (λ a. map_values value f (row_at address rows a))

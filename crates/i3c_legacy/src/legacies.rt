@@ -3,7 +3,7 @@ ghost use Rattle.i3c_legacy.specs.Declaring.{is_static};
 
 use crate::LegacyFault;
 use arrayvec::ArrayVec;
-use i3c_base::{Addr7, Lvr};
+use i3c_base::{ADDRESSES, Addr7, Lvr};
 use std::marker::Model;
 
 /// How many legacy targets a bus may have (this project's choice).
@@ -30,19 +30,22 @@ impl Model for Legacies {
 
     ghost Value = { List (Option LvrValue) };
 
+    ghost use Rattle.std.specs.Prelude.{All, IsTrue};
+    ghost use Rattle.i3c_legacy.specs.Declaring.{is_static};
     ghost use Rattle.i3c_legacy.specs.Rows.{places, HasOwnAddresses};
 
     ghost view = { λ l. places (λ d. d.address) (λ d. d.lvr) l.targets.items };
 
-    ghost invariant = { λ l. HasOwnAddresses (λ d. d.address) l.targets.items };
+    ghost invariant = { λ l. HasOwnAddresses (λ d. d.address) l.targets.items
+        × All (λ d. IsTrue (is_static d.address)) l.targets.items };
 }
 
 impl Legacies {
-    ghost use Rattle.std.specs.Prelude.{◌≡◌, ◌≤◌, ◌↔◌, IsTrue, count_by, is_some, None, Some, length, slice_set, slice_index_or, MatchOption, MatchResult, OnOk, OnErr};
+    ghost use Rattle.std.specs.Prelude.{◌≡◌, ℕ, ◌≤◌, ◌↔◌, IsTrue, count_by, is_some, None, Some, length, slice_set, slice_index_or, IfSome, MatchOption, MatchResult, OnOk, OnErr};
     ghost use Rattle.i3c_base.specs.declared.range.TheConstants.{ADDRESSES};
     ghost use Rattle.i3c_base.specs.State.{no_lvrs};
     ghost use Rattle.i3c_legacy.specs.declared.legacies.TheConstants.{LEGACIES};
-    ghost use Rattle.i3c_legacy.specs.Declaring.{first_fault};
+    ghost use Rattle.i3c_legacy.specs.Declaring.{first_fault, is_static};
 
     /// No legacy target.
     #[tactic(auto, using(crate::proofs::LegacyLaws::own_none, crate::proofs::LegacyLaws::view_none))]
@@ -64,6 +67,19 @@ impl Legacies {
             Some(index) => Some(targets[index].lvr),
             None => None,
         }
+    }
+
+    /// The LVRs of all targets, each at its static address.
+    pub fn by_address(&self) -> [Option<Lvr>; ADDRESSES]
+        ensures same { result ≡ self.now }
+        ensures few { count_by is_some self.now ≤ LEGACIES }
+        ensures static_alone { (a : ℕ) → IfSome (slice_index_or self.now a None) (λ _. IsTrue (is_static a)) }
+    {
+        let mut lvrs = [None; ADDRESSES];
+        for target in self.targets.iter() {
+            lvrs[target.address.get() as usize] = Some(target.lvr);
+        }
+        lvrs
     }
 
     /// How many targets are declared.

@@ -1,7 +1,8 @@
 -- A table's rows, seen as the entries at their addresses.
 use Rattle.std.specs.Prelude.{ℕ, nat_eq, List, map, All, Option}
 use Rattle.std.specs.List.{IsDistinct}
-use Rattle.i3c_base.specs.State.{Entry, IsUsable}
+use Rattle.i3c_base.specs.declared.identity.Lvr.{Lvr}
+use Rattle.i3c_base.specs.State.{Entry, IsFree, IsUsable}
 use Rattle.i3c_legacy.specs.Rows.{places}
 use Rattle.i3c_table.specs.declared.row.Row.{Row}
 
@@ -21,3 +22,7 @@ entries rows = places (λ row. row.address) entry_of_row rows
 pub record IsTidy (rows : List Row) : Type 0 where
   pub distinct : IsDistinct nat_eq (addresses rows)
   pub usable : All IsUsable (addresses rows)
+
+-- no legacy target has a row's address
+abbrev pub IsApart : List Row → List (Option Lvr) → Type 0
+IsApart rows legacy = All (λ row. IsFree legacy row.address) rows

@@ -2,7 +2,7 @@ ghost use Rattle.std.specs.Prelude.{◌≡◌, ◌≢◌, ◌<◌, ◌↔◌, So
 
 use crate::Row;
 use arrayvec::ArrayVec;
-use i3c_base::{Addr7, Identity, Lvr};
+use i3c_base::{ADDRESSES, Addr7, Identity, Lvr};
 use i3c_legacy::Legacies;
 use std::marker::Model;
 
@@ -25,16 +25,17 @@ impl Model for Table {
 
     ghost Value = { TableValue };
 
-    ghost use Rattle.i3c_table.specs.Rows.{entries, IsTidy};
+    ghost use Rattle.i3c_table.specs.Rows.{entries, IsApart, IsTidy};
 
     ghost view = { λ t. record { given = entries t.rows.items; legacy = t.legacies; listed = t.listed } };
 
-    ghost invariant = { λ t. IsTidy t.rows.items };
+    ghost invariant = { λ t. IsTidy t.rows.items × IsApart t.rows.items t.legacies };
 }
 
 impl Table {
-    ghost use Rattle.std.specs.Prelude.{◌≡◌, None, Some, false, length, slice_index_or, IfSome, MatchOption};
+    ghost use Rattle.std.specs.Prelude.{◌≡◌, ℕ, ◌≤◌, None, Some, false, count_by, is_some, length, map, option_map, slice_index_or, IfSome, MatchOption};
     ghost use Rattle.i3c_base.specs.declared.range.TheConstants.{ADDRESSES};
+    ghost use Rattle.i3c_table.specs.declared.table.TheConstants.{ROWS};
     ghost use Rattle.i3c_base.specs.State.{entry_in, no_entries, IsFree, IsKeptIn, IsUnknownIn, IsUsable};
     ghost use Rattle.i3c_table.specs.Rows.{entry_of_row};
     ghost use Rattle.i3c_table.specs.Putting.{cleared, with_row, MayPut};
@@ -110,6 +111,30 @@ impl Table {
         ensures { result ≡ self.now.listed }
     {
         self.listed
+    }
+
+    /// The rows, each at its address.
+    pub fn by_address(&self) -> [Option<Row>; ADDRESSES]
+        ensures rows { map (option_map entry_of_row) result ≡ self.now.given }
+        ensures addressed { (a : ℕ) → IfSome (slice_index_or result a None) (λ row. row.address ≡ a) }
+        ensures few { count_by is_some self.now.given ≤ ROWS }
+        ensures usable { (a : ℕ) → IfSome (entry_in self.now.given a) (λ _. IsUsable a) }
+
+        // no legacy target has the address of a row
+        ensures apart { (a : ℕ) → IfSome (entry_in self.now.given a) (λ _. IsFree self.now.legacy a) }
+    {
+        let mut rows = [None; ADDRESSES];
+        for row in self.rows.iter() {
+            rows[row.address.get() as usize] = Some(*row);
+        }
+        rows
+    }
+
+    /// The legacy targets.
+    pub fn legacies(&self) -> &Legacies
+        ensures { result.now ≡ self.now.legacy }
+    {
+        &self.legacies
     }
 
     /// The LVR of the legacy target at a static address, if there is one.

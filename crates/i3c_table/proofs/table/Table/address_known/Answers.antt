@@ -12,8 +12,8 @@ loop-row-preserved c = elim c.if-is_kept_for.branch [
 ]
 
 pub returns-clause-kept : goal.returns-clause-kept
-returns-clause-kept c = kept_address c.args.identity.now c.self.inside.rows.items c.args.self.now.given c.loop-row.row-index c.loop-row.least c.self.invariant (ap (λ t. t.given) c.self.view_is)
+returns-clause-kept c = kept_address c.args.identity.now c.self.inside.rows.items c.args.self.now.given c.loop-row.row-index c.loop-row.least c.self.invariant.0 (ap (λ t. t.given) c.self.view_is)
     (rw c.deref-row-items.ensures.0 at c.loop-row-test.false) (rw c.deref-row-items.ensures.0 at c.loop-row.invariant)
 
 pub returns-clause-usable : goal.returns-clause-usable
-returns-clause-usable c = kept_usable c.args.identity.now c.self.inside.rows.items c.loop-row.row-index c.loop-row.least c.self.invariant (rw c.deref-row-items.ensures.0 at c.loop-row.invariant)
+returns-clause-usable c = kept_usable c.args.identity.now c.self.inside.rows.items c.loop-row.row-index c.loop-row.least c.self.invariant.0 (rw c.deref-row-items.ensures.0 at c.loop-row.invariant)

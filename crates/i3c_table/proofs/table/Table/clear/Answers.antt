@@ -1,22 +1,26 @@
-use Rattle.std.proofs.Common.{◌≡◌, [], ◌∷◌, ap, refl, option_map}
+use Rattle.std.proofs.Common.{◌≡◌, [], ◌∷◌, ap, refl, sym, option_map}
 use Rattle.i3c_base.specs.State.{unkept}
 use Rattle.i3c_table.proofs.Reset.{unkept_row, view_none, view_one}
-use Rattle.i3c_table.proofs.TableLaws.{same_table, tidy_none, tidy_one, usable_at}
+use Rattle.i3c_table.proofs.TableLaws.{apart_none, apart_one, same_table, tidy_none, tidy_one, usable_at}
 use Rattle.i3c_table.proofs.table.Table.clear.Goals as goal
 
 pub invariant_of-self : goal.invariant_of-self
 invariant_of-self c =
     let only : c.push.new.self.items ≡ unkept_row c.in-Some.row ∷ [] = cc in
-    let usable = usable_at c.self.inside.rows.items c.args.self.now.given c.args.own _ c.self.invariant (ap (λ t. t.given) c.self.view_is) c.in-Some.ensures.found.1 in
-    rw only (tidy_one (unkept_row c.in-Some.row) (rw c.in-Some.ensures.found.0 usable))
+    let usable = usable_at c.self.inside.rows.items c.args.self.now.given c.args.own _ c.self.invariant.0 (ap (λ t. t.given) c.self.view_is) c.in-Some.ensures.found.1 in
+    let stood = rw (sym c.in-Some.ensures.found.0) at c.in-Some.ensures.found.1 in
+    rw only (
+      tidy_one (unkept_row c.in-Some.row) (rw c.in-Some.ensures.found.0 usable),
+      apart_one c.self.inside.rows.items c.args.self.now.given c.self.inside.legacies (unkept_row c.in-Some.row) _ c.self.invariant.0 c.self.invariant.1 (ap (λ t. t.given) c.self.view_is) stood,
+    )
 
 pub invariant_of-self-in_default : goal.invariant_of-self-in_default
-invariant_of-self-in_default c = tidy_none _ (cc)
+invariant_of-self-in_default c = (tidy_none _ (cc), apart_none _ c.self.inside.legacies (cc))
 
 pub returns-in-Some : goal.returns-in-Some
 returns-in-Some c =
     let only : c.push.new.self.items ≡ unkept_row c.in-Some.row ∷ [] = cc in
-    let usable = usable_at c.self.inside.rows.items c.args.self.now.given c.args.own _ c.self.invariant (ap (λ t. t.given) c.self.view_is) c.in-Some.ensures.found.1 in
+    let usable = usable_at c.self.inside.rows.items c.args.self.now.given c.args.own _ c.self.invariant.0 (ap (λ t. t.given) c.self.view_is) c.in-Some.ensures.found.1 in
     let tidy = tidy_one (unkept_row c.in-Some.row) (rw c.in-Some.ensures.found.0 usable) in
     rw only (same_table _ _ _ c.args.self.now
     (view_one c.args.self.now.given c.args.own (unkept_row c.in-Some.row) tidy c.in-Some.ensures.all_places refl c.in-Some.ensures.found.0 (ap (option_map unkept) c.in-Some.ensures.found.1)) (ap (λ t. t.legacy) c.self.view_is))

@@ -1,0 +1,11 @@
+pub mod UpwardLaws
+pub mod LayoutLaws
+pub mod TableLaws
+pub mod GatheringLaws
+pub mod ReadingLaws
+pub mod FaultLaws
+pub mod PickLaws
+pub mod CopyLaws
+pub mod DistinctLaws
+pub mod WrittenLaws
+pub mod CopyOfLaws

@@ -1,0 +1,69 @@
+ghost use Rattle.std.specs.Prelude.{◌≡◌};
+ghost use Rattle.i3c_deftgts.specs.Copies.{is_usable, legacies_in, row_in};
+ghost use Rattle.i3c_deftgts.specs.Entries.{HaveOwnAddresses};
+
+use crate::entries::{Entry, List};
+use i3c_base::Addr7;
+use i3c_table::{Legacies, Row, Table};
+
+impl List {
+    ghost use Rattle.std.specs.Prelude.{◌≡◌};
+    ghost use Rattle.i3c_deftgts.specs.Copies.{table_of};
+
+    /// The table of a controller that knows its bus by this list alone, as one that takes over the role does: its
+    /// rows and its legacy targets, no identities, and no current list. Left out are devices at addresses that none may
+    /// be given, and legacy targets that may not be declared or come after sixteen others.
+    pub fn to_table(&self) -> Table
+        ensures { result ≡ table_of self.now }
+    {
+        let entries = self.entries();
+        let mut table = Table::new(legacies_in(entries));
+        for entry in entries {
+            if let Some(row) = row_in(entry) {
+                table.put(row);
+            }
+        }
+        table
+    }
+}
+
+// The legacy targets among entries, but for those that may not be declared.
+fn legacies_in(entries: &[Entry]) -> Legacies
+    requires { HaveOwnAddresses entries.now }
+    ensures { result ≡ legacies_in entries.now }
+{
+    let mut legacies = Legacies::new();
+    for entry in entries {
+        if let Entry::Legacy { address, lvr } = entry {
+            let _ = legacies.add(*address, *lvr);
+        }
+    }
+    legacies
+}
+
+// The row of a device's entry, if its address may be given.
+fn row_in(entry: &Entry) -> Option<Row>
+    ensures { result ≡ row_in entry.now }
+{
+    match entry {
+        Entry::Device {
+            address,
+            dcr,
+            bcr,
+            ..
+        } if is_usable(*address) => Some(Row {
+            address: *address,
+            bcr: *bcr,
+            dcr: *dcr,
+            identity: None,
+        }),
+        _ => None,
+    }
+}
+
+// Whether devices may be given the address.
+fn is_usable(address: Addr7) -> bool
+    ensures { result ≡ is_usable address }
+{
+    matches!(address.get(), 0x08..=0x77) && !matches!(address.get(), 0x3E | 0x5E | 0x6E | 0x76)
+}
