@@ -1,5 +1,5 @@
 -- The contenders of a round: each is a hearer with its number, and each hearer is among them.
-use Rattle.std.proofs.Common.{◌≡◌, ℕ, ◌+◌, ◌<◌, ◌≤◌, ◌^◌, inl, inr, true, false, List, [], ◌∷◌, ◌++◌, length, Option, None, Some, refl, ap, sym, subst, ◌∙◌, arith, get_or, cond, map, ◌==◌, take, suc}
+use Rattle.std.proofs.Common.{◌≡◌, ℕ, ◌+◌, ◌<◌, ◌≤◌, ◌^◌, inl, inr, true, false, List, [], ◌∷◌, ◌++◌, length, Option, None, Some, refl, ap, sym, subst, ◌∙◌, arith, get_or, cond, map, ◌==◌, ◌-◌, ◌&&◌, not, take, suc}
 use Rattle.std.specs.List.{All, AllByRecursion, Contains, filter}
 use Rattle.std.proofs.lemmas.List.Elements.{All-append, All-nil, All-cons, All-contains, All-get_or, All-from_recursion, recursion_from_All, Contains-append_left, Contains-push}
 use Rattle.std.proofs.lemmas.Bool.{cases_eq, cases_lt, eqb-true}
@@ -9,7 +9,12 @@ use Rattle.std.proofs.lemmas.Option.{none-some, same_Some}
 use Rattle.i3c_base.specs.State.{Device}
 use Rattle.i3c_base.specs.Numbers.{IsInRange, number_of}
 use Rattle.i3c_base.proofs.NumberLaws.{below_number}
-use Rattle.i3c_wires.specs.Contest.{holders}
+use Rattle.std.specs.List.{list_all}
+use Rattle.std.proofs.lemmas.List.Elements.{filter_agree}
+use Rattle.i3c_base.specs.Cutting.{CutList, IsUncut, is_by, lost_by, no_cuts}
+use Rattle.i3c_base.specs.declared.range.TheConstants.{SLOTS}
+use Rattle.i3c_base.proofs.Lookups.{replicate_at}
+use Rattle.i3c_wires.specs.Contest.{EachBit, drives_one, is_cut, is_in}
 use Rattle.i3c_bus.specs.Hearers.{contender, contenders_from, IsContenderKey, IsLeastHearing, NobodyHears}
 
 -- the contenders among the first slots
@@ -79,6 +84,10 @@ key_fits devices key h =
     let c : h.device.identity.dcr.0 < 2 ^ 8 = h.in_range.2 in
     let n : key.1 ≡ number_of h.device.identity = h.number in omega arith
 
+-- the slots whose key is this number
+abbrev pub holders : List (ℕ × ℕ) → ℕ → List ℕ
+holders keys number = map (λ e. e.0) (filter (λ e. e.1 == number) keys)
+
 -- who wins is a hearer whose number was read
 won_each : (devices : List (Option Device)) (bits : ℕ) (keys : List (ℕ × ℕ)) → AllByRecursion (IsContenderKey devices) keys → AllByRecursion (λ w. IsContenderKey devices (w, bits)) (holders keys bits)
 won_each devices bits [] h = tt
@@ -129,3 +138,17 @@ in_range_of devices slot d e = elim (cases_lt slot (length devices)) [ inl l ↦
 -- the device that a look-up found
 pub found : (devices : List (Option Device)) (slot : ℕ) (place : Option Device) (d : Device) → slot < length devices → place ≡ get_or devices slot place → place ≡ Some d → get_or devices slot None ≡ Some d
 found devices slot place d l at is = get_or_default devices slot None place l ∙ (sym at ∙ is)
+
+-- no cuts name no slot
+uncut_none_at : IsUncut no_cuts
+unfolding no_cuts
+uncut_none_at s = elim (replicate_at {A = Option ℕ} SLOTS s None None) [ inl e ↦ e | inr e ↦ e ]
+
+-- what a contest reads without cuts
+pub each_bit_uncut : (cuts : CutList) (keys : List (ℕ × ℕ)) (width bits : ℕ) → IsUncut cuts → EachBit cuts keys width bits → EachBit no_cuts keys width bits
+each_bit_uncut cuts keys width bits uncut h left l =
+    h left l ∙ ap (list_all (drives_one left)) (filter_agree (λ e. is_in bits left e && not (is_cut cuts width left e)) (λ e. is_in bits left e && not (is_cut no_cuts width left e))
+    (λ e. ap (λ b. is_in bits left e && not b) (lost cuts uncut e.0 ∙ sym (lost no_cuts uncut_none_at e.0))) keys)
+  where
+    lost : (some : CutList) → IsUncut some → (s : ℕ) → lost_by some (width - suc left) s ≡ false
+    lost some none s = ap (is_by (width - suc left)) (none s)

@@ -3,6 +3,7 @@ use Rattle.std.specs.Prelude.{ℕ, suc, ◌≡◌, ◌<◌, ◌^◌, true, List,
 use Rattle.i3c_base.specs.State.{Device}
 use Rattle.i3c_base.specs.declared.identity.Identity.{Identity}
 use Rattle.i3c_base.specs.Numbers.{IsBelow, IsInRange, number_of}
+use Rattle.i3c_base.specs.Cutting.{no_cuts}
 use Rattle.i3c_wires.specs.Contest.{EachBit}
 
 -- the contender of a slot, if its device hears
@@ -15,9 +16,9 @@ unfoldable pub contenders_from : ℕ → List (Option Device) → List (ℕ × �
 contenders_from slot [] = []
 contenders_from slot (place ∷ places) = contender slot place ++ contenders_from (suc slot) places
 
--- the 64 bits that are read where all who hear drive their numbers at once
+-- the 64 bits that are read where all who hear drive their numbers at once, and nobody is cut
 abbrev pub IsContested : List (Option Device) → ℕ → Type 0
-IsContested devices bits = (bits < 2 ^ 64) × EachBit (contenders_from 0 devices) 64 bits
+IsContested devices bits = (bits < 2 ^ 64) × EachBit no_cuts (contenders_from 0 devices) 64 bits
 
 -- the device in the key's slot hears, and the key is its number
 pub record IsContenderKey (devices : List (Option Device)) (key : ℕ × ℕ) : Type 0 where
