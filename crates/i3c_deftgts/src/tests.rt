@@ -254,6 +254,17 @@ fn many(alloc: Global, entries: u16, count: u8) -> Result<Vec<Word>, Fail> {
     Ok(words)
 }
 
+// What unused places hold.
+#[test]
+fn a_blank_entry(rt: HostRuntime) -> Result<(), Fail> {
+    let blank = Entry::Legacy {
+        address: Addr7::new(0)?,
+        lvr: Lvr(0),
+    };
+    assert_eq!(rt; Entry::default(), blank);
+    Ok(())
+}
+
 #[test]
 fn as_many_as_there_are_addresses(rt: HostRuntime) -> Result<(), Fail> {
     assert_eq!(rt; ENTRIES, 128);

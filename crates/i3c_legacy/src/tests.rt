@@ -14,6 +14,9 @@ fn declared_targets_are_found(rt: HostRuntime) -> Result<(), Fail> {
     assert_eq!(rt; legacies.lvr_at(first), Some(Lvr(0x20)));
     assert_eq!(rt; legacies.lvr_at(last), Some(Lvr(0x40)));
     assert_eq!(rt; legacies.lvr_at(Addr7::new(0x09)?), None);
+    for (address, lvr) in (0..128).zip(legacies.by_address()) {
+        assert_eq!(rt; lvr, legacies.lvr_at(Addr7::new(address)?));
+    }
     Ok(())
 }
 
