@@ -1,50 +1,42 @@
 -- The first of the five faults, and the entries where there is none.
-use Rattle.std.proofs.Common.{◌≡◌, ◌≢◌, ℕ, zero, suc, ◌+◌, ◌*◌, ◌-◌, ◌≤◌, ◌<◌, ◌%◌, ◌/◌, Bool, true, false, not, ◌||◌, nat_lt, ◌==◌, List, [], ◌∷◌, ◌++◌, length, map, take, drop, get_or, Option, Some, None, option_map, Result, Ok, Err, MatchResult, sym, refl, ap, ◌∙◌, arith}
+use Rattle.std.proofs.Common.{◌≡◌, ◌≢◌, ℕ, ◌+◌, ◌-◌, ◌≤◌, ◌<◌, ◌%◌, ◌/◌, Bool, true, false, not, ◌||◌, nat_lt, ◌==◌, List, [], ◌∷◌, length, map, take, drop, get_or, Option, Some, None, option_map, Result, Ok, Err, MatchResult, sym, refl, ap, ◌∙◌, arith}
 use Rattle.std.specs.List.{position_from}
-use Rattle.std.proofs.lemmas.Bool.{eq-eqb, eqb-true, le-ltb, lt-ltb, ne_eqb}
+use Rattle.std.proofs.lemmas.Bool.{eq-eqb, le-ltb, lt-ltb, ne_eqb}
 use Rattle.std.proofs.lemmas.List.{length-drop, take_all}
 use Rattle.i3c_word.specs.declared.Word.{Word}
 use Rattle.i3c_deftgts.specs.declared.entries.Entry.{Entry}
 use Rattle.i3c_deftgts.specs.declared.faults.ListFault.{ListFault}
-use Rattle.i3c_deftgts.specs.declared.faults.ListFault.TheVariants.{Parity, Truncated, Count, Address, Twice}
+use Rattle.i3c_deftgts.specs.declared.faults.ListFault.TheVariants.{Parity, Truncated, Count}
 use Rattle.i3c_deftgts.specs.Layout.{bytes}
-use Rattle.i3c_deftgts.specs.Reading.{entries_in, entry_fault, first_entry, first_fault, first_of, has_wrong_t, is_count, is_cut_short, is_miscounted, later_entries, said, ReadAs}
+use Rattle.i3c_deftgts.specs.Reading.{entries_in, entry_fault, first_entry, first_fault, first_of, has_wrong_t, is_count, is_cut_short, is_miscounted, later_entries, missing_address, said, same_address, ReadAs}
 
--- the first one, of four that are told apart
-abbrev chosen : Option ℕ → Bool → Bool → Option ListFault → Option ListFault
-chosen wrong_t cut miscounted addresses = first_of (option_map Parity wrong_t ∷ said cut Truncated ∷ said miscounted Count ∷ addresses ∷ [])
-
-chosen_last : (addresses : Option ListFault) → chosen None false false addresses ≡ addresses
-chosen_last None = refl
-chosen_last (Some fault) = refl
+-- the first one
+abbrev chosen : Option ℕ → Bool → Bool → List (Option Entry) → Option ListFault
+chosen wrong_t cut miscounted entries = first_of (option_map Parity wrong_t ∷ said cut Truncated ∷ said miscounted Count ∷ missing_address entries ∷ same_address entries ∷ [])
 
 module _ (words : List Word) where
-  wrong_t : Option ℕ
-  wrong_t = position_from has_wrong_t 1 words
-
   abbrev miscounted : Bool
   miscounted = is_miscounted (bytes words) (length (entries_in (bytes words)))
 
   pub told_parity : (n : ℕ) → position_from has_wrong_t 1 words ≡ Some n → first_fault words ≡ Some (Parity n)
-  told_parity n e = ap (λ p. chosen p (is_cut_short (length words)) miscounted (entry_fault (entries_in (bytes words)))) e
+  told_parity n e = ap (λ p. chosen p (is_cut_short (length words)) miscounted (entries_in (bytes words))) e
 
   pub told_cut : position_from has_wrong_t 1 words ≡ None → is_cut_short (length words) ≡ true → first_fault words ≡ Some Truncated
   told_cut e cut =
-      ap (λ p. chosen p (is_cut_short (length words)) miscounted (entry_fault (entries_in (bytes words)))) e
-      ∙ ap (λ b. chosen None b miscounted (entry_fault (entries_in (bytes words)))) cut
+      ap (λ p. chosen p (is_cut_short (length words)) miscounted (entries_in (bytes words))) e
+      ∙ ap (λ b. chosen None b miscounted (entries_in (bytes words))) cut
 
   pub told_count : position_from has_wrong_t 1 words ≡ None → is_cut_short (length words) ≡ false → miscounted ≡ true → first_fault words ≡ Some Count
   told_count e whole wrong =
-      ap (λ p. chosen p (is_cut_short (length words)) miscounted (entry_fault (entries_in (bytes words)))) e
-      ∙ (ap (λ b. chosen None b miscounted (entry_fault (entries_in (bytes words)))) whole
-      ∙ ap (λ b. chosen None false b (entry_fault (entries_in (bytes words)))) wrong)
+      ap (λ p. chosen p (is_cut_short (length words)) miscounted (entries_in (bytes words))) e
+      ∙ (ap (λ b. chosen None b miscounted (entries_in (bytes words))) whole
+      ∙ ap (λ b. chosen None false b (entries_in (bytes words))) wrong)
 
   pub told_addresses : position_from has_wrong_t 1 words ≡ None → is_cut_short (length words) ≡ false → miscounted ≡ false → first_fault words ≡ entry_fault (entries_in (bytes words))
   told_addresses e whole right =
-      ap (λ p. chosen p (is_cut_short (length words)) miscounted (entry_fault (entries_in (bytes words)))) e
-      ∙ (ap (λ b. chosen None b miscounted (entry_fault (entries_in (bytes words)))) whole
-      ∙ (ap (λ b. chosen None false b (entry_fault (entries_in (bytes words)))) right
-      ∙ chosen_last (entry_fault (entries_in (bytes words)))))
+      ap (λ p. chosen p (is_cut_short (length words)) miscounted (entries_in (bytes words))) e
+      ∙ (ap (λ b. chosen None b miscounted (entries_in (bytes words))) whole
+      ∙ ap (λ b. chosen None false b (entries_in (bytes words))) right)
 
 -- how many words are cut short
 pub few_are_cut : (n : ℕ) → n < 5 → is_cut_short n ≡ true

@@ -1,6 +1,5 @@
 -- Entries that are gathered, with marks at their addresses.
-use Rattle.std.proofs.Common.{◌≡◌, ◌≢◌, ℕ, zero, suc, ◌+◌, ◌*◌, ◌≤◌, ◌<◌, Bool, true, false, not, ◌||◌, cond, nat_eq, ◌==◌, List, [], ◌∷◌, ◌++◌, length, map, get_or, set, replicate, count_by, inl, inr, sym, refl, ap, ◌∙◌, arith, length-append}
-use Rattle.std.specs.List.{list_any}
+use Rattle.std.proofs.Common.{◌≡◌, ℕ, ◌<◌, Bool, true, false, not, ◌||◌, cond, ◌==◌, List, [], ◌∷◌, ◌++◌, length, get_or, set, replicate, inl, inr, sym, refl, ap, ◌∙◌, arith, length-append}
 use Rattle.std.proofs.lemmas.Bool.{cases_eq, eq-eqb, ne_eqb}
 use Rattle.std.proofs.lemmas.List.{get_or-replicate, get_or-set_other, get_or-set_same, length-replicate, length-set}
 use Rattle.std.proofs.lemmas.List.Folds.{sum_by-replicate}
@@ -79,6 +78,7 @@ marked_more marks entries entry are below fresh =
     or_true : (b : Bool) → (b || true) ≡ true
     or_true true = refl
     or_true false = refl
+
     or_false : (b : Bool) → (b || false) ≡ b
     or_false true = refl
     or_false false = refl

@@ -1,13 +1,13 @@
 -- Words that carry bytes.
-use Rattle.std.proofs.Common.{◌≡◌, ℕ, suc, ◌+◌, ◌*◌, ◌-◌, ◌≤◌, ◌<◌, List, [], ◌∷◌, ◌++◌, length, map, take, get_or, sym, refl, ap, ◌∙◌, arith, append_assoc, length-append}
-use Rattle.std.specs.List.{All, flat_map}
-use Rattle.std.proofs.lemmas.List.{append-nil, flat_map_more, length-map, length-take, map_push, take_all, take_more}
+use Rattle.std.proofs.Common.{◌≡◌, ℕ, ◌+◌, ◌*◌, ◌-◌, ◌≤◌, ◌<◌, List, [], ◌∷◌, ◌++◌, length, take, get_or, sym, refl, ap, ◌∙◌, arith, append_assoc, length-append}
+use Rattle.std.specs.List.{flat_map}
+use Rattle.std.proofs.lemmas.List.{flat_map_more, length-map, length-take, map_push, take_all, take_more}
 use Rattle.std.proofs.lemmas.List.Elements.{All-push}
 use Rattle.i3c_word.specs.declared.Word.{Word}
 use Rattle.i3c_word.specs.Parity.{HasOddParity}
 use Rattle.i3c_deftgts.specs.declared.entries.Entry.{Entry}
 use Rattle.i3c_deftgts.specs.declared.entries.Entry.TheVariants.{Device, Legacy}
-use Rattle.i3c_deftgts.specs.Layout.{bytes, bytes_of, list_bytes, Carry}
+use Rattle.i3c_deftgts.specs.Layout.{bytes_of, list_bytes, Carry}
 
 pub length-carried : (sent : List ℕ) (words : List Word) → Carry sent words → length words ≡ length sent
 length-carried sent words carried = sym (length-map words (λ (word : Word). word.byte)) ∙ ap length carried.same

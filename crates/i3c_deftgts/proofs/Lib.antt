@@ -4,3 +4,8 @@ pub mod TableLaws
 pub mod GatheringLaws
 pub mod ReadingLaws
 pub mod FaultLaws
+pub mod PickLaws
+pub mod CopyLaws
+pub mod DistinctLaws
+pub mod WrittenLaws
+pub mod CopyOfLaws

@@ -1,11 +1,11 @@
 -- Words that are read as entries.
-use Rattle.std.proofs.Common.{◌≡◌, ◌≢◌, ℕ, zero, suc, ◌+◌, ◌*◌, ◌-◌, ◌≤◌, ◌<◌, ◌%◌, ◌/◌, Bool, true, false, not, ◌||◌, List, [], ◌∷◌, ◌++◌, length, map, drop, get_or, Option, Some, None, option_map, is_none, is_some, MatchOption, add-zero, sym, refl, ap, ◌∙◌, arith, append_assoc, length-append}
+use Rattle.std.proofs.Common.{◌≡◌, ℕ, ◌+◌, ◌*◌, ◌≤◌, ◌<◌, Bool, true, false, ◌||◌, List, [], ◌∷◌, ◌++◌, length, map, drop, get_or, Option, Some, None, option_map, is_none, is_some, MatchOption, sym, refl, ap, ◌∙◌, arith, append_assoc, length-append}
 use Rattle.std.specs.List.{filter_map, position_from}
 use Rattle.std.proofs.lemmas.List.{append-nil, map_push}
 use Rattle.i3c_word.specs.declared.Word.{Word}
 use Rattle.i3c_deftgts.specs.declared.entries.Entry.{Entry}
 use Rattle.i3c_deftgts.specs.declared.faults.ListFault.{ListFault}
-use Rattle.i3c_deftgts.specs.declared.faults.ListFault.TheVariants.{Parity, Truncated, Count, Address, Twice}
+use Rattle.i3c_deftgts.specs.declared.faults.ListFault.TheVariants.{Address, Twice}
 use Rattle.i3c_deftgts.specs.Entries.{address_of, has_twice, is_among}
 use Rattle.i3c_deftgts.specs.Layout.{bytes}
 use Rattle.i3c_deftgts.specs.Reading.{entry_fault, first_of, later_entries, later_entry, said, same_address}
@@ -109,23 +109,29 @@ whole first words rest gathered twice number is = ap (λ es. Some first ∷ es) 
 pub lacks : (first : Entry) (words rest more : List Word) (gathered : List Entry) (twice : Bool) (number : ℕ) → IsReading first words rest gathered twice number → later_entries (bytes rest) ≡ None ∷ later_entries (bytes more) → entry_fault (Some first ∷ later_entries (bytes words)) ≡ Some (Address (number + 1))
 lacks first words rest more gathered twice number is next =
     let at : position_from is_none 1 (Some first ∷ later_entries (bytes words)) ≡ Some (number + 1) =
-        ap (position_from is_none 1) (whole first words rest gathered twice number is) ∙ (position_past (first ∷ is.done) (later_entries (bytes rest)) 1
-        ∙ (ap (position_from is_none (1 + length (first ∷ is.done))) next ∙ ap Some (let had = is.counted in omega (arith, had)))) in
+    ap (position_from is_none 1) (whole first words rest gathered twice number is) ∙ (position_past (first ∷ is.done) (later_entries (bytes rest)) 1
+    ∙ (ap (position_from is_none (1 + length (first ∷ is.done))) next ∙ ap Some (let had = is.counted in omega (arith, had)))) in
     ap (λ p. first_of (option_map Address p ∷ same_address (Some first ∷ later_entries (bytes words)) ∷ [])) at
+
+-- entries that are there have no fault but one address twice
+none_missing : (entries : List Entry) → position_from (is_none {T = Entry}) 1 (map Some entries) ≡ None
+none_missing entries = ap (position_from (is_none {T = Entry}) 1) (sym (append-nil (map Some entries))) ∙ position_past entries [] 1
+
+fault_of_all : (entries : List Entry) → entry_fault (map Some entries) ≡ said_twice (has_twice entries)
+fault_of_all entries =
+    ap (λ p. first_of (option_map Address p ∷ same_address (map Some entries) ∷ [])) (none_missing entries)
+    ∙ ap (λ es. said_twice (has_twice es)) (present entries)
+
+pub no_entry_fault : (entries : List Entry) → has_twice entries ≡ false → entry_fault (map Some entries) ≡ None
+no_entry_fault entries own = fault_of_all entries ∙ ap said_twice own
 
 -- nothing is left
 module _ (first : Entry) (words rest : List Word) (gathered : List Entry) (twice : Bool) (number : ℕ) where
   all_there : (is : IsReading first words rest gathered twice number) → length rest < 4 → Some first ∷ later_entries (bytes words) ≡ map Some (first ∷ is.done)
   all_there is few = whole first words rest gathered twice number is ∙ (ap (λ es. map Some (first ∷ is.done) ++ es) (few_words rest few) ∙ append-nil (map Some (first ∷ is.done)))
 
-  none_lacks : (entries : List Entry) → position_from is_none 1 (map Some entries) ≡ None
-  none_lacks entries = ap (position_from is_none 1) (sym (append-nil (map Some entries))) ∙ position_past entries [] 1
-
   last_fault : (is : IsReading first words rest gathered twice number) → length rest < 4 → entry_fault (Some first ∷ later_entries (bytes words)) ≡ said_twice twice
-  last_fault is few =
-      ap entry_fault (all_there is few)
-      ∙ (ap (λ p. first_of (option_map Address p ∷ same_address (map Some (first ∷ is.done)) ∷ [])) (none_lacks (first ∷ is.done))
-      ∙ ap (λ b. first_of (None ∷ said b Twice ∷ [])) (ap has_twice (present (first ∷ is.done)) ∙ sym is.noted))
+  last_fault is few = ap entry_fault (all_there is few) ∙ (fault_of_all (first ∷ is.done) ∙ ap said_twice (sym is.noted))
 
   pub told_twice : IsReading first words rest gathered twice number → length rest < 4 → twice ≡ true → entry_fault (Some first ∷ later_entries (bytes words)) ≡ Some Twice
   told_twice is few e = last_fault is few ∙ ap said_twice e

@@ -1,5 +1,5 @@
 -- The entries of a table's list, as they are found in it.
-use Rattle.std.proofs.Common.{◌≡◌, ◌≢◌, ℕ, zero, suc, ◌+◌, ◌≤◌, ◌<◌, cond, List, [], ◌∷◌, ◌++◌, length, map, get_or, set, Option, Some, None, IfSome, option_map, is_some, count_by, inl, inr, sym, refl, ap, ◌∙◌, arith, add-suc, add-zero, append_assoc, length-append}
+use Rattle.std.proofs.Common.{◌≡◌, ℕ, suc, ◌+◌, ◌≤◌, ◌<◌, cond, List, [], ◌∷◌, ◌++◌, length, map, get_or, set, Option, Some, None, IfSome, option_map, is_some, count_by, inl, inr, sym, refl, ap, ◌∙◌, arith, add-zero, length-append}
 use Rattle.std.specs.Option.{option_to_list}
 use Rattle.std.proofs.lemmas.Bool.{cases_eq, cases_lt}
 use Rattle.std.proofs.lemmas.List.{get_or_default, get_or-map, get_or-set_other, get_or-set_same, get_or_past, length-map, map-set, set_past}

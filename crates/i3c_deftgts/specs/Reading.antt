@@ -81,16 +81,17 @@ first_of (Some fault ∷ rest) = Some fault
 abbrev pub entry_fault : List (Option Entry) → Option ListFault
 entry_fault entries = first_of (missing_address entries ∷ same_address entries ∷ [])
 
--- the first fault of words: a T bit, counted from 1; their number; the count; a missing address; one address twice
+-- the first fault of words: a T bit, counted from 1; too few words; the count; a missing address; one address twice
 abbrev pub first_fault : List Word → Option ListFault
 first_fault words =
     let entries = entries_in (bytes words) in
     first_of (
-      option_map Parity (position_from has_wrong_t 1 words)
-      ∷ said (is_cut_short (length words)) Truncated
-      ∷ said (is_miscounted (bytes words) (length entries)) Count
-      ∷ entry_fault entries
-      ∷ [])
+    option_map Parity (position_from has_wrong_t 1 words)
+    ∷ said (is_cut_short (length words)) Truncated
+    ∷ said (is_miscounted (bytes words) (length entries)) Count
+    ∷ missing_address entries
+    ∷ same_address entries
+    ∷ [])
 
 -- the words are read as these entries
 pub record ReadAs (words : List Word) (entries : List Entry) : Type 0 where

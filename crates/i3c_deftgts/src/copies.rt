@@ -1,5 +1,6 @@
 ghost use Rattle.std.specs.Prelude.{◌≡◌};
 ghost use Rattle.i3c_deftgts.specs.Copies.{is_usable, legacies_in, row_in};
+ghost use Rattle.i3c_deftgts.specs.Entries.{HaveOwnAddresses};
 
 use crate::entries::{Entry, List};
 use i3c_base::Addr7;
@@ -28,6 +29,7 @@ impl List {
 
 // The legacy targets among entries, but for those that may not be declared.
 fn legacies_in(entries: &[Entry]) -> Legacies
+    requires { HaveOwnAddresses entries.now }
     ensures { result ≡ legacies_in entries.now }
 {
     let mut legacies = Legacies::new();
@@ -45,7 +47,10 @@ fn row_in(entry: &Entry) -> Option<Row>
 {
     match entry {
         Entry::Device {
-            address, dcr, bcr, ..
+            address,
+            dcr,
+            bcr,
+            ..
         } if is_usable(*address) => Some(Row {
             address: *address,
             bcr: *bcr,

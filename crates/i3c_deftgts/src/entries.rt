@@ -20,7 +20,10 @@ pub enum Entry {
         fixed: Option<Addr7>,
     },
     /// A legacy target, with its static address. Its third word says nothing.
-    Legacy { address: Addr7, lvr: Lvr },
+    Legacy {
+        address: Addr7,
+        lvr: Lvr,
+    },
 }
 
 /// A legacy target at `00`, with which bounded lists of entries fill their unused places.

@@ -37,7 +37,7 @@ fn read_later(first: Entry, words: &[Word]) -> Result<List, ListFault>
     requires { length words.now < 1024 }
     ensures { MatchResult result
         (λ list. (entry_fault (Some first ∷ later_entries (bytes words.now)) ≡ None)
-            × (Some first ∷ later_entries (bytes words.now) ≡ map Some list))
+        × (Some first ∷ later_entries (bytes words.now) ≡ map Some list))
         (λ fault. entry_fault (Some first ∷ later_entries (bytes words.now)) ≡ Some fault) }
 {
     let mut gathered = Gathered::new();

@@ -1,8 +1,11 @@
 ghost use Rattle.std.specs.Prelude.{◌≡◌, ◌+◌, ◌≤◌, ◌++◌, List, ℕ, [], ◌∷◌, IsSome, length};
 ghost use Rattle.arrayvec.specs.ArrayVec.{array_vec_len};
 ghost use Rattle.i3c_base.specs.State.{entry_in};
+ghost use Rattle.i3c_word.specs.declared.Word.{Word as WordValue};
+ghost use Rattle.i3c_deftgts.specs.Copies.{copy_of, table_of};
 ghost use Rattle.i3c_deftgts.specs.Entries.{entries_of, legacy_at, row_entry, upwards};
 ghost use Rattle.i3c_deftgts.specs.Layout.{bytes_of, list_bytes, static_byte, Carry};
+ghost use Rattle.i3c_deftgts.specs.Reading.{ReadAs};
 
 use crate::entries::Entry;
 use arrayvec::ArrayVec;
@@ -23,6 +26,10 @@ pub const WORDS: usize = 1 + 4 * WRITTEN;
 pub fn write_list(table: &Table, own: Addr7) -> ArrayVec<Word, WORDS>
     requires { IsSome (entry_in table.now.given own) }
     ensures words { Carry (list_bytes (entries_of table.now own)) result.items }
+
+    // the words are read as these entries, which give the table, but for the identities that addresses are kept for
+    ensures read { ReadAs result.items (entries_of table.now own) }
+    ensures copied { table_of (entries_of table.now own) ≡ copy_of table.now }
 {
     let entries = entries_of(table, own);
     let mut words = ArrayVec::new();
@@ -35,7 +42,10 @@ pub fn write_list(table: &Table, own: Addr7) -> ArrayVec<Word, WORDS>
 
 // The entries of a table's list.
 fn entries_of(table: &Table, own: Addr7) -> ArrayVec<Entry, WRITTEN>
-    ensures { result.items ≡ entries_of table.now own }
+    requires { IsSome (entry_in table.now.given own) }
+    ensures items { result.items ≡ entries_of table.now own }
+    ensures read { (words : List WordValue) → Carry (list_bytes result.items) words → ReadAs words result.items }
+    ensures copied { table_of result.items ≡ copy_of table.now }
 {
     let mut rows = table.by_address();
     let own_row = rows[own.get() as usize].take();

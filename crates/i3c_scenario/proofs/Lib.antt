@@ -1,2 +1,3 @@
 pub mod HexLaws
 pub mod NameLaws
+pub mod Written

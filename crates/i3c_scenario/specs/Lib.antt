@@ -4,3 +4,6 @@ pub mod Policies
 pub mod Reading
 pub mod Slots
 pub mod Stops
+pub mod Asking
+pub mod Hex
+pub mod Printed

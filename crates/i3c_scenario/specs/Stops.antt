@@ -1,36 +1,69 @@
--- What becomes of a line that the bus refuses.
-use Rattle.std.specs.Prelude.{Option, Some, None}
+-- What stops a line, and what the run's end says of it.
+use Rattle.std.specs.Prelude.{◌≡◌, ◌⊎◌, ℕ, Option, Some, None, Result, Ok, Err}
 use Rattle.i3c_base.specs.declared.answers.Answer.{Answer}
-use Rattle.i3c_bus.specs.declared.replies.FrameFault.{FrameFault}
-use Rattle.i3c_bus.specs.declared.replies.RaiseRefusal.{RaiseRefusal}
-use Rattle.i3c_bus.specs.declared.replies.TargetFault.{TargetFault}
+use Rattle.i3c_base.specs.declared.answers.RoundReply.{RoundReply}
+use Rattle.i3c_bus.specs.declared.replies.Refusal.{Refusal as BusRefusal}
+use Rattle.i3c_bus.specs.declared.replies.Reply.{Reply}
 use Rattle.i3c_scenario.specs.declared.faults.Refusal.{Refusal}
+use Rattle.i3c_scenario.specs.declared.faults.ScriptFault.{ScriptFault}
 use Rattle.i3c_scenario.specs.declared.faults.Stop.{Stop}
 
--- why a raise is refused, as it is printed
-abbrev pub raise_refusal : RaiseRefusal → Refusal
-raise_refusal RaiseRefusal.NoDevice = Refusal.NoDevice
-raise_refusal RaiseRefusal.IsActive = Refusal.IsActive
-raise_refusal RaiseRefusal.NoAddress = Refusal.NoAddress
-raise_refusal RaiseRefusal.NotCapable = Refusal.NotCapable
-raise_refusal RaiseRefusal.ByteMismatch = Refusal.ByteMismatch
-raise_refusal RaiseRefusal.Masked = Refusal.Masked
-raise_refusal RaiseRefusal.Full = Refusal.Full
+-- the bus's refusal, as it is printed
+abbrev pub bus_refusal : BusRefusal → Refusal
+bus_refusal BusRefusal.SessionOpen = Refusal.SessionOpen
+bus_refusal BusRefusal.NoSession = Refusal.NoSession
+bus_refusal BusRefusal.ActiveStays = Refusal.ActiveStays
+bus_refusal BusRefusal.SlotTaken = Refusal.SlotTaken
+bus_refusal BusRefusal.NoDevice = Refusal.NoDevice
+bus_refusal BusRefusal.IsActive = Refusal.IsActive
+bus_refusal BusRefusal.NoAddress = Refusal.NoAddress
+bus_refusal BusRefusal.NotCapable = Refusal.NotCapable
+bus_refusal BusRefusal.ByteMismatch = Refusal.ByteMismatch
+bus_refusal BusRefusal.Masked = Refusal.Masked
+bus_refusal BusRefusal.Full = Refusal.Full
+bus_refusal (BusRefusal.NoAnswer a) = Refusal.NoAnswer a
 
--- an answer that is printed as a refusal
-abbrev pub answer_refusal : Answer → Option Refusal
-answer_refusal Answer.Done = None
-answer_refusal (Answer.Bytes bytes) = None
-answer_refusal (Answer.NoAnswer a) = Some (Refusal.NoAnswer a)
-answer_refusal Answer.NoEnd = Some Refusal.NoEnd
+-- an answer to a frame's own part that is printed as a refusal
+abbrev pub answer_stop : Answer → Option Stop
+answer_stop Answer.Done = None
+answer_stop (Answer.Bytes bytes) = None
+answer_stop (Answer.NoAnswer a) = Some (Stop.Refused (Refusal.NoAnswer a))
+answer_stop Answer.NoEnd = Some (Stop.Refused Refusal.NoEnd)
 
--- a fault of a frame to nobody in particular
-abbrev pub frame_stop : FrameFault → Stop
-frame_stop FrameFault.ActiveStays = Stop.Refused Refusal.ActiveStays
-frame_stop FrameFault.OutOfMemory = Stop.Memory
+-- a round's answer that is printed as a refusal
+abbrev pub round_stop : RoundReply → Option Stop
+round_stop (RoundReply.Assigned a identity) = None
+round_stop RoundReply.Nobody = None
+round_stop RoundReply.Done = None
+round_stop RoundReply.NoAddress = Some (Stop.Refused Refusal.NoAddress)
 
--- a fault of a frame to one address
-abbrev pub target_stop : TargetFault → Stop
-target_stop TargetFault.ActiveStays = Stop.Refused Refusal.ActiveStays
-target_stop (TargetFault.NoAnswer a) = Stop.Refused (Refusal.NoAnswer a)
-target_stop TargetFault.OutOfMemory = Stop.Memory
+-- what stops a line at the bus's reply
+abbrev pub reply_stop : Reply → Option Stop
+reply_stop (Reply.Refused why) = Some (Stop.Refused (bus_refusal why))
+reply_stop Reply.OutOfMemory = Some Stop.Memory
+reply_stop Reply.Attached = None
+reply_stop (Reply.Raised number) = None
+reply_stop (Reply.Served served) = None
+reply_stop (Reply.Framed framed) = answer_stop framed.answer
+reply_stop (Reply.Opened served) = None
+reply_stop (Reply.Round answer) = round_stop answer
+reply_stop Reply.Ended = None
+
+-- a fault that a line may end the run with
+abbrev pub IsLineFault : ScriptFault → Type 0
+IsLineFault fault = (fault ≡ ScriptFault.Memory) ⊎ (fault ≡ ScriptFault.Write)
+
+-- what the run comes to after a line: on with the next, or its fault; a refusal that can't be printed is one
+abbrev pub EndsLine : Result (Unit {0}) Stop → Result (Unit {0}) ScriptFault → Type 0
+EndsLine (Ok done) ended = ended ≡ Ok done
+EndsLine (Err Stop.Memory) ended = ended ≡ Err ScriptFault.Memory
+EndsLine (Err Stop.Write) ended = ended ≡ Err ScriptFault.Write
+EndsLine (Err (Stop.Refused why)) (Ok done) = Unit {0}
+EndsLine (Err (Stop.Refused why)) (Err fault) = fault ≡ ScriptFault.Write
+
+-- how many refusals a line came to
+abbrev pub refusals : Result (Unit {0}) Stop → ℕ
+refusals (Ok done) = 0
+refusals (Err Stop.Memory) = 0
+refusals (Err Stop.Write) = 0
+refusals (Err (Stop.Refused why)) = 1

@@ -14,9 +14,13 @@ pub(crate) struct Choice {
     pub to: Option<Addr7>,
 }
 
-/// A frame that the active controller sends under the role, without opening a session.
+/// A line that is one event of the bus, with the names as they stand there.
 #[derive(Clone, Copy)]
-pub(crate) enum Frame {
+pub(crate) enum Wish {
+    /// `attach NAME PID BCR DCR [decline]`: a device enters the lowest free slot.
+    Attach { name: Name, setup: Setup },
+    /// `raise NAME [BYTE]`: a device raises an interrupt, with its mandatory byte where one is due.
+    Raise { name: Name, byte: Option<u8> },
     /// `serve`: the first request is served.
     Serve,
     /// `enec BYTE [ADDR]`: kinds of events are enabled.
@@ -39,20 +43,10 @@ pub(crate) enum Command {
         name: Name,
         setup: Setup,
     },
-    /// `attach NAME PID BCR DCR [decline]`: a device enters the lowest free slot.
-    Attach {
-        name: Name,
-        setup: Setup,
-    },
-    /// `raise NAME [BYTE]`: a device raises an interrupt, with its mandatory byte where one is due.
-    Raise {
-        name: Name,
-        byte: Option<u8>,
-    },
+    /// A line that is one event.
+    Event(Wish),
     /// `policy all|none|joins|roles|interrupts`: which requests the frames from now on accept.
     Policy(Fixed),
-    /// A frame under the role.
-    Frame(Frame),
     /// `daa`: a whole session of dynamic address assignment.
     Daa,
     /// `show`: the bus as it is.
@@ -66,21 +60,22 @@ impl Command {
     pub fn parse(line: &str) -> Option<Command> {
         let mut words = line.split(' ');
         let command = match words.next()? {
-            "legacy" => parse_legacy(&mut words)?,
+            // the lines of which scripts have most come first
+            "raise" => Command::Event(parse_raise(&mut words)?),
+            "serve" => Command::Event(Wish::Serve),
+            "daa" => Command::Daa,
+            "enec" => Command::Event(Wish::Enec(parse_choice(&mut words)?)),
+            "disec" => Command::Event(Wish::Disec(parse_choice(&mut words)?)),
+            "policy" => Command::Policy(policy(words.next()?)?),
+            "attach" => {
+                let (name, setup) = parse_device(&mut words)?;
+                Command::Event(Wish::Attach { name, setup })
+            }
             "main" => {
                 let (name, setup) = parse_device(&mut words)?;
                 Command::Main { name, setup }
             }
-            "attach" => {
-                let (name, setup) = parse_device(&mut words)?;
-                Command::Attach { name, setup }
-            }
-            "raise" => parse_raise(&mut words)?,
-            "policy" => Command::Policy(policy(words.next()?)?),
-            "serve" => Command::Frame(Frame::Serve),
-            "enec" => Command::Frame(Frame::Enec(parse_choice(&mut words)?)),
-            "disec" => Command::Frame(Frame::Disec(parse_choice(&mut words)?)),
-            "daa" => Command::Daa,
+            "legacy" => parse_legacy(&mut words)?,
             "show" => Command::Show,
             "symbols" => Command::Symbols,
             _ => return None,
@@ -119,13 +114,13 @@ fn parse_device(words: &mut Words<'_>) -> Option<(Name, Setup)> {
 }
 
 /// The words of `raise`: a name, and a byte if one is given.
-fn parse_raise(words: &mut Words<'_>) -> Option<Command> {
+fn parse_raise(words: &mut Words<'_>) -> Option<Wish> {
     let name = Name::parse(words.next()?)?;
     let byte = match words.next() {
         None => None,
         Some(word) => Some(words::byte(word)?),
     };
-    Some(Command::Raise { name, byte })
+    Some(Wish::Raise { name, byte })
 }
 
 /// The words of `enec` and `disec`: a byte, and an address if one is given.

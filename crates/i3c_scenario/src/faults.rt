@@ -1,12 +1,13 @@
-ghost use Rattle.std.specs.Prelude.{◌≡◌};
-ghost use Rattle.i3c_scenario.specs.declared.faults.Refusal.TheVariants.{SlotTaken as taken, ActiveStays as stays};
+ghost use Rattle.std.specs.Prelude.{◌≡◌, ◌<◌, true, [], ◌∷◌};
+ghost use Rattle.std.specs.Fmt.{WritesOnOk, digit_glyph};
+ghost use Rattle.i3c_scenario.specs.Hex.{byte_text};
 ghost use Rattle.i3c_scenario.specs.declared.faults.Stop.TheVariants.{Refused, Memory, Write};
 
-use i3c_base::{Addr7, Answer};
-use i3c_bus::{ActiveStays, FrameFault, RaiseRefusal, SlotTaken, TargetFault};
+use i3c_base::{Addr7, Answer, RoundReply};
+use i3c_bus::Reply;
 use i3c_legacy::LegacyFault;
 use std::alloc::AllocError;
-use std::io;
+use std::{fmt, io};
 use thiserror::Error;
 
 /// Why a script's run ended early. The lines before it were run, and what they print was written.
@@ -27,57 +28,110 @@ pub enum ScriptFault {
 }
 
 /// Why a line was refused. A refused line changes nothing, and is printed by this name.
-#[derive(Clone, Copy, Debug, PartialEq, Eq, Drop, Error)]
+#[derive(Clone, Copy, Debug, PartialEq, Eq, Drop)]
 pub(crate) enum Refusal {
     /// The line has no form.
-    #[error("BadLine")]
     BadLine,
     /// There is no bus before `main`.
-    #[error("NoBus")]
     NoBus,
     /// There is a bus already.
-    #[error("BusMade")]
     BusMade,
     /// A present device or a legacy target has this name.
-    #[error("NameTaken")]
     NameTaken,
-    #[error("LegacyAddress")]
     LegacyAddress,
-    #[error("LegacyTwice")]
     LegacyTwice,
-    #[error("TooManyLegacy")]
     TooManyLegacy,
-    #[error("NotCapable")]
     NotCapable,
-    #[error("SlotTaken")]
     SlotTaken,
-    #[error("SessionOpen")]
     SessionOpen,
-    #[error("ActiveStays")]
+    NoSession,
     ActiveStays,
     /// No name like this was given.
-    #[error("NoName")]
     NoName,
     /// The name is a legacy target's, or its device is gone.
-    #[error("NoDevice")]
     NoDevice,
-    #[error("IsActive")]
     IsActive,
     /// No address is left to give, or the device has none.
-    #[error("NoAddress")]
     NoAddress,
-    #[error("ByteMismatch")]
     ByteMismatch,
-    #[error("Masked")]
     Masked,
-    #[error("Full")]
     Full,
     /// No device answers to this address.
-    #[error("NoAnswer {:02X}", .0.get())]
     NoAnswer(Addr7),
     /// The data that was read did not end.
-    #[error("NoEnd")]
     NoEnd,
+}
+
+impl Refusal {
+    ghost use Rattle.i3c_scenario.specs.Printed.{refusal_word};
+
+    /// Its name, as it is printed.
+    fn word(&self) -> &'static str
+        ensures { result.now ≡ refusal_word self.now }
+    {
+        match self {
+            Refusal::BadLine => "BadLine",
+            Refusal::NoBus => "NoBus",
+            Refusal::BusMade => "BusMade",
+            Refusal::NameTaken => "NameTaken",
+            Refusal::LegacyAddress => "LegacyAddress",
+            Refusal::LegacyTwice => "LegacyTwice",
+            Refusal::TooManyLegacy => "TooManyLegacy",
+            Refusal::NotCapable => "NotCapable",
+            Refusal::SlotTaken => "SlotTaken",
+            Refusal::SessionOpen => "SessionOpen",
+            Refusal::NoSession => "NoSession",
+            Refusal::ActiveStays => "ActiveStays",
+            Refusal::NoName => "NoName",
+            Refusal::NoDevice => "NoDevice",
+            Refusal::IsActive => "IsActive",
+            Refusal::NoAddress => "NoAddress",
+            Refusal::ByteMismatch => "ByteMismatch",
+            Refusal::Masked => "Masked",
+            Refusal::Full => "Full",
+            Refusal::NoAnswer(_) => "NoAnswer",
+            Refusal::NoEnd => "NoEnd",
+        }
+    }
+}
+
+impl fmt::Display for Refusal {
+    ghost use Rattle.std.specs.Prelude.{Some};
+    ghost use Rattle.i3c_scenario.specs.Printed.{refusal_text};
+
+    ghost output = { λ refusal. Some (refusal_text refusal) };
+
+    fn fmt<W: fmt::Write>(&self, f: &mut fmt::Formatter<W>) -> fmt::Result {
+        f.write_str(self.word())?;
+        match self {
+            Refusal::NoAnswer(address) => {
+                f.write_str(" ")?;
+                write_byte(f, address.get())
+            }
+            _ => f.write_str(""),
+        }
+    }
+}
+
+/// Writes a byte as two digits.
+fn write_byte<W: fmt::Write>(f: &mut fmt::Formatter<W>, byte: u8) -> fmt::Result
+    ensures { WritesOnOk W.write_str_gives f.old result (byte_text byte) f.new }
+{
+    write_digit(f, byte / 16)?;
+    write_digit(f, byte % 16)
+}
+
+/// Writes a digit, in upper case.
+fn write_digit<W: fmt::Write>(f: &mut fmt::Formatter<W>, value: u8) -> fmt::Result
+    requires { value < 16 }
+    ensures { WritesOnOk W.write_str_gives f.old result (digit_glyph true value ∷ []) f.new }
+{
+    let digit = if value < 10 {
+        b'0' + value
+    } else {
+        b'A' + (value - 10)
+    };
+    f.write_char(char::from(digit))
 }
 
 impl From<LegacyFault> for Refusal {
@@ -90,51 +144,25 @@ impl From<LegacyFault> for Refusal {
     }
 }
 
-impl From<SlotTaken> for Refusal {
-    ghost from_gives = { λ _ refusal. refusal ≡ taken };
+impl From<i3c_bus::Refusal> for Refusal {
+    ghost use Rattle.i3c_scenario.specs.Stops.{bus_refusal};
 
-    fn from(_taken: SlotTaken) -> Refusal {
-        Refusal::SlotTaken
-    }
-}
+    ghost from_gives = { λ why refusal. refusal ≡ bus_refusal why };
 
-impl From<ActiveStays> for Refusal {
-    ghost from_gives = { λ _ refusal. refusal ≡ stays };
-
-    fn from(_stays: ActiveStays) -> Refusal {
-        Refusal::ActiveStays
-    }
-}
-
-impl From<RaiseRefusal> for Refusal {
-    ghost use Rattle.i3c_scenario.specs.Stops.{raise_refusal};
-
-    ghost from_gives = { λ why refusal. refusal ≡ raise_refusal why };
-
-    fn from(why: RaiseRefusal) -> Refusal {
+    fn from(why: i3c_bus::Refusal) -> Refusal {
         match why {
-            RaiseRefusal::NoDevice => Refusal::NoDevice,
-            RaiseRefusal::IsActive => Refusal::IsActive,
-            RaiseRefusal::NoAddress => Refusal::NoAddress,
-            RaiseRefusal::NotCapable => Refusal::NotCapable,
-            RaiseRefusal::ByteMismatch => Refusal::ByteMismatch,
-            RaiseRefusal::Masked => Refusal::Masked,
-            RaiseRefusal::Full => Refusal::Full,
-        }
-    }
-}
-
-impl Refusal {
-    ghost use Rattle.i3c_scenario.specs.Stops.{answer_refusal};
-
-    /// The refusal that a frame's answer is printed as, if it is one.
-    pub fn of_answer(answer: &Answer) -> Option<Refusal>
-        ensures { result ≡ answer_refusal answer.now }
-    {
-        match answer {
-            Answer::Done | Answer::Bytes(_) => None,
-            Answer::NoAnswer(address) => Some(Refusal::NoAnswer(*address)),
-            Answer::NoEnd => Some(Refusal::NoEnd),
+            i3c_bus::Refusal::SessionOpen => Refusal::SessionOpen,
+            i3c_bus::Refusal::NoSession => Refusal::NoSession,
+            i3c_bus::Refusal::ActiveStays => Refusal::ActiveStays,
+            i3c_bus::Refusal::SlotTaken => Refusal::SlotTaken,
+            i3c_bus::Refusal::NoDevice => Refusal::NoDevice,
+            i3c_bus::Refusal::IsActive => Refusal::IsActive,
+            i3c_bus::Refusal::NoAddress => Refusal::NoAddress,
+            i3c_bus::Refusal::NotCapable => Refusal::NotCapable,
+            i3c_bus::Refusal::ByteMismatch => Refusal::ByteMismatch,
+            i3c_bus::Refusal::Masked => Refusal::Masked,
+            i3c_bus::Refusal::Full => Refusal::Full,
+            i3c_bus::Refusal::NoAnswer(address) => Refusal::NoAnswer(address),
         }
     }
 }
@@ -175,29 +203,35 @@ impl From<io::Error> for Stop {
     }
 }
 
-impl From<FrameFault> for Stop {
-    ghost use Rattle.i3c_scenario.specs.Stops.{frame_stop};
+impl Stop {
+    ghost use Rattle.i3c_scenario.specs.Stops.{answer_stop, reply_stop};
 
-    ghost from_gives = { λ fault stop. stop ≡ frame_stop fault };
-
-    fn from(fault: FrameFault) -> Stop {
-        match fault {
-            FrameFault::ActiveStays => Stop::Refused(Refusal::ActiveStays),
-            FrameFault::OutOfMemory => Stop::Memory,
+    /// What stops a line at the bus's reply, if anything does: the one place for refusals and for want of memory.
+    pub fn of_reply(reply: &Reply) -> Option<Stop>
+        ensures { result ≡ reply_stop reply.now }
+    {
+        match reply {
+            Reply::Refused(why) => Some(Stop::Refused(Refusal::from(*why))),
+            Reply::OutOfMemory => Some(Stop::Memory),
+            Reply::Framed(framed) => Stop::of_answer(&framed.answer),
+            Reply::Round(RoundReply::NoAddress) => Some(Stop::Refused(Refusal::NoAddress)),
+            Reply::Round(_)
+            | Reply::Attached
+            | Reply::Raised(_)
+            | Reply::Served(_)
+            | Reply::Opened(_)
+            | Reply::Ended => None,
         }
     }
-}
 
-impl From<TargetFault> for Stop {
-    ghost use Rattle.i3c_scenario.specs.Stops.{target_stop};
-
-    ghost from_gives = { λ fault stop. stop ≡ target_stop fault };
-
-    fn from(fault: TargetFault) -> Stop {
-        match fault {
-            TargetFault::ActiveStays => Stop::Refused(Refusal::ActiveStays),
-            TargetFault::NoAnswer(address) => Stop::Refused(Refusal::NoAnswer(address)),
-            TargetFault::OutOfMemory => Stop::Memory,
+    /// What stops a line at the answer to a frame's own part, if anything does.
+    fn of_answer(answer: &Answer) -> Option<Stop>
+        ensures { result ≡ answer_stop answer.now }
+    {
+        match answer {
+            Answer::Done | Answer::Bytes(_) => None,
+            Answer::NoAnswer(address) => Some(Stop::Refused(Refusal::NoAnswer(*address))),
+            Answer::NoEnd => Some(Stop::Refused(Refusal::NoEnd)),
         }
     }
 }

@@ -1,12 +1,13 @@
 //! Scripts over the bus: a script's lines are read, run in order, and each writes what came of it.
 //!
-//! `words` reads one word, `command` one line; `stage` holds the bus and runs a command, `frames` those that the
-//! controller sends; `script` reads the bytes, parts them into lines and counts the refusals.
+//! `words` reads one word, `command` one line. A line of one event takes one path: `asking` reads it to an event,
+//! `running` has the bus answer, `telling` prints the reply. `stage` is where a script stands, before its bus and with
+//! it; `script` reads the bytes, parts them into lines and counts the refusals.
 #![tactic(auto)]
 
+mod asking;
 mod command;
 mod faults;
-mod frames;
 mod line;
 mod names;
 mod policies;
@@ -14,11 +15,14 @@ mod running;
 mod script;
 mod show;
 mod stage;
+mod telling;
 mod wires;
 mod words;
 
 pub use faults::ScriptFault;
 pub use script::{Tally, run_script};
 
+#[cfg(test)]
+mod library;
 #[cfg(test)]
 mod tests;

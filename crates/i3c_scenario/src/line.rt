@@ -1,4 +1,4 @@
-ghost use Rattle.std.specs.Prelude.{◌≡◌, ◌<◌, [], ◌∷◌, ◌++◌, true, false, length, slice_get};
+ghost use Rattle.std.specs.Prelude.{◌≡◌, ◌+◌, ◌<◌, ◌≤◌, [], ◌++◌, true, false, length, slice_get};
 
 use crate::command::Command;
 use crate::faults::Refusal;
@@ -31,17 +31,24 @@ impl Line {
         }
     }
 
-    /// The line's next byte.
-    pub fn push(&mut self, byte: u8)
-        ensures kept { length self.old.bytes.items < LINE_LENGTH → self.new.bytes.items ≡ self.old.bytes.items ++ byte ∷ [] }
-        ensures short { length self.old.bytes.items < LINE_LENGTH → self.new.is_long ≡ self.old.is_long }
-        ensures long { length self.old.bytes.items ≡ LINE_LENGTH → self.new.is_long ≡ true }
+    /// The line's next bytes.
+    pub fn extend(&mut self, more: &[u8])
+        ensures kept { length self.old.bytes.items + length more.now ≤ LINE_LENGTH → self.new.bytes.items ≡ self.old.bytes.items ++ more.now }
+        ensures short { length self.old.bytes.items + length more.now ≤ LINE_LENGTH → self.new.is_long ≡ self.old.is_long }
+        ensures long { LINE_LENGTH < length self.old.bytes.items + length more.now → self.new.is_long ≡ true }
     {
-        if self.bytes.is_full() {
+        if self.bytes.try_extend_from_slice(more).is_err() {
             self.is_long = true;
-        } else {
-            self.bytes.push(byte);
         }
+    }
+
+    /// The next line begins.
+    pub fn clear(&mut self)
+        ensures empty { self.new.bytes.items ≡ [] }
+        ensures short { self.new.is_long ≡ false }
+    {
+        self.bytes.clear();
+        self.is_long = false;
     }
 
     /// The command of the line, if it isn't one that is skipped: an empty one or a comment, whatever bytes follow its

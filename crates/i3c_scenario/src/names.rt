@@ -1,9 +1,9 @@
-ghost use Rattle.std.specs.Prelude.{◌≡◌, ◌↔◌, All, IsTrue, IsSome, IfSome};
+ghost use Rattle.std.specs.Prelude.{◌≡◌, ◌<◌, ◌↔◌, All, IsTrue, IsSome, IfSome};
 ghost use Rattle.i3c_scenario.specs.Words.{IsName, IsNameLetter};
 
 use crate::faults::Refusal;
 use arrayvec::ArrayString;
-use i3c_base::{Addr7, Slot};
+use i3c_base::{ADDRESSES, Addr7, SLOTS, Slot};
 use indexmap::IndexMap;
 use std::alloc::{AllocError, Global};
 use std::fmt;
@@ -57,14 +57,17 @@ pub(crate) enum Place {
     Gone,
 }
 
-/// The names that were given, in the order in which they first were, and what each stands for.
+/// The names that were given, in the order in which they first were, and what each stands for. A slot and a static
+/// address know the name that was last given to them.
 #[derive(Drop)]
 pub(crate) struct Names {
     places: IndexMap<Name, Place>,
+    slots: [Option<Name>; SLOTS],
+    legacies: [Option<Name>; ADDRESSES],
 }
 
 impl Names {
-    ghost use Rattle.std.specs.Prelude.{OnOk, Some};
+    ghost use Rattle.std.specs.Prelude.{OnOk, Some, option_copied, slice_index_or, slice_set};
     ghost use Rattle.i3c_scenario.specs.Naming.{place_named, slot_named};
     ghost use Rattle.i3c_scenario.specs.declared.names.Name.{Name};
 
@@ -72,6 +75,8 @@ impl Names {
     pub fn new(alloc: Global) -> Names {
         Names {
             places: IndexMap::new(alloc),
+            slots: [None; SLOTS],
+            legacies: [None; ADDRESSES],
         }
     }
 
@@ -96,35 +101,67 @@ impl Names {
         }
     }
 
-    /// Who stands at a place, if a name was given to it.
-    pub fn at(&self, place: Place) -> Option<&Name> {
-        for (name, held) in self.places.iter() {
-            if *held == place {
-                return Some(name);
-            }
-        }
-        None
+    /// The name that was last given to a slot.
+    pub fn in_slot(&self, slot: Slot) -> Option<&Name>
+        ensures { option_copied result ≡ slice_index_or self.now.slots slot None }
+    {
+        self.slots[slot.index()].as_ref()
     }
 
-    /// Gives a name to a place. The name that the place had before stays known, as one that is gone.
-    pub fn give(&mut self, name: Name, place: Place) -> Result<(), AllocError>
-        ensures given { OnOk result (place_named self.new name ≡ Some place) }
-        ensures known { (other : Name) → IsSome (place_named self.old other) → IsSome (place_named self.new other) }
+    /// The name of the legacy target at a static address.
+    pub fn at_address(&self, address: Addr7) -> Option<&Name>
+        ensures { option_copied result ≡ slice_index_or self.now.legacies address None }
     {
-        self.empty(&place)?;
-        self.places.insert(name, place)?;
+        self.legacies[address.get() as usize].as_ref()
+    }
+
+    /// Gives a name to the legacy target at a static address.
+    pub fn give_address(&mut self, name: &Name, address: Addr7) -> Result<(), AllocError>
+        ensures given { OnOk result (place_named self.new name.now ≡ Some (Place.Legacy address)) }
+        ensures known { (other : Name) → IsSome (place_named self.old other) → IsSome (place_named self.new other) }
+        ensures told { OnOk result (self.new.legacies ≡ slice_set self.old.legacies address (Some name.now)) }
+        ensures slots { self.new.slots ≡ self.old.slots }
+    {
+        let index = address.get() as usize;
+        let told = Some(*name);
+        let place = Place::Legacy(address);
+        self.places.insert(*name, place)?;
+        self.legacies[index] = told;
         Ok(())
     }
 
-    /// Whoever stands at a place is gone.
-    fn empty(&mut self, place: &Place) -> Result<(), AllocError>
+    /// Gives a name to a slot. The name that the slot had before stays known, as one that is gone.
+    pub fn give_slot(&mut self, name: &Name, slot: Slot) -> Result<(), AllocError>
+        ensures given { OnOk result (place_named self.new name.now ≡ Some (Place.Slot slot)) }
         ensures known { (other : Name) → IsSome (place_named self.old other) → IsSome (place_named self.new other) }
+        ensures told { OnOk result (self.new.slots ≡ slice_set self.old.slots slot (Some name.now)) }
+        ensures legacies { self.new.legacies ≡ self.old.legacies }
     {
-        let name = match self.at(*place) {
-            Some(name) => *name,
-            None => return Ok(()),
+        let index = slot.index();
+        let told = Some(*name);
+        let place = Place::Slot(slot);
+        self.empty(index, &place)?;
+        self.places.insert(*name, place)?;
+        self.slots[index] = told;
+        Ok(())
+    }
+
+    /// Whoever stands in the slot of this number is gone, unless the name stands elsewhere now.
+    fn empty(&mut self, number: usize, place: &Place) -> Result<(), AllocError>
+        requires { number < SLOTS }
+        ensures known { (other : Name) → IsSome (place_named self.old other) → IsSome (place_named self.new other) }
+        ensures slots { self.new.slots ≡ self.old.slots }
+        ensures legacies { self.new.legacies ≡ self.old.legacies }
+    {
+        let Some(name) = self.slots[number] else {
+            return Ok(());
         };
-        self.places.insert(name, Place::Gone)?;
-        Ok(())
+        match self.place_of(&name) {
+            Some(had) if had == *place => {
+                self.places.insert(name, Place::Gone)?;
+                Ok(())
+            }
+            _ => Ok(()),
+        }
     }
 }

@@ -1,5 +1,7 @@
-ghost use Rattle.std.specs.Prelude.{◌≡◌, ◌≢◌, ◌<◌, ◌≤◌, length, IfErr, IfSome, OnOk};
-ghost use Rattle.std.specs.Io.KnownBytes.{IsAtEnd};
+ghost use Rattle.std.specs.Prelude.{◌≡◌, ◌+◌, ◌<◌, ◌≤◌, length, min, IfErr, IfSome, OnOk};
+ghost use Rattle.std.specs.Io.KnownBytes.{Appends, IsAtEnd};
+ghost use Rattle.i3c_scenario.specs.Printed.{end_text};
+ghost use Rattle.i3c_scenario.specs.Stops.{EndsLine, IsLineFault, refusals};
 
 use crate::faults::{ScriptFault, Stop};
 use crate::line::Line;
@@ -106,48 +108,59 @@ impl Script {
 
     /// Takes bytes as they were read, and runs each line that they end.
     fn take<W: Write>(&mut self, bytes: &[u8], out: &mut W) -> Result<(), ScriptFault>
-        ensures { IfErr result (λ fault. fault ≢ ScriptFault.TooLarge) }
+        ensures { IfErr result IsLineFault }
     {
-        for byte in bytes {
-            if *byte == LINE_FEED {
-                self.run_line(out)?;
-            } else {
-                self.line.push(*byte);
-            }
+        let mut rest = bytes;
+        while let Some(end) = rest.iter().position(|byte| *byte == LINE_FEED) {
+            self.line.extend(&rest[..end]);
+            self.run_line(out)?;
+            rest = &rest[end + 1..];
         }
+        self.line.extend(rest);
         Ok(())
     }
 
-    /// Runs the line that was read, and begins the next. A refusal is printed and counted.
+    /// Runs the line that was read, and begins the next.
     fn run_line<W: Write>(&mut self, out: &mut W) -> Result<(), ScriptFault>
-        ensures { IfErr result (λ fault. fault ≢ ScriptFault.TooLarge) }
+        ensures { IfErr result IsLineFault }
     {
-        let line = mem::replace(&mut self.line, Line::new());
-        let Err(stop) = self.obey(&line, out) else {
-            return Ok(());
-        };
-        match stop {
-            Stop::Memory => Err(ScriptFault::Memory),
-            Stop::Write => Err(ScriptFault::Write),
-            Stop::Refused(refusal) => {
-                self.refused = self.refused.saturating_add(1);
+        let outcome = self.obey(out);
+        self.line.clear();
+        self.end_line(outcome, out)
+    }
+
+    /// Obeys the line that was read, if it has a command.
+    fn obey<W: Write>(&mut self, out: &mut W) -> Result<(), Stop> {
+        match self.line.command()? {
+            Some(command) => self.stage.obey(self.alloc, &mut self.names, &command, out),
+            None => Ok(()),
+        }
+    }
+
+    /// What a line comes to: a refusal is printed and counted; want of memory, or output that can't be written, ends
+    /// the run.
+    fn end_line<W: Write>(
+        &mut self,
+        outcome: Result<(), Stop>,
+        out: &mut W,
+    ) -> Result<(), ScriptFault>
+        ensures ended { EndsLine outcome result }
+        ensures told { OnOk result (Appends (W.contents out.old) (W.contents out.new) (end_text outcome)) }
+        ensures counted { self.new.refused ≡ min (self.old.refused + refusals outcome) u64.MAX }
+    {
+        let refused = self.refused;
+        match outcome {
+            Ok(()) => Ok(()),
+            Err(Stop::Memory) => Err(ScriptFault::Memory),
+            Err(Stop::Write) => Err(ScriptFault::Write),
+            Err(Stop::Refused(refusal)) => {
+                self.refused = refused.saturating_add(1);
                 match writeln!(out, "refused {refusal}") {
                     Ok(()) => Ok(()),
                     Err(_) => Err(ScriptFault::Write),
                 }
             }
         }
-    }
-
-    /// Runs the command of a line, if it has one.
-    fn obey<W: Write>(&mut self, line: &Line, out: &mut W) -> Result<(), Stop> {
-        let Some(command) = line.command()? else {
-            return Ok(());
-        };
-        let stage = mem::replace(&mut self.stage, Stage::new());
-        let (stage, outcome) = stage.run(self.alloc, &mut self.names, command, out);
-        mem::replace(&mut self.stage, stage).retire();
-        outcome
     }
 
     /// Takes the script apart, with its bus, and tells how many lines were refused.

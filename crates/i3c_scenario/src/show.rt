@@ -1,5 +1,5 @@
-use crate::names::{Names, Place};
-use i3c_base::{ADDRESSES, Addr7, Record, SLOTS, Served, Slot};
+use crate::names::Names;
+use i3c_base::{ADDRESSES, Addr7, Record, SLOTS, Slot};
 use i3c_bus::Bus;
 use std::io::Write;
 use std::{fmt, io};
@@ -30,23 +30,6 @@ impl fmt::Display for ShownByte {
     }
 }
 
-/// What a frame served, as it is printed.
-#[derive(Clone, Copy)]
-pub(crate) struct ShownServed(pub Served);
-
-impl fmt::Display for ShownServed {
-    fn fmt<W: fmt::Write>(&self, f: &mut fmt::Formatter<W>) -> fmt::Result {
-        match self.0 {
-            Served::Quiet => f.write_str("quiet"),
-            Served::Recorded(place) => write!(f, "recorded {place}"),
-            Served::Refused => f.write_str("turned down"),
-            Served::Torn => f.write_str("torn"),
-            Served::Joining => f.write_str("joining"),
-            Served::WantsRole(address) => write!(f, "wants role {}", ShownAddress(Some(address))),
-        }
-    }
-}
-
 /// Prints the bus: who is active, the present devices by slot, the legacy targets by address, and the records.
 pub(crate) fn show<W: Write>(bus: &Bus, names: &Names, out: &mut W) -> io::Result<()> {
     writeln!(out, "active {}", ShownAddress(bus.address(bus.active())))?;
@@ -62,7 +45,7 @@ fn show_devices<W: Write>(bus: &Bus, names: &Names, out: &mut W) -> io::Result<(
         if !bus.present(slot) {
             continue;
         }
-        if let Some(name) = names.at(Place::Slot(slot)) {
+        if let Some(name) = names.in_slot(slot) {
             let address = ShownAddress(bus.address(slot));
             let waiting = bus.waiting(slot);
             writeln!(out, "{name} {address} waiting {waiting}")?;
@@ -75,7 +58,7 @@ fn show_devices<W: Write>(bus: &Bus, names: &Names, out: &mut W) -> io::Result<(
 fn show_legacies<W: Write>(names: &Names, out: &mut W) -> io::Result<()> {
     for number in 0..ADDRESSES as u8 {
         let address = Addr7::new(number).unwrap();
-        if let Some(name) = names.at(Place::Legacy(address)) {
+        if let Some(name) = names.at_address(address) {
             writeln!(out, "{name} {number:02X} legacy")?;
         }
     }

@@ -3,18 +3,18 @@ ghost use Rattle.i3c_base.specs.Numbers.{is_capable};
 
 use crate::command::Command;
 use crate::faults::{Refusal, Stop};
-use crate::names::{Name, Names, Place};
-use crate::policies::ACCEPT_ALL;
+use crate::names::{Name, Names};
 use crate::running::Running;
 use crate::show::ShownAddress;
 use crate::wires::Wires;
 use i3c_base::{Addr7, Bcr, Lvr, Setup, Slot};
-use i3c_bus::{Bus, Hand};
 use i3c_legacy::Legacies;
 use std::alloc::Global;
 use std::io::Write;
+use std::mem;
 
-/// Where a script stands. It holds the bus, so it is handed on, and retired at the script's end.
+/// Where a script stands. It holds the bus, so lines are run on a stage that is lent, and it is retired at the
+/// script's end.
 pub(crate) enum Stage {
     /// Before the bus is made, legacy targets are declared.
     Before(Legacies),
@@ -28,21 +28,51 @@ impl Stage {
         Stage::Before(Legacies::new())
     }
 
-    /// Runs a command, and prints what came of it.
-    pub fn run<W: Write>(
-        self,
+    /// Obeys a line, and prints what came of it.
+    pub fn obey<W: Write>(
+        &mut self,
         alloc: Global,
         names: &mut Names,
-        command: Command,
+        command: &Command,
         out: &mut W,
-    ) -> (Stage, Result<(), Stop>) {
+    ) -> Result<(), Stop> {
         match self {
-            Stage::Before(legacies) => before(alloc, legacies, names, command, out),
-            Stage::Running(running) => {
-                let (running, outcome) = running.run(names, command, out);
-                (Stage::Running(running), outcome)
-            }
+            Stage::Running(running) => running.obey(names, command, out),
+            Stage::Before(legacies) => match command {
+                Command::Legacy { name, address, lvr } => {
+                    declare(legacies, names, name, *address, *lvr, out)
+                }
+                Command::Main { name, setup } => self.begin(alloc, names, name, *setup, out),
+                Command::Event(_)
+                | Command::Policy(_)
+                | Command::Daa
+                | Command::Show
+                | Command::Symbols => Err(Refusal::NoBus.into()),
+            },
         }
+    }
+
+    /// `main`: the bus runs from now on. It prints its main controller.
+    // kept apart, so that no other line pays for the room that a bus takes on the stack
+    #[cold]
+    #[inline(never)]
+    fn begin<W: Write>(
+        &mut self,
+        alloc: Global,
+        names: &mut Names,
+        name: &Name,
+        setup: Setup,
+        out: &mut W,
+    ) -> Result<(), Stop> {
+        let Stage::Before(legacies) = self else {
+            return Err(Refusal::BusMade.into());
+        };
+        let running = start(alloc, legacies, names, name, setup)?;
+        let slot = running.bus().active();
+        let address = ShownAddress(running.bus().address(slot));
+        mem::replace(self, Stage::Running(running)).retire();
+        writeln!(out, "{name} slot {} at {address}", slot.index())?;
+        Ok(())
     }
 
     /// Takes the bus apart, if there is one. A session that is open ends so.
@@ -54,90 +84,48 @@ impl Stage {
     }
 }
 
-/// Runs a command where there is no bus yet.
-fn before<W: Write>(
-    alloc: Global,
-    legacies: Legacies,
-    names: &mut Names,
-    command: Command,
-    out: &mut W,
-) -> (Stage, Result<(), Stop>) {
-    match command {
-        Command::Legacy { name, address, lvr } => {
-            let mut declared = legacies;
-            let outcome = declare(&mut declared, names, name, address, lvr, out);
-            (Stage::Before(declared), outcome)
-        }
-        Command::Main { name, setup } => start(alloc, legacies, names, name, setup, out),
-        Command::Attach { .. }
-        | Command::Raise { .. }
-        | Command::Policy(_)
-        | Command::Frame(_)
-        | Command::Daa
-        | Command::Show
-        | Command::Symbols => (Stage::Before(legacies), Err(Refusal::NoBus.into())),
-    }
-}
-
 /// `legacy`: declares a legacy target.
 fn declare<W: Write>(
     legacies: &mut Legacies,
     names: &mut Names,
-    name: Name,
+    name: &Name,
     address: Addr7,
     lvr: Lvr,
     out: &mut W,
 ) -> Result<(), Stop> {
-    if names.place_of(&name).is_some() {
+    if names.place_of(name).is_some() {
         return Err(Refusal::NameTaken.into());
     }
     legacies.add(address, lvr).map_err(Refusal::from)?;
-    names.give(name, Place::Legacy(address))?;
+    names.give_address(name, address)?;
     writeln!(out, "{name} legacy at {:02X}", address.get())?;
     Ok(())
 }
 
-/// Gives the main device its name, if it can be the main controller. What is refused leaves the legacy targets as
-/// they were, so this comes before the bus takes them.
-fn admit(names: &mut Names, name: Name, bcr: Bcr) -> Result<(), Stop>
+/// Gives the main device its name, if it can be the main controller.
+fn admit(names: &mut Names, name: &Name, bcr: Bcr) -> Result<(), Stop>
     ensures { OnOk result (is_capable bcr ≡ true) }
 {
-    if names.place_of(&name).is_some() {
+    if names.place_of(name).is_some() {
         return Err(Refusal::NameTaken.into());
     }
     if !bcr.capable() {
         return Err(Refusal::NotCapable.into());
     }
-    names.give(name, Place::Slot(Slot::default()))?;
+    names.give_slot(name, Slot::default())?;
     Ok(())
 }
 
-/// `main`: makes the bus, with this device as its main controller.
-fn start<W: Write>(
+/// Makes the bus, with this device as its main controller. What is refused leaves the legacy targets as they were.
+fn start(
     alloc: Global,
-    legacies: Legacies,
+    legacies: &mut Legacies,
     names: &mut Names,
-    name: Name,
+    name: &Name,
     setup: Setup,
-    out: &mut W,
-) -> (Stage, Result<(), Stop>) {
-    if let Err(stop) = admit(names, name, setup.identity.bcr) {
-        return (Stage::Before(legacies), Err(stop));
-    }
-    let Ok(wires) = Wires::new(alloc) else {
-        return (Stage::Before(legacies), Err(Stop::Memory));
-    };
-    let Ok((bus, role)) = Bus::new(alloc, setup, legacies) else {
-        unreachable!();
-    };
-    let slot = role.holder();
-    let address = ShownAddress(bus.address(slot));
-    let outcome = writeln!(out, "{name} slot {} at {address}", slot.index()).map_err(Stop::from);
-    let running = Running {
-        bus,
-        hand: Hand::Role(role),
-        wires,
-        policy: ACCEPT_ALL,
-    };
-    (Stage::Running(running), outcome)
+) -> Result<Running, Stop> {
+    let wires = Wires::new(alloc)?;
+    admit(names, name, setup.identity.bcr)?;
+    let declared = mem::replace(legacies, Legacies::new());
+    Ok(Running::new(alloc, setup, declared, wires))
 }

@@ -1,7 +1,10 @@
-use crate::faults::Refusal;
-use crate::names::{Name, Names, Place};
+use crate::faults::{Refusal, Stop};
+use crate::names::{Name, Names};
+use crate::telling::tell;
 use crate::{ScriptFault, Tally, run_script};
-use i3c_base::Slot;
+use i3c_base::{Addr7, Answer, RoundReply, Served, Slot};
+use i3c_bus::{Event, Framed, Reply};
+use i3c_frame::read_trace;
 use std::alloc::Global;
 use std::io::{ErrorKind, Read, Write};
 use std::process::Abort;
@@ -479,7 +482,7 @@ fn names_and_devices(rt: HostRuntime) {
     prints(&rt, rt.alloc(), script, wanted, 9);
 }
 
-// A name stays known where another device takes its slot, and may be given again.
+// A name stays known where another device takes its slot, and may be given again. A slot knows its name.
 #[test]
 fn names_of_devices_that_are_gone(rt: HostRuntime) -> Result<(), Fail> {
     let first = Name::parse("t").ok_or("a name")?;
@@ -487,16 +490,24 @@ fn names_of_devices_that_are_gone(rt: HostRuntime) -> Result<(), Fail> {
     let (one, two) = (Slot::new(1)?, Slot::new(2)?);
     let mut names = Names::new(rt.alloc());
     assert!(rt; names.slot_of(&first) == Err(Refusal::NoName));
-    names.give(first, Place::Slot(one))?;
-    names.give(first, Place::Slot(one))?;
+    assert!(rt; names.in_slot(one).is_none());
+    names.give_slot(&first, one)?;
+    names.give_slot(&first, one)?;
     assert!(rt; names.slot_of(&first) == Ok(one));
-    names.give(second, Place::Slot(one))?;
+    names.give_slot(&second, one)?;
     assert!(rt; names.slot_of(&first) == Err(Refusal::NoDevice));
     assert!(rt; names.slot_of(&second) == Ok(one));
-    assert!(rt; names.at(Place::Slot(one)) == Some(&second));
-    names.give(first, Place::Slot(two))?;
+    assert!(rt; names.in_slot(one) == Some(&second));
+    names.give_slot(&first, two)?;
     assert!(rt; names.slot_of(&first) == Ok(two));
     assert!(rt; names.slot_of(&second) == Ok(one));
+    // a name that was given to another slot stands there, though its old slot is taken by a new name
+    names.give_slot(&second, two)?;
+    names.give_slot(&first, one)?;
+    assert!(rt; names.slot_of(&first) == Ok(one));
+    assert!(rt; names.slot_of(&second) == Ok(two));
+    assert!(rt; names.in_slot(one) == Some(&first));
+    assert!(rt; names.in_slot(two) == Some(&second));
     Ok(())
 }
 
@@ -650,6 +661,215 @@ fn a_writer_fails(rt: HostRuntime) -> Result<(), Fail> {
             assert_eq!(rt; outcome, Err(ScriptFault::Write), "with room for {room}");
             assert_eq!(rt; writer.printed.as_slice(), &whole[..room]);
         }
+    }
+    Ok(())
+}
+
+/// A reader or a writer over memory, of which one call alone fails. Later calls go on as if nothing had been.
+#[derive(Drop)]
+struct Flaky<'a> {
+    rest: &'a [u8],
+    printed: Vec<u8>,
+    // how many calls are made before the one that fails
+    before: u64,
+    has_failed: bool,
+}
+
+impl<'a> Flaky<'a> {
+    fn new(alloc: Global, rest: &'a [u8], before: u64) -> Flaky<'a> {
+        Flaky {
+            rest,
+            printed: Vec::new(alloc),
+            before,
+            has_failed: false,
+        }
+    }
+
+    /// Counts a call, and fails if it is the one.
+    fn count(&mut self) -> io::Result<()> {
+        if self.before == 0 && !self.has_failed {
+            self.has_failed = true;
+            return Err(io::Error::from(ErrorKind::Other));
+        }
+        self.before = self.before.saturating_sub(1);
+        Ok(())
+    }
+}
+
+impl Read for Flaky<'_> {
+    fn read(&mut self, buf: &mut [u8]) -> io::Result<usize> {
+        self.count()?;
+        let count = self.rest.len().min(buf.len()).min(7);
+        buf[..count].copy_from_slice(&self.rest[..count]);
+        self.rest = &self.rest[count..];
+        Ok(count)
+    }
+}
+
+impl Write for Flaky<'_> {
+    fn write(&mut self, buf: &[u8]) -> io::Result<usize> {
+        self.count()?;
+        self.printed.extend_from_slice(buf)?;
+        Ok(buf.len())
+    }
+
+    fn flush(&mut self) -> io::Result<()> {
+        Ok(())
+    }
+}
+
+/// A script with a line of each form, and refused ones.
+const EACH_LINE: &[u8] = b"show\nlegacy eep 50 20\nmain hub 020400000001 46 C0\n\
+    attach t 020400000010 06 44\nattach t 0\ndaa\nraise t 11\npolicy none\nserve\nenec 01\n\
+    policy all\nraise x 11\ndisec 01 09\nenec 01 51\nenec 01 09\nraise t 12\nserve\nshow\nsymbols\n";
+
+// Each write that fails alone ends the run, be it a reply's, a refusal's or a part of `show`, though all later ones
+// would be taken; nothing is printed after it.
+#[test]
+fn one_write_fails(rt: HostRuntime) -> Result<(), Fail> {
+    let alloc = rt.alloc();
+    let (whole, outcome) = run(alloc, EACH_LINE);
+    assert_eq!(rt; outcome, Ok(Tally { refused: 4 }));
+    let mut failures = 0u64;
+    for before in 0..10_000 {
+        let mut reader = EACH_LINE;
+        let mut writer = Flaky::new(alloc, b"", before);
+        let outcome = run_script(alloc, &mut reader, &mut writer);
+        if !writer.has_failed {
+            assert_eq!(rt; outcome, Ok(Tally { refused: 4 }));
+            assert_eq!(rt; writer.printed.as_slice(), whole.as_slice());
+            break;
+        }
+        failures = before + 1;
+        assert_eq!(rt; outcome, Err(ScriptFault::Write), "after {before} writes");
+        let count = writer.printed.len();
+        assert!(rt; count < whole.len(), "after {before} writes");
+        assert_eq!(rt; writer.printed.as_slice(), &whole[..count]);
+    }
+    // there were writes to fail, one for a line at least
+    assert!(rt; failures > 20);
+    Ok(())
+}
+
+// Each read that fails alone ends the run, though later ones would go on; the lines that were read before are run.
+#[test]
+fn one_read_fails(rt: HostRuntime) -> Result<(), Fail> {
+    let alloc = rt.alloc();
+    let (whole, _) = run(alloc, EACH_LINE);
+    let mut printed = 0;
+    for before in 0..10_000 {
+        let mut reader = Flaky::new(alloc, EACH_LINE, before);
+        let mut writer = Vec::new(alloc);
+        let outcome = run_script(alloc, &mut reader, &mut writer);
+        if !reader.has_failed {
+            assert_eq!(rt; outcome, Ok(Tally { refused: 4 }));
+            assert_eq!(rt; writer.as_slice(), whole.as_slice());
+            break;
+        }
+        assert_eq!(rt; outcome, Err(ScriptFault::Read), "after {before} reads");
+        let count = writer.len();
+        assert!(rt; printed <= count && count <= whole.len());
+        assert_eq!(rt; writer.as_slice(), &whole[..count]);
+        printed = count;
+    }
+    assert_eq!(rt; printed, whole.len());
+    Ok(())
+}
+
+// Five hundred interrupts are recorded, each under its number.
+#[test]
+fn many_records(rt: HostRuntime) -> Result<(), Fail> {
+    let alloc = rt.alloc();
+    let mut script = String::new(alloc);
+    let mut wanted = String::new(alloc);
+    for number in 1..501 {
+        writeln!(script, "raise t {:02X}", number % 256)?;
+        writeln!(script, "serve")?;
+        writeln!(wanted, "raised {number}")?;
+        writeln!(wanted, "recorded {number}")?;
+    }
+    script.push_str("show\n")?;
+    wanted.push_str("active 08\nhub 08 waiting 0\nt 09 waiting 0\nrecords 500\n")?;
+    for number in 1..501 {
+        let byte = number % 256;
+        writeln!(
+            wanted,
+            "record {number} slot 1 raise {number} at 09 byte {byte:02X}"
+        )?;
+    }
+    let script = format!(in alloc; "{TARGET}daa\n{script}")?;
+    let wanted = format!(in alloc; "{TARGET_LINES}{wanted}")?;
+    goes_on(&rt, alloc, script.as_str(), wanted.as_str(), 0)
+}
+
+// What `symbols` prints of 42 sessions, of six symbols each, is a trace of as many.
+#[test]
+fn symbols_are_a_trace(rt: HostRuntime) -> Result<(), Fail> {
+    let alloc = rt.alloc();
+    let mut script = String::from_str(alloc, HUB)?;
+    for _ in 0..42 {
+        script.push_str("daa\n")?;
+    }
+    script.push_str("symbols\n")?;
+    let (printed, outcome) = run(alloc, script.as_bytes());
+    assert_eq!(rt; outcome, Ok(Tally { refused: 0 }));
+    let text = str::from_utf8(&printed)?;
+    let wire = text.lines().last().ok_or("a line")?;
+    let symbols = read_trace(alloc, wire)?;
+    assert_eq!(rt; symbols.len(), 252);
+    Ok(())
+}
+
+// Refusals that no line comes to today.
+#[test]
+fn words_of_refusals(rt: HostRuntime) -> Result<(), Fail> {
+    let cases = [
+        (Refusal::SessionOpen, "SessionOpen"),
+        (Refusal::NoSession, "NoSession"),
+        (Refusal::ActiveStays, "ActiveStays"),
+        (Refusal::NoEnd, "NoEnd"),
+        (Refusal::NoAddress, "NoAddress"),
+        (Refusal::NoAnswer(Addr7::new(0x7E)?), "NoAnswer 7E"),
+    ];
+    for (refusal, wanted) in cases {
+        let word = format!(in rt.alloc(); "{refusal}")?;
+        assert_eq!(rt; word.as_str(), wanted);
+    }
+    Ok(())
+}
+
+// What is printed for replies that no line gets today, and what stops their lines.
+#[test]
+fn texts_of_replies(rt: HostRuntime) -> Result<(), Fail> {
+    let nine = Addr7::new(9)?;
+    let unanswered = Framed {
+        served: Served::Torn,
+        answer: Answer::NoEnd,
+    };
+    let silent = Stop::Refused(Refusal::NoEnd);
+    let none_left = Stop::Refused(Refusal::NoAddress);
+    let cases = [
+        (Reply::Served(Served::Torn), "torn\n", None),
+        (Reply::Served(Served::Joining), "joining\n", None),
+        (
+            Reply::Served(Served::WantsRole(nine)),
+            "wants role 09\n",
+            None,
+        ),
+        (Reply::Opened(Served::Quiet), "", None),
+        (Reply::Opened(Served::Recorded(3)), "recorded 3\n", None),
+        (Reply::Framed(unanswered), "torn\n", Some(silent)),
+        (Reply::Round(RoundReply::Nobody), "nobody\n", None),
+        (Reply::Round(RoundReply::NoAddress), "", Some(none_left)),
+        (Reply::OutOfMemory, "", Some(Stop::Memory)),
+        (Reply::Ended, "", None),
+    ];
+    let names = Names::new(rt.alloc());
+    for (reply, wanted, stop) in cases {
+        let mut printed = Vec::new(rt.alloc());
+        let told = tell(&names, &Event::EndDaa, &reply, &mut printed);
+        assert_eq!(rt; printed.as_slice(), wanted.as_bytes());
+        assert_eq!(rt; told.err(), stop);
     }
     Ok(())
 }

@@ -63,6 +63,10 @@ fn rows_are_found(rt: HostRuntime) -> Result<(), Fail> {
         Some(Addr7::new(0x08)?)
     );
     assert_eq!(rt; table.address_known(&identity_of(3)?), None);
+    for (address, row) in (0..128).zip(table.by_address()) {
+        assert_eq!(rt; row, table.row_of(Addr7::new(address)?));
+    }
+    assert_eq!(rt; table.legacies().len(), 1);
     Ok(())
 }
 

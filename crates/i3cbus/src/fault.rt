@@ -19,6 +19,11 @@ pub(crate) enum Fault {
 }
 
 impl From<ScriptFault> for Fault {
+    ghost use Rattle.std.specs.Prelude.{◌≡◌};
+    ghost use Rattle.i3cbus.specs.Endings.{told_as};
+
+    ghost from_gives = { λ fault told. told ≡ told_as fault };
+
     fn from(fault: ScriptFault) -> Fault {
         match fault {
             ScriptFault::Memory => Fault::Memory,

@@ -1,5 +1,5 @@
 use crate::fault::Fault;
-use crate::status::{FAULT, status_of};
+use crate::status::{came_to, status_of};
 use crate::words::{STANDARD_INPUT, file_named};
 use i3c_scenario::{Tally, run_script};
 use std::io::{BufWriter, ErrorKind, Read, Write};
@@ -8,13 +8,11 @@ use std::{env, fs, io};
 
 /// Runs the program, tells standard error why it gave up, if it did, and gives its exit status.
 pub(crate) fn run<R: Env + Files + Input + Print + Eprint + AllocGlobal>(rt: &R) -> u8 {
-    match run_named(rt) {
-        Ok(tally) => status_of(tally),
-        Err(fault) => {
-            let _ = rt.eprint(&fault);
-            FAULT
-        }
+    let outcome = run_named(rt);
+    if let Err(fault) = &outcome {
+        let _ = rt.eprint(fault);
     }
+    status_of(&outcome)
 }
 
 /// Runs the script that the command line names. Its words are judged before its file is opened.
@@ -52,10 +50,6 @@ fn run_from<R: Print + AllocGlobal, S: Read>(rt: &R, script: &mut S) -> Result<T
         return Err(Fault::Memory);
     };
     let outcome = run_script(rt.alloc(), script, &mut printed);
-    let flushed = printed.flush();
-    let tally = outcome?;
-    match flushed {
-        Ok(()) => Ok(tally),
-        Err(_) => Err(Fault::Write),
-    }
+    let flushed = printed.flush().is_ok();
+    came_to(outcome, flushed)
 }

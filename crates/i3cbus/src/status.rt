@@ -1,6 +1,8 @@
-ghost use Rattle.std.specs.Prelude.{◌≡◌, ◌==◌, if◌then◌else◌};
+ghost use Rattle.std.specs.Prelude.{◌≡◌};
+ghost use Rattle.i3cbus.specs.Endings.{ending, exit_status};
 
-use i3c_scenario::Tally;
+use crate::fault::Fault;
+use i3c_scenario::{ScriptFault, Tally};
 
 /// The script was run to its end, and no line was refused.
 const DONE: u8 = 0;
@@ -9,11 +11,27 @@ const DONE: u8 = 0;
 const REFUSED: u8 = 1;
 
 /// It wasn't run to its end.
-pub(crate) const FAULT: u8 = 2;
+const FAULT: u8 = 2;
 
-/// The exit status after a script that was run to its end.
-pub(crate) fn status_of(tally: Tally) -> u8
-    ensures { result ≡ (if tally.refused == 0 then DONE else REFUSED) }
+/// What a run came to: how its script ended, and whether all that it printed was taken.
+pub(crate) fn came_to(outcome: Result<Tally, ScriptFault>, flushed: bool) -> Result<Tally, Fault>
+    ensures { result ≡ ending outcome flushed }
 {
-    if tally.refused == 0 { DONE } else { REFUSED }
+    let tally = outcome?;
+    if flushed {
+        Ok(tally)
+    } else {
+        Err(Fault::Write)
+    }
+}
+
+/// The exit status of what a run came to.
+pub(crate) fn status_of(outcome: &Result<Tally, Fault>) -> u8
+    ensures { result ≡ exit_status outcome.now }
+{
+    match outcome {
+        Ok(tally) if tally.refused == 0 => DONE,
+        Ok(_) => REFUSED,
+        Err(_) => FAULT,
+    }
 }

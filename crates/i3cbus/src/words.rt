@@ -16,6 +16,25 @@ const RUN: &str = "run";
 /// Its argument.
 const FILE: &str = "FILE";
 
+/// What `--help` says below the list of commands.
+const TEACHING: &str = "\
+A script says what happens on the bus, one line for each event, and each line prints what came of it:
+
+  main hub 020400000001 46 C0   the bus starts with its controller: name, PID, BCR, DCR
+  attach t 020400000010 06 44   a device enters the lowest free slot
+  daa                           devices without an address get one
+  raise t 11                    the device t raises an interrupt, with its byte
+  serve                         the controller serves the first request
+  show                          who is there, at which addresses, and what was recorded
+  symbols                       the last symbols of the wire
+
+Exit status:
+  0  each line was done
+  1  a line was refused, and printed 'refused' and why
+  2  the script was not run to its end, and standard error says why
+
+docs/FORMATS.md has every line of a script, what it prints and when it is refused; examples/ has scripts.";
+
 /// The file that the command line's words name, which come without the program's. No words at all mean `run -`.
 pub(crate) fn file_named<'a>(alloc: Global, words: &'a [String]) -> Result<&'a str, Fault>
     ensures none { length words.now ≡ 0 → IsOkAnd result (λ file. file.now ≡ codes "-") }
@@ -26,10 +45,14 @@ pub(crate) fn file_named<'a>(alloc: Global, words: &'a [String]) -> Result<&'a s
     let file = Arg::new(alloc, FILE)
         .required(true)
         .help("The script, or - for standard input");
-    let run = Command::new(alloc, RUN).about("Runs a script").arg(file)?;
+    let run = Command::new(alloc, RUN)
+        .about("Runs a script")
+        .after_help(TEACHING)
+        .arg(file)?;
     let command = Command::new(alloc, PROGRAM)
         .bin_name(PROGRAM)?
         .about("Runs scripts over an I3C bus")
+        .after_help(TEACHING)
         .no_binary_name(true)
         .subcommand_required(true)
         .subcommand(run)?;

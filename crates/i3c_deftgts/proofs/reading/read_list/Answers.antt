@@ -1,4 +1,4 @@
-use Rattle.std.proofs.Common.{◌≡◌, ◌-◌, ◌∷◌, [], false, drop, length, take, not, ap, refl, sym, ◌∙◌}
+use Rattle.std.proofs.Common.{◌∷◌, false, drop, not, ap, sym, ◌∙◌}
 use Rattle.i3c_word.specs.declared.Word.{Word}
 use Rattle.i3c_deftgts.specs.Layout.{bytes}
 use Rattle.i3c_deftgts.specs.Reading.{entry_fault, later_entries}

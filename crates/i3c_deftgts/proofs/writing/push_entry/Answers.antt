@@ -1,6 +1,5 @@
-use Rattle.std.proofs.Common.{◌≡◌, ℕ, ◌+◌, ◌<◌, ◌++◌, List, length, take, ap, sym, ◌∙◌, arith, append-nil, length-append}
+use Rattle.std.proofs.Common.{◌≡◌, length, ap, sym, ◌∙◌, arith, append-nil}
 use Rattle.std.proofs.lemmas.List.{take_all}
-use Rattle.i3c_deftgts.specs.Layout.{bytes_of, Carry}
 use Rattle.i3c_deftgts.proofs.LayoutLaws.{carry_more, length-bytes_of}
 use Rattle.i3c_deftgts.proofs.writing.push_entry.Goals as goal
 

@@ -1,6 +1,5 @@
-use Rattle.std.proofs.Common.{◌-◌, length, take, ap, sym, ◌∙◌, arith, subst}
-use Rattle.std.specs.List.{flat_map}
-use Rattle.i3c_deftgts.specs.Layout.{bytes_of, list_bytes, Carry}
+use Rattle.std.proofs.Common.{◌-◌, length, sym, arith}
+use Rattle.i3c_deftgts.specs.Layout.{list_bytes, Carry}
 use Rattle.i3c_deftgts.proofs.LayoutLaws.{carried_all, carried_next, carried_room}
 use Rattle.i3c_deftgts.proofs.writing.write_list.Goals as goal
 
@@ -15,7 +14,14 @@ loop-entry-preserved c =
     carried_next (length c.deref-entry-items.result.now - 1) c.deref-entry-items.result.now c.loop-entry.entry-index c.entry-item.result c.push_entry.new.words.items c.loop-entry-test.true c.entry-item.is
     (c.push_entry.ensures _ c.loop-entry.invariant)
 
-pub returns : goal.returns
-returns c = record {
-  words = carried_all c.deref-entry-items.result.now _ c.loop-entry.entry-index c.loop-entry.words.items c.loop-entry-test.false (c.deref-entry-items.ensures.0 ∙ c.entries_of-entries.ensures) c.loop-entry.invariant;
-}
+carried : (c : goal.After-loop-entry) → Carry (list_bytes c.entries_of-entries.result.items) c.loop-entry.words.items
+carried c = carried_all c.deref-entry-items.result.now c.entries_of-entries.result.items c.loop-entry.entry-index c.loop-entry.words.items c.loop-entry-test.false c.deref-entry-items.ensures.0 c.loop-entry.invariant
+
+pub returns-clause-words : goal.returns-clause-words
+returns-clause-words c = rw (sym c.entries_of-entries.ensures.items) (carried c)
+
+pub returns-clause-read : goal.returns-clause-read
+returns-clause-read c = rw (sym c.entries_of-entries.ensures.items) (c.entries_of-entries.ensures.read c.loop-entry.words.items (carried c))
+
+pub returns-clause-copied : goal.returns-clause-copied
+returns-clause-copied c = rw (sym c.entries_of-entries.ensures.items) c.entries_of-entries.ensures.copied

@@ -1,4 +1,4 @@
-use Rattle.std.proofs.Common.{◌≡◌, ◌<◌, length, get_or, true, false, not, arith, ap, sym, ◌∙◌}
+use Rattle.std.proofs.Common.{◌<◌, length, get_or, false, not, arith, ap, sym, ◌∙◌}
 use Rattle.i3c_deftgts.specs.Entries.{address_of}
 use Rattle.i3c_deftgts.proofs.GatheringLaws.{marked_more, marked_room, unmarked}
 use Rattle.i3c_deftgts.proofs.entries.Gathered.insert.Goals as goal

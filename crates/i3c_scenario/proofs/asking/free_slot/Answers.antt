@@ -1,7 +1,7 @@
 use Rattle.std.proofs.Common.{◌≡◌, rules, subst, arith, below_more}
 use Rattle.std.proofs.lemmas.Grind.{common_steps}
 use Rattle.i3c_base.specs.State.{IsPresent}
-use Rattle.i3c_scenario.proofs.running.free_slot.Goals as goal
+use Rattle.i3c_scenario.proofs.asking.free_slot.Goals as goal
 
 pub loop-number-preserved : goal.loop-number-preserved
 loop-number-preserved c =

@@ -1,0 +1,113 @@
+-- What lines print.
+use Rattle.std.specs.Prelude.{ℕ, List, [], ◌∷◌, ◌++◌, codes, Option, Some, None, Result, Ok, Err}
+use Rattle.std.specs.Fmt.{decimal, option_append}
+use Rattle.i3c_base.specs.declared.answers.Answer.{Answer}
+use Rattle.i3c_base.specs.declared.answers.RoundReply.{RoundReply}
+use Rattle.i3c_base.specs.declared.requests.Served.{Served}
+use Rattle.i3c_bus.specs.declared.replies.Reply.{Reply}
+use Rattle.i3c_scenario.specs.declared.faults.Refusal.{Refusal}
+use Rattle.i3c_scenario.specs.declared.faults.Stop.{Stop}
+use Rattle.i3c_scenario.specs.Hex.{byte_text}
+
+-- the name of a refusal
+abbrev pub refusal_word : Refusal → List ℕ
+refusal_word Refusal.BadLine = codes "BadLine"
+refusal_word Refusal.NoBus = codes "NoBus"
+refusal_word Refusal.BusMade = codes "BusMade"
+refusal_word Refusal.NameTaken = codes "NameTaken"
+refusal_word Refusal.LegacyAddress = codes "LegacyAddress"
+refusal_word Refusal.LegacyTwice = codes "LegacyTwice"
+refusal_word Refusal.TooManyLegacy = codes "TooManyLegacy"
+refusal_word Refusal.NotCapable = codes "NotCapable"
+refusal_word Refusal.SlotTaken = codes "SlotTaken"
+refusal_word Refusal.SessionOpen = codes "SessionOpen"
+refusal_word Refusal.NoSession = codes "NoSession"
+refusal_word Refusal.ActiveStays = codes "ActiveStays"
+refusal_word Refusal.NoName = codes "NoName"
+refusal_word Refusal.NoDevice = codes "NoDevice"
+refusal_word Refusal.IsActive = codes "IsActive"
+refusal_word Refusal.NoAddress = codes "NoAddress"
+refusal_word Refusal.ByteMismatch = codes "ByteMismatch"
+refusal_word Refusal.Masked = codes "Masked"
+refusal_word Refusal.Full = codes "Full"
+refusal_word (Refusal.NoAnswer a) = codes "NoAnswer"
+refusal_word Refusal.NoEnd = codes "NoEnd"
+
+-- the address that a refusal is about
+abbrev pub refusal_tail : Refusal → List ℕ
+refusal_tail (Refusal.NoAnswer a) = codes " " ++ byte_text a
+refusal_tail Refusal.BadLine = []
+refusal_tail Refusal.NoBus = []
+refusal_tail Refusal.BusMade = []
+refusal_tail Refusal.NameTaken = []
+refusal_tail Refusal.LegacyAddress = []
+refusal_tail Refusal.LegacyTwice = []
+refusal_tail Refusal.TooManyLegacy = []
+refusal_tail Refusal.NotCapable = []
+refusal_tail Refusal.SlotTaken = []
+refusal_tail Refusal.SessionOpen = []
+refusal_tail Refusal.NoSession = []
+refusal_tail Refusal.ActiveStays = []
+refusal_tail Refusal.NoName = []
+refusal_tail Refusal.NoDevice = []
+refusal_tail Refusal.IsActive = []
+refusal_tail Refusal.NoAddress = []
+refusal_tail Refusal.ByteMismatch = []
+refusal_tail Refusal.Masked = []
+refusal_tail Refusal.Full = []
+refusal_tail Refusal.NoEnd = []
+
+-- a refusal as it is printed
+abbrev pub refusal_text : Refusal → List ℕ
+refusal_text why = refusal_word why ++ refusal_tail why
+
+-- what a line's end prints: its refusal, if it is refused
+abbrev pub end_text : Result (Unit {0}) Stop → List ℕ
+end_text (Ok done) = []
+end_text (Err Stop.Memory) = []
+end_text (Err Stop.Write) = []
+end_text (Err (Stop.Refused why)) = codes "refused " ++ (refusal_text why ++ 10 ∷ [])
+
+-- what became of a request, where the text is said here
+abbrev pub served_text : Served → Option (List ℕ)
+served_text Served.Quiet = Some (codes "quiet" ++ 10 ∷ [])
+served_text (Served.Recorded place) = Some (codes "recorded " ++ (decimal place ++ 10 ∷ []))
+served_text Served.Refused = Some (codes "turned down" ++ 10 ∷ [])
+served_text Served.Torn = Some (codes "torn" ++ 10 ∷ [])
+served_text Served.Joining = Some (codes "joining" ++ 10 ∷ [])
+served_text (Served.WantsRole a) = None
+
+-- the same before a frame's own part, where nobody asking prints nothing
+abbrev pub request_text : Served → Option (List ℕ)
+request_text Served.Quiet = Some []
+request_text (Served.Recorded place) = served_text (Served.Recorded place)
+request_text Served.Refused = served_text Served.Refused
+request_text Served.Torn = served_text Served.Torn
+request_text Served.Joining = served_text Served.Joining
+request_text (Served.WantsRole a) = None
+
+-- the answer to a frame's own part
+abbrev pub answer_text : Answer → List ℕ
+answer_text Answer.Done = codes "done" ++ 10 ∷ []
+answer_text (Answer.Bytes bytes) = codes "done" ++ 10 ∷ []
+answer_text (Answer.NoAnswer a) = []
+answer_text Answer.NoEnd = []
+
+-- a round
+abbrev pub round_text : RoundReply → Option (List ℕ)
+round_text (RoundReply.Assigned a identity) = None
+round_text RoundReply.Nobody = Some (codes "nobody" ++ 10 ∷ [])
+round_text RoundReply.Done = Some (codes "done" ++ 10 ∷ [])
+round_text RoundReply.NoAddress = Some []
+
+-- a reply, where its text is said here
+abbrev pub reply_text : Reply → Option (List ℕ)
+reply_text (Reply.Refused why) = Some []
+reply_text Reply.OutOfMemory = Some []
+reply_text Reply.Attached = None
+reply_text (Reply.Raised number) = Some (codes "raised " ++ (decimal number ++ 10 ∷ []))
+reply_text (Reply.Served served) = served_text served
+reply_text (Reply.Framed framed) = option_append (request_text framed.served) (Some (answer_text framed.answer))
+reply_text (Reply.Opened served) = request_text served
+reply_text (Reply.Round answer) = round_text answer
+reply_text Reply.Ended = Some []
