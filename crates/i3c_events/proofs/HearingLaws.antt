@@ -8,12 +8,12 @@ use Rattle.i3c_base.specs.declared.kinds.Kinds.{Kinds}
 use Rattle.i3c_base.specs.Cutting.{Lost}
 use Rattle.i3c_base.specs.Numbers.{KindSet, kind_set}
 use Rattle.i3c_base.specs.Places.{changed}
-use Rattle.i3c_base.specs.State.{Device, HasDevices, State, device_at, has_address, is_the}
+use Rattle.i3c_base.specs.State.{Device, HasDevices, State, has_address, is_the}
 use Rattle.i3c_base.specs.Frames.{AllLostAt, AnyAt, IsHeard, Rekinds, SomeLeftAt, changed_kinds, reaches, rekinded, with_kinds, without_kinds}
 use Rattle.i3c_word.specs.declared.Word.{Word}
 use Rattle.i3c_ccc.specs.declared.codes.Code.{Code}
 use Rattle.i3c_device.specs.Hearing.{named_kinds}
-use Rattle.i3c_device.specs.Walks.{SomeReached, heard_at, reaches_at}
+use Rattle.i3c_device.specs.Walks.{SomeReached, heard_at}
 use Rattle.i3c_events.specs.Words.{command}
 
 -- an address that is asked for

@@ -1,5 +1,5 @@
 -- The scans over the devices.
-use Rattle.std.proofs.lemmas.Bool.{both_ways, cases_eq, cases_lt}
+use Rattle.std.proofs.lemmas.Bool.{cases_eq, cases_lt}
 use Rattle.std.proofs.lemmas.List.{get_or_past}
 use Rattle.std.proofs.lemmas.Nat.Bits.{bit_at-lt, bit_at_and}
 use Rattle.std.proofs.lemmas.Option.{none-some, same_Some}
@@ -9,7 +9,7 @@ use Rattle.std.proofs.Common.{◌≡◌, ℕ, ◌+◌, ◌<◌, ◌≤◌, Bool,
 use Rattle.i3c_base.specs.declared.requests.Request.{Request}
 use Rattle.i3c_base.specs.State.{Device, HasDevices, State, device_at}
 use Rattle.i3c_base.specs.Serve.{IsFirstRequest, drives, rank}
-use Rattle.std.specs.List.{All, Contains}
+use Rattle.std.specs.List.{Contains}
 use Rattle.std.proofs.lemmas.List.Elements.{All-contains, All-nil}
 use Rattle.i3c_header.specs.Keys.{IsFirstOf as IsFirstIn}
 use Rattle.i3c_device.specs.Walks.{AreDriven}

@@ -1,25 +1,23 @@
 -- What serving a first request does to a bus.
-use Rattle.std.proofs.Common.{◌≡◌, ℕ, suc, ◌+◌, Bool, true, false, nat_le, List, length, Option, Some, None, option_map, is_some, if◌then◌else◌, inl, inr, sym, refl, ap, subst, ◌∙◌, arith}
+use Rattle.std.proofs.Common.{◌≡◌, ℕ, ◌+◌, Bool, true, false, List, length, Option, Some, None, option_map, is_some, if◌then◌else◌, inl, inr, sym, refl, ap, subst, ◌∙◌, arith}
 use Rattle.std.proofs.lemmas.Bool.{both_ways}
 use Rattle.std.proofs.lemmas.Bool.Decides.{nat_tests}
 use Rattle.std.proofs.lemmas.Option.{none-some}
-use Rattle.i3c_base.specs.declared.device.Waiting.{Waiting}
 use Rattle.i3c_base.specs.declared.requests.Fixed.{Fixed}
 use Rattle.i3c_base.specs.declared.requests.Record.{Record}
 use Rattle.i3c_base.specs.declared.requests.Request.{Request}
 use Rattle.i3c_base.specs.declared.requests.Request.TheVariants.{Join, Role, Interrupt}
-use Rattle.i3c_base.specs.declared.requests.Served.{Served}
 use Rattle.i3c_base.specs.declared.requests.Verdict.{Verdict}
 use Rattle.i3c_base.specs.declared.requests.Verdict.TheVariants.{Accept, Refuse}
 use Rattle.i3c_base.specs.Cutting.{CutList, Lost, cut_of, is_by, lost_by}
 use Rattle.i3c_base.specs.Places.{changed}
 use Rattle.i3c_base.specs.State.{Device, Entry, HasDevices, State, device_at, entry_at, entry_in}
-use Rattle.i3c_base.specs.Serve.{IsFirst, IsFront, IsRead, NoneAsks, byte_due, drives, each_driver, recorded, refuse_all, verdict, without, without_front}
+use Rattle.i3c_base.specs.Serve.{IsFirst, IsRead, NoneAsks, byte_due, drives, each_driver, recorded, refuse_all, verdict, without, without_front}
 use Rattle.i3c_base.proofs.Lookups.{changed_same}
 use Rattle.i3c_device.specs.Walks.{AnyDrives, SomeDrives, accepted_at, drives_at}
 use Rattle.i3c_ibi.specs.declared.serving.Reading.{Reading}
 use Rattle.i3c_ibi.specs.declared.serving.Reading.TheVariants.{Quiet, Refused, Joined, WantsRole, Due, Torn}
-use Rattle.i3c_ibi.specs.Driving.{HaveBytes, IsFrontOf, IsReading}
+use Rattle.i3c_ibi.specs.Driving.{HaveBytes, IsReading}
 use Rattle.i3c_ibi.proofs.ReadingLaws.{no_byte}
 use Rattle.i3c_ibi.specs.Policies.{Decides, is_known, verdict_in}
 use Rattle.i3c_ibi.specs.Serving.{FitsTable, IsServing, given_for, served_as}

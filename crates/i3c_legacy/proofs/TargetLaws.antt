@@ -3,7 +3,6 @@ use Rattle.std.proofs.Common.{◌≡◌, ℕ, Bool, true, false, ◌==◌, List,
 use Rattle.std.specs.Prelude.{cond, map}
 use Rattle.std.specs.List.{range_with_len}
 use Rattle.i3c_base.specs.declared.range.TheConstants.{ADDRESSES}
-use Rattle.i3c_base.specs.declared.device.LegacyTarget.{LegacyTarget}
 use Rattle.i3c_base.specs.State.{cleared_registers, legacy_target_of, legacy_targets_of}
 use Rattle.i3c_legacy.specs.declared.legacies.Declared.{Declared}
 use Rattle.i3c_legacy.specs.declared.targets.Placed.{Placed}

@@ -5,5 +5,5 @@ use Rattle.i3c_bus.proofs.wire.tell_round.Goals as goal
 
 pub returns-in-Done : goal.returns-in-Done
 returns-in-Done g c =
-    let header = subst (λ (s : Symbol). g.T.Tap.note_gives c.note.new.self s c.note-2.new.self) c.broadcast.ensures c.note-2.ensures in
-    (_, (c.note.new.self, c.note.ensures, (c.note-2.new.self, header, refl)), refl)
+    let header = subst (λ (s : Symbol). g.T.Tap.note_gives c.note.new.self s c.note-in-Done.new.self) c.broadcast.ensures c.note-in-Done.ensures in
+    (_, (c.note.new.self, c.note.ensures, (c.note-in-Done.new.self, header, refl)), refl)

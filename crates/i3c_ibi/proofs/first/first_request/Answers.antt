@@ -1,5 +1,5 @@
 -- The first of the requests that are driven.
-use Rattle.std.proofs.Common.{arith, subst, sym}
+use Rattle.std.proofs.Common.{subst, sym}
 use Rattle.std.specs.List.{All}
 use Rattle.i3c_header.specs.Keys.{IsLawful}
 use Rattle.i3c_ibi.proofs.Scans.{first_seen}

@@ -1,7 +1,5 @@
 -- Each kind of request that is accepted.
 use Rattle.std.proofs.Common.{◌≡◌, ◌∙◌, true, ap, subst}
-use Rattle.i3c_base.specs.declared.requests.Request.{Request}
-use Rattle.i3c_base.specs.declared.requests.Request.TheVariants.{Join, Role}
 use Rattle.i3c_base.specs.Places.{changed}
 use Rattle.i3c_base.specs.Serve.{IsFirst}
 use Rattle.i3c_device.specs.Walks.{accepted_at}

@@ -1,13 +1,9 @@
 -- The byte was ended, or nobody was left to end it.
-use Rattle.std.proofs.Common.{◌≡◌, ◌∙◌, false, true, is_some, None, Some, ap, subst, sym}
+use Rattle.std.proofs.Common.{◌≡◌, true, is_some, ap, subst, sym}
 use Rattle.std.proofs.lemmas.Bool.{both_ways}
 use Rattle.i3c_base.specs.declared.requests.Request.TheVariants.{Interrupt}
 use Rattle.i3c_base.specs.Cutting.{lost_by}
-use Rattle.i3c_base.specs.State.{HasDevices, State}
-use Rattle.i3c_base.specs.Serve.{byte_due}
-use Rattle.i3c_device.specs.Walks.{SomeDrives}
-use Rattle.i3c_ibi.specs.Driving.{HaveBytes, IsReading}
-use Rattle.i3c_ibi.specs.Serving.{FitsTable}
+use Rattle.i3c_ibi.specs.Driving.{HaveBytes}
 use Rattle.i3c_ibi.proofs.ServingLaws.{due_served, have_bytes, seen_drives, torn_served, unseen_drives}
 use Rattle.i3c_ibi.proofs.serving.interrupt.Goals as goal
 use Rattle.i3c_ibi.proofs.serving.interrupt.Goals.{in_default-via-in-Some+else-not-ended, in_default-via-in_default}

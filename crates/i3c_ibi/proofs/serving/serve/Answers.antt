@@ -1,5 +1,5 @@
 -- Nobody asks, or the first request is turned down or accepted.
-use Rattle.std.proofs.Common.{◌≡◌, ◌∙◌, [], false, true, ap, length, refl}
+use Rattle.std.proofs.Common.{◌∙◌, [], false, ap, length, refl}
 use Rattle.i3c_base.specs.State.{State}
 use Rattle.i3c_ibi.specs.Policies.{is_known}
 use Rattle.i3c_ibi.proofs.ServingLaws.{any_drives, decided_acceptance, decided_refusal, known_accepted, refused_served}

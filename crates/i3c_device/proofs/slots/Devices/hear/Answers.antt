@@ -1,5 +1,5 @@
 -- One slot more, up to the last.
-use Rattle.std.proofs.Common.{◌≡◌, ◌∙◌, ap, arith, get_or, length-set, refl, set, sym}
+use Rattle.std.proofs.Common.{◌∙◌, ap, arith, length-set, refl, set, sym}
 use Rattle.i3c_base.specs.Places.{changed}
 use Rattle.i3c_base.proofs.Lookups.{changed_over_all, changed_over_more}
 use Rattle.i3c_device.specs.Walks.{heard_at}

@@ -1,5 +1,5 @@
 -- Whoever drives it and is left is found, and else nobody is.
-use Rattle.std.proofs.Common.{◌≡◌, ◌<◌, ◌∙◌, ap, arith, get_or, length, sym, subst, false}
+use Rattle.std.proofs.Common.{◌<◌, ◌∙◌, ap, arith, get_or, length, sym, subst}
 use Rattle.std.proofs.lemmas.Bool.{both_ways, false≢true}
 use Rattle.std.proofs.lemmas.List.{get_or_default}
 use Rattle.i3c_base.specs.Cutting.{lost_by}

@@ -1,10 +1,10 @@
 -- Whoever is reached and left is found, and else nobody is.
-use Rattle.std.proofs.Common.{◌≡◌, ◌<◌, ◌∙◌, ap, arith, get_or, length, sym, subst, false}
+use Rattle.std.proofs.Common.{◌<◌, ◌∙◌, ap, arith, get_or, length, sym, subst}
 use Rattle.std.proofs.lemmas.Bool.{both_ways, false≢true}
 use Rattle.std.proofs.lemmas.List.{get_or_default}
 use Rattle.i3c_base.specs.Cutting.{lost_by}
 use Rattle.i3c_device.specs.Walks.{SomeReached}
-use Rattle.i3c_device.proofs.Walking.{found_here, lost_more, none_left}
+use Rattle.i3c_device.proofs.Walking.{lost_more, none_left}
 use Rattle.i3c_device.proofs.slots.Devices.is_heard.Goals as goal
 use Rattle.i3c_device.proofs.slots.Devices.is_heard.Goals.{else-reaches-via-then-reaches+else-not-is_lost, else-reaches-via-else-reaches}
 

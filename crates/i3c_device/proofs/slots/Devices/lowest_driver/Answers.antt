@@ -1,5 +1,5 @@
 -- The first slot that drives it, or nobody.
-use Rattle.std.proofs.Common.{◌≡◌, ◌<◌, ◌∙◌, arith, get_or, length, sym, subst}
+use Rattle.std.proofs.Common.{◌<◌, ◌∙◌, arith, get_or, length, sym, subst}
 use Rattle.std.proofs.lemmas.List.{get_or_default}
 use Rattle.i3c_device.specs.Walks.{AnyDrives, IsLowest}
 use Rattle.i3c_device.proofs.Walking.{lowest_here, nobody_drives, none_more}

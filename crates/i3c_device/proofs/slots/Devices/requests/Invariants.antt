@@ -1,4 +1,3 @@
-use Rattle.std.proofs.Common.{◌≡◌}
 use Rattle.i3c_device.specs.Walks.{AreDriven}
 use Rattle.i3c_device.proofs.slots.Devices.requests.Given as goal
 

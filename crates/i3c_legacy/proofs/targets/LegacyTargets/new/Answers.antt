@@ -1,5 +1,5 @@
 -- Each declared target is placed.
-use Rattle.std.proofs.Common.{ℕ, ◌≡◌, ◌+◌, ◌++◌, ◌∷◌, [], ◌∙◌, ap, arith, length, length-take, sym, take}
+use Rattle.std.proofs.Common.{◌++◌, ◌∷◌, [], ◌∙◌, ap, arith, length, length-take, sym, take}
 use Rattle.std.specs.Prelude.{map}
 use Rattle.std.proofs.lemmas.List.{length-map, map_more, take_all}
 use Rattle.i3c_legacy.proofs.TargetLaws.{placed_of, targets_placed}
