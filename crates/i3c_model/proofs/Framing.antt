@@ -176,3 +176,13 @@ recorded_served st a slot front byte mid new place first lowest read kept answer
       placed = omega (arith, count, records, more);
       left = left;
     }
+
+-- nothing is torn where no byte is due, or a driver is left
+pub not_torn : (st : State) (policy : Fixed) (lost : Lost) (a : ℕ) → IsFirst st (Interrupt a) → (byte_due (entry_at st a) ≡ false) ⊎ ((s : ℕ) × (drives st (Interrupt a) s ≡ true) × (lost s ≡ false)) → (new : State) → ¬ Serves st policy lost Torn new
+not_torn st policy lost a first why new t =
+    let e : Interrupt t.at ≡ Interrupt a = first_unique st (Interrupt t.at) (Interrupt a) t.first first in
+    let same : t.at ≡ a = cc in
+    elim why [
+      | inl undue ↦ both_ways _ undue (ap (λ b. byte_due (entry_at st b)) (sym same) ∙ t.due)
+      | inr left ↦ both_ways _ left.2 (t.gone left.0 (ap (λ b. drives st (Interrupt b) left.0) same ∙ left.1))
+    ]

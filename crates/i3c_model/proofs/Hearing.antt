@@ -203,3 +203,24 @@ lost_beats st lost i j l r less =
         go : (b : Bool) → is_lt (identity_cmp i k) ≡ b → IsBelow i k
         go true e = less_below i k (less_from (identity_cmp i k) e)
         go false e = absurd (false≢true (sym ((order identity_cmp identity_total).chain i k j e not_below) ∙ ap is_lt less))
+
+-- nobody who is left is beaten where nobody is lost, or the least of those who are isn't below the least of the others
+not_below : (i j : Identity) → ¬ IsBelow i j → is_lt (identity_cmp i j) ≡ false
+not_below i j above = go (is_lt (identity_cmp i j)) refl
+  where
+    go : (b : Bool) → is_lt (identity_cmp i j) ≡ b → b ≡ false
+    go true e = absurd (above (less_below i j (less_from (identity_cmp i j) e)))
+    go false e = refl
+
+pub not_beaten : (st : State) (lost : Lost) (i j : Identity) → IsLeastHearer st lost true i → IsLeastHearer st lost false j → is_lt (identity_cmp i j) ≡ false → IsBeatenByLost st lost → ⊥
+not_beaten st lost i j l r no_less b =
+    let below = b.4 j r.0 in
+    let above = not_below b.1.identity i (l.1 b.0 b.1 b.2 b.3) in
+    false≢true (sym ((order identity_cmp identity_total).chain b.1.identity i j above no_less) ∙ ap is_lt (below_less b.1.identity j below))
+
+pub none_beaten : (st : State) (lost : Lost) → NoHearer st lost true → IsBeatenByLost st lost → ⊥
+none_beaten st lost none b = none b.0 b.1 b.2 b.3
+
+-- not all are lost where one is left
+pub some_left : (st : State) (lost : Lost) (j : Identity) → IsLeastHearer st lost false j → ¬ AllHearersLost st lost
+some_left st lost j r all = false≢true (sym r.0.3 ∙ all r.0.0 r.0.1 r.0.2)

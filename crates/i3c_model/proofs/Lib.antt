@@ -9,3 +9,4 @@ pub mod Requests
 pub mod Readings
 pub mod Framing
 pub mod Stepping
+pub mod Taking

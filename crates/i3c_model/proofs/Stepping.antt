@@ -1,10 +1,11 @@
 -- Steps, and what decides them.
 use Rattle.std.proofs.Common.{◌≡◌, ◌≢◌, ◌↔◌, ℕ, ◌⊎◌, IsTrue, Bool, true, false, not, ◌&&◌, Option, Some, None, is_none, is_some, MatchBool, MatchOption, sym, refl, ap, ◌∙◌, subst, inl, inr}
 use Rattle.std.specs.Option.{unwrap_or}
-use Rattle.std.proofs.lemmas.Bool.{and_parts, cond-true, false≢true}
+use Rattle.std.proofs.lemmas.Bool.{and_parts, cond-true, false≢true, not-true}
 use Rattle.std.proofs.lemmas.Option.{none-some}
 use Rattle.i3c_base.specs.declared.identity.Identity.{Identity}
-use Rattle.i3c_base.specs.Cutting.{Lost}
+use denote.Enum.Bare.{sameb}
+use Rattle.i3c_base.specs.Cutting.{Lost as LostDevices}
 use Rattle.i3c_base.specs.Round.{AllHearersLost, AnyHears, IsAddressFor, IsHearer}
 use Rattle.i3c_base.specs.State.{Device, State, IsKept, IsPick, IsPickable, IsUnknown, IsUsable, device_at, entry_at, legacy_target_at}
 use Rattle.i3c_bus.specs.declared.events.Event.{Event}
@@ -12,6 +13,9 @@ use Rattle.i3c_bus.specs.declared.events.Event.TheVariants.{Attach, AskJoin, Dis
 use Rattle.i3c_bus.specs.declared.replies.Refusal.{Refusal}
 use Rattle.i3c_bus.specs.declared.replies.Refusal.TheVariants.{NoDevice}
 use Rattle.i3c_bus.specs.declared.replies.Reply.{Reply}
+use Rattle.i3c_model.specs.contracts.plain.Choice.{the_type}
+use Rattle.i3c_model.specs.declared.plain.Choice.{Choice}
+use Rattle.i3c_model.specs.declared.plain.Choice.TheVariants.{Heard, Lost, Silent}
 use Rattle.i3c_bus.specs.Step.{Acts, IsShort, Step, checks, first_refusal}
 
 -- an event that no test refuses acts, and one that a test refuses changes nothing
@@ -67,7 +71,7 @@ pub join_there : (old : State) (s : ℕ) → first_refusal (checks old (AskJoin 
 join_there old s none absent = none-some NoDevice (sym none ∙ cond-true (is_none (device_at old s)) (Some NoDevice) _ (ap is_none absent))
 
 -- a round is over where each hearer is lost, as far as that is chosen
-pub over_is : (st : State) (lost : Lost) (may found : Bool) → (found ≡ true) ↔ ((s : ℕ) × (d : Device) × (device_at st s ≡ Some d) × ((d.hearing && not (may && lost s)) ≡ true))
+pub over_is : (st : State) (lost : LostDevices) (may found : Bool) → (found ≡ true) ↔ ((s : ℕ) × (d : Device) × (device_at st s ≡ Some d) × ((d.hearing && not (may && lost s)) ≡ true))
     → MatchBool (not found) (AllHearersLost st lost) (AnyHears st)
 over_is st lost may false h = λ s d hears. go s d hears (lost s) refl
   where
@@ -78,3 +82,35 @@ over_is st lost may false h = λ s d hears. go s d hears (lost s) refl
 over_is st lost may true h =
     let some = h.0 refl in
     (some.0, some.1, (some.2, (and_parts some.1.hearing (not (may && lost some.0)) some.3).0))
+
+-- the test of a choice
+pub is_silent : (c : Choice) → sameb the_type c Silent ≡ true → c ≡ Silent
+is_silent Heard h = absurd (false≢true h)
+is_silent Lost h = absurd (false≢true h)
+is_silent Silent h = refl
+
+pub silent_is : (c : Choice) → c ≡ Silent → sameb the_type c Silent ≡ true
+silent_is c e = ap (λ x. sameb the_type x Silent) e
+
+pub is_lost : (c : Choice) → sameb the_type c Lost ≡ true → c ≡ Lost
+is_lost Heard h = absurd (false≢true h)
+is_lost Lost h = refl
+is_lost Silent h = absurd (false≢true h)
+
+pub lost_is : (c : Choice) → c ≡ Lost → sameb the_type c Lost ≡ true
+lost_is c e = ap (λ x. sameb the_type x Lost) e
+
+-- a round is over as it is chosen
+pub over_chosen : (st : State) (lost : LostDevices) (choice : Choice) (may found : Bool) → may ≡ sameb the_type choice Silent
+    → (found ≡ true) ↔ ((s : ℕ) × (d : Device) × (device_at st s ≡ Some d) × ((d.hearing && not (may && lost s)) ≡ true))
+    → MatchBool (not found) (¬ (choice ≡ Silent) → ¬ AnyHears st) (choice ≡ Silent → ¬ AllHearersLost st lost)
+over_chosen st lost choice may false is h = λ ne any. go ne any may refl
+  where
+    go : ¬ (choice ≡ Silent) → AnyHears st → (b : Bool) → may ≡ b → ⊥
+    go ne any true e = ne (is_silent choice (sym is ∙ e))
+    go ne any false e = false≢true (h.1 (any.0, any.1, any.2.0, (ap (λ x. x && not (may && lost any.0)) any.2.1 ∙ ap (λ m. not (m && lost any.0)) e)))
+over_chosen st lost choice may true is h = λ e all.
+    let some = h.0 refl in
+    let p = and_parts some.1.hearing (not (may && lost some.0)) some.3 in
+    let left : not (lost some.0) ≡ true = ap (λ m. not (m && lost some.0)) (sym (is ∙ silent_is choice e)) ∙ p.1 in
+    false≢true (sym (not-true (lost some.0) left) ∙ all some.0 some.1 (some.2, p.0))

@@ -1,3 +1,4 @@
 pub mod Views
 pub mod Meaning
 pub mod Storing
+pub mod Choosing

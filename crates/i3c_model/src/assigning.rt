@@ -10,7 +10,11 @@ impl Plain {
     ghost use Rattle.i3c_base.specs.Round.{AllHearersLost, AnyHears, IsBeatenByLost, IsWinner, Rounds, assigned, ended, opened};
     ghost use Rattle.i3c_base.specs.Serve.{Frame, header_bits, refuse_all};
     ghost use Rattle.i3c_base.specs.State.{IsKept, IsPick, IsPickable, IsUnknown};
-    ghost use Rattle.i3c_bus.specs.Step.{Becomes};
+    ghost use Rattle.i3c_bus.specs.Step.{Acts, Becomes};
+    ghost use Rattle.i3c_bus.specs.declared.events.Event.{Event};
+    ghost use Rattle.i3c_bus.specs.declared.replies.Reply.{Reply};
+    ghost use Rattle.i3c_model.specs.declared.plain.Choice.{Choice as ChoiceValue};
+    ghost use Rattle.i3c_model.specs.Choosing.{Follows};
     ghost use Rattle.i3c_model.specs.Meaning.{IsLeastHearer, NoHearer};
     ghost use Rattle.i3c_model.specs.Storing.{MayAssign};
 
@@ -38,6 +42,7 @@ impl Plain {
         ensures rounds { IfOk result (λ answer. Rounds self.old cuts.now answer self.new) }
         ensures unchanged { OnErr result (self.new ≡ self.old) }
         ensures memory { OnErr result (MayAssign self.old cuts.now) }
+        ensures chosen { IfOk result (λ answer. Follows (Acts self.old (Event.Round cuts.now)) choice (Reply.Round answer)) }
     {
         let Some(pick) = self.pick() else {
             return Ok(RoundReply::NoAddress);
@@ -98,7 +103,8 @@ impl Plain {
 
     // Whether nobody acknowledges the header: nobody hears, or that is chosen and whoever hears is lost by then.
     fn is_over(&self, cuts: &Cuts, choice: Choice) -> bool
-        ensures { MatchBool result (AllHearersLost self.now (lost_by cuts.now 0)) (AnyHears self.now) }
+        ensures lawful { MatchBool result (AllHearersLost self.now (lost_by cuts.now 0)) (AnyHears self.now) }
+        ensures chosen { MatchBool result (¬ (choice ≡ ChoiceValue.Silent) → ¬ AnyHears self.now) (choice ≡ ChoiceValue.Silent → ¬ AllHearersLost self.now (lost_by cuts.now 0)) }
     {
         let may_be_silent = choice == Choice::Silent;
         !self.devices.iter().any(|(slot, device)| {
@@ -122,7 +128,8 @@ impl Plain {
     // Who gets an address, if somebody does: the least identity of those who aren't lost, unless it is chosen that one who
     // is lost has beaten it.
     fn winner(&self, cuts: &Cuts, choice: Choice) -> Option<Identity>
-        ensures { MatchOption result (AllHearersLost self.now (lost_by cuts.now 73) ⊎ IsBeatenByLost self.now (lost_by cuts.now 73)) (IsWinner self.now (lost_by cuts.now 73)) }
+        ensures lawful { MatchOption result (AllHearersLost self.now (lost_by cuts.now 73) ⊎ IsBeatenByLost self.now (lost_by cuts.now 73)) (IsWinner self.now (lost_by cuts.now 73)) }
+        ensures chosen { MatchOption result (¬ (choice ≡ ChoiceValue.Lost) → AllHearersLost self.now (lost_by cuts.now 73)) (λ _. choice ≡ ChoiceValue.Lost → ¬ (AllHearersLost self.now (lost_by cuts.now 73) ⊎ IsBeatenByLost self.now (lost_by cuts.now 73))) }
     {
         let left = self.least_hearer(cuts, false)?;
         match self.least_hearer(cuts, true) {

@@ -11,6 +11,9 @@ impl Plain {
     ghost use Rattle.i3c_base.specs.Cutting.{lost_by};
     ghost use Rattle.i3c_base.specs.Frames.{AnyAt, Rekinds, SomeLeftAt, changed_kinds, kinds_bits, rekinded};
     ghost use Rattle.i3c_base.specs.Serve.{Frame, header_bits};
+    ghost use Rattle.i3c_bus.specs.Step.{RekindsBy};
+    ghost use Rattle.i3c_bus.specs.declared.replies.Reply.{Reply};
+    ghost use Rattle.i3c_model.specs.Choosing.{AnswersAsChosen, Follows};
     ghost use Rattle.i3c_model.specs.Meaning.{MayAnswer};
     ghost use Rattle.i3c_model.specs.Storing.{IsRecordDue};
 
@@ -37,7 +40,8 @@ impl Plain {
     // The answer of a command to these, whose header to one address ends with this bit: nobody acknowledges that header
     // where nobody is there, or where that is chosen and nobody is left.
     fn answer_of(&self, to: &Option<Addr7>, cuts: &Cuts, header_end: u16, choice: Choice) -> Answer
-        ensures { MayAnswer self.now to.now (lost_by cuts.now header_end) result }
+        ensures lawful { MayAnswer self.now to.now (lost_by cuts.now header_end) result }
+        ensures chosen { AnswersAsChosen self.now to.now (lost_by cuts.now header_end) choice result }
     {
         let Some(address) = to else {
             return Answer::Done;
@@ -78,6 +82,7 @@ impl Plain {
         ensures frame { IfOk result (λ framed. Frame self.old policy.now cuts.now framed.served (header_bits framed.served + kinds_bits to.now framed.answer) (Rekinds to.now (changed_kinds change kinds) framed.answer) self.new) }
         ensures unchanged { OnErr result (self.new ≡ self.old) }
         ensures memory { OnErr result (IsRecordDue self.old policy.now) }
+        ensures chosen { IfOk result (λ framed. Follows (RekindsBy self.old to.now (changed_kinds change kinds) policy.now cuts.now) choice (Reply.Framed framed)) }
     {
         let begin = self.word_bits(policy) + self.header_bits();
         let answer = self.answer_of(to, cuts, begin + 18, choice);

@@ -56,6 +56,7 @@ impl Plain {
     ghost use Rattle.i3c_base.specs.State.{device_at, entry_at, IsPresent};
     ghost use Rattle.i3c_bus.specs.Step.{Acts, Step, checks, first_refusal};
     ghost use Rattle.i3c_bus.specs.declared.replies.Reply.{Reply};
+    ghost use Rattle.i3c_model.specs.Choosing.{Follows};
     ghost use Rattle.i3c_model.specs.Storing.{MayStore, Stores};
 
     /// The active controller's slot.
@@ -89,6 +90,7 @@ impl Plain {
         ensures own { IfOk result (λ reply. reply ≢ Reply.OutOfMemory) }
         ensures unchanged { OnErr result (self.new ≡ self.old) }
         ensures memory { OnErr result (MayStore self.old event.now) }
+        ensures chosen { IfOk result (Follows (Step self.old event.now) choice) }
     {
         match self.refusal(event) {
             Some(why) => Ok(Reply::Refused(why)),
@@ -102,6 +104,7 @@ impl Plain {
         ensures acts { IfOk result (λ reply. Acts self.old event.now reply self.new) }
         ensures unchanged { OnErr result (self.new ≡ self.old) }
         ensures memory { OnErr result (Stores self.old event.now) }
+        ensures chosen { IfOk result (Follows (Acts self.old event.now) choice) }
     {
         match event {
             Event::Attach(slot, setup) => {

@@ -11,7 +11,10 @@ impl Plain {
     ghost use Rattle.i3c_base.specs.Cutting.{Lost, lost_by};
     ghost use Rattle.i3c_base.specs.Serve.{Frame, IsFirst, IsWordBits, Serves, byte_due, each_driver, emptied, header_bits, recorded, verdict, without};
     ghost use Rattle.i3c_base.specs.State.{State, entry_at};
-    ghost use Rattle.i3c_bus.specs.Step.{Nothing};
+    ghost use Rattle.i3c_bus.specs.Step.{Acts, Nothing};
+    ghost use Rattle.i3c_bus.specs.declared.events.Event.{Event};
+    ghost use Rattle.i3c_bus.specs.declared.replies.Reply.{Reply};
+    ghost use Rattle.i3c_model.specs.Choosing.{Follows, ServesAsChosen};
     ghost use Rattle.i3c_model.specs.Storing.{IsRecordDue};
 
     // Whether the interrupts at an address have a mandatory byte, by the BCR in the table.
@@ -75,10 +78,11 @@ impl Plain {
         Ok(())
     }
 
-    // The interrupt at this address, which comes first, was accepted: the lowest slot's raise is recorded.
-    fn record(&mut self, at: Addr7) -> Result<Served, OutOfMemory>
+    // The interrupt at this address, which comes first, was accepted: the lowest slot's raise is recorded. The record's
+    // place is answered, from 1.
+    fn record(&mut self, at: Addr7) -> Result<usize, OutOfMemory>
         requires first { IsFirst self.old (RequestValue.Interrupt at) }
-        ensures serves { (policy : FixedValue) (lost : Lost) → verdict self.old policy (RequestValue.Interrupt at) ≡ VerdictValue.Accept → IfOk result (λ served. Serves self.old policy lost served self.new) }
+        ensures serves { (policy : FixedValue) (lost : Lost) → verdict self.old policy (RequestValue.Interrupt at) ≡ VerdictValue.Accept → IfOk result (λ place. Serves self.old policy lost (ServedValue.Recorded place) self.new) }
         ensures unchanged { OnErr result (self.new ≡ self.old) }
     {
         let Some((slot, front)) = self.lowest_front(at) else {
@@ -93,7 +97,7 @@ impl Plain {
             byte,
         })?;
         self.answer(&Request::Interrupt(at));
-        Ok(Served::Recorded(self.records.len()))
+        Ok(self.records.len())
     }
 
     // The interrupt at this address, which comes first, was accepted: it is recorded, or torn where that is chosen and
@@ -108,6 +112,7 @@ impl Plain {
         requires first { IsFirst self.old (RequestValue.Interrupt at) }
         ensures serves { (policy : FixedValue) → verdict self.old policy (RequestValue.Interrupt at) ≡ VerdictValue.Accept → IfOk result (λ served. Serves self.old policy (lost_by cuts.now last) served self.new) }
         ensures unchanged { OnErr result (self.new ≡ self.old) }
+        ensures chosen { (policy : FixedValue) → IfOk result (ServesAsChosen self.old policy (lost_by cuts.now last) choice) }
     {
         let request = Request::Interrupt(at);
         let may_tear = self.is_byte_due(at) && !self.is_driver_left(&request, cuts, last);
@@ -115,7 +120,7 @@ impl Plain {
             self.answer(&request);
             return Ok(Served::Torn);
         }
-        self.record(at)
+        Ok(Served::Recorded(self.record(at)?))
     }
 
     // This request, which comes first, was accepted.
@@ -130,6 +135,7 @@ impl Plain {
         ensures serves { (policy : FixedValue) → verdict self.old policy request.now ≡ VerdictValue.Accept → IfOk result (λ served. Serves self.old policy (lost_by cuts.now last) served self.new) }
         ensures unchanged { OnErr result (self.new ≡ self.old) }
         ensures memory { (policy : FixedValue) → verdict self.old policy request.now ≡ VerdictValue.Accept → OnErr result (IsRecordDue self.old policy) }
+        ensures chosen { (policy : FixedValue) → IfOk result (ServesAsChosen self.old policy (lost_by cuts.now last) choice) }
     {
         match request {
             Request::Join => {
@@ -155,6 +161,7 @@ impl Plain {
         ensures serves { IfOk result (λ served. Serves self.old policy.now (lost_by cuts.now last) served self.new) }
         ensures unchanged { OnErr result (self.new ≡ self.old) }
         ensures memory { OnErr result (IsRecordDue self.old policy.now) }
+        ensures chosen { IfOk result (ServesAsChosen self.old policy.now (lost_by cuts.now last) choice) }
     {
         let Some(request) = self.first_request() else {
             return Ok(Served::Quiet);
@@ -182,6 +189,7 @@ impl Plain {
         ensures frame { IfOk result (λ served. Frame self.old policy.now cuts.now served 0 Nothing self.new) }
         ensures unchanged { OnErr result (self.new ≡ self.old) }
         ensures memory { OnErr result (IsRecordDue self.old policy.now) }
+        ensures chosen { IfOk result (λ served. Follows (Acts self.old (Event.Serve policy.now cuts.now)) choice (Reply.Served served)) }
     {
         let last = self.word_bits(policy);
         let served = self.serve_first(policy, cuts, last, choice)?;

@@ -3,13 +3,15 @@ use Rattle.i3c_base.specs.declared.answers.Answer.{Answer}
 use Rattle.i3c_base.specs.Cutting.{lost_by}
 use Rattle.i3c_base.specs.Frames.{Rekinds, changed_kinds, kinds_bits, rekinded}
 use Rattle.i3c_base.specs.Numbers.{KindSet}
-use Rattle.i3c_base.specs.Serve.{header_bits}
+use Rattle.i3c_base.specs.Serve.{Frame, header_bits}
+use Rattle.i3c_model.specs.Choosing.{ServesAsChosen}
 use Rattle.i3c_model.proofs.Framing.{frame_of, rekinds_of, serves_keeps}
+use Rattle.i3c_model.proofs.Taking.{rekind_follows}
 use Rattle.i3c_model.proofs.plain.Plain.rekind.Goals.{in-Done, in_default}
 use Rattle.i3c_model.proofs.plain.Plain.rekind.Goals as goal
 
-pub returns-clause-frame : goal.returns-clause-frame
-returns-clause-frame c =
+pub returns : goal.returns
+returns c =
     let old = c.args.self.now in
     let mid = c.serve_first.new.self in
     let done = c.match-answer.self in
@@ -30,7 +32,16 @@ returns-clause-frame c =
       | in-Done w ↦ absurd (no_done w.in-Done.is)
       | in_default w ↦ w.self-is
     ] in
-    let own = rekinds_of to f answer c.args.cuts.now begin old mid done (serves_keeps old c.args.policy.now (lost_by c.args.cuts.now last) served mid serves) c.answer_of-answer.ensures did did_not in
+    let own = rekinds_of to f answer c.args.cuts.now begin old mid done (serves_keeps old c.args.policy.now (lost_by c.args.cuts.now last) served mid serves) c.answer_of-answer.ensures.lawful did did_not in
+    let frame : Frame old c.args.policy.now c.args.cuts.now served (header_bits served + kinds_bits to answer) (Rekinds to f answer) c.empty.new.self =
     frame_of old c.args.policy.now c.args.cuts.now served (header_bits served + kinds_bits to answer) c.word_bits.result last (Rekinds to f answer) mid done c.empty.new.self
     (omega (arith, header, bits)) (c.word_bits.ensures.sent (lost_by c.args.cuts.now last) served mid serves) serves
-    (subst (λ n. Rekinds to f answer (lost_by c.args.cuts.now (begin + n)) mid done) (sym bits) own) c.empty.ensures
+    (subst (λ n. Rekinds to f answer (lost_by c.args.cuts.now (begin + n)) mid done) (sym bits) own) c.empty.ensures in
+    record {
+      frame = frame;
+      unchanged = tt;
+      memory = tt;
+      chosen = rekind_follows old to f c.args.policy.now c.args.cuts.now c.args.choice served answer c.word_bits.result c.header_bits.result c.empty.new.self
+          (subst (λ n. ServesAsChosen old c.args.policy.now (lost_by c.args.cuts.now (begin + n)) c.args.choice served) bits c.in_ok-served.ensures.chosen) c.answer_of-answer.ensures.chosen c.word_bits.ensures.sent
+          (c.header_bits.ensures.sent c.args.policy.now) frame;
+    }

@@ -1,0 +1,11 @@
+use Rattle.i3c_model.proofs.Taking.{done_follows, nobody_follows}
+use Rattle.i3c_model.proofs.plain.Plain.round.Goals as goal
+
+pub returns-then-is_over-clause-chosen : goal.returns-then-is_over-clause-chosen
+returns-then-is_over-clause-chosen c =
+    done_follows c.args.self.now c.args.cuts.now c.args.choice c.empty.new.self ((c.in-Some.pick, c.in-Some.ensures.0), c.if-is_over.ensures.lawful, c.empty.ensures) c.if-is_over.ensures.chosen
+
+pub returns-in_default-winner-clause-chosen : goal.returns-in_default-winner-clause-chosen
+returns-in_default-winner-clause-chosen c =
+    nobody_follows c.args.self.now c.args.cuts.now c.args.choice c.empty-in_default-winner.new.self
+    ((c.in-Some.pick, c.in-Some.ensures.0), c.if-is_over.ensures.lawful, c.in_default-winner.ensures.lawful, c.empty-in_default-winner.ensures) c.if-is_over.ensures.chosen c.in_default-winner.ensures.chosen

@@ -1,0 +1,77 @@
+-- What a choice decides where drop-offs leave open what comes of an event.
+use Rattle.std.specs.Prelude.{◌≡◌, ℕ, ◌≤◌, Option, Some, None, MatchOption, option_and_then, ⊤}
+use Rattle.i3c_base.specs.declared.answers.Answer.{Answer}
+use Rattle.i3c_base.specs.declared.answers.RoundReply.{RoundReply}
+use Rattle.i3c_base.specs.declared.requests.Fixed.{Fixed}
+use Rattle.i3c_base.specs.declared.requests.Served.{Served}
+use Rattle.i3c_base.specs.Cutting.{Lost as LostDevices}
+use Rattle.i3c_base.specs.Frames.{AllLostAt, AnyAt}
+use Rattle.i3c_base.specs.Round.{AllHearersLost, IsBeatenByLost}
+use Rattle.i3c_base.specs.Serve.{Serves}
+use Rattle.i3c_base.specs.State.{State}
+use Rattle.i3c_bus.specs.declared.replies.Reply.{Reply}
+use Rattle.i3c_bus.specs.Serving.{served_of}
+use Rattle.i3c_model.specs.declared.plain.Choice.{Choice}
+use Rattle.i3c_model.specs.declared.plain.Choice.TheVariants.{Heard, Lost, Silent}
+
+-- what a frame may leave open: what became of its first request, and what its own part came to
+pub data Question : Type 0 where
+  of_request : Question
+  of_own_part : Question
+
+-- the choice that a reply stands for in either
+abbrev pub of_served : Served → Option Choice
+of_served (Served.Recorded place) = Some Heard
+of_served Served.Torn = Some Lost
+of_served _ = None
+
+abbrev pub of_answer : Answer → Option Choice
+of_answer Answer.Done = Some Heard
+of_answer (Answer.NoAnswer a) = Some Silent
+of_answer _ = None
+
+abbrev pub of_round : RoundReply → Option Choice
+of_round (RoundReply.Assigned a i) = Some Heard
+of_round RoundReply.Nobody = Some Lost
+of_round RoundReply.Done = Some Silent
+of_round RoundReply.NoAddress = None
+
+abbrev pub own_choice : Reply → Option Choice
+own_choice (Reply.Framed framed) = of_answer framed.answer
+own_choice (Reply.Round answer) = of_round answer
+own_choice _ = None
+
+abbrev pub stands_for : Question → Reply → Option Choice
+stands_for of_request reply = option_and_then of_served (served_of reply)
+stands_for of_own_part reply = own_choice reply
+
+-- the order in which choices give way
+abbrev pub order : Choice → ℕ
+order Heard = 0
+order Lost = 1
+order Silent = 2
+
+-- of the lawful choices the given one is taken, or else the first
+pub record IsTaken (IsLawful : Choice → Type 0) (choice taken : Choice) : Type 0 where
+  pub chosen : IsLawful choice → taken ≡ choice
+  pub first : ¬ IsLawful choice → (other : Choice) → IsLawful other → order taken ≤ order other
+
+-- what may come of an event may answer the question by this choice
+abbrev pub MayStandFor : (Reply → State → Type 0) → Question → Choice → Type 0
+MayStandFor Comes q choice = (reply : Reply) × (new : State) × Comes reply new × (stands_for q reply ≡ Some choice)
+
+-- in each question, the reply stands for what is taken
+abbrev pub Follows : (Reply → State → Type 0) → Choice → Reply → Type 0
+Follows Comes choice reply = (q : Question) → MatchOption (stands_for q reply) ⊤ (IsTaken (MayStandFor Comes q) choice)
+
+-- an accepted interrupt is torn exactly where that is chosen and may be
+abbrev pub ServesAsChosen : State → Fixed → LostDevices → Choice → Served → Type 0
+ServesAsChosen st policy lost choice Served.Torn = choice ≡ Lost
+ServesAsChosen st policy lost choice (Served.Recorded place) = choice ≡ Lost → (new : State) → ¬ Serves st policy lost Served.Torn new
+ServesAsChosen st policy lost choice _ = ⊤
+
+-- a header to one address isn't acknowledged where nobody is there, or where that is chosen and may be
+abbrev pub AnswersAsChosen : State → Option ℕ → LostDevices → Choice → Answer → Type 0
+AnswersAsChosen st None lost choice answer = ⊤
+AnswersAsChosen st (Some a) lost choice Answer.Done = choice ≡ Silent → ¬ AllLostAt st a lost
+AnswersAsChosen st (Some a) lost choice _ = ¬ (choice ≡ Silent) → ¬ AnyAt st a
