@@ -18,3 +18,6 @@ pub mod Numbering
 pub mod Recording
 pub mod StayOrder
 pub mod Accepting
+pub mod Seen
+pub mod Heard
+pub mod Beginning

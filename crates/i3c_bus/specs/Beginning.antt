@@ -1,12 +1,24 @@
 -- How a frame begins: its first request is served, and where it goes on a repeated START and the broadcast header follow.
-use Rattle.std.specs.Prelude.{◌≡◌, ℕ, ◌+◌, ◌≤◌, List, ◌++◌}
+use Rattle.std.specs.Prelude.{◌≡◌, ℕ, ◌+◌, ◌≤◌, List, [], ◌∷◌, ◌++◌}
+use Rattle.i3c_base.specs.declared.requests.Record.{Record}
 use Rattle.i3c_base.specs.declared.requests.Served.{Served}
 use Rattle.i3c_base.specs.Cutting.{CutList, Lost, lost_by}
 use Rattle.i3c_base.specs.State.{State}
 use Rattle.i3c_base.specs.Serve.{IsWordBits, Serves, emptied}
 use Rattle.i3c_frame.specs.declared.symbols.Symbol.{Symbol}
+use Rattle.i3c_ibi.specs.declared.serving.Reading.{Reading}
+use Rattle.i3c_ibi.specs.declared.serving.Reading.TheVariants.{Quiet, Refused, Joined, WantsRole, Due, Torn}
 use Rattle.i3c_ibi.specs.Serving.{given_for}
 use Rattle.i3c_bus.specs.Wire.{IsBegun, IsOn}
+
+-- the records after what was read: one that is due is appended
+abbrev pub kept_in : Reading → List Record → List Record
+kept_in (Due r) records = records ++ r ∷ []
+kept_in Quiet records = records
+kept_in (Refused r) records = records
+kept_in Joined records = records
+kept_in (WantsRole a) records = records
+kept_in (Torn a byte) records = records
 
 -- the first request was served, whatever bits follow the mandatory word
 pub record Begins (old : State) (cuts : CutList) (served : Served) (word : ℕ) (new : State) : Type 0 where

@@ -1,14 +1,16 @@
-ghost use Rattle.std.specs.Prelude.{◌≡◌};
+ghost use Rattle.std.specs.Prelude.{◌≡◌, ◌<◌, None, length, vec_len, vec_capacity};
 ghost use Rattle.i3c_base.specs.Frames.{kinds_bits};
 ghost use Rattle.i3c_events.specs.Hearing.{answer_of};
-ghost use Rattle.i3c_ibi.specs.Serving.{word_bits};
+ghost use Rattle.i3c_ibi.specs.Serving.{served_as, word_bits};
+ghost use Rattle.i3c_bus.specs.Beginning.{kept_in};
+ghost use Rattle.i3c_bus.specs.Serving.{place_of};
 
 use crate::events::Command;
 use crate::parts::Bus;
 use crate::replies::{FrameFault, Framed, OutOfMemory, Refusal, Reply, TargetFault};
 use crate::tokens::Hand;
 use crate::wire::{tell_broadcast, tell_command, tell_reading, tell_repeated, tell_request};
-use i3c_base::{Addr7, Answer, Change, Cuts, Kinds, Served};
+use i3c_base::{Addr7, Answer, Change, Cuts, Kinds, Record, Served};
 use i3c_events::{NoAnswer, hear_kinds};
 use i3c_frame::{Symbol, Tap};
 use i3c_handoff::Role;
@@ -250,18 +252,8 @@ impl Bus {
         let ack = self.devices.is_heard(active, &None, cuts, 0);
         let reading = serve(&mut self.devices, active, &self.table, policy, cuts);
         tell_reading(tap, &reading, ack);
+        let served = record_due(&mut self.records, &reading);
         let bits = word_bits(&reading);
-        let served = match reading {
-            Reading::Quiet => Served::Quiet,
-            Reading::Refused(_) => Served::Refused,
-            Reading::Joined => Served::Joining,
-            Reading::WantsRole(at) => Served::WantsRole(at),
-            Reading::Torn(_, _) => Served::Torn,
-            Reading::Due(record) => {
-                self.records.push_reserved(record);
-                Served::Recorded(self.records.len())
-            }
-        };
         Begun { served, bits }
     }
 
@@ -307,6 +299,26 @@ impl Bus {
             }
         };
         Begun { served, bits: 0 }
+    }
+}
+
+/// Appends the record that is due, if one is, and answers what the frame served.
+fn record_due(records: &mut Vec<Record>, reading: &Reading) -> Served
+    requires { vec_len records.old < vec_capacity records.old }
+    ensures served { result ≡ served_as (length records.old.items) reading.now }
+    ensures items { records.new.items ≡ kept_in reading.now records.old.items }
+    ensures room { place_of result ≡ None → records.new ≡ records.old }
+{
+    match *reading {
+        Reading::Quiet => Served::Quiet,
+        Reading::Refused(_) => Served::Refused,
+        Reading::Joined => Served::Joining,
+        Reading::WantsRole(at) => Served::WantsRole(at),
+        Reading::Torn(_, _) => Served::Torn,
+        Reading::Due(record) => {
+            records.push_reserved(record);
+            Served::Recorded(records.len())
+        }
     }
 }
 
