@@ -19,5 +19,7 @@ pub mod Recording
 pub mod StayOrder
 pub mod Accepting
 pub mod Seen
+pub mod Slots
+pub mod Framing
 pub mod Heard
 pub mod Beginning

@@ -1,0 +1,31 @@
+-- Whom the command reaches hears it, and who is cut by then is gone.
+use Rattle.std.proofs.Common.{◌≡◌, ◌∙◌, ◌+◌, ℕ, ap, refl, subst, sym}
+use Rattle.i3c_base.specs.declared.answers.Answer.{Answer}
+use Rattle.i3c_base.specs.Cutting.{lost_by}
+use Rattle.i3c_base.specs.Frames.{Rekinds, changed_kinds, kinds_bits}
+use Rattle.i3c_base.specs.Serve.{emptied}
+use Rattle.i3c_base.specs.State.{HasDevices, Held, State}
+use Rattle.i3c_events.specs.Hearing.{answer_of}
+use Rattle.i3c_bus.proofs.Seen.{seen}
+use Rattle.i3c_bus.proofs.Soundness.{sound_rekinds}
+use Rattle.i3c_bus.proofs.parts.Bus.command_kinds.Goals as goal
+
+pub invariant_of-self : goal.invariant_of-self
+invariant_of-self g c =
+    let same : HasDevices (seen c.self.inside) c.self.inside.devices c.active-active.result = (refl, ap (λ (h : Held). h.state.active) c.self.view_is ∙ sym c.active-active.ensures) in record {
+      sound = sound_rekinds c.args.to (changed_kinds c.args.change c.args.kinds) (answer_of c.hear_kinds-heard.result) _ (seen c.self.inside) _ (c.hear_kinds-heard.ensures.rekinds (seen c.self.inside) same)
+          c.self.invariant.sound;
+      covered = c.self.invariant.covered;
+    }
+
+pub returns-clause-rekinds : goal.returns-clause-rekinds
+returns-clause-rekinds g c =
+    let same : HasDevices (seen c.self.inside) c.self.inside.devices c.active-active.result = (refl, ap (λ (h : Held). h.state.active) c.self.view_is ∙ sym c.active-active.ensures) in
+    let done : State = record (seen c.self.inside) { devices = c.hear_kinds-heard.new.devices } in
+    let by : Answer → Type 0 = λ (a : Answer). Rekinds c.args.to (changed_kinds c.args.change c.args.kinds) a (lost_by c.args.cuts.now (c.args.begun + kinds_bits c.args.to a)) (seen c.self.inside) done in (
+      done,
+      subst (λ (h : Held). Rekinds c.args.to (changed_kinds c.args.change c.args.kinds) c.answer_of-answer.result (lost_by c.args.cuts.now (c.args.begun + kinds_bits c.args.to c.answer_of-answer.result)) h.state done)
+          c.self.view_is (subst by (sym c.answer_of-answer.ensures) (c.hear_kinds-heard.ensures.rekinds (seen c.self.inside) same)),
+      c.drop_lost.ensures.state
+      ∙ ap (λ (n : ℕ). emptied (lost_by c.args.cuts.now (c.args.begun + n)) done) c.kinds_bits.ensures,
+    )
