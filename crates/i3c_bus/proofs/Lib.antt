@@ -18,3 +18,5 @@ pub mod Numbering
 pub mod Recording
 pub mod StayOrder
 pub mod Accepting
+pub mod Acting
+pub mod RaiseSteps
