@@ -20,3 +20,4 @@ pub mod StayOrder
 pub mod Accepting
 pub mod Acting
 pub mod RaiseSteps
+pub mod Opening
