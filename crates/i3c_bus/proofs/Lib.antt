@@ -20,4 +20,5 @@ pub mod StayOrder
 pub mod Accepting
 pub mod Acting
 pub mod RaiseSteps
+pub mod Agreeing
 pub mod Opening
