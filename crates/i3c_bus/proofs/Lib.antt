@@ -22,3 +22,4 @@ pub mod Acting
 pub mod RaiseSteps
 pub mod Agreeing
 pub mod Opening
+pub mod RunLaws

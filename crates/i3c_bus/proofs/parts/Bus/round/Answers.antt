@@ -10,8 +10,9 @@ use Rattle.i3c_bus.proofs.parts.Bus.round.Goals as goal
 pub invariant_of-self : goal.invariant_of-self
 invariant_of-self g c =
     let before : State = state_of c.self.inside.devices c.self.inside.raised c.self.inside.active c.self.inside.table c.self.inside.legacy c.self.inside.in_session c.self.inside.records.items in
+    let after : State = state_of c.round-round.new.devices c.self.inside.raised c.self.inside.active c.round-round.new.table c.self.inside.legacy c.self.inside.in_session c.self.inside.records.items in
     record {
-      sound = sound_round before c.args.cuts.now (reply_of c.round-round.result) _ (c.round-round.ensures.rounds before refl c.self.invariant.covered) c.self.invariant.sound;
+      sound = sound_round before c.args.cuts.now (reply_of c.round-round.result) after (c.round-round.ensures.rounds before refl c.self.invariant.covered) c.self.invariant.sound;
       covered = (refl, c.round-round.ensures.legacy ∙ c.self.invariant.covered.1, refl);
     }
 
