@@ -23,3 +23,8 @@ pub mod Slots
 pub mod Framing
 pub mod Heard
 pub mod Beginning
+pub mod Acting
+pub mod RaiseSteps
+pub mod Agreeing
+pub mod Opening
+pub mod RunLaws

@@ -1,0 +1,80 @@
+-- Raises as steps.
+use Rattle.std.proofs.Common.{◌≡◌, ℕ, suc, ◌-◌, ◌^◌, Bool, true, false, ◌||◌, ◌==◌, sym, nat_le, not, List, [], ◌∷◌, length, Option, Some, None, option_map, is_some, is_none, if◌then◌else◌, refl, ap, subst, ◌∙◌, slice_index, slice_set}
+use Rattle.std.proofs.lemmas.Bool.{true≢false}
+use Rattle.i3c_base.specs.declared.device.TheConstants.{WAITING}
+use Rattle.i3c_base.specs.Covered.{Table}
+use Rattle.i3c_base.specs.Local.{raise}
+use Rattle.i3c_base.specs.Numbers.{can_interrupt, has_byte, same_bool}
+use Rattle.i3c_base.specs.State.{Device, State, device_at, in_slot, raised_at}
+use Rattle.i3c_device.specs.Raising.{next_fault, or_uncounted, with_raise}
+use Rattle.i3c_device.specs.declared.faults.RaiseFault.{RaiseFault}
+use Rattle.i3c_bus.specs.declared.events.Event.{Event}
+use Rattle.i3c_bus.specs.declared.replies.Refusal.TheVariants.{NoDevice, IsActive, NoAddress, NotCapable, ByteMismatch, Masked, Full}
+use Rattle.i3c_bus.specs.declared.replies.Reply.{Reply}
+use Rattle.i3c_bus.specs.Replies.{of_device, raise_refusal}
+use Rattle.i3c_bus.specs.Sound.{IsSound, IsWhole}
+use Rattle.i3c_bus.specs.Step.{Checks, checks, first_refusal}
+use Rattle.i3c_bus.proofs.Acting.{acting}
+use Rattle.i3c_bus.proofs.Soundness.{sound_step}
+
+-- the device's tests in their order
+fault_table : (a b c e f : Bool) (raised : ℕ) → first_refusal ((a, NoAddress) ∷ (b, NotCapable) ∷ (c, ByteMismatch) ∷ (e, Masked) ∷ (f || nat_le (2 ^ 64 - 1) raised, Full) ∷ [])
+    ≡ option_map raise_refusal (option_map of_device (or_uncounted (if a then Some RaiseFault.NoAddress else
+    (if b then Some RaiseFault.NotCapable else
+    (if c then Some RaiseFault.ByteMismatch else
+    (if e then Some RaiseFault.Masked else
+    (if f then Some RaiseFault.Full else None))))) raised))
+fault_table true b c e f raised = refl
+fault_table false true c e f raised = refl
+fault_table false false true e f raised = refl
+fault_table false false false true f raised = refl
+fault_table false false false false true raised = refl
+fault_table false false false false false raised = go (nat_le (2 ^ 64 - 1) raised)
+  where
+    go : (g : Bool) → first_refusal ((g, Full) ∷ []) ≡ option_map raise_refusal (option_map of_device (if g then Some RaiseFault.Full else None))
+    go true = refl
+    go false = refl
+
+-- a raise that has no fault isn't refused
+raise_free : (st : State) (s : ℕ) (byte : Option ℕ) (d : Device) → device_at st s ≡ Some d → (s == st.active) ≡ false → next_fault d byte (raised_at st s) ≡ None
+    → first_refusal (checks st (Event.Raise s byte)) ≡ None
+raise_free st s byte d there other none =
+    ap (λ (o : Option Device). first_refusal (table o (s == st.active))) there
+    ∙ (ap (λ (b : Bool). first_refusal (table (Some d) b)) other
+    ∙ (fault_table (is_none d.address) (not (can_interrupt d.identity.bcr)) (not (same_bool (has_byte d.identity.bcr) (is_some byte))) (not d.kinds.interrupt) (nat_le WAITING (length d.waiting)) (raised_at st s)
+    ∙ ap (λ (o : Option RaiseFault). option_map raise_refusal (option_map of_device o)) none))
+  where
+    table : Option Device → Bool → Checks
+    table o active =
+        (is_none o, NoDevice) ∷ (active, IsActive)
+        ∷ (in_slot (λ x. is_none x.address) o, NoAddress)
+        ∷ (in_slot (λ x. not (can_interrupt x.identity.bcr)) o, NotCapable)
+        ∷ (in_slot (λ x. not (same_bool (has_byte x.identity.bcr) (is_some byte))) o, ByteMismatch)
+        ∷ (in_slot (λ x. not x.kinds.interrupt) o, Masked)
+        ∷ (in_slot (λ x. nat_le WAITING (length x.waiting) || nat_le (2 ^ 64 - 1) (raised_at st s)) o, Full) ∷ []
+
+-- what a lookup gave, where it gave something
+pub given_there : {A B : Type 0} (f : A → B) (o : Option A) (p : Option B) → option_map f o ≡ p → is_some o ≡ true → (b : B) × (p ≡ Some b)
+given_there f None p e h = absurd (true≢false (sym h))
+given_there f (Some x) p e h = (f x, sym e)
+
+-- a bus after a raise is whole
+pub whole_raise : (st : State) (table : Table) (more : List (Option Device)) (s index number : ℕ) (byte : Option ℕ) (d : Device)
+    → IsWhole st table → index ≡ s → device_at st s ≡ Some d → (s == st.active) ≡ false
+    → (number ≡ suc (slice_index st.raised index)) × (next_fault d byte (slice_index st.raised index) ≡ None)
+    → more ≡ slice_set st.devices s (option_map (with_raise (suc (slice_index st.raised index)) byte) (device_at st s))
+    → IsWhole (record st { devices = more; raised = slice_set st.raised index number }) table
+whole_raise st table more s index number byte d whole same there other fault is = record {
+  sound = subst IsSound (sym after)
+      (sound_step st (Event.Raise s byte) (Reply.Raised (suc (raised_at st s))) (raise s byte st)
+      (acting st (Event.Raise s byte) _ (raise s byte st) (raise_free st s byte d there other none) (refl, refl)) whole.sound);
+  covered = whole.covered;
+}
+  where
+    none : next_fault d byte (raised_at st s) ≡ None
+    none = subst (λ (k : ℕ). next_fault d byte (slice_index st.raised k) ≡ None) same fault.1
+
+    after : record st { devices = more; raised = slice_set st.raised index number } ≡ raise s byte st
+    after =
+        (λ k. record st { devices = is k; raised = slice_set st.raised index (fault.0 k) })
+        ∙ ap (λ (k : ℕ). record st { devices = slice_set st.devices s (option_map (with_raise (suc (slice_index st.raised k)) byte) (device_at st s)); raised = slice_set st.raised k (suc (slice_index st.raised k)) }) same
