@@ -28,15 +28,8 @@ use Rattle.i3c_bus.specs.Commands.{kinds_event}
 use Rattle.i3c_bus.specs.Hands.{HandFits}
 use Rattle.i3c_bus.specs.Step.{Acts, IsShort, Nothing, Step, checks, cuts_active, first_refusal, frame_checks, is_no_target, target_checks}
 use Rattle.i3c_bus.specs.Wire.{IsBegun, IsFrameWire, IsKindsWire, IsServeWire, IsWire, Tells}
+use Rattle.i3c_bus.proofs.Acting.{acting}
 use Rattle.i3c_bus.proofs.Slots.{Stands, Stands-rekinds, Stands-same, Stands-serves, Stands-then}
-
--- a step that no test refuses
-pub step_acts : (old : State) (event : Event) (reply : Reply) (new : State) → first_refusal (checks old event) ≡ None → Acts old event reply new → Step old event reply new
-step_acts old event reply new none acts = go (first_refusal (checks old event)) none
-  where
-    go : (o : Option Refusal) → o ≡ None → MatchOption o (IsShort old event reply new ⊎ Acts old event reply new) (λ why. (reply ≡ Reply.Refused why) × (new ≡ old))
-    go None e = inr acts
-    go (Some why) e = absurd (none-some why (sym e))
 
 -- a frame that is neither in a session nor cuts the active controller
 pub frame_free : (st : State) (cuts : CutList) → st.in_session ≡ false → cuts_active st cuts ≡ false → first_refusal (frame_checks st cuts) ≡ None
@@ -104,9 +97,9 @@ pub kinds_step : (change : Change) (old : State) (to : Option ℕ) (kinds : Kind
     → first_refusal (frame_checks old cuts ++ target_checks old to) ≡ None → Frame old policy cuts served (header_bits served + kinds_bits to answer) (Rekinds to (changed_kinds change kinds) answer) new
     → Step old (kinds_event change to kinds policy cuts) (Reply.Framed (record { served = served; answer = answer })) new
 kinds_step Enable old to kinds policy cuts served answer new free frame =
-    step_acts old (Event.Enec to kinds policy cuts) _ new free (record { served = served; answer = answer }, refl, frame)
+    acting old (Event.Enec to kinds policy cuts) _ new free (record { served = served; answer = answer }, refl, frame)
 kinds_step Disable old to kinds policy cuts served answer new free frame =
-    step_acts old (Event.Disec to kinds policy cuts) _ new free (record { served = served; answer = answer }, refl, frame)
+    acting old (Event.Disec to kinds policy cuts) _ new free (record { served = served; answer = answer }, refl, frame)
 
 -- and what they tell
 pub kinds_told : {T : Type 0} (gives : T → Symbol → T → Type 0) (tap last : T) (change : Change) (old : State) (to : Option ℕ) (kinds : Kinds) (policy : Fixed) (cuts : CutList) (served : Served) (answer : Answer) (new : State)

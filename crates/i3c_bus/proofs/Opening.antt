@@ -19,6 +19,7 @@ use Rattle.i3c_bus.specs.Serving.{place_of}
 use Rattle.i3c_bus.specs.Step.{checks, cuts_active, first_refusal}
 use Rattle.i3c_bus.specs.Wire.{IsBegun, IsFrameWire, IsOn, IsOpenWire, Tells}
 use Rattle.i3c_bus.proofs.Acting.{acting}
+use Rattle.i3c_bus.proofs.Framing.{frame_free}
 
 -- what told the beginning of a frame that recorded nothing doesn't depend on the state after it
 begun_anyway : (served : Served) (old : State) (cuts : CutList) (mid new : State) (wire : List Symbol) → place_of served ≡ None → IsBegun old cuts served mid wire → IsBegun old cuts served new wire
@@ -39,11 +40,6 @@ tells_parts gives tap first second new old cuts served word after IsOwn sent beg
   (begun.0, word, on.0, own.0, begun.2, sent, on.2, own.2, refl),
 )
 
--- no test refuses an opening
-opening_free : (st : State) (cuts : CutList) → st.in_session ≡ false → cuts_active st cuts ≡ false → first_refusal (checks st (Event.OpenDaa cuts)) ≡ None
-opening_free st cuts closed left =
-    ap (λ b. first_refusal ((b, Refusal.SessionOpen) ∷ (cuts_active st cuts, Refusal.ActiveStays) ∷ [])) closed ∙ ap (λ b. first_refusal ((b, Refusal.ActiveStays) ∷ [])) left
-
 -- the requests are turned down, those without an address hear the session, and who was cut is gone
 pub opening_carried : {T : Type 0} (gives : T → Symbol → T → Type 0) (tap first second last : T) (old mid new : Held) (cuts : CutList) (served : Served) (word bits holder : ℕ)
     → HandFits (Hand.Role holder) old.state → cuts_active old.state cuts ≡ false → ((lost : Lost) → Serves old.state refuse_all lost served old.state) → IsWordBits old.state served word
@@ -56,7 +52,7 @@ opening_carried gives tap first second last old mid new cuts served word bits ho
     let is : new.state ≡ emptied (lost_by cuts (word + (header_bits served + 9))) (opened old.state) =
     gone ∙ (λ k. emptied (lost_by cuts (all k)) (hear k)) in
     record {
-      step = acting old.state (Event.OpenDaa cuts) (Reply.Opened served) new.state (opening_free old.state cuts fits.1 left) (
+      step = acting old.state (Event.OpenDaa cuts) (Reply.Opened served) new.state (frame_free old.state cuts fits.1 left) (
         served,
         refl,
         record {

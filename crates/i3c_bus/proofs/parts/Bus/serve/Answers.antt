@@ -11,7 +11,8 @@ use Rattle.i3c_bus.specs.declared.tokens.Hand.{Hand}
 use Rattle.i3c_bus.specs.Beginning.{Begins, LeavesBy}
 use Rattle.i3c_bus.specs.Step.{Nothing}
 use Rattle.i3c_bus.specs.Wire.{IsBegun, Tells}
-use Rattle.i3c_bus.proofs.Framing.{fits_left, frame_by, frame_free, stands_still, step_acts, tells_serve}
+use Rattle.i3c_bus.proofs.Acting.{acting}
+use Rattle.i3c_bus.proofs.Framing.{fits_left, frame_by, frame_free, stands_still, tells_serve}
 use Rattle.i3c_bus.proofs.parts.Bus.serve.Goals as goal
 
 pub returns-clause-carried : goal.returns-clause-carried
@@ -24,7 +25,7 @@ returns-clause-carried g c =
     let told : Tells g.T.Tap.note_gives c.args.tap.now c.begin-begun.new.tap (IsBegun old c.args.cuts.now served mid) =
     subst (λ (st : State). Tells g.T.Tap.note_gives c.args.tap.now c.begin-begun.new.tap (IsBegun st c.args.cuts.now served mid)) c.make_room.ensures.state c.begin-begun.ensures.told in
     let leaves : LeavesBy c.args.cuts.now word Nothing mid c.drop_lost.new.self.state = (mid, refl, c.drop_lost.ensures.state) in record {
-      step = step_acts old (Event.Serve (given_for served) c.args.cuts.now) (Reply.Served served) c.drop_lost.new.self.state
+      step = acting old (Event.Serve (given_for served) c.args.cuts.now) (Reply.Served served) c.drop_lost.new.self.state
           (frame_free old c.args.cuts.now c.requires.fits.1 (sym c.cuts_active.ensures ∙ c.if-cuts_active.false))
           (served, refl, frame_by old c.args.cuts.now served word 0 word Nothing mid c.drop_lost.new.self.state begins (omega arith) leaves);
       told = tells_serve g.T.Tap.note_gives c.args.tap.now c.begin-begun.new.tap c.note.new.self old mid c.drop_lost.new.self.state c.args.cuts.now served
