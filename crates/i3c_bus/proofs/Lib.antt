@@ -23,3 +23,4 @@ pub mod RaiseSteps
 pub mod Agreeing
 pub mod Opening
 pub mod RunLaws
+pub mod Starting
