@@ -28,3 +28,4 @@ pub mod RaiseSteps
 pub mod Agreeing
 pub mod Opening
 pub mod RunLaws
+pub mod Starting
