@@ -1,7 +1,6 @@
 -- Policies that agree on the first request serve it alike.
 use Rattle.std.proofs.Common.{◌≡◌, ℕ, List, true, false, ◌+◌, Option, Some, None, MatchOption, if◌then◌else◌, ◌⊎◌, inl, inr, sym, refl, ap, subst, ◌∙◌}
 use Rattle.std.proofs.lemmas.Bool.{both_ways}
-use Rattle.i3c_base.specs.declared.kinds.Kinds.{Kinds}
 use Rattle.i3c_base.specs.declared.requests.Fixed.{Fixed}
 use Rattle.i3c_base.specs.declared.requests.Request.{Request}
 use Rattle.i3c_base.specs.declared.requests.Request.TheVariants.{Join, Role, Interrupt}

@@ -1,5 +1,5 @@
 -- A round that nobody hears: the header alone.
-use Rattle.std.proofs.Common.{◌≡◌, List, [], ◌∷◌, true, false, refl, subst, sym}
+use Rattle.std.proofs.Common.{List, [], ◌∷◌, true, false, refl, subst, sym}
 use Rattle.i3c_entdaa.specs.declared.outcome.Round.{Round}
 use Rattle.i3c_frame.specs.declared.symbols.Symbol.{Symbol}
 use Rattle.i3c_bus.specs.Wire.{IsRoundWire}

@@ -1,5 +1,5 @@
 -- Few legacy targets leave an address free, and what is made at the pick is a start.
-use Rattle.std.proofs.Common.{◌≡◌, ◌∙◌, List, Option, sym, ap, arith, subst, set, map, option_map, replicate, refl, Some, false}
+use Rattle.std.proofs.Common.{◌∙◌, List, Option, sym, ap, arith, subst, set, map, option_map, replicate, refl, Some, false}
 use Rattle.i3c_base.specs.Covered.{Table}
 use Rattle.i3c_base.specs.declared.device.LegacyTarget.{LegacyTarget}
 use Rattle.i3c_base.specs.declared.range.TheConstants.{SLOTS}
@@ -31,7 +31,7 @@ invariant_of-bus c = record {
   covered = (
     refl,
     ap (λ (t : Table). t.legacy) (c.put.ensures ∙ ap (λ (t : Table). record t { given = set t.given c.in-Some.address (Some (entry_of c.args.main.identity)); listed = false }) c.new-table.ensures)
-    ∙ (sym (lvrs_kept c.args.legacies) ∙ ap (λ (targets : List (Option LegacyTarget)). map (option_map (λ (t : LegacyTarget). t.lvr)) targets) (sym c.new-legacy.ensures)),
+        ∙ (sym (lvrs_kept c.args.legacies) ∙ ap (λ (targets : List (Option LegacyTarget)). map (option_map (λ (t : LegacyTarget). t.lvr)) targets) (sym c.new-legacy.ensures)),
     refl,
   );
 }
