@@ -20,6 +20,8 @@ pub mod StayOrder
 pub mod Accepting
 pub mod Seen
 pub mod Slots
+pub mod Follows
+pub mod SlotLaws
 pub mod Framing
 pub mod Heard
 pub mod Beginning

@@ -15,6 +15,7 @@ use Rattle.i3c_bus.specs.Runs.{IsLegalRun, IsRun}
 use Rattle.i3c_bus.specs.History.{AllDistinct, History, IsLegal, events_of, reached, replies_of}
 use Rattle.i3c_bus.specs.Records.{HasFaithfulRecords}
 use Rattle.i3c_bus.specs.Serving.{policy_of, recorded_at, served_of}
+use Rattle.i3c_bus.specs.Slots.{KeepsSlots}
 use Rattle.i3c_bus.specs.Stays.{accepted_in_stay, recorded_in_stay}
 
 -- No two devices answer to one address, legacy targets included, in a state that a legal run leads to
@@ -56,3 +57,8 @@ RaisesStayInOrder = (main : Setup) (legacy : List (Option LegacyTarget)) (start 
 abbrev pub UncutStepsAreDetermined : Type 0
 UncutStepsAreDetermined = (old : State) (event : Event) (reply other : Reply) (new next : State)
     → IsUncutEvent event → Step old event reply new → Step old event other next → reply ≢ Reply.OutOfMemory → other ≢ Reply.OutOfMemory → (reply ≡ other) × (new ≡ next)
+
+-- A step moves the active controller never, opens and ends a session with those answers alone, and puts a device only into
+-- the slot of an accepted attachment.
+abbrev pub SlotsAreKept : Type 0
+SlotsAreKept = (old : State) (event : Event) (reply : Reply) (new : State) → Step old event reply new → KeepsSlots old event reply new

@@ -17,3 +17,4 @@ pub mod Wire
 pub mod Calls
 pub mod Telling
 pub mod Beginning
+pub mod Slots

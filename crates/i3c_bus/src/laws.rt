@@ -1,4 +1,4 @@
-ghost use Rattle.i3c_bus.specs.Laws.{AcceptedInterruptsAreRecorded, AddressesAreUnique, InterruptsAreRecordedOnce, OneIsActive, RaisesStayInOrder, RunsAreHistories, UncutStepsAreDetermined};
+ghost use Rattle.i3c_bus.specs.Laws.{AcceptedInterruptsAreRecorded, AddressesAreUnique, InterruptsAreRecordedOnce, OneIsActive, RaisesStayInOrder, RunsAreHistories, SlotsAreKept, UncutStepsAreDetermined};
 
 /// Over every legal run: where devices that are present together have distinct identities, no two devices answer to
 /// one address, legacy targets included.
@@ -36,4 +36,10 @@ pub fn raises_stay_in_order()
 /// Where nothing is cut and there is memory, the state and the event determine the reply and the next state.
 pub fn uncut_steps_are_determined()
     ensures { UncutStepsAreDetermined }
+{}
+
+/// A step moves the active controller never, opens and ends a session with those answers alone, and puts a device only
+/// into the slot of an accepted attachment.
+pub fn slots_are_kept()
+    ensures { SlotsAreKept }
 {}
