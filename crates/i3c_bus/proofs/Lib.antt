@@ -21,6 +21,9 @@ pub mod Accepting
 pub mod Seen
 pub mod Slots
 pub mod Follows
+pub mod Given
+pub mod StayLaws
+pub mod Ending
 pub mod SlotLaws
 pub mod Framing
 pub mod Heard

@@ -1,5 +1,6 @@
 -- What holds over every legal run.
-use Rattle.std.specs.Prelude.{◌≡◌, ◌≢◌, ℕ, true, List, ◌++◌, Option, Some}
+use Rattle.std.specs.Prelude.{◌≡◌, ◌≢◌, ℕ, true, List, ◌++◌, length, Option, Some, All, Contains}
+use Rattle.i3c_base.specs.declared.range.TheConstants.{SLOTS}
 use Rattle.i3c_base.specs.declared.device.Setup.{Setup}
 use Rattle.i3c_base.specs.declared.device.LegacyTarget.{LegacyTarget}
 use Rattle.i3c_base.specs.declared.requests.Fixed.{Fixed}
@@ -13,10 +14,12 @@ use Rattle.i3c_bus.specs.declared.replies.Reply.{Reply}
 use Rattle.i3c_bus.specs.Step.{IsUncutEvent, Step}
 use Rattle.i3c_bus.specs.Runs.{IsLegalRun, IsRun}
 use Rattle.i3c_bus.specs.History.{AllDistinct, History, IsLegal, events_of, reached, replies_of}
-use Rattle.i3c_bus.specs.Records.{HasFaithfulRecords}
-use Rattle.i3c_bus.specs.Serving.{policy_of, recorded_at, served_of}
+use Rattle.i3c_bus.specs.Records.{HasFaithfulRecords, RecordsFront}
+use Rattle.i3c_bus.specs.Asking.{given_by, under}
+use Rattle.i3c_bus.specs.Sessions.{IsLastRound, IsUncutRound}
+use Rattle.i3c_bus.specs.Serving.{policy_of, served_of}
 use Rattle.i3c_bus.specs.Slots.{KeepsSlots}
-use Rattle.i3c_bus.specs.Stays.{accepted_in_stay, recorded_in_stay}
+use Rattle.i3c_bus.specs.Stays.{accepted_in_stay, accepted_since_attachment, recorded_in_stay}
 
 -- No two devices answer to one address, legacy targets included, in a state that a legal run leads to
 -- and in which devices present together have distinct identities.
@@ -40,12 +43,13 @@ abbrev pub InterruptsAreRecordedOnce : Type 0
 InterruptsAreRecordedOnce = (main : Setup) (legacy : List (Option LegacyTarget)) (start : State) (h : History)
     → IsStart main legacy start → IsLegal start h → AllDistinct start h → HasFaithfulRecords start h
 
--- A frame that accepts its first request, an interrupt of which some driver is still there afterwards, records it.
+-- A frame that accepts its first request, an interrupt of which some driver is still there afterwards, records it: at its
+-- address, of the lowest driver's slot, with the number of its front.
 abbrev pub AcceptedInterruptsAreRecorded : Type 0
 AcceptedInterruptsAreRecorded = (old : State) (event : Event) (reply : Reply) (new : State) (policy : Fixed) (served : Served) (a s : ℕ)
     → Step old event reply new → policy_of event ≡ Some policy → served_of reply ≡ Some served
     → IsFirst old (Request.Interrupt a) → verdict old policy (Request.Interrupt a) ≡ Verdict.Accept → drives old (Request.Interrupt a) s ≡ true → IsPresent new s
-    → (place : ℕ) × (recorded_at reply ≡ Some place)
+    → RecordsFront old a reply new
 
 -- Of a present device's stay, the accepted raises are the recorded ones and then those that wait, in order.
 abbrev pub RaisesStayInOrder : Type 0
@@ -62,3 +66,20 @@ UncutStepsAreDetermined = (old : State) (event : Event) (reply other : Reply) (n
 -- the slot of an accepted attachment.
 abbrev pub SlotsAreKept : Type 0
 SlotsAreKept = (old : State) (event : Event) (reply : Reply) (new : State) → Step old event reply new → KeepsSlots old event reply new
+
+-- A step is one under the policy that its reply gives, too.
+abbrev pub StepsAreGiven : Type 0
+StepsAreGiven = (old : State) (event : Event) (reply : Reply) (new : State) → Step old event reply new → Step old (under (given_by reply) event) reply new
+
+-- A slot that is taken again is another stay: what was accepted in a present device's stay is what was accepted of its slot
+-- since the last accepted attachment there.
+abbrev pub StaysBeginByAttachments : Type 0
+StaysBeginByAttachments = (start : State) (h : History) → IsLegal start h
+    → (s : ℕ) (d : Device) → device_at (reached start h) s ≡ Some d → accepted_in_stay start h s ≡ accepted_since_attachment h s
+
+-- Of as many rounds as there are slots, in a session and without cuts, one answers that nobody hears any more, or that no
+-- address is left.
+abbrev pub SessionsEnd : Type 0
+SessionsEnd = (main : Setup) (legacy : List (Option LegacyTarget)) (events : List Event) (replies : List Reply) (mid : State) → IsLegalRun main legacy events replies mid → mid.in_session ≡ true
+    → (rounds : List Event) (answers : List Reply) (new : State) → All IsUncutRound rounds → length rounds ≡ SLOTS → IsRun mid rounds answers new
+    → (answer : Reply) × Contains answers answer × IsLastRound answer

@@ -18,3 +18,4 @@ pub mod Calls
 pub mod Telling
 pub mod Beginning
 pub mod Slots
+pub mod Sessions

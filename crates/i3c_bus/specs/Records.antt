@@ -3,13 +3,27 @@ use Rattle.std.specs.Prelude.{◌≡◌, ℕ, ◌==◌, ◌⊎◌, List, [], ◌
 use Rattle.std.specs.List.Sorted.{IsStrictlyIncreasing}
 use Rattle.i3c_base.specs.declared.device.Waiting.{Waiting}
 use Rattle.i3c_base.specs.declared.requests.Record.{Record}
+use Rattle.i3c_base.specs.declared.requests.Request.TheVariants.{Interrupt}
+use Rattle.i3c_base.specs.Serve.{IsFront, IsLowestDriver}
 use Rattle.i3c_base.specs.State.{Device, State, device_at}
+use Rattle.i3c_bus.specs.declared.replies.Reply.{Reply}
 use Rattle.i3c_bus.specs.History.{History, WasRaised, reached}
 use Rattle.i3c_bus.specs.Serving.{recorded_at}
 
 -- the raise that a record names
 abbrev pub raise_of : Record → Waiting
 raise_of r = record { number = r.number; byte = r.byte }
+
+-- an interrupt at the address a is recorded: at this address, of the lowest driver's slot, with the number of its front
+pub record RecordsFront (old : State) (a : ℕ) (reply : Reply) (new : State) : Type 0 where
+  pub last : Record
+  pub appended : new.records ≡ old.records ++ last ∷ []
+  pub placed : recorded_at reply ≡ Some (length new.records)
+  pub address : last.at ≡ a
+  pub lowest : IsLowestDriver old (Interrupt a) last.slot
+  pub front : Waiting
+  pub fronted : IsFront old last.slot front
+  pub number : last.number ≡ front.number
 
 -- the last record: at its device's address, with the number and byte of a raise of that device's present stay
 pub record IsLastRecord (start : State) (earlier : History) (after : State) (place : ℕ) : Type 0 where

@@ -1,5 +1,5 @@
 -- The raises of a device's present stay, in order.
-use Rattle.std.specs.Prelude.{ℕ, Bool, ◌&&◌, ◌==◌, List, [], ◌∷◌, ◌++◌, length, drop, map, filter, Option, Some, None, is_some, if◌then◌else◌}
+use Rattle.std.specs.Prelude.{ℕ, Bool, true, false, ◌&&◌, ◌==◌, List, [], ◌∷◌, ◌++◌, length, drop, map, filter, Option, Some, None, is_some, if◌then◌else◌}
 use Rattle.i3c_base.specs.declared.device.Waiting.{Waiting}
 use Rattle.i3c_base.specs.declared.requests.Record.{Record}
 use Rattle.i3c_base.specs.State.{State, device_at}
@@ -41,3 +41,18 @@ abbrev pub recorded_in_stay : State → History → ℕ → List Waiting
 recorded_in_stay start [] s = []
 recorded_in_stay start (m ∷ earlier) s =
     if stays (reached start earlier) m.after s then recorded_in_stay start earlier s ++ recorded_since (reached start earlier) m.after s else []
+
+-- a device was attached
+abbrev pub is_attached : Reply → Bool
+is_attached Reply.Attached = true
+is_attached _ = false
+
+-- the slot that an attachment is for
+abbrev pub is_into : ℕ → Event → Bool
+is_into s (Event.Attach t setup) = t == s
+is_into s _ = false
+
+-- the raises of slot s that were accepted since the last accepted attachment there, the oldest first
+abbrev pub accepted_since_attachment : History → ℕ → List Waiting
+accepted_since_attachment [] s = []
+accepted_since_attachment (m ∷ earlier) s = if is_attached m.reply && is_into s m.event then [] else accepted_since_attachment earlier s ++ accepted_at m s

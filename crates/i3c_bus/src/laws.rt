@@ -1,4 +1,4 @@
-ghost use Rattle.i3c_bus.specs.Laws.{AcceptedInterruptsAreRecorded, AddressesAreUnique, InterruptsAreRecordedOnce, OneIsActive, RaisesStayInOrder, RunsAreHistories, SlotsAreKept, UncutStepsAreDetermined};
+ghost use Rattle.i3c_bus.specs.Laws.{AcceptedInterruptsAreRecorded, AddressesAreUnique, InterruptsAreRecordedOnce, OneIsActive, RaisesStayInOrder, RunsAreHistories, SessionsEnd, SlotsAreKept, StaysBeginByAttachments, StepsAreGiven, UncutStepsAreDetermined};
 
 /// Over every legal run: where devices that are present together have distinct identities, no two devices answer to
 /// one address, legacy targets included.
@@ -22,7 +22,8 @@ pub fn interrupts_are_recorded_once()
     ensures { InterruptsAreRecordedOnce }
 {}
 
-/// A frame that accepts its first request, an interrupt of which some driver is still there afterwards, records it.
+/// A frame that accepts its first request, an interrupt of which some driver is still there afterwards, records it: at
+/// its address, of the lowest driver's slot, with the number of its front.
 pub fn accepted_interrupts_are_recorded()
     ensures { AcceptedInterruptsAreRecorded }
 {}
@@ -42,4 +43,21 @@ pub fn uncut_steps_are_determined()
 /// into the slot of an accepted attachment.
 pub fn slots_are_kept()
     ensures { SlotsAreKept }
+{}
+
+/// A step is one under the policy that its reply gives, too.
+pub fn steps_are_given()
+    ensures { StepsAreGiven }
+{}
+
+/// A slot that is taken again is another stay: what was accepted in a present device's stay is what was accepted of its
+/// slot since the last accepted attachment there.
+pub fn stays_begin_by_attachments()
+    ensures { StaysBeginByAttachments }
+{}
+
+/// Of as many rounds as there are slots, in a session and without cuts, one answers that nobody hears any more, or that
+/// no address is left.
+pub fn sessions_end()
+    ensures { SessionsEnd }
 {}

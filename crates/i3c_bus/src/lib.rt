@@ -21,7 +21,7 @@ pub use i3c_handoff::Role;
 pub use i3c_ibi::{Fixed, Policy, Record, Verdict};
 pub use laws::{
     accepted_interrupts_are_recorded, addresses_are_unique, interrupts_are_recorded_once,
-    one_is_active, raises_stay_in_order, runs_are_histories, slots_are_kept, uncut_steps_are_determined,
+    one_is_active, raises_stay_in_order, runs_are_histories, sessions_end, slots_are_kept, stays_begin_by_attachments, steps_are_given, uncut_steps_are_determined,
 };
 pub use parts::{Bus, Records};
 pub use replies::{
