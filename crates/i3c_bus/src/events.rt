@@ -1,7 +1,7 @@
 use i3c_base::{Addr7, Cuts, Fixed, Kinds, Setup, Slot};
 
 /// What may happen on a bus. A frame carries its policy on requests, and its cuts.
-#[derive(Debug, Drop)]
+#[derive(Debug, PartialEq, Eq, Drop)]
 pub enum Event {
     /// A device enters a slot.
     Attach(Slot, Setup),
