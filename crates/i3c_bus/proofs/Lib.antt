@@ -21,6 +21,7 @@ pub mod Accepting
 pub mod Seen
 pub mod Slots
 pub mod Follows
+pub mod Joining
 pub mod Given
 pub mod StayLaws
 pub mod Ending

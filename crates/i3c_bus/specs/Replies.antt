@@ -3,11 +3,11 @@ use Rattle.std.specs.Prelude.{ℕ, Result, Ok, Err}
 use Rattle.i3c_base.specs.declared.answers.RoundReply.{RoundReply}
 use Rattle.i3c_base.specs.declared.requests.Served.{Served}
 use Rattle.i3c_device.specs.declared.faults.RaiseFault.{RaiseFault}
+use Rattle.i3c_hotjoin.specs.declared.wishes.JoinRefusal.{JoinRefusal}
 use Rattle.i3c_bus.specs.declared.replies.ActiveStays.{ActiveStays}
 use Rattle.i3c_bus.specs.declared.replies.DropRefusal.{DropRefusal}
 use Rattle.i3c_bus.specs.declared.replies.Framed.{Framed}
 use Rattle.i3c_bus.specs.declared.replies.FrameFault.{FrameFault}
-use Rattle.i3c_bus.specs.declared.replies.JoinRefusal.{JoinRefusal}
 use Rattle.i3c_bus.specs.declared.replies.RaiseRefusal.{RaiseRefusal}
 use Rattle.i3c_bus.specs.declared.replies.SlotTaken.{SlotTaken}
 use Rattle.i3c_bus.specs.declared.replies.TargetFault.{TargetFault}

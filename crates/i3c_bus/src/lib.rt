@@ -18,6 +18,7 @@ mod wire;
 pub use events::{Command, Event};
 pub use i3c_base::{Answer, Request, RoundReply, Served};
 pub use i3c_handoff::Role;
+pub use i3c_hotjoin::JoinRefusal;
 pub use i3c_ibi::{Fixed, Policy, Record, Verdict};
 pub use laws::{
     accepted_interrupts_are_recorded, addresses_are_unique, interrupts_are_recorded_once,
@@ -25,7 +26,7 @@ pub use laws::{
 };
 pub use parts::{Bus, Records};
 pub use replies::{
-    ActiveStays, DropRefusal, FrameFault, Framed, JoinRefusal, OutOfMemory, RaiseRefusal, Refusal,
+    ActiveStays, DropRefusal, FrameFault, Framed, OutOfMemory, RaiseRefusal, Refusal,
     Reply, RunFault, SlotTaken, StartFault, TargetFault,
 };
 pub use runs::{Outcome, run_events};

@@ -1,12 +1,13 @@
 ghost use Rattle.std.specs.Prelude.{◌≡◌};
 
 use crate::replies::{
-    DropRefusal, JoinRefusal, OutOfMemory, RaiseRefusal, SlotTaken, StartFault,
+    DropRefusal, OutOfMemory, RaiseRefusal, SlotTaken, StartFault,
 };
 use crate::tokens::Hand;
 use i3c_base::{Addr7, Record, SLOTS, Setup, Slot};
 use i3c_device::{Device, Devices};
 use i3c_handoff::{Active, Role, retire};
+use i3c_hotjoin::{JoinRefusal, ask};
 use i3c_legacy::{LEGACIES, Legacies, LegacyTargets};
 use i3c_picker::pick;
 use i3c_table::{Row, Table};
@@ -259,17 +260,7 @@ impl Bus {
         ensures step { Step self.old.state (Event.AskJoin slot) (joins_reply result) self.new.state }
         ensures around { StaysAround self.old self.new }
     {
-        let Some(device) = self.devices.get(slot) else {
-            return Err(JoinRefusal::NoDevice);
-        };
-        if device.address().is_some() {
-            return Err(JoinRefusal::HasAddress);
-        }
-        if !device.may_join() {
-            return Err(JoinRefusal::Masked);
-        }
-        self.devices.wish_join(slot);
-        Ok(())
+        ask(&mut self.devices, slot)
     }
 
     /// Takes the bus apart, and gives its records.

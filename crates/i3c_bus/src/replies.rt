@@ -1,5 +1,6 @@
 use i3c_base::{Addr7, Answer, RoundReply, Served};
 use i3c_device::RaiseFault;
+use i3c_hotjoin::JoinRefusal;
 use thiserror::Error;
 
 /// Why an event is refused. It changes nothing then.
@@ -97,20 +98,6 @@ impl From<DropRefusal> for Refusal {
             DropRefusal::ActiveStays => Refusal::ActiveStays,
         }
     }
-}
-
-/// Why a slot's device doesn't wish to join.
-#[derive(Clone, Copy, Debug, PartialEq, Eq, Drop, Error)]
-pub enum JoinRefusal {
-    /// The slot holds no device.
-    #[error("the slot holds no device")]
-    NoDevice,
-    /// The device has an address.
-    #[error("the device has an address")]
-    HasAddress,
-    /// The device's joins are disabled.
-    #[error("the device's joins are disabled")]
-    Masked,
 }
 
 impl From<JoinRefusal> for Refusal {

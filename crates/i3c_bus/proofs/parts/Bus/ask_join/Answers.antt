@@ -1,14 +1,10 @@
--- A device that wishes to join leaves a sound bus.
-use Rattle.std.proofs.Common.{◌≡◌, List, Option, subst, sym}
-use Rattle.i3c_base.specs.State.{Device}
-use Rattle.i3c_bus.specs.Parts.{state_of}
-use Rattle.i3c_bus.specs.Sound.{IsSound}
-use Rattle.i3c_bus.proofs.Soundness.{sound_wishes}
+-- A device that wishes to join, or mayn't, leaves a sound bus.
+use Rattle.i3c_bus.proofs.Joining.{sound_asked}
+use Rattle.i3c_bus.proofs.Seen.{seen}
 use Rattle.i3c_bus.proofs.parts.Bus.ask_join.Goals as goal
 
 pub invariant_of-self : goal.invariant_of-self
 invariant_of-self c = record {
-  sound = subst (λ (devices : List (Option Device)). IsSound (state_of devices c.self.inside.raised c.self.inside.active c.self.inside.table c.self.inside.legacy c.self.inside.in_session c.self.inside.records.items)) (sym c.wish_join.ensures)
-      (sound_wishes c.args.slot (state_of c.self.inside.devices c.self.inside.raised c.self.inside.active c.self.inside.table c.self.inside.legacy c.self.inside.in_session c.self.inside.records.items) c.self.invariant.sound);
+  sound = sound_asked c.ask.result c.args.slot c.ask.new.devices (seen c.self.inside) c.ask.ensures.wishes c.ask.ensures.unchanged c.self.invariant.sound;
   covered = c.self.invariant.covered;
 }

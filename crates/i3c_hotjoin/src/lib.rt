@@ -1,0 +1,12 @@
+//! Hot-Join (I3C Basic 5.1.5): which device may wish to join a bus that runs, and that it wishes so.
+//!
+//! The wish's request goes into the next arbitrable header, as `i3c_device` drives each request, and stays until a frame
+//! accepts it or a session gives the device its address.
+#![tactic(auto)]
+
+mod wishes;
+
+pub use wishes::{JoinRefusal, ask};
+
+#[cfg(test)]
+mod tests;

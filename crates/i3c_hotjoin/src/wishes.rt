@@ -1,0 +1,41 @@
+ghost use Rattle.std.specs.Prelude.{◌≡◌, None, Some, option_map, slice_index_or, slice_set, MatchResult, OnErr, OnOk};
+ghost use Rattle.i3c_device.specs.Raising.{wishing_join};
+ghost use Rattle.i3c_hotjoin.specs.Wishes.{refusal_of};
+
+use i3c_base::Slot;
+use i3c_device::Devices;
+use thiserror::Error;
+
+/// Why a slot's device doesn't wish to join.
+#[derive(Clone, Copy, Debug, PartialEq, Eq, Drop, Error)]
+pub enum JoinRefusal {
+    /// The slot holds no device.
+    #[error("the slot holds no device")]
+    NoDevice,
+    /// The device has an address.
+    #[error("the device has an address")]
+    HasAddress,
+    /// The device's joins are disabled.
+    #[error("the device's joins are disabled")]
+    Masked,
+}
+
+/// The slot's device wishes to join (Hot-Join, I3C Basic 5.1.5). The first refusal that holds is answered, and changes
+/// nothing.
+pub fn ask(devices: &mut Devices, slot: Slot) -> Result<(), JoinRefusal>
+    ensures refusal { MatchResult result (λ _. refusal_of (slice_index_or devices.old slot None) ≡ None) (λ why. refusal_of (slice_index_or devices.old slot None) ≡ Some why) }
+    ensures wishes { OnOk result (devices.new ≡ slice_set devices.old slot (option_map wishing_join (slice_index_or devices.old slot None))) }
+    ensures unchanged { OnErr result (devices.new ≡ devices.old) }
+{
+    let Some(device) = devices.get(slot) else {
+        return Err(JoinRefusal::NoDevice);
+    };
+    if device.address().is_some() {
+        return Err(JoinRefusal::HasAddress);
+    }
+    if !device.may_join() {
+        return Err(JoinRefusal::Masked);
+    }
+    devices.wish_join(slot);
+    Ok(())
+}
