@@ -15,7 +15,7 @@ use Rattle.i3c_base.specs.Serve.{Frame, emptied, header_bits}
 use Rattle.i3c_base.specs.State.{State}
 use Rattle.i3c_frame.specs.declared.symbols.Symbol.{Symbol}
 use Rattle.i3c_frame.specs.declared.symbols.Symbol.TheVariants.{Stop}
-use Rattle.i3c_frame.specs.Taps.{NotesAll}
+use Rattle.i3c_frame.specs.Taps.{NotesAll, Tells}
 use Rattle.i3c_frame.proofs.TapLaws.{NotesAll-append, NotesAll-push}
 use Rattle.i3c_ibi.specs.Serving.{given_for}
 use Rattle.i3c_bus.specs.declared.events.Event.{Event}
@@ -27,7 +27,8 @@ use Rattle.i3c_bus.specs.Beginning.{Begins, IsWay, LeavesBy}
 use Rattle.i3c_bus.specs.Commands.{kinds_event}
 use Rattle.i3c_bus.specs.Hands.{HandFits}
 use Rattle.i3c_bus.specs.Step.{Acts, IsShort, Nothing, Step, checks, cuts_active, first_refusal, frame_checks, is_no_target, target_checks}
-use Rattle.i3c_bus.specs.Wire.{IsBegun, IsFrameWire, IsKindsWire, IsServeWire, IsWire, Tells}
+use Rattle.i3c_events.specs.Telling.{IsKindsWire}
+use Rattle.i3c_bus.specs.Wire.{IsBegun, IsFrameWire, IsServeWire, IsWire}
 use Rattle.i3c_bus.proofs.Acting.{acting}
 use Rattle.i3c_bus.proofs.Slots.{Stands, Stands-rekinds, Stands-same, Stands-serves, Stands-then}
 

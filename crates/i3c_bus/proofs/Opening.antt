@@ -16,7 +16,8 @@ use Rattle.i3c_bus.specs.Calls.{Carries}
 use Rattle.i3c_bus.specs.Hands.{HandFits}
 use Rattle.i3c_bus.specs.Serving.{place_of}
 use Rattle.i3c_bus.specs.Step.{checks, cuts_active, first_refusal}
-use Rattle.i3c_bus.specs.Wire.{IsBegun, IsFrameWire, IsOn, IsOpenWire, Tells}
+use Rattle.i3c_frame.specs.Taps.{Tells}
+use Rattle.i3c_bus.specs.Wire.{IsBegun, IsFrameWire, IsOn, IsOpenWire}
 use Rattle.i3c_bus.proofs.Acting.{acting}
 use Rattle.i3c_bus.proofs.Framing.{frame_free}
 

@@ -1,16 +1,13 @@
-ghost use Rattle.std.specs.Prelude.{◌≡◌, ℕ, true, false, [], ◌∷◌, Some, None};
-ghost use Rattle.i3c_base.specs.declared.answers.Answer.{Answer as AnswerValue};
-ghost use Rattle.i3c_events.specs.Hearing.{answer_of};
-ghost use Rattle.i3c_frame.specs.Taps.{NotesAll};
+ghost use Rattle.std.specs.Prelude.{◌≡◌, ℕ, true, false, [], ◌∷◌};
+ghost use Rattle.i3c_frame.specs.Taps.{NotesAll, Tells};
 ghost use Rattle.i3c_frame.specs.declared.symbols.Symbol.{Symbol as SymbolValue};
 ghost use Rattle.i3c_word.specs.Parity.{IsAddressByte};
 ghost use Rattle.i3c_bus.specs.Telling.{begun};
-ghost use Rattle.i3c_bus.specs.Wire.{IsKindsWire, IsOpenWire, IsRoundWire, Tells, request_header};
+ghost use Rattle.i3c_bus.specs.Wire.{IsOpenWire, IsRoundWire, request_header};
 
-use i3c_base::{Addr7, Change, Kinds, Request};
+use i3c_base::{Addr7, Request};
 use i3c_ccc::{Code, byte_of};
 use i3c_entdaa::Round;
-use i3c_events::{NoAnswer, code_word, kinds_word};
 use i3c_frame::{Symbol, Tap};
 use i3c_header::header;
 use i3c_ibi::Reading;
@@ -93,64 +90,6 @@ pub(crate) fn tell_open<T: Tap>(tap: &mut T)
     ensures { Tells T.note_gives tap.old tap.new IsOpenWire }
 {
     tap.note(Symbol::Word(write_word(byte_of(Code::Entdaa))));
-}
-
-/// Tells ENEC or DISEC as it was heard, up to its STOP.
-pub(crate) fn tell_command<T: Tap>(
-    tap: &mut T,
-    change: Change,
-    to: &Option<Addr7>,
-    kinds: Kinds,
-    heard: &Result<(), NoAnswer>,
-)
-    ensures { Tells T.note_gives tap.old tap.new (IsKindsWire change to.now kinds (answer_of heard.now)) }
-{
-    let Some(address) = to else {
-        tell_kinds(tap, change, kinds);
-        return;
-    };
-    match heard {
-        Ok(()) => tell_kinds_to(tap, change, *address, kinds),
-        Err(NoAnswer(_)) => tell_unanswered(tap, change, *address, kinds),
-    }
-}
-
-/// Tells ENEC or DISEC to all, up to its STOP.
-fn tell_kinds<T: Tap>(tap: &mut T, change: Change, kinds: Kinds)
-    ensures { Tells T.note_gives tap.old tap.new (IsKindsWire change None kinds AnswerValue.Done) }
-{
-    tap.note(Symbol::Word(code_word(change, None)));
-    tap.note(Symbol::Word(kinds_word(kinds)));
-    tap.note(Symbol::Stop);
-}
-
-/// Tells ENEC or DISEC to an address that acknowledges, up to its STOP.
-fn tell_kinds_to<T: Tap>(tap: &mut T, change: Change, address: Addr7, kinds: Kinds)
-    ensures { Tells T.note_gives tap.old tap.new (IsKindsWire change (Some address) kinds AnswerValue.Done) }
-{
-    tap.note(Symbol::Word(code_word(change, Some(address))));
-    tap.note(Symbol::Repeated);
-    tap.note(Symbol::Header {
-        address,
-        read: false,
-        ack: true,
-    });
-    tap.note(Symbol::Word(kinds_word(kinds)));
-    tap.note(Symbol::Stop);
-}
-
-/// Tells ENEC or DISEC to an address that nobody acknowledges, up to its STOP.
-fn tell_unanswered<T: Tap>(tap: &mut T, change: Change, address: Addr7, kinds: Kinds)
-    ensures { Tells T.note_gives tap.old tap.new (IsKindsWire change (Some address) kinds (AnswerValue.NoAnswer address)) }
-{
-    tap.note(Symbol::Word(code_word(change, Some(address))));
-    tap.note(Symbol::Repeated);
-    tap.note(Symbol::Header {
-        address,
-        read: false,
-        ack: false,
-    });
-    tap.note(Symbol::Stop);
 }
 
 /// Tells a round as it came out on the lines.

@@ -23,7 +23,7 @@ invariant_of-self g c =
     let serving : IsServing (seen c.self.inside) c.args.cuts.now c.serve-reading.result c.serve-reading.new.devices =
     c.serve-reading.ensures.serves (seen c.self.inside) (refl, active) refl (fits_table (seen c.self.inside) c.self.invariant.sound) in
     let begins = begins_by (seen c.self.inside) c.args.cuts.now c.serve-reading.result c.serve-reading.new.devices c.record_due-served.new.records.items c.record_due-served.result serving
-        c.record_due-served.ensures.served c.record_due-served.ensures.items in
+    c.record_due-served.ensures.served c.record_due-served.ensures.items in
     record {
       sound = sound_serves (seen c.self.inside) (given_for c.record_due-served.result) _ c.record_due-served.result _ (begins.serves 0) c.self.invariant.sound;
       covered = c.self.invariant.covered;
@@ -35,7 +35,7 @@ returns-clause-begins g c =
     let serving : IsServing (seen c.self.inside) c.args.cuts.now c.serve-reading.result c.serve-reading.new.devices =
     c.serve-reading.ensures.serves (seen c.self.inside) (refl, active) refl (fits_table (seen c.self.inside) c.self.invariant.sound) in
     let begins = begins_by (seen c.self.inside) c.args.cuts.now c.serve-reading.result c.serve-reading.new.devices c.record_due-served.new.records.items c.record_due-served.result serving
-        c.record_due-served.ensures.served c.record_due-served.ensures.items in
+    c.record_due-served.ensures.served c.record_due-served.ensures.items in
     let new : State = record (seen c.self.inside) { devices = c.serve-reading.new.devices; records = c.record_due-served.new.records.items } in
     subst (λ (h : Held). Begins h.state c.args.cuts.now c.record_due-served.result c.word_bits-bits.result new) c.self.view_is
     (subst (λ (bits : ℕ). Begins (seen c.self.inside) c.args.cuts.now c.record_due-served.result bits new) (sym c.word_bits-bits.ensures) begins)

@@ -41,9 +41,9 @@ returns-clause-told g c =
             subst (λ (s : Served). IsBegun c.args.self.now.state c.args.cuts.now s c.args.self.now.state (Start ∷ Header 0x7E false w.is_heard-ack.result ∷ [])) (sym w.served-is) (w.is_heard-ack.result, acked, refl),
           )
       | in-Some w ↦ (
-          Start ∷ request_header w.in-Some.request false ∷ [],
-          subst (λ tap. NotesAll g.T.Tap.note_gives c.args.tap.now (Start ∷ request_header w.in-Some.request false ∷ []) tap) (sym w.tap-is) w.tell_request.ensures,
-          subst (λ (s : Served). IsBegun c.args.self.now.state c.args.cuts.now s c.args.self.now.state (Start ∷ request_header w.in-Some.request false ∷ [])) (sym w.served-is)
-              (w.in-Some.request, w.in-Some.ensures c.args.self.now.state same, refl),
-        )
+        Start ∷ request_header w.in-Some.request false ∷ [],
+        subst (λ tap. NotesAll g.T.Tap.note_gives c.args.tap.now (Start ∷ request_header w.in-Some.request false ∷ []) tap) (sym w.tap-is) w.tell_request.ensures,
+        subst (λ (s : Served). IsBegun c.args.self.now.state c.args.cuts.now s c.args.self.now.state (Start ∷ request_header w.in-Some.request false ∷ [])) (sym w.served-is)
+            (w.in-Some.request, w.in-Some.ensures c.args.self.now.state same, refl),
+      )
     ]
