@@ -13,12 +13,12 @@ use Rattle.i3c_base.specs.Serve.{IsFirst, IsWordBits, byte_due}
 use Rattle.i3c_base.specs.Frames.{AnyLeft}
 use Rattle.i3c_header.specs.Keys.{address_of, is_read}
 use Rattle.i3c_word.specs.declared.Word.{Word}
-use Rattle.i3c_word.specs.Parity.{IsAddressByte}
 use Rattle.i3c_entdaa.specs.declared.outcome.Round.{Round}
 use Rattle.i3c_entdaa.specs.Rounds.{IsRead, reply_of}
+use Rattle.i3c_entdaa.specs.Telling.{IsRoundWire}
 use Rattle.i3c_events.specs.Telling.{IsKindsWire, IsWord}
 use Rattle.i3c_frame.specs.declared.symbols.Symbol.{Symbol}
-use Rattle.i3c_frame.specs.declared.symbols.Symbol.TheVariants.{Start, Repeated, Stop, Header, AddressByte}
+use Rattle.i3c_frame.specs.declared.symbols.Symbol.TheVariants.{Start, Repeated, Stop, Header}
 use Rattle.i3c_bus.specs.declared.events.Event.{Event}
 use Rattle.i3c_bus.specs.declared.events.Event.TheVariants.{Enec, Disec}
 use Rattle.i3c_bus.specs.declared.replies.Reply.{Reply}
@@ -82,15 +82,6 @@ IsOpenWire wire = (code : Word) × IsWord 0x07 code × (wire ≡ Symbol.Word cod
 -- a serve: its beginning, and STOP
 abbrev pub IsServeWire : State → CutList → Served → State → List Symbol → Type 0
 IsServeWire old cuts served new wire = (begun : List Symbol) × IsBegun old cuts served new begun × (wire ≡ begun ++ Stop ∷ [])
-
--- a round: a repeated START and the header that reads; where somebody acknowledged it the identity as it was read, and the address byte
-abbrev pub IsRoundWire : Round → List Symbol → Type 0
-IsRoundWire Round.NoAddress wire = wire ≡ []
-IsRoundWire Round.Done wire = wire ≡ Repeated ∷ Header 0x7E true false ∷ []
-IsRoundWire (Round.Nobody bits a) wire =
-    (byte : ℕ) × IsAddressByte a byte × (wire ≡ Repeated ∷ Header 0x7E true true ∷ Symbol.Identity bits ∷ AddressByte byte false ∷ [])
-IsRoundWire (Round.Assigned bits a i) wire =
-    (byte : ℕ) × IsAddressByte a byte × (wire ≡ Repeated ∷ Header 0x7E true true ∷ Symbol.Identity bits ∷ AddressByte byte true ∷ [])
 
 -- the wire of a round with this answer, whose bits are those that the contest of the hearers' numbers reads
 abbrev pub IsRoundWireOf : State → CutList → RoundReply → List Symbol → Type 0

@@ -1,28 +1,15 @@
-ghost use Rattle.std.specs.Prelude.{◌≡◌, ℕ, true, false, [], ◌∷◌};
+ghost use Rattle.std.specs.Prelude.{◌≡◌, true, false, [], ◌∷◌};
 ghost use Rattle.i3c_frame.specs.Taps.{NotesAll, Tells};
 ghost use Rattle.i3c_frame.specs.declared.symbols.Symbol.{Symbol as SymbolValue};
-ghost use Rattle.i3c_word.specs.Parity.{IsAddressByte};
 ghost use Rattle.i3c_bus.specs.Telling.{begun};
-ghost use Rattle.i3c_bus.specs.Wire.{IsOpenWire, IsRoundWire, request_header};
+ghost use Rattle.i3c_bus.specs.Wire.{IsOpenWire, request_header};
 
-use i3c_base::{Addr7, Request};
+use i3c_base::Request;
 use i3c_ccc::{Code, byte_of};
-use i3c_entdaa::Round;
 use i3c_frame::{Symbol, Tap};
 use i3c_header::header;
 use i3c_ibi::Reading;
-use i3c_word::{Word, address_byte, write_word};
-
-/// The address that every I3C device hears (I3C Basic 5.1.2.2.1).
-const BROADCAST: u8 = 0x7E;
-
-/// A header of the broadcast address.
-fn broadcast(read: bool, ack: bool) -> Symbol
-    ensures { result ≡ SymbolValue.Header 0x7E read ack }
-{
-    let address = Addr7::new(BROADCAST).unwrap();
-    Symbol::Header { address, read, ack }
-}
+use i3c_word::{Word, write_word};
 
 /// The header of a request, with the controller's answer (I3C Basic 5.1.6.2).
 fn request_header(request: Request, ack: bool) -> Symbol
@@ -45,7 +32,7 @@ pub(crate) fn tell_broadcast<T: Tap>(tap: &mut T, ack: bool)
     ensures { NotesAll T.note_gives tap.old (SymbolValue.Start ∷ SymbolValue.Header 0x7E false ack ∷ []) tap.new }
 {
     tap.note(Symbol::Start);
-    tap.note(broadcast(false, ack));
+    tap.note(Symbol::broadcast(false, ack));
 }
 
 /// Tells the mandatory byte that was read, with the T that ended it or didn't.
@@ -82,7 +69,7 @@ pub(crate) fn tell_repeated<T: Tap>(tap: &mut T, ack: bool)
     ensures { NotesAll T.note_gives tap.old (SymbolValue.Repeated ∷ SymbolValue.Header 0x7E false ack ∷ []) tap.new }
 {
     tap.note(Symbol::Repeated);
-    tap.note(broadcast(false, ack));
+    tap.note(Symbol::broadcast(false, ack));
 }
 
 /// Tells the code of ENTDAA.
@@ -90,31 +77,4 @@ pub(crate) fn tell_open<T: Tap>(tap: &mut T)
     ensures { Tells T.note_gives tap.old tap.new IsOpenWire }
 {
     tap.note(Symbol::Word(write_word(byte_of(Code::Entdaa))));
-}
-
-/// Tells a round as it came out on the lines.
-pub(crate) fn tell_round<T: Tap>(tap: &mut T, round: &Round)
-    ensures { Tells T.note_gives tap.old tap.new (IsRoundWire round.now) }
-{
-    match *round {
-        Round::NoAddress => {}
-        Round::Done => {
-            tap.note(Symbol::Repeated);
-            tap.note(broadcast(true, false));
-        }
-        Round::Nobody { bits, address } => tell_identity(tap, bits, address, false),
-        Round::Assigned { bits, address, .. } => tell_identity(tap, bits, address, true),
-    }
-}
-
-/// Tells a round that somebody heard: its header, the bits of the identity as they were read, and the address byte.
-fn tell_identity<T: Tap>(tap: &mut T, bits: u64, address: Addr7, ack: bool)
-    ensures { Tells T.note_gives tap.old tap.new (λ wire. (byte : ℕ) × IsAddressByte address byte
-        × (wire ≡ SymbolValue.Repeated ∷ SymbolValue.Header 0x7E true true ∷ SymbolValue.Identity bits ∷ SymbolValue.AddressByte byte ack ∷ [])) }
-{
-    tap.note(Symbol::Repeated);
-    tap.note(broadcast(true, true));
-    tap.note(Symbol::Identity(bits));
-    let byte = address_byte(address);
-    tap.note(Symbol::AddressByte { byte, ack });
 }
