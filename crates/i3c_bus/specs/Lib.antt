@@ -15,5 +15,4 @@ pub mod Hands
 pub mod Parts
 pub mod Wire
 pub mod Calls
-pub mod Telling
 pub mod Beginning

@@ -11,12 +11,12 @@ use Rattle.i3c_base.specs.Cutting.{CutList, lost_by}
 use Rattle.i3c_base.specs.State.{State, entry_at}
 use Rattle.i3c_base.specs.Serve.{IsFirst, IsWordBits, byte_due}
 use Rattle.i3c_base.specs.Frames.{AnyLeft}
-use Rattle.i3c_header.specs.Keys.{address_of, is_read}
 use Rattle.i3c_word.specs.declared.Word.{Word}
 use Rattle.i3c_entdaa.specs.declared.outcome.Round.{Round}
 use Rattle.i3c_entdaa.specs.Rounds.{IsRead, reply_of}
 use Rattle.i3c_entdaa.specs.Telling.{IsRoundWire}
 use Rattle.i3c_events.specs.Telling.{IsKindsWire, IsWord}
+use Rattle.i3c_ibi.specs.Telling.{byte_word, request_header}
 use Rattle.i3c_frame.specs.declared.symbols.Symbol.{Symbol}
 use Rattle.i3c_frame.specs.declared.symbols.Symbol.TheVariants.{Start, Repeated, Stop, Header}
 use Rattle.i3c_bus.specs.declared.events.Event.{Event}
@@ -27,15 +27,6 @@ use Rattle.i3c_bus.specs.Step.{cuts_in}
 -- whether some device other than the active controller, not lost by this bit, acknowledges a broadcast there
 abbrev pub IsAck : State → CutList → ℕ → Bool → Type 0
 IsAck st cuts bit ack = (ack ≡ true) ↔ AnyLeft st (lost_by cuts bit)
-
--- the header of a request, with the controller's answer
-abbrev pub request_header : Request → Bool → Symbol
-request_header r ack = Header (address_of r) (is_read r) ack
-
--- the mandatory byte as it was read, with T 0, if there was one
-abbrev pub byte_word : Option ℕ → List Symbol
-byte_word None = []
-byte_word (Some byte) = Symbol.Word (record { byte = byte; t = false }) ∷ []
 
 -- an accepted interrupt: its header, and the mandatory byte where one is due, as the new record says
 abbrev pub IsRecordedWire : State → State → List Symbol → Type 0

@@ -1,5 +1,5 @@
 ghost use Rattle.std.specs.Prelude.{◌≡◌, ◌<◌, None, length, vec_len, vec_capacity};
-ghost use Rattle.i3c_ibi.specs.Serving.{served_as, word_bits};
+ghost use Rattle.i3c_ibi.specs.Serving.{served_as};
 ghost use Rattle.i3c_bus.specs.Beginning.{kept_in};
 ghost use Rattle.i3c_bus.specs.Serving.{place_of};
 
@@ -7,18 +7,17 @@ use crate::events::Command;
 use crate::parts::Bus;
 use crate::replies::{FrameFault, Framed, OutOfMemory, Refusal, Reply, TargetFault};
 use crate::tokens::Hand;
-use crate::wire::{tell_broadcast, tell_reading, tell_repeated, tell_request};
 use i3c_base::{Addr7, Answer, Change, Cuts, Kinds, Record, Served};
 use i3c_events::{answer_of, hear_kinds, kinds_bits, tell_kinds};
 use i3c_frame::{Symbol, Tap};
 use i3c_handoff::Role;
-use i3c_ibi::{Policy, Reading, first_request, serve};
+use i3c_ibi::{
+    Policy, Reading, first_request, serve, tell_broadcast, tell_reading, tell_repeated,
+    tell_request,
+};
 
 /// The bits of a header.
 const HEADER_BITS: u16 = 9;
-
-/// The bits of a word.
-const WORD_BITS: u16 = 9;
 
 /// How a frame began: what it served, and how many bits it has sent after its first, which is the header's ninth.
 #[derive(Clone, Copy)]
@@ -253,7 +252,7 @@ impl Bus {
         let reading = serve(&mut self.devices, active, &self.table, policy, cuts);
         tell_reading(tap, &reading, ack);
         let served = record_due(&mut self.records, &reading);
-        let bits = word_bits(&reading);
+        let bits = reading.word_bits();
         Begun { served, bits }
     }
 
@@ -321,16 +320,5 @@ fn record_due(records: &mut Vec<Record>, reading: &Reading) -> Served
             records.push_reserved(record);
             Served::Recorded(records.len())
         }
-    }
-}
-
-/// The bits of the mandatory word that was read.
-fn word_bits(reading: &Reading) -> u16
-    ensures { result ≡ word_bits reading.now }
-{
-    match reading {
-        Reading::Torn(_, _) => WORD_BITS,
-        Reading::Due(record) => { if record.byte.is_some() { WORD_BITS } else { 0 } }
-        _ => 0,
     }
 }

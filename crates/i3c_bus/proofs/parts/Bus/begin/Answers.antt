@@ -9,7 +9,7 @@ use Rattle.i3c_frame.specs.declared.symbols.Symbol.{Symbol}
 use Rattle.i3c_ibi.specs.Policies.{Decides}
 use Rattle.i3c_ibi.specs.Serving.{IsServing, given_for, served_as, word_bits}
 use Rattle.i3c_bus.specs.Beginning.{Begins}
-use Rattle.i3c_bus.specs.Telling.{begun}
+use Rattle.i3c_ibi.specs.Telling.{begun}
 use Rattle.i3c_bus.specs.Wire.{IsBegun}
 use Rattle.i3c_bus.proofs.Beginning.{begins_by, begun_by, fits_table}
 use Rattle.i3c_bus.proofs.Heard.{is_ack}
