@@ -1,13 +1,11 @@
 -- What was read of the first request, as the beginning of a frame.
-use Rattle.std.proofs.Common.{◌≡◌, ◌∙◌, ◌↔◌, ℕ, true, None, length, ap, refl, subst, sym, List}
+use Rattle.std.proofs.Common.{◌≡◌, ◌∙◌, ◌↔◌, ℕ, true, None, length, ap, refl, subst, sym}
 use Rattle.i3c_base.specs.Cutting.{lost_by}
-use Rattle.i3c_base.specs.Serve.{Serves}
 use Rattle.i3c_base.specs.State.{Held, State}
 use Rattle.i3c_base.specs.declared.requests.Served.{Served}
 use Rattle.i3c_device.specs.Walks.{SomeReached}
-use Rattle.i3c_frame.specs.declared.symbols.Symbol.{Symbol}
 use Rattle.i3c_ibi.specs.Policies.{Decides}
-use Rattle.i3c_ibi.specs.Serving.{IsServing, given_for, served_as, word_bits}
+use Rattle.i3c_ibi.specs.Serving.{IsServing, given_for, served_as}
 use Rattle.i3c_bus.specs.Beginning.{Begins}
 use Rattle.i3c_ibi.specs.Telling.{begun}
 use Rattle.i3c_bus.specs.Wire.{IsBegun}

@@ -1,6 +1,6 @@
 -- Nobody asks, or the first request is turned down.
 use Rattle.std.proofs.Common.{◌≡◌, ◌∙◌, ◌↔◌, ℕ, true, false, [], ◌∷◌, None, ap, refl, subst, sym}
-use Rattle.i3c_base.specs.Cutting.{Lost, lost_by}
+use Rattle.i3c_base.specs.Cutting.{lost_by}
 use Rattle.i3c_base.specs.Serve.{Serves, refuse_all}
 use Rattle.i3c_base.specs.State.{HasDevices, Held}
 use Rattle.i3c_base.specs.declared.requests.Served.{Served}

@@ -1,15 +1,15 @@
 -- A command that is carried out.
 use Rattle.std.proofs.lemmas.Option.{same_Some}
-use Rattle.std.proofs.Common.{◌≡◌, ◌∙◌, ◌+◌, ℕ, Option, Some, true, false, ap, refl, subst, sym, arith}
+use Rattle.std.proofs.Common.{◌≡◌, ◌∙◌, ◌+◌, ℕ, Option, Some, false, ap, subst, sym, arith}
 use Rattle.i3c_base.specs.declared.answers.Answer.{Answer}
 use Rattle.i3c_base.specs.declared.requests.Served.{Served}
-use Rattle.i3c_base.specs.Cutting.{Lost, lost_by}
+use Rattle.i3c_base.specs.Cutting.{Lost}
 use Rattle.i3c_base.specs.Frames.{Rekinds, changed_kinds, kinds_bits}
-use Rattle.i3c_base.specs.Serve.{emptied, header_bits}
+use Rattle.i3c_base.specs.Serve.{header_bits}
 use Rattle.i3c_base.specs.State.{State}
 use Rattle.i3c_ibi.specs.Serving.{given_for}
 use Rattle.i3c_bus.specs.declared.tokens.Hand.{Hand}
-use Rattle.i3c_bus.specs.Beginning.{Begins, LeavesBy}
+use Rattle.i3c_bus.specs.Beginning.{LeavesBy}
 use Rattle.i3c_bus.specs.Step.{is_no_target}
 use Rattle.i3c_frame.specs.Taps.{Tells}
 use Rattle.i3c_events.specs.Telling.{IsKindsWire}

@@ -1,7 +1,6 @@
 -- After a request a repeated START and the broadcast header are sent.
 use Rattle.std.proofs.Common.{◌≡◌, ◌∙◌, ◌↔◌, ◌+◌, ℕ, true, false, [], ◌∷◌, None, ap, refl, subst, sym}
 use Rattle.i3c_base.specs.Cutting.{lost_by}
-use Rattle.i3c_base.specs.Serve.{header_bits}
 use Rattle.i3c_base.specs.State.{Held}
 use Rattle.i3c_device.specs.Walks.{SomeReached}
 use Rattle.i3c_frame.specs.declared.symbols.Symbol.TheVariants.{Header, Repeated}

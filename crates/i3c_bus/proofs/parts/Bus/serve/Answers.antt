@@ -1,8 +1,6 @@
 -- A frame that serves the first request, and stops.
-use Rattle.std.proofs.Common.{◌≡◌, ◌∙◌, ◌+◌, ℕ, true, ap, refl, subst, sym, arith}
+use Rattle.std.proofs.Common.{◌∙◌, ℕ, ap, refl, subst, sym, arith}
 use Rattle.i3c_base.specs.declared.requests.Served.{Served}
-use Rattle.i3c_base.specs.Cutting.{lost_by}
-use Rattle.i3c_base.specs.Serve.{emptied}
 use Rattle.i3c_base.specs.State.{State}
 use Rattle.i3c_ibi.specs.Serving.{given_for}
 use Rattle.i3c_bus.specs.declared.events.Event.{Event}
