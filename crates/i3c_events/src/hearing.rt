@@ -58,7 +58,7 @@ pub fn kinds_bits(to: &Option<Addr7>, answer: &Answer) -> u16
     }
 }
 
-/// The answer of a command that was heard, or wasn't.
+/// The answer of ENEC or DISEC that was heard, or wasn't (I3C Basic 5.1.9.3.1).
 pub fn answer_of(heard: &Result<(), NoAnswer>) -> Answer
     ensures { result ≡ answer_of heard.now }
 {

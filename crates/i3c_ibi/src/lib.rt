@@ -1,5 +1,5 @@
-//! Requests in an arbitrable header: which comes first, the policy that decides on it, what its drivers lose, what is read
-//! of them, and how that is told.
+//! Requests in an arbitrable header: which comes first, the policy that decides on it, what its drivers lose, what is
+//! read of them, and how that is told.
 #![tactic(auto)]
 
 mod first;
