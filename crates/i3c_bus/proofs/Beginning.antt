@@ -1,10 +1,8 @@
 -- The beginning of a frame: what serving its first request does to a bus, and tells.
-use Rattle.std.proofs.lemmas.Bool.{both_ways}
-use Rattle.std.proofs.Common.{◌≡◌, ℕ, suc, Bool, true, false, ◌+◌, ◌≤◌, List, [], ◌∷◌, ◌++◌, length, Option, Some, None, is_some, if◌then◌else◌, sym, refl, ap, subst, ◌∙◌, arith}
+use Rattle.std.proofs.Common.{◌≡◌, ℕ, suc, Bool, true, false, ◌≤◌, List, ◌∷◌, length, Option, is_some, if◌then◌else◌, sym, refl, ap, subst, ◌∙◌, arith}
 use Rattle.std.specs.List.{All}
 use Rattle.std.proofs.lemmas.List.Elements.{All-head}
 use Rattle.i3c_base.specs.declared.device.Waiting.{Waiting}
-use Rattle.i3c_base.specs.declared.requests.Fixed.{Fixed}
 use Rattle.i3c_base.specs.declared.requests.Record.{Record}
 use Rattle.i3c_base.specs.declared.requests.Request.{Request}
 use Rattle.i3c_base.specs.declared.requests.Request.TheVariants.{Join, Role, Interrupt}
@@ -14,13 +12,12 @@ use Rattle.i3c_base.specs.Numbers.{has_byte}
 use Rattle.i3c_base.specs.Cutting.{CutList}
 use Rattle.i3c_base.specs.State.{Device, State, entry_at}
 use Rattle.i3c_base.specs.Serve.{IsFirst, IsWordBits, byte_due, refuse_all, verdict}
-use Rattle.i3c_frame.specs.declared.symbols.Symbol.{Symbol}
 use Rattle.i3c_ibi.specs.declared.serving.Reading.{Reading}
 use Rattle.i3c_ibi.specs.declared.serving.Reading.TheVariants.{Quiet, Refused, Joined, WantsRole, Due, Torn}
 use Rattle.i3c_ibi.specs.Serving.{FitsTable, IsServing, kept, served_as, word_bits}
 use Rattle.i3c_bus.specs.Beginning.{Begins, kept_in}
 use Rattle.i3c_bus.specs.Sound.{IsSound}
-use Rattle.i3c_bus.specs.Telling.{begun}
+use Rattle.i3c_ibi.specs.Telling.{begun}
 use Rattle.i3c_bus.specs.Wire.{IsAck, IsBegun}
 use Rattle.i3c_bus.proofs.Drivers.{Drives-from}
 use Rattle.i3c_bus.proofs.Maps.{same_device}

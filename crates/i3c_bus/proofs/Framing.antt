@@ -1,6 +1,5 @@
 -- A frame that was carried out, as a step and as what was told.
-use Rattle.std.proofs.lemmas.Option.{none-some}
-use Rattle.std.proofs.Common.{◌≡◌, ℕ, ◌+◌, Bool, true, false, List, [], ◌∷◌, ◌++◌, Option, Some, None, is_some, MatchOption, ◌⊎◌, inl, inr, if◌then◌else◌, sym, refl, ap, subst, ◌∙◌, arith}
+use Rattle.std.proofs.Common.{◌≡◌, ℕ, ◌+◌, false, List, [], ◌∷◌, ◌++◌, Option, Some, None, inl, inr, sym, refl, ap, subst, ◌∙◌}
 use Rattle.i3c_base.specs.declared.answers.Answer.{Answer}
 use Rattle.i3c_base.specs.declared.kinds.Change.{Change}
 use Rattle.i3c_base.specs.declared.kinds.Change.TheVariants.{Enable, Disable}
@@ -15,21 +14,21 @@ use Rattle.i3c_base.specs.Serve.{Frame, emptied, header_bits}
 use Rattle.i3c_base.specs.State.{State}
 use Rattle.i3c_frame.specs.declared.symbols.Symbol.{Symbol}
 use Rattle.i3c_frame.specs.declared.symbols.Symbol.TheVariants.{Stop}
-use Rattle.i3c_frame.specs.Taps.{NotesAll}
+use Rattle.i3c_frame.specs.Taps.{Tells}
 use Rattle.i3c_frame.proofs.TapLaws.{NotesAll-append, NotesAll-push}
 use Rattle.i3c_ibi.specs.Serving.{given_for}
 use Rattle.i3c_bus.specs.declared.events.Event.{Event}
-use Rattle.i3c_bus.specs.declared.replies.Framed.{Framed}
 use Rattle.i3c_bus.specs.declared.replies.Refusal.{Refusal}
 use Rattle.i3c_bus.specs.declared.replies.Reply.{Reply}
 use Rattle.i3c_bus.specs.declared.tokens.Hand.{Hand}
 use Rattle.i3c_bus.specs.Beginning.{Begins, IsWay, LeavesBy}
 use Rattle.i3c_bus.specs.Commands.{kinds_event}
 use Rattle.i3c_bus.specs.Hands.{HandFits}
-use Rattle.i3c_bus.specs.Step.{Acts, IsShort, Nothing, Step, checks, cuts_active, first_refusal, frame_checks, is_no_target, target_checks}
-use Rattle.i3c_bus.specs.Wire.{IsBegun, IsFrameWire, IsKindsWire, IsServeWire, IsWire, Tells}
+use Rattle.i3c_bus.specs.Step.{Nothing, Step, cuts_active, first_refusal, frame_checks, is_no_target, target_checks}
+use Rattle.i3c_events.specs.Telling.{IsKindsWire}
+use Rattle.i3c_bus.specs.Wire.{IsBegun, IsFrameWire, IsServeWire, IsWire}
 use Rattle.i3c_bus.proofs.Acting.{acting}
-use Rattle.i3c_bus.proofs.Slots.{Stands, Stands-rekinds, Stands-same, Stands-serves, Stands-then}
+use Rattle.i3c_bus.proofs.Slots.{Stands, Stands-same, Stands-serves, Stands-then}
 
 -- a frame that is neither in a session nor cuts the active controller
 pub frame_free : (st : State) (cuts : CutList) → st.in_session ≡ false → cuts_active st cuts ≡ false → first_refusal (frame_checks st cuts) ≡ None

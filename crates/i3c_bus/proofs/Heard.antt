@@ -1,15 +1,14 @@
 -- Who acknowledges a broadcast.
 use Rattle.std.proofs.lemmas.Bool.{eqb-false, ne_eqb, not-true}
-use Rattle.std.proofs.Common.{◌≡◌, ℕ, ◌+◌, Bool, true, false, not, List, [], ◌∷◌, None, option_map, if◌then◌else◌, ◌==◌, ◌↔◌, sym, ap, ◌∙◌, subst, refl}
+use Rattle.std.proofs.Common.{◌≡◌, ℕ, ◌+◌, Bool, true, false, not, List, [], ◌∷◌, None, option_map, if◌then◌else◌, ◌↔◌, sym, ap, ◌∙◌, subst, refl}
 use Rattle.i3c_base.specs.declared.requests.Fixed.{Fixed}
-use Rattle.i3c_base.specs.declared.requests.Request.{Request}
 use Rattle.i3c_base.specs.declared.requests.Request.TheVariants.{Join, Role, Interrupt}
 use Rattle.i3c_base.specs.declared.requests.Served.{Served}
 use Rattle.i3c_base.specs.declared.requests.Served.TheVariants.{Quiet, Recorded, Refused, Torn, Joining, WantsRole}
 use Rattle.i3c_base.specs.Cutting.{CutList, Lost, lost_by}
 use Rattle.i3c_base.specs.Frames.{AnyLeft}
-use Rattle.i3c_base.specs.Serve.{Serves, drives, header_bits, each_driver, recorded, without_front, without_join, without_role}
-use Rattle.i3c_base.specs.State.{Device, State, device_at, each}
+use Rattle.i3c_base.specs.Serve.{Serves, drives, header_bits, without_front, without_join, without_role}
+use Rattle.i3c_base.specs.State.{Device, State, each}
 use Rattle.i3c_base.proofs.Lookups.{each_at, each_from}
 use Rattle.i3c_device.specs.Walks.{SomeReached}
 use Rattle.i3c_frame.specs.declared.symbols.Symbol.{Symbol}

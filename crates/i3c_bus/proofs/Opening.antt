@@ -1,5 +1,5 @@
 -- A session is opened.
-use Rattle.std.proofs.Common.{◌≡◌, ℕ, ◌+◌, false, List, [], ◌∷◌, ◌++◌, None, refl, sym, ap, ◌∙◌, arith}
+use Rattle.std.proofs.Common.{◌≡◌, ℕ, ◌+◌, false, List, ◌++◌, None, refl, sym, ap, ◌∙◌, arith}
 use Rattle.i3c_base.specs.declared.requests.Served.{Served}
 use Rattle.i3c_base.specs.declared.requests.Served.TheVariants.{Quiet, Recorded, Refused, Torn, Joining, WantsRole}
 use Rattle.i3c_base.specs.Cutting.{CutList, Lost, lost_by}
@@ -9,14 +9,14 @@ use Rattle.i3c_base.specs.State.{Held, State}
 use Rattle.i3c_frame.specs.declared.symbols.Symbol.{Symbol}
 use Rattle.i3c_frame.proofs.TapLaws.{NotesAll-append}
 use Rattle.i3c_bus.specs.declared.events.Event.{Event}
-use Rattle.i3c_bus.specs.declared.replies.Refusal.{Refusal}
 use Rattle.i3c_bus.specs.declared.replies.Reply.{Reply}
 use Rattle.i3c_bus.specs.declared.tokens.Hand.{Hand}
 use Rattle.i3c_bus.specs.Calls.{Carries}
 use Rattle.i3c_bus.specs.Hands.{HandFits}
 use Rattle.i3c_bus.specs.Serving.{place_of}
-use Rattle.i3c_bus.specs.Step.{checks, cuts_active, first_refusal}
-use Rattle.i3c_bus.specs.Wire.{IsBegun, IsFrameWire, IsOn, IsOpenWire, Tells}
+use Rattle.i3c_bus.specs.Step.{cuts_active}
+use Rattle.i3c_frame.specs.Taps.{Tells}
+use Rattle.i3c_bus.specs.Wire.{IsBegun, IsFrameWire, IsOn, IsOpenWire}
 use Rattle.i3c_bus.proofs.Acting.{acting}
 use Rattle.i3c_bus.proofs.Framing.{frame_free}
 

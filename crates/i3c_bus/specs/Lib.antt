@@ -15,7 +15,6 @@ pub mod Hands
 pub mod Parts
 pub mod Wire
 pub mod Calls
-pub mod Telling
 pub mod Beginning
 pub mod Slots
 pub mod Sessions

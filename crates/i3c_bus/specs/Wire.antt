@@ -1,27 +1,24 @@
 -- What an event puts on the wire, for whoever taps it. An ACK depends on who is left at its bit.
-use Rattle.std.specs.Prelude.{◌≡◌, ◌↔◌, ℕ, ◌+◌, Bool, true, false, List, [], ◌∷◌, ◌++◌, Option, Some, None, is_some, MatchOption}
+use Rattle.std.specs.Prelude.{◌≡◌, ◌↔◌, ℕ, ◌+◌, Bool, true, false, List, [], ◌∷◌, ◌++◌, is_some, MatchOption}
 use Rattle.i3c_base.specs.declared.answers.Answer.{Answer}
 use Rattle.i3c_base.specs.declared.answers.RoundReply.{RoundReply}
 use Rattle.i3c_base.specs.declared.kinds.Change.{Change}
-use Rattle.i3c_base.specs.declared.kinds.Kinds.{Kinds}
 use Rattle.i3c_base.specs.declared.requests.Record.{Record}
 use Rattle.i3c_base.specs.declared.requests.Request.{Request}
 use Rattle.i3c_base.specs.declared.requests.Request.TheVariants.{Join, Role, Interrupt}
 use Rattle.i3c_base.specs.declared.requests.Served.{Served}
-use Rattle.i3c_base.specs.Numbers.{kind_set}
 use Rattle.i3c_base.specs.Cutting.{CutList, lost_by}
 use Rattle.i3c_base.specs.State.{State, entry_at}
 use Rattle.i3c_base.specs.Serve.{IsFirst, IsWordBits, byte_due}
 use Rattle.i3c_base.specs.Frames.{AnyLeft}
-use Rattle.i3c_header.specs.Keys.{address_of, is_read}
 use Rattle.i3c_word.specs.declared.Word.{Word}
-use Rattle.i3c_word.specs.Parity.{HasOddParity, IsAddressByte}
 use Rattle.i3c_entdaa.specs.declared.outcome.Round.{Round}
 use Rattle.i3c_entdaa.specs.Rounds.{IsRead, reply_of}
-use Rattle.i3c_events.specs.Words.{code_byte, kinds_byte}
+use Rattle.i3c_entdaa.specs.Telling.{IsRoundWire}
+use Rattle.i3c_events.specs.Telling.{IsKindsWire, IsWord}
+use Rattle.i3c_ibi.specs.Telling.{byte_word, request_header}
 use Rattle.i3c_frame.specs.declared.symbols.Symbol.{Symbol}
-use Rattle.i3c_frame.specs.declared.symbols.Symbol.TheVariants.{Start, Repeated, Stop, Header, AddressByte}
-use Rattle.i3c_frame.specs.Taps.{NotesAll}
+use Rattle.i3c_frame.specs.declared.symbols.Symbol.TheVariants.{Start, Repeated, Stop, Header}
 use Rattle.i3c_bus.specs.declared.events.Event.{Event}
 use Rattle.i3c_bus.specs.declared.events.Event.TheVariants.{Enec, Disec}
 use Rattle.i3c_bus.specs.declared.replies.Reply.{Reply}
@@ -30,19 +27,6 @@ use Rattle.i3c_bus.specs.Step.{cuts_in}
 -- whether some device other than the active controller, not lost by this bit, acknowledges a broadcast there
 abbrev pub IsAck : State → CutList → ℕ → Bool → Type 0
 IsAck st cuts bit ack = (ack ≡ true) ↔ AnyLeft st (lost_by cuts bit)
-
--- the byte as a word, with odd parity
-abbrev pub IsWord : ℕ → Word → Type 0
-IsWord byte word = (word.byte ≡ byte) × HasOddParity word
-
--- the header of a request, with the controller's answer
-abbrev pub request_header : Request → Bool → Symbol
-request_header r ack = Header (address_of r) (is_read r) ack
-
--- the mandatory byte as it was read, with T 0, if there was one
-abbrev pub byte_word : Option ℕ → List Symbol
-byte_word None = []
-byte_word (Some byte) = Symbol.Word (record { byte = byte; t = false }) ∷ []
 
 -- an accepted interrupt: its header, and the mandatory byte where one is due, as the new record says
 abbrev pub IsRecordedWire : State → State → List Symbol → Type 0
@@ -76,17 +60,6 @@ IsFrameWire old cuts served new IsOwn wire =
     (begun : List Symbol) × (word : ℕ) × (on : List Symbol) × (own : List Symbol)
     × IsBegun old cuts served new begun × IsWordBits old served word × IsOn old cuts served word on × IsOwn own × (wire ≡ begun ++ on ++ own)
 
--- ENEC or DISEC: to all, the code and the kinds; to one address, the code, a header, and where it was acknowledged the kinds
-abbrev pub IsKindsWire : Change → Option ℕ → Kinds → Answer → List Symbol → Type 0
-IsKindsWire change None kinds answer wire =
-    (code : Word) × (byte : Word) × IsWord (code_byte change None) code × IsWord (kinds_byte (kind_set kinds)) byte
-    × (wire ≡ Symbol.Word code ∷ Symbol.Word byte ∷ Stop ∷ [])
-IsKindsWire change (Some a) kinds (Answer.NoAnswer b) wire =
-    (code : Word) × IsWord (code_byte change (Some a)) code × (wire ≡ Symbol.Word code ∷ Repeated ∷ Header a false false ∷ Stop ∷ [])
-IsKindsWire change (Some a) kinds answer wire =
-    (code : Word) × (byte : Word) × IsWord (code_byte change (Some a)) code × IsWord (kinds_byte (kind_set kinds)) byte
-    × (wire ≡ Symbol.Word code ∷ Repeated ∷ Header a false true ∷ Symbol.Word byte ∷ Stop ∷ [])
-
 -- the own part of a frame that is answered, by its event
 abbrev pub IsOwnWire : State → Event → Answer → List Symbol → Type 0
 IsOwnWire old (Enec to kinds policy cuts) answer wire = IsKindsWire Change.Enable to kinds answer wire
@@ -100,15 +73,6 @@ IsOpenWire wire = (code : Word) × IsWord 0x07 code × (wire ≡ Symbol.Word cod
 -- a serve: its beginning, and STOP
 abbrev pub IsServeWire : State → CutList → Served → State → List Symbol → Type 0
 IsServeWire old cuts served new wire = (begun : List Symbol) × IsBegun old cuts served new begun × (wire ≡ begun ++ Stop ∷ [])
-
--- a round: a repeated START and the header that reads; where somebody acknowledged it the identity as it was read, and the address byte
-abbrev pub IsRoundWire : Round → List Symbol → Type 0
-IsRoundWire Round.NoAddress wire = wire ≡ []
-IsRoundWire Round.Done wire = wire ≡ Repeated ∷ Header 0x7E true false ∷ []
-IsRoundWire (Round.Nobody bits a) wire =
-    (byte : ℕ) × IsAddressByte a byte × (wire ≡ Repeated ∷ Header 0x7E true true ∷ Symbol.Identity bits ∷ AddressByte byte false ∷ [])
-IsRoundWire (Round.Assigned bits a i) wire =
-    (byte : ℕ) × IsAddressByte a byte × (wire ≡ Repeated ∷ Header 0x7E true true ∷ Symbol.Identity bits ∷ AddressByte byte true ∷ [])
 
 -- the wire of a round with this answer, whose bits are those that the contest of the hearers' numbers reads
 abbrev pub IsRoundWireOf : State → CutList → RoundReply → List Symbol → Type 0
@@ -132,7 +96,3 @@ IsWire old event (Reply.Framed framed) new wire = OfCuts event (λ cuts. IsFrame
 IsWire old event (Reply.Opened served) new wire = OfCuts event (λ cuts. IsFrameWire old cuts served new IsOpenWire wire)
 IsWire old event (Reply.Round answer) new wire = OfCuts event (λ cuts. IsRoundWireOf old cuts answer wire)
 IsWire old event Reply.Ended new wire = wire ≡ Stop ∷ []
-
--- from the one state to the other a tap was told, in order, symbols that are such a wire
-abbrev pub Tells : {T : Type 0} → (T → Symbol → T → Type 0) → T → T → (List Symbol → Type 0) → Type 0
-Tells gives old new Is = (wire : List Symbol) × NotesAll gives old wire new × Is wire

@@ -6,10 +6,10 @@ use i3c_base::{Cuts, Fixed};
 use i3c_frame::Tap;
 
 impl Bus {
+    ghost use Rattle.i3c_frame.specs.Taps.{Tells};
     ghost use Rattle.i3c_bus.specs.Calls.{Carries};
     ghost use Rattle.i3c_bus.specs.Commands.{event_of};
     ghost use Rattle.i3c_bus.specs.Hands.{HandFits};
-    ghost use Rattle.i3c_bus.specs.Wire.{Tells};
     ghost use Rattle.i3c_bus.specs.declared.events.Event.{Event};
 
     /// Carries out one event, or refuses it: a frame other than a round or an end while a session is open is

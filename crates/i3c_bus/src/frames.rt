@@ -1,7 +1,5 @@
 ghost use Rattle.std.specs.Prelude.{◌≡◌, ◌<◌, None, length, vec_len, vec_capacity};
-ghost use Rattle.i3c_base.specs.Frames.{kinds_bits};
-ghost use Rattle.i3c_events.specs.Hearing.{answer_of};
-ghost use Rattle.i3c_ibi.specs.Serving.{served_as, word_bits};
+ghost use Rattle.i3c_ibi.specs.Serving.{served_as};
 ghost use Rattle.i3c_bus.specs.Beginning.{kept_in};
 ghost use Rattle.i3c_bus.specs.Serving.{place_of};
 
@@ -9,18 +7,17 @@ use crate::events::Command;
 use crate::parts::Bus;
 use crate::replies::{FrameFault, Framed, OutOfMemory, Refusal, Reply, TargetFault};
 use crate::tokens::Hand;
-use crate::wire::{tell_broadcast, tell_command, tell_reading, tell_repeated, tell_request};
 use i3c_base::{Addr7, Answer, Change, Cuts, Kinds, Record, Served};
-use i3c_events::{NoAnswer, hear_kinds};
+use i3c_events::{answer_of, hear_kinds, kinds_bits, tell_kinds};
 use i3c_frame::{Symbol, Tap};
 use i3c_handoff::Role;
-use i3c_ibi::{Policy, Reading, first_request, serve};
+use i3c_ibi::{
+    Policy, Reading, first_request, serve, tell_broadcast, tell_reading, tell_repeated,
+    tell_request,
+};
 
 /// The bits of a header.
 const HEADER_BITS: u16 = 9;
-
-/// The bits of a word.
-const WORD_BITS: u16 = 9;
 
 /// How a frame began: what it served, and how many bits it has sent after its first, which is the header's ninth.
 #[derive(Clone, Copy)]
@@ -32,8 +29,10 @@ pub(crate) struct Begun {
 impl Bus {
     ghost use Rattle.std.specs.Prelude.{ℕ, ◌+◌, ◌≤◌, true, false, None, IfOk, OnErr};
     ghost use Rattle.i3c_base.specs.Cutting.{Lost, lost_by};
-    ghost use Rattle.i3c_base.specs.Frames.{Rekinds, changed_kinds};
+    ghost use Rattle.i3c_base.specs.Frames.{Rekinds, changed_kinds, kinds_bits};
     ghost use Rattle.i3c_base.specs.Serve.{IsWordBits, Serves, emptied, header_bits, refuse_all};
+    ghost use Rattle.i3c_events.specs.Telling.{IsKindsWire};
+    ghost use Rattle.i3c_frame.specs.Taps.{Tells};
     ghost use Rattle.i3c_ibi.specs.Policies.{Decides};
     ghost use Rattle.i3c_ibi.specs.Serving.{given_for};
     ghost use Rattle.i3c_bus.specs.Asking.{Asks, given_by};
@@ -45,7 +44,7 @@ impl Bus {
     ghost use Rattle.i3c_bus.specs.Room.{IsUntouched};
     ghost use Rattle.i3c_bus.specs.Serving.{place_of};
     ghost use Rattle.i3c_bus.specs.Step.{cuts_active, is_no_target};
-    ghost use Rattle.i3c_bus.specs.Wire.{IsBegun, IsKindsWire, IsOn, Tells};
+    ghost use Rattle.i3c_bus.specs.Wire.{IsBegun, IsOn};
     ghost use Rattle.i3c_bus.specs.declared.events.Event.{Event};
     ghost use Rattle.i3c_bus.specs.declared.tokens.Hand.{Hand};
 
@@ -192,7 +191,7 @@ impl Bus {
     {
         let active = self.active();
         let heard = hear_kinds(&mut self.devices, active, to, change, kinds, cuts, begun);
-        tell_command(tap, change, &to, kinds, &heard);
+        tell_kinds(tap, change, &to, kinds, &heard);
         let answer = answer_of(&heard);
         self.drop_lost(cuts, begun + kinds_bits(&to, &answer));
         answer
@@ -253,7 +252,7 @@ impl Bus {
         let reading = serve(&mut self.devices, active, &self.table, policy, cuts);
         tell_reading(tap, &reading, ack);
         let served = record_due(&mut self.records, &reading);
-        let bits = word_bits(&reading);
+        let bits = reading.word_bits();
         Begun { served, bits }
     }
 
@@ -268,7 +267,9 @@ impl Bus {
         match served {
             Served::Quiet => Begun { served, bits },
             _ => {
-                let ack = self.devices.is_heard(self.active(), &None, cuts, bits + HEADER_BITS);
+                let ack = self
+                    .devices
+                    .is_heard(self.active(), &None, cuts, bits + HEADER_BITS);
                 tell_repeated(tap, ack);
                 Begun {
                     served,
@@ -319,43 +320,5 @@ fn record_due(records: &mut Vec<Record>, reading: &Reading) -> Served
             records.push_reserved(record);
             Served::Recorded(records.len())
         }
-    }
-}
-
-/// The bits of the mandatory word that was read.
-fn word_bits(reading: &Reading) -> u16
-    ensures { result ≡ word_bits reading.now }
-{
-    match reading {
-        Reading::Torn(_, _) => WORD_BITS,
-        Reading::Due(record) => {
-            if record.byte.is_some() {
-                WORD_BITS
-            } else {
-                0
-            }
-        }
-        _ => 0,
-    }
-}
-
-/// The bits of ENEC and DISEC: two words, or a word, a header and after its ACK a word.
-fn kinds_bits(to: &Option<Addr7>, answer: &Answer) -> u16
-    ensures { result ≡ kinds_bits to.now answer.now }
-{
-    match (to, answer) {
-        (Some(_), Answer::NoAnswer(_)) => WORD_BITS + HEADER_BITS,
-        (Some(_), _) => 2 * WORD_BITS + HEADER_BITS,
-        (None, _) => 2 * WORD_BITS,
-    }
-}
-
-/// The answer of a command that was heard, or wasn't.
-fn answer_of(heard: &Result<(), NoAnswer>) -> Answer
-    ensures { result ≡ answer_of heard.now }
-{
-    match heard {
-        Ok(()) => Answer::Done,
-        Err(NoAnswer(address)) => Answer::NoAnswer(*address),
     }
 }

@@ -1,8 +1,6 @@
 ghost use Rattle.std.specs.Prelude.{◌≡◌};
 
-use crate::replies::{
-    DropRefusal, OutOfMemory, RaiseRefusal, SlotTaken, StartFault,
-};
+use crate::replies::{DropRefusal, OutOfMemory, RaiseRefusal, SlotTaken, StartFault};
 use crate::tokens::Hand;
 use i3c_base::{Addr7, Record, SLOTS, Setup, Slot};
 use i3c_device::{Device, Devices};

@@ -2,9 +2,9 @@ use crate::frames::Begun;
 use crate::parts::Bus;
 use crate::replies::ActiveStays;
 use crate::tokens::Session;
-use crate::wire::{tell_open, tell_round};
+use crate::wire::tell_open;
 use i3c_base::{Cuts, RoundReply, Served};
-use i3c_entdaa::{Round, round};
+use i3c_entdaa::{Round, round, tell_round};
 use i3c_frame::{Symbol, Tap};
 use i3c_handoff::Role;
 
@@ -15,10 +15,11 @@ impl Bus {
     ghost use Rattle.std.specs.Prelude.{◌≡◌, true, false, IfErr};
     ghost use Rattle.i3c_base.specs.Round.{Rounds, ended, opened};
     ghost use Rattle.i3c_entdaa.specs.Rounds.{IsRead, reply_of};
+    ghost use Rattle.i3c_entdaa.specs.Telling.{IsRoundWire};
+    ghost use Rattle.i3c_frame.specs.Taps.{Tells};
     ghost use Rattle.i3c_bus.specs.Calls.{Carries};
     ghost use Rattle.i3c_bus.specs.Hands.{HandFits};
     ghost use Rattle.i3c_bus.specs.Replies.{opened_hand, opened_reply};
-    ghost use Rattle.i3c_bus.specs.Wire.{IsRoundWire, Tells};
     ghost use Rattle.i3c_bus.specs.declared.events.Event.{Event};
     ghost use Rattle.i3c_bus.specs.declared.tokens.Hand.{Hand};
 
@@ -78,10 +79,10 @@ impl Bus {
 
 impl Session {
     ghost use Rattle.std.specs.Prelude.{◌≡◌};
+    ghost use Rattle.i3c_frame.specs.Taps.{Tells};
     ghost use Rattle.i3c_bus.specs.Calls.{Carries};
     ghost use Rattle.i3c_bus.specs.Hands.{HandFits};
     ghost use Rattle.i3c_bus.specs.Replies.{rounded_reply};
-    ghost use Rattle.i3c_bus.specs.Wire.{Tells};
     ghost use Rattle.i3c_bus.specs.declared.events.Event.{Event};
     ghost use Rattle.i3c_bus.specs.declared.replies.Reply.{Reply};
     ghost use Rattle.i3c_bus.specs.declared.tokens.Hand.{Hand};

@@ -1,3 +1,4 @@
 pub mod Hearers
 pub mod Rounds
 pub mod Parts
+pub mod Telling

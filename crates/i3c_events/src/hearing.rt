@@ -5,9 +5,12 @@ ghost use Rattle.i3c_base.specs.Frames.{Rekinds, SomeLeftAt, changed_kinds, kind
 ghost use Rattle.i3c_events.specs.Hearing.{answer_of};
 
 use crate::words::{code_for, kinds_word};
-use i3c_base::{Addr7, Change, Cuts, Kinds, Slot};
+use i3c_base::{Addr7, Answer, Change, Cuts, Kinds, Slot};
 use i3c_device::Devices;
 use thiserror::Error;
+
+/// The bits of a word.
+const WORD_BITS: u16 = 9;
 
 /// How many bits a direct command has up to its target's acknowledgement: a word and a header.
 const ACK_BITS: u16 = 18;
@@ -42,4 +45,25 @@ pub fn hear_kinds(
     let code = code_for(change, to);
     devices.hear(active, &to, code, &[kinds_word(kinds)]);
     Ok(())
+}
+
+/// The bits of ENEC and DISEC: two words, or a word, a header and after its ACK a word (I3C Basic 5.1.9.3.1).
+pub fn kinds_bits(to: &Option<Addr7>, answer: &Answer) -> u16
+    ensures { result ≡ kinds_bits to.now answer.now }
+{
+    match (to, answer) {
+        (Some(_), Answer::NoAnswer(_)) => ACK_BITS,
+        (Some(_), _) => ACK_BITS + WORD_BITS,
+        (None, _) => 2 * WORD_BITS,
+    }
+}
+
+/// The answer of ENEC or DISEC that was heard, or wasn't (I3C Basic 5.1.9.3.1).
+pub fn answer_of(heard: &Result<(), NoAnswer>) -> Answer
+    ensures { result ≡ answer_of heard.now }
+{
+    match heard {
+        Ok(()) => Answer::Done,
+        Err(NoAnswer(address)) => Answer::NoAnswer(*address),
+    }
 }

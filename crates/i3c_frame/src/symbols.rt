@@ -18,6 +18,9 @@ const SLASH: u8 = b'/';
 /// Stands before a T bit.
 const DOT: u8 = b'.';
 
+/// The address that every I3C device hears (I3C Basic 5.1.2.2.1).
+const BROADCAST: u8 = 0x7E;
+
 /// What is seen on the wire, one symbol after another. Each has one text, which `Display` writes. Digits are upper case
 /// hexadecimal.
 #[derive(Clone, Copy, Debug, PartialEq, Eq)]
@@ -48,6 +51,18 @@ pub enum Symbol {
         byte: u8,
         ack: bool,
     },
+}
+
+impl Symbol {
+    ghost use Rattle.i3c_frame.specs.declared.symbols.Symbol.{Symbol as SymbolValue};
+
+    /// A header of the broadcast address, which every I3C device hears (I3C Basic 5.1.2.2.1).
+    pub fn broadcast(read: bool, ack: bool) -> Symbol
+        ensures { result ≡ SymbolValue.Header 0x7E read ack }
+    {
+        let address = Addr7::new(BROADCAST).unwrap();
+        Symbol::Header { address, read, ack }
+    }
 }
 
 impl fmt::Display for Symbol {

@@ -1,16 +1,18 @@
-//! Requests in an arbitrable header: which comes first, the policy that decides on it, what its drivers lose and what is
-//! read of them.
+//! Requests in an arbitrable header: which comes first, the policy that decides on it, what its drivers lose, what is
+//! read of them, and how that is told.
 #![tactic(auto)]
 
 mod first;
 mod policies;
 mod readings;
 mod serving;
+mod telling;
 
 pub use first::first_request;
 pub use i3c_base::{Fixed, Record, Request, Served, Verdict};
 pub use policies::{Policy, decide};
 pub use serving::{Reading, serve};
+pub use telling::{tell_broadcast, tell_reading, tell_repeated, tell_request};
 
 #[cfg(test)]
 mod tests;

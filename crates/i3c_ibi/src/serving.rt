@@ -14,6 +14,9 @@ use i3c_base::{Addr7, Cuts, Record, Request, Slot, Verdict};
 use i3c_device::Devices;
 use i3c_table::Table;
 
+/// The bits of a word.
+const WORD_BITS: u16 = 9;
+
 /// What came of a frame's first request, as the controller saw it on the wire.
 #[derive(Clone, Copy, Debug, PartialEq, Eq)]
 pub enum Reading {
@@ -30,6 +33,21 @@ pub enum Reading {
     /// The interrupt at this address was accepted, and T after its byte was read as 1: nobody was left to end the byte,
     /// of which this was read.
     Torn(Addr7, u8),
+}
+
+impl Reading {
+    ghost use Rattle.i3c_ibi.specs.Serving.{word_bits};
+
+    /// The bits of the mandatory word that was read (I3C Basic 5.1.6.2).
+    pub fn word_bits(&self) -> u16
+        ensures { result ≡ word_bits self.now }
+    {
+        match self {
+            Reading::Torn(_, _) => WORD_BITS,
+            Reading::Due(record) => { if record.byte.is_some() { WORD_BITS } else { 0 } }
+            _ => 0,
+        }
+    }
 }
 
 /// Reads the accepted interrupt at this address, which some device drives.

@@ -1,15 +1,13 @@
 -- What was read of the first request, as the beginning of a frame.
-use Rattle.std.proofs.Common.{◌≡◌, ◌∙◌, ◌↔◌, ℕ, true, None, length, ap, refl, subst, sym, List}
+use Rattle.std.proofs.Common.{◌≡◌, ◌∙◌, ◌↔◌, ℕ, true, None, length, ap, refl, subst, sym}
 use Rattle.i3c_base.specs.Cutting.{lost_by}
-use Rattle.i3c_base.specs.Serve.{Serves}
 use Rattle.i3c_base.specs.State.{Held, State}
 use Rattle.i3c_base.specs.declared.requests.Served.{Served}
 use Rattle.i3c_device.specs.Walks.{SomeReached}
-use Rattle.i3c_frame.specs.declared.symbols.Symbol.{Symbol}
 use Rattle.i3c_ibi.specs.Policies.{Decides}
-use Rattle.i3c_ibi.specs.Serving.{IsServing, given_for, served_as, word_bits}
+use Rattle.i3c_ibi.specs.Serving.{IsServing, given_for, served_as}
 use Rattle.i3c_bus.specs.Beginning.{Begins}
-use Rattle.i3c_bus.specs.Telling.{begun}
+use Rattle.i3c_ibi.specs.Telling.{begun}
 use Rattle.i3c_bus.specs.Wire.{IsBegun}
 use Rattle.i3c_bus.proofs.Beginning.{begins_by, begun_by, fits_table}
 use Rattle.i3c_bus.proofs.Heard.{is_ack}
@@ -23,7 +21,7 @@ invariant_of-self g c =
     let serving : IsServing (seen c.self.inside) c.args.cuts.now c.serve-reading.result c.serve-reading.new.devices =
     c.serve-reading.ensures.serves (seen c.self.inside) (refl, active) refl (fits_table (seen c.self.inside) c.self.invariant.sound) in
     let begins = begins_by (seen c.self.inside) c.args.cuts.now c.serve-reading.result c.serve-reading.new.devices c.record_due-served.new.records.items c.record_due-served.result serving
-        c.record_due-served.ensures.served c.record_due-served.ensures.items in
+    c.record_due-served.ensures.served c.record_due-served.ensures.items in
     record {
       sound = sound_serves (seen c.self.inside) (given_for c.record_due-served.result) _ c.record_due-served.result _ (begins.serves 0) c.self.invariant.sound;
       covered = c.self.invariant.covered;
@@ -35,7 +33,7 @@ returns-clause-begins g c =
     let serving : IsServing (seen c.self.inside) c.args.cuts.now c.serve-reading.result c.serve-reading.new.devices =
     c.serve-reading.ensures.serves (seen c.self.inside) (refl, active) refl (fits_table (seen c.self.inside) c.self.invariant.sound) in
     let begins = begins_by (seen c.self.inside) c.args.cuts.now c.serve-reading.result c.serve-reading.new.devices c.record_due-served.new.records.items c.record_due-served.result serving
-        c.record_due-served.ensures.served c.record_due-served.ensures.items in
+    c.record_due-served.ensures.served c.record_due-served.ensures.items in
     let new : State = record (seen c.self.inside) { devices = c.serve-reading.new.devices; records = c.record_due-served.new.records.items } in
     subst (λ (h : Held). Begins h.state c.args.cuts.now c.record_due-served.result c.word_bits-bits.result new) c.self.view_is
     (subst (λ (bits : ℕ). Begins (seen c.self.inside) c.args.cuts.now c.record_due-served.result bits new) (sym c.word_bits-bits.ensures) begins)

@@ -1,13 +1,13 @@
 -- Room, the first request, and how the frame goes on.
-use Rattle.std.proofs.Common.{◌≡◌, ◌∙◌, ◌+◌, ◌++◌, ℕ, ap, refl, subst, sym}
+use Rattle.std.proofs.Common.{◌≡◌, ◌+◌, ◌++◌, ℕ, refl, subst, sym}
 use Rattle.i3c_base.specs.declared.requests.Served.{Served}
 use Rattle.i3c_base.specs.Serve.{header_bits}
 use Rattle.i3c_base.specs.State.{State}
-use Rattle.i3c_frame.specs.Taps.{NotesAll}
+use Rattle.i3c_frame.specs.Taps.{Tells}
 use Rattle.i3c_frame.proofs.TapLaws.{NotesAll-append}
 use Rattle.i3c_ibi.specs.Serving.{given_for}
 use Rattle.i3c_bus.specs.Beginning.{Begins, IsWay}
-use Rattle.i3c_bus.specs.Wire.{IsBegun, IsOn, Tells}
+use Rattle.i3c_bus.specs.Wire.{IsBegun}
 use Rattle.i3c_bus.proofs.Heard.{on_before}
 use Rattle.i3c_bus.proofs.parts.Bus.begin_frame.Goals as goal
 

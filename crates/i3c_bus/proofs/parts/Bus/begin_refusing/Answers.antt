@@ -1,13 +1,14 @@
 -- Nobody asks, or the first request is turned down.
 use Rattle.std.proofs.Common.{◌≡◌, ◌∙◌, ◌↔◌, ℕ, true, false, [], ◌∷◌, None, ap, refl, subst, sym}
-use Rattle.i3c_base.specs.Cutting.{Lost, lost_by}
+use Rattle.i3c_base.specs.Cutting.{lost_by}
 use Rattle.i3c_base.specs.Serve.{Serves, refuse_all}
 use Rattle.i3c_base.specs.State.{HasDevices, Held}
 use Rattle.i3c_base.specs.declared.requests.Served.{Served}
 use Rattle.i3c_device.specs.Walks.{SomeReached}
 use Rattle.i3c_frame.specs.Taps.{NotesAll}
 use Rattle.i3c_frame.specs.declared.symbols.Symbol.TheVariants.{Header, Start}
-use Rattle.i3c_bus.specs.Wire.{IsAck, IsBegun, request_header}
+use Rattle.i3c_ibi.specs.Telling.{request_header}
+use Rattle.i3c_bus.specs.Wire.{IsAck, IsBegun}
 use Rattle.i3c_bus.proofs.Beginning.{refuses}
 use Rattle.i3c_bus.proofs.Heard.{is_ack}
 use Rattle.i3c_bus.proofs.Seen.{seen}
@@ -41,9 +42,9 @@ returns-clause-told g c =
             subst (λ (s : Served). IsBegun c.args.self.now.state c.args.cuts.now s c.args.self.now.state (Start ∷ Header 0x7E false w.is_heard-ack.result ∷ [])) (sym w.served-is) (w.is_heard-ack.result, acked, refl),
           )
       | in-Some w ↦ (
-          Start ∷ request_header w.in-Some.request false ∷ [],
-          subst (λ tap. NotesAll g.T.Tap.note_gives c.args.tap.now (Start ∷ request_header w.in-Some.request false ∷ []) tap) (sym w.tap-is) w.tell_request.ensures,
-          subst (λ (s : Served). IsBegun c.args.self.now.state c.args.cuts.now s c.args.self.now.state (Start ∷ request_header w.in-Some.request false ∷ [])) (sym w.served-is)
-              (w.in-Some.request, w.in-Some.ensures c.args.self.now.state same, refl),
-        )
+        Start ∷ request_header w.in-Some.request false ∷ [],
+        subst (λ tap. NotesAll g.T.Tap.note_gives c.args.tap.now (Start ∷ request_header w.in-Some.request false ∷ []) tap) (sym w.tap-is) w.tell_request.ensures,
+        subst (λ (s : Served). IsBegun c.args.self.now.state c.args.cuts.now s c.args.self.now.state (Start ∷ request_header w.in-Some.request false ∷ [])) (sym w.served-is)
+            (w.in-Some.request, w.in-Some.ensures c.args.self.now.state same, refl),
+      )
     ]

@@ -1,17 +1,18 @@
 -- A command that is carried out.
 use Rattle.std.proofs.lemmas.Option.{same_Some}
-use Rattle.std.proofs.Common.{◌≡◌, ◌∙◌, ◌+◌, ℕ, Option, Some, true, false, ap, refl, subst, sym, arith}
+use Rattle.std.proofs.Common.{◌≡◌, ◌∙◌, ◌+◌, ℕ, Option, Some, false, ap, subst, sym, arith}
 use Rattle.i3c_base.specs.declared.answers.Answer.{Answer}
 use Rattle.i3c_base.specs.declared.requests.Served.{Served}
-use Rattle.i3c_base.specs.Cutting.{Lost, lost_by}
+use Rattle.i3c_base.specs.Cutting.{Lost}
 use Rattle.i3c_base.specs.Frames.{Rekinds, changed_kinds, kinds_bits}
-use Rattle.i3c_base.specs.Serve.{emptied, header_bits}
+use Rattle.i3c_base.specs.Serve.{header_bits}
 use Rattle.i3c_base.specs.State.{State}
 use Rattle.i3c_ibi.specs.Serving.{given_for}
 use Rattle.i3c_bus.specs.declared.tokens.Hand.{Hand}
-use Rattle.i3c_bus.specs.Beginning.{Begins, LeavesBy}
+use Rattle.i3c_bus.specs.Beginning.{LeavesBy}
 use Rattle.i3c_bus.specs.Step.{is_no_target}
-use Rattle.i3c_bus.specs.Wire.{IsKindsWire, Tells}
+use Rattle.i3c_frame.specs.Taps.{Tells}
+use Rattle.i3c_events.specs.Telling.{IsKindsWire}
 use Rattle.i3c_bus.proofs.Framing.{fits_left, frame_by, kinds_step, kinds_told, records_rekinds, target_free, tells_frame}
 use Rattle.i3c_bus.proofs.Slots.{Stands-rekinds}
 use Rattle.i3c_bus.proofs.parts.Bus.change_kinds.Goals as goal
@@ -49,7 +50,7 @@ returns-clause-carried g c =
       fits = fits_left (Hand.Role c.args.role.now) old c.args.cuts.now served begun.0 last (Own c.args.to) mid new begun.1
           (λ lost done h. Stands-rekinds c.args.to (changed_kinds c.args.change c.args.kinds) answer lost mid done h) leaves c.requires.fits;
       room = record {
-          enough = λ room short. cc;
-          lasts = λ room none. c.command_kinds-answer.ensures.room ∙ c.in-Ok.ensures.room none;
-        };
+        enough = λ room short. cc;
+        lasts = λ room none. c.command_kinds-answer.ensures.room ∙ c.in-Ok.ensures.room none;
+      };
     }

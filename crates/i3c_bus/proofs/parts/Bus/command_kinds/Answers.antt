@@ -1,5 +1,5 @@
 -- Whom the command reaches hears it, and who is cut by then is gone.
-use Rattle.std.proofs.Common.{◌≡◌, ◌∙◌, ◌+◌, ℕ, ap, refl, subst, sym}
+use Rattle.std.proofs.Common.{◌∙◌, ◌+◌, ℕ, ap, refl, subst, sym}
 use Rattle.i3c_base.specs.declared.answers.Answer.{Answer}
 use Rattle.i3c_base.specs.Cutting.{lost_by}
 use Rattle.i3c_base.specs.Frames.{Rekinds, changed_kinds, kinds_bits}
@@ -27,5 +27,5 @@ returns-clause-rekinds g c =
       subst (λ (h : Held). Rekinds c.args.to (changed_kinds c.args.change c.args.kinds) c.answer_of-answer.result (lost_by c.args.cuts.now (c.args.begun + kinds_bits c.args.to c.answer_of-answer.result)) h.state done)
           c.self.view_is (subst by (sym c.answer_of-answer.ensures) (c.hear_kinds-heard.ensures.rekinds (seen c.self.inside) same)),
       c.drop_lost.ensures.state
-      ∙ ap (λ (n : ℕ). emptied (lost_by c.args.cuts.now (c.args.begun + n)) done) c.kinds_bits.ensures,
+          ∙ ap (λ (n : ℕ). emptied (lost_by c.args.cuts.now (c.args.begun + n)) done) c.kinds_bits.ensures,
     )

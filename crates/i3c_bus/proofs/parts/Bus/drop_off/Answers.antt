@@ -1,5 +1,5 @@
 -- A device that drops off leaves a sound bus.
-use Rattle.std.proofs.Common.{◌≡◌, List, Option, subst, sym}
+use Rattle.std.proofs.Common.{List, Option, subst, sym}
 use Rattle.i3c_base.specs.State.{Device}
 use Rattle.i3c_bus.specs.Parts.{state_of}
 use Rattle.i3c_bus.specs.Sound.{IsSound}

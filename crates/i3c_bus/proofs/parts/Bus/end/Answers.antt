@@ -1,5 +1,5 @@
 -- A session that is ended leaves a sound bus.
-use Rattle.std.proofs.Common.{◌≡◌, List, Option, subst, sym, false}
+use Rattle.std.proofs.Common.{List, Option, subst, sym, false}
 use Rattle.i3c_base.specs.State.{Device}
 use Rattle.i3c_bus.specs.Parts.{state_of}
 use Rattle.i3c_bus.specs.Sound.{IsSound}

@@ -1,7 +1,6 @@
 -- After a request a repeated START and the broadcast header are sent.
 use Rattle.std.proofs.Common.{◌≡◌, ◌∙◌, ◌↔◌, ◌+◌, ℕ, true, false, [], ◌∷◌, None, ap, refl, subst, sym}
 use Rattle.i3c_base.specs.Cutting.{lost_by}
-use Rattle.i3c_base.specs.Serve.{header_bits}
 use Rattle.i3c_base.specs.State.{Held}
 use Rattle.i3c_device.specs.Walks.{SomeReached}
 use Rattle.i3c_frame.specs.declared.symbols.Symbol.TheVariants.{Header, Repeated}
@@ -17,8 +16,11 @@ returns-in_default g c =
     subst (λ (a : ℕ). (c.is_heard-ack.result ≡ true) ↔ SomeReached a None (lost_by c.args.cuts.now (c.args.begun.bits + 9)) c.self.inside.devices) (sym active) c.is_heard-ack.ensures in record {
       served = refl;
       bits = ap (λ (n : ℕ). c.args.begun.bits + n) (sym (after_header c.args.begun.served c.in_default.not-Quiet));
-      told = (_, c.tell_repeated.ensures,
-          subst (λ (h : Held). IsOn h.state c.args.cuts.now c.args.begun.served c.args.begun.bits (Repeated ∷ Header 0x7E false c.is_heard-ack.result ∷ [])) c.self.view_is
-          (on_is (seen c.self.inside) c.args.cuts.now c.args.begun.served c.args.begun.bits c.is_heard-ack.result c.in_default.not-Quiet
-          (is_ack (seen c.self.inside) c.args.cuts.now (c.args.begun.bits + 9) c.is_heard-ack.result heard)));
+      told = (
+        _,
+        c.tell_repeated.ensures,
+        subst (λ (h : Held). IsOn h.state c.args.cuts.now c.args.begun.served c.args.begun.bits (Repeated ∷ Header 0x7E false c.is_heard-ack.result ∷ [])) c.self.view_is
+            (on_is (seen c.self.inside) c.args.cuts.now c.args.begun.served c.args.begun.bits c.is_heard-ack.result c.in_default.not-Quiet
+            (is_ack (seen c.self.inside) c.args.cuts.now (c.args.begun.bits + 9) c.is_heard-ack.result heard)),
+      );
     }

@@ -2,7 +2,7 @@
 use Rattle.std.proofs.Common.{sym, subst, ◌∙◌}
 use Rattle.i3c_base.specs.declared.requests.Served.{Served}
 use Rattle.i3c_bus.specs.Calls.{Carries}
-use Rattle.i3c_bus.specs.Wire.{Tells}
+use Rattle.i3c_frame.specs.Taps.{Tells}
 use Rattle.i3c_bus.specs.declared.events.Event.{Event}
 use Rattle.i3c_bus.specs.declared.replies.Reply.{Reply}
 use Rattle.i3c_bus.specs.declared.tokens.Hand.{Hand}

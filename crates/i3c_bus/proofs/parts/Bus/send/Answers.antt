@@ -1,5 +1,5 @@
 -- The policy that an event carries is asked as itself.
-use Rattle.i3c_bus.specs.Wire.{Tells}
+use Rattle.i3c_frame.specs.Taps.{Tells}
 use Rattle.i3c_bus.proofs.Agreeing.{carried_asked}
 use Rattle.i3c_bus.proofs.parts.Bus.send.Goals as goal
 

@@ -1,8 +1,6 @@
 -- A frame that serves the first request, and stops.
-use Rattle.std.proofs.Common.{◌≡◌, ◌∙◌, ◌+◌, ℕ, true, ap, refl, subst, sym, arith}
+use Rattle.std.proofs.Common.{◌∙◌, ℕ, ap, refl, subst, sym, arith}
 use Rattle.i3c_base.specs.declared.requests.Served.{Served}
-use Rattle.i3c_base.specs.Cutting.{lost_by}
-use Rattle.i3c_base.specs.Serve.{emptied}
 use Rattle.i3c_base.specs.State.{State}
 use Rattle.i3c_ibi.specs.Serving.{given_for}
 use Rattle.i3c_bus.specs.declared.events.Event.{Event}
@@ -10,7 +8,8 @@ use Rattle.i3c_bus.specs.declared.replies.Reply.{Reply}
 use Rattle.i3c_bus.specs.declared.tokens.Hand.{Hand}
 use Rattle.i3c_bus.specs.Beginning.{Begins, LeavesBy}
 use Rattle.i3c_bus.specs.Step.{Nothing}
-use Rattle.i3c_bus.specs.Wire.{IsBegun, Tells}
+use Rattle.i3c_frame.specs.Taps.{Tells}
+use Rattle.i3c_bus.specs.Wire.{IsBegun}
 use Rattle.i3c_bus.proofs.Acting.{acting}
 use Rattle.i3c_bus.proofs.Framing.{fits_left, frame_by, frame_free, stands_still, tells_serve}
 use Rattle.i3c_bus.proofs.parts.Bus.serve.Goals as goal
@@ -32,7 +31,7 @@ returns-clause-carried g c =
           (ap (λ (st : State). st.records) c.drop_lost.ensures.state) told c.note.ensures;
       fits = fits_left (Hand.Role c.args.role.now) old c.args.cuts.now served word word Nothing mid c.drop_lost.new.self.state begins (stands_still mid) leaves c.requires.fits;
       room = record {
-          enough = λ room short. cc;
-          lasts = λ room none. c.drop_lost.ensures.room ∙ c.begin-begun.ensures.room none;
-        };
+        enough = λ room short. cc;
+        lasts = λ room none. c.drop_lost.ensures.room ∙ c.begin-begun.ensures.room none;
+      };
     }

@@ -1,6 +1,6 @@
 -- The two words and STOP, one after another.
 use Rattle.std.proofs.Common.{refl}
-use Rattle.i3c_bus.proofs.wire.tell_kinds.Goals as goal
+use Rattle.i3c_events.proofs.telling.tell_to_all.Goals as goal
 
 pub returns : goal.returns
 returns g c = (

@@ -1,6 +1,6 @@
 -- The code, the header and STOP, one after another.
 use Rattle.std.proofs.Common.{refl}
-use Rattle.i3c_bus.proofs.wire.tell_unanswered.Goals as goal
+use Rattle.i3c_events.proofs.telling.tell_unanswered.Goals as goal
 
 pub returns : goal.returns
 returns g c = (

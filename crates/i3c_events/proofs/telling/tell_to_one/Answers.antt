@@ -1,6 +1,6 @@
 -- The code, the header, the kinds and STOP, one after another.
 use Rattle.std.proofs.Common.{refl}
-use Rattle.i3c_bus.proofs.wire.tell_kinds_to.Goals as goal
+use Rattle.i3c_events.proofs.telling.tell_to_one.Goals as goal
 
 pub returns : goal.returns
 returns g c = (

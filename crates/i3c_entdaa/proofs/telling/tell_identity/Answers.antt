@@ -1,7 +1,7 @@
 -- The four symbols, one after another.
 use Rattle.std.proofs.Common.{refl, subst}
 use Rattle.i3c_frame.specs.declared.symbols.Symbol.{Symbol}
-use Rattle.i3c_bus.proofs.wire.tell_identity.Goals as goal
+use Rattle.i3c_entdaa.proofs.telling.tell_identity.Goals as goal
 
 pub returns : goal.returns
 returns g c =

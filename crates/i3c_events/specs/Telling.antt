@@ -1,0 +1,26 @@
+-- What ENEC and DISEC put on the wire.
+use Rattle.std.specs.Prelude.{◌≡◌, ℕ, true, false, List, [], ◌∷◌, Option, Some, None}
+use Rattle.i3c_base.specs.declared.answers.Answer.{Answer}
+use Rattle.i3c_base.specs.declared.kinds.Change.{Change}
+use Rattle.i3c_base.specs.declared.kinds.Kinds.{Kinds}
+use Rattle.i3c_base.specs.Numbers.{kind_set}
+use Rattle.i3c_word.specs.declared.Word.{Word}
+use Rattle.i3c_word.specs.Parity.{HasOddParity}
+use Rattle.i3c_frame.specs.declared.symbols.Symbol.{Symbol}
+use Rattle.i3c_frame.specs.declared.symbols.Symbol.TheVariants.{Repeated, Stop, Header}
+use Rattle.i3c_events.specs.Words.{code_byte, kinds_byte}
+
+-- the byte as a word, with odd parity
+abbrev pub IsWord : ℕ → Word → Type 0
+IsWord byte word = (word.byte ≡ byte) × HasOddParity word
+
+-- ENEC or DISEC: to all, the code and the kinds; to one address, the code, a header, and where it was acknowledged the kinds
+abbrev pub IsKindsWire : Change → Option ℕ → Kinds → Answer → List Symbol → Type 0
+IsKindsWire change None kinds answer wire =
+    (code : Word) × (byte : Word) × IsWord (code_byte change None) code × IsWord (kinds_byte (kind_set kinds)) byte
+    × (wire ≡ Symbol.Word code ∷ Symbol.Word byte ∷ Stop ∷ [])
+IsKindsWire change (Some a) kinds (Answer.NoAnswer b) wire =
+    (code : Word) × IsWord (code_byte change (Some a)) code × (wire ≡ Symbol.Word code ∷ Repeated ∷ Header a false false ∷ Stop ∷ [])
+IsKindsWire change (Some a) kinds answer wire =
+    (code : Word) × (byte : Word) × IsWord (code_byte change (Some a)) code × IsWord (kinds_byte (kind_set kinds)) byte
+    × (wire ≡ Symbol.Word code ∷ Repeated ∷ Header a false true ∷ Symbol.Word byte ∷ Stop ∷ [])

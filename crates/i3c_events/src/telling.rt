@@ -1,0 +1,68 @@
+ghost use Rattle.std.specs.Prelude.{Some, None};
+ghost use Rattle.i3c_base.specs.declared.answers.Answer.{Answer as AnswerValue};
+ghost use Rattle.i3c_events.specs.Hearing.{answer_of};
+ghost use Rattle.i3c_events.specs.Telling.{IsKindsWire};
+ghost use Rattle.i3c_frame.specs.Taps.{Tells};
+
+use crate::hearing::NoAnswer;
+use crate::words::{code_word, kinds_word};
+use i3c_base::{Addr7, Change, Kinds};
+use i3c_frame::{Symbol, Tap};
+
+/// Tells ENEC or DISEC as it was heard, up to its STOP (I3C Basic 5.1.9.3.1).
+pub fn tell_kinds<T: Tap>(
+    tap: &mut T,
+    change: Change,
+    to: &Option<Addr7>,
+    kinds: Kinds,
+    heard: &Result<(), NoAnswer>,
+)
+    ensures { Tells T.note_gives tap.old tap.new (IsKindsWire change to.now kinds (answer_of heard.now)) }
+{
+    let Some(address) = to else {
+        tell_to_all(tap, change, kinds);
+        return;
+    };
+    match heard {
+        Ok(()) => tell_to_one(tap, change, *address, kinds),
+        Err(NoAnswer(_)) => tell_unanswered(tap, change, *address, kinds),
+    }
+}
+
+/// Tells ENEC or DISEC to all, up to its STOP.
+fn tell_to_all<T: Tap>(tap: &mut T, change: Change, kinds: Kinds)
+    ensures { Tells T.note_gives tap.old tap.new (IsKindsWire change None kinds AnswerValue.Done) }
+{
+    tap.note(Symbol::Word(code_word(change, None)));
+    tap.note(Symbol::Word(kinds_word(kinds)));
+    tap.note(Symbol::Stop);
+}
+
+/// Tells ENEC or DISEC to an address that acknowledges, up to its STOP.
+fn tell_to_one<T: Tap>(tap: &mut T, change: Change, address: Addr7, kinds: Kinds)
+    ensures { Tells T.note_gives tap.old tap.new (IsKindsWire change (Some address) kinds AnswerValue.Done) }
+{
+    tap.note(Symbol::Word(code_word(change, Some(address))));
+    tap.note(Symbol::Repeated);
+    tap.note(Symbol::Header {
+        address,
+        read: false,
+        ack: true,
+    });
+    tap.note(Symbol::Word(kinds_word(kinds)));
+    tap.note(Symbol::Stop);
+}
+
+/// Tells ENEC or DISEC to an address that nobody acknowledges, up to its STOP.
+fn tell_unanswered<T: Tap>(tap: &mut T, change: Change, address: Addr7, kinds: Kinds)
+    ensures { Tells T.note_gives tap.old tap.new (IsKindsWire change (Some address) kinds (AnswerValue.NoAnswer address)) }
+{
+    tap.note(Symbol::Word(code_word(change, Some(address))));
+    tap.note(Symbol::Repeated);
+    tap.note(Symbol::Header {
+        address,
+        read: false,
+        ack: false,
+    });
+    tap.note(Symbol::Stop);
+}
