@@ -585,3 +585,5 @@ fn raises_are_refused(rt: HostRuntime) -> Result<(), Fail> {
     let _plain = check(&rt, rt.alloc(), &row)?;
     Ok(())
 }
+
+mod cuts;

@@ -51,9 +51,11 @@ fn a_byte_is_torn(rt: HostRuntime) -> Result<(), Fail> {
     )?;
     enter(&mut script, 1, T, 0x09)?;
     script.push((drop_off(1)?, Reply::Dropped))?;
+    enter(&mut script, 3, V, 0x0B)?;
     enter(&mut script, 1, T, 0x09)?;
     script.push((raise(1, Some(0xFF))?, Reply::Raised(2)))?;
     script.push((serve(cut(1, 10)?), recorded(2)))?;
+    script.push((drop_off(1)?, Reply::Dropped))?;
     let second = record(1, 2, 0x09, Some(0xFF))?;
     play(&rt, rt.alloc(), &script, "S 09/R+ FF.0 P", &[first, second])
 }
