@@ -22,8 +22,6 @@ const OPENED: Reply = Reply::Opened(Served::Quiet);
 
 const DONE: Reply = Reply::Round(RoundReply::Done);
 
-type Script = Vec<(Event, Reply)>;
-
 fn setup(bits: u64) -> Setup {
     let identity = Identity::from_number(bits);
     let willing = true;
@@ -48,16 +46,8 @@ fn attach(slot: u8, bits: u64) -> Result<Event, Fail> {
     Ok(Event::Attach(Slot::new(slot)?, setup(bits)))
 }
 
-fn drop_off(slot: u8) -> Result<Event, Fail> {
-    Ok(Event::DropOff(Slot::new(slot)?))
-}
-
 fn raise(slot: u8, byte: Option<u8>) -> Result<Event, Fail> {
     Ok(Event::Raise(Slot::new(slot)?, byte))
-}
-
-fn ask_join(slot: u8) -> Result<Event, Fail> {
-    Ok(Event::AskJoin(Slot::new(slot)?))
 }
 
 fn serve(cuts: Cuts) -> Event {
@@ -100,7 +90,7 @@ fn record(slot: u8, number: u64, at: u8, byte: Option<u8>) -> Result<Record, Fai
 }
 
 // A device enters a slot, and a session gives it this address.
-fn enter(script: &mut Script, slot: u8, bits: u64, address: u8) -> Result<(), Fail> {
+fn enter(script: &mut Vec<(Event, Reply)>, slot: u8, bits: u64, address: u8) -> Result<(), Fail> {
     script.push((attach(slot, bits)?, Reply::Attached))?;
     script.push((open(), OPENED))?;
     script.push((round(), assigned(address, bits)?))?;
@@ -110,7 +100,7 @@ fn enter(script: &mut Script, slot: u8, bits: u64, address: u8) -> Result<(), Fa
 }
 
 // This device in slot 1, at 09.
-fn with(alloc: Global, bits: u64) -> Result<Script, Fail> {
+fn with(alloc: Global, bits: u64) -> Result<Vec<(Event, Reply)>, Fail> {
     let mut script = Vec::new(alloc);
     enter(&mut script, 1, bits, 0x09)?;
     Ok(script)

@@ -22,7 +22,10 @@ fn interrupted(rt: &impl Abort, alloc: Global) -> Result<(Bus, Role), Fail>
             assert_eq!(rt; session.holder(), bus.active());
             assert!(rt; bus.in_session() && bus.present(one) && !bus.listed());
             let role = session.end(&mut bus, &mut Silent);
-            assert_eq!(rt; bus.raise(one, Some(0x11)), Ok(1));
+            assert_eq!(rt;
+                (bus.in_session(), bus.raise(one, Some(0x11))),
+                (false, Ok(1))
+            );
             Ok((bus, role))
         }
         Err((role, _)) => Ok((bus, role)),
@@ -42,7 +45,6 @@ fn a_refused_growth_loses_nothing(rt: HostRuntime) -> Result<(), Fail> {
     assert_eq!(rt; bus.records(), &due[..]);
     let _records = bus.retire(Hand::Role(role));
     if first == Err(FrameFault::OutOfMemory) {
-        println!(rt; "refused")?;
         assert_eq!(rt; (waiting, second), (1, Ok(Served::Recorded(1))));
     } else {
         assert_eq!(rt; first, Ok(Served::Recorded(1)));

@@ -38,8 +38,8 @@ fn a_byte_is_torn(rt: HostRuntime) -> Result<(), Fail> {
         (raise(2, None)?, Reply::Raised(1)),
         (serve(cut(1, 9)?), Reply::Served(Served::Torn)),
         (serve(cut(2, 0)?), recorded(1)),
-        (drop_off(1)?, gone),
-        (drop_off(2)?, gone),
+        (Event::DropOff(Slot::new(1)?), gone),
+        (Event::DropOff(Slot::new(2)?), gone),
     ])?;
     let first = record(2, 1, 0x0A, None)?;
     play(
@@ -50,12 +50,12 @@ fn a_byte_is_torn(rt: HostRuntime) -> Result<(), Fail> {
         &[first],
     )?;
     enter(&mut script, 1, T, 0x09)?;
-    script.push((drop_off(1)?, Reply::Dropped))?;
+    script.push((Event::DropOff(Slot::new(1)?), Reply::Dropped))?;
     enter(&mut script, 3, V, 0x0B)?;
     enter(&mut script, 1, T, 0x09)?;
     script.push((raise(1, Some(0xFF))?, Reply::Raised(2)))?;
     script.push((serve(cut(1, 10)?), recorded(2)))?;
-    script.push((drop_off(1)?, Reply::Dropped))?;
+    script.push((Event::DropOff(Slot::new(1)?), Reply::Dropped))?;
     let second = record(1, 2, 0x09, Some(0xFF))?;
     play(&rt, rt.alloc(), &script, "S 09/R+ FF.0 P", &[first, second])
 }
@@ -76,7 +76,7 @@ fn a_target_is_cut(rt: HostRuntime) -> Result<(), Fail> {
         let mut script = with(rt.alloc(), T)?;
         let command = enec(0x09, cut(1, bit)?)?;
         script.push((command, framed(Served::Quiet, answer)))?;
-        script.push((drop_off(1)?, left))?;
+        script.push((Event::DropOff(Slot::new(1)?), left))?;
         play(&rt, rt.alloc(), &script, trace, &[])?;
     }
     Ok(())

@@ -10,7 +10,7 @@ fn a_device_comes_late(rt: HostRuntime) -> Result<(), Fail> {
         (attach(2, V)?, Reply::Attached),
         (round(), assigned(0x09, T)?),
         (round(), DONE),
-        (ask_join(2)?, Reply::Asked),
+        (Event::AskJoin(Slot::new(2)?), Reply::Asked),
         (Event::EndDaa, Reply::Ended),
         (open(), Reply::Opened(Served::Refused)),
         (Event::EndDaa, Reply::Ended),
@@ -23,39 +23,22 @@ fn a_device_comes_late(rt: HostRuntime) -> Result<(), Fail> {
     play(&rt, rt.alloc(), &script, trace, &[])
 }
 
-// The lower address comes first, whoever raised first. A command reaches one address.
-#[test]
-fn interrupts_come_by_address(rt: HostRuntime) -> Result<(), Fail> {
-    let done = framed(Served::Recorded(2), Answer::Done);
-    let mut script = with(rt.alloc(), T)?;
-    enter(&mut script, 2, V, 0x0A)?;
-    script.extend([
-        (raise(2, Some(0x22))?, Reply::Raised(1)),
-        (raise(1, Some(0x11))?, Reply::Raised(1)),
-        (serve(Cuts::new()), recorded(1)),
-        (enec(0x09, Cuts::new())?, done),
-        (serve(Cuts::new()), Reply::Served(Served::Quiet)),
-    ])?;
-    let trace = "S 09/R+ 11.0 P S 0A/R+ 22.0 Sr 7E/W+ 80.0 Sr 09/W+ 01.0 P S 7E/W+ P";
-    let first = record(1, 1, 0x09, Some(0x11))?;
-    let second = record(2, 1, 0x0A, Some(0x22))?;
-    play(&rt, rt.alloc(), &script, trace, &[first, second])
-}
-
 // What is turned down stays. A disabled device drives nothing, raises nothing and doesn't wish to join.
 #[test]
 fn a_disabled_device_waits(rt: HostRuntime) -> Result<(), Fail> {
     let (kinds, none) = (Kinds::INTERRUPT | Kinds::JOIN, all(Verdict::Refuse));
     let off = Event::Disec(None, kinds, none, Cuts::new());
     let on = Event::Enec(None, kinds, none, Cuts::new());
+    let masked = Reply::Refused(Refusal::Masked);
     let mut script = with(rt.alloc(), T)?;
     script.extend([
         (attach(2, V)?, Reply::Attached),
+        (raise(1, None)?, Reply::Refused(Refusal::ByteMismatch)),
         (raise(1, Some(0x11))?, Reply::Raised(1)),
         (off, framed(Served::Refused, Answer::Done)),
         (serve(Cuts::new()), Reply::Served(Served::Quiet)),
-        (raise(1, Some(0x12))?, Reply::Refused(Refusal::Masked)),
-        (ask_join(2)?, Reply::Refused(Refusal::Masked)),
+        (raise(1, Some(0x12))?, masked),
+        (Event::AskJoin(Slot::new(2)?), masked),
         (on, framed(Served::Quiet, Answer::Done)),
         (serve(Cuts::new()), recorded(1)),
     ])?;
@@ -72,14 +55,14 @@ fn refusals(rt: HostRuntime) -> Result<(), Fail> {
     for (event, why) in [
         (Event::EndDaa, Refusal::NoSession),
         (attach(0, T)?, Refusal::SlotTaken),
-        (drop_off(5)?, Refusal::NoDevice),
-        (drop_off(0)?, Refusal::ActiveStays),
+        (Event::DropOff(Slot::new(5)?), Refusal::NoDevice),
+        (Event::DropOff(Slot::new(0)?), Refusal::ActiveStays),
         (raise(5, None)?, Refusal::NoDevice),
         (raise(0, None)?, Refusal::IsActive),
         (raise(1, Some(0))?, Refusal::NotCapable),
         (raise(2, None)?, Refusal::NoAddress),
-        (ask_join(5)?, Refusal::NoDevice),
-        (ask_join(1)?, Refusal::HasAddress),
+        (Event::AskJoin(Slot::new(5)?), Refusal::NoDevice),
+        (Event::AskJoin(Slot::new(1)?), Refusal::HasAddress),
         (enec(0x08, Cuts::new())?, Refusal::NoAnswer(Addr7::new(8)?)),
         (enec(0x00, Cuts::new())?, Refusal::NoAnswer(Addr7::new(0)?)),
     ] {
