@@ -5,7 +5,7 @@
 // In no script a command goes to a device whose byte was read before in the same frame: one choice can't answer both. And no
 // two devices of one identity drive a byte: where one of them is lost, what is read is left open.
 use super::*;
-use i3c_bus::{Outcome, Records, run_events};
+use i3c_bus::Records;
 
 // What is seen of a bus, but its records.
 #[derive(Clone, Copy, Debug, PartialEq, Eq)]
