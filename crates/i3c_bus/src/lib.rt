@@ -31,3 +31,6 @@ pub use replies::{
 };
 pub use runs::{Outcome, run_events};
 pub use tokens::{Hand, Session};
+
+#[cfg(test)]
+mod tests;

@@ -6,7 +6,7 @@ use i3c_base::{
     Addr7, Answer, Bcr, Cuts, Dcr, Fixed, Identity, Kinds, Lvr, Pid, Record, RoundReply, Served,
     Setup, Slot, Verdict,
 };
-use i3c_bus::{Event, Framed, Refusal, Reply};
+use i3c_bus::{Event, Framed, Outcome, Refusal, Reply, run_events};
 use i3c_legacy::Legacies;
 use std::alloc::Global;
 use std::process::Abort;
@@ -104,10 +104,24 @@ fn run_plain(alloc: Global, row: &Row) -> Result<(Plain, Vec<Reply>), Fail> {
     Ok((plain, replies))
 }
 
-// Its replies are those that are due.
+fn is_uncut(event: &Event) -> bool {
+    match event {
+        Event::Serve(_, cuts) | Event::OpenDaa(cuts) | Event::Round(cuts) => cuts.is_empty(),
+        Event::Enec(_, _, _, cuts) | Event::Disec(_, _, _, cuts) => cuts.is_empty(),
+        _ => true,
+    }
+}
+
+// Its replies are those that are due, and where nothing is cut the bus gives them too.
 fn check(rt: &impl Abort, alloc: Global, row: &Row) -> Result<Plain, Fail> {
     let (plain, replies) = run_plain(alloc, row)?;
     assert_eq!(rt; replies, row.replies);
+    if row.events.iter().all(|event| is_uncut(event)) {
+        let (main, legacies) = (setup(HUB)?, legacies(row.legacy)?);
+        let Outcome { bus, hand, replies } = run_events(alloc, main, legacies, &row.events)?;
+        let _records = bus.retire(hand);
+        assert_eq!(rt; replies, row.replies);
+    }
     Ok(plain)
 }
 
@@ -585,3 +599,5 @@ fn raises_are_refused(rt: HostRuntime) -> Result<(), Fail> {
     let _plain = check(&rt, rt.alloc(), &row)?;
     Ok(())
 }
+
+mod cuts;
