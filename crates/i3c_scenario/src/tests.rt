@@ -11,6 +11,8 @@ use std::process::Abort;
 use std::test::Fail;
 use std::{io, str};
 
+mod joining;
+
 /// How many bytes a script may have.
 const SCRIPT_LENGTH: usize = 1_048_576;
 
@@ -746,7 +748,9 @@ impl Write for Flaky<'_> {
 /// A script with a line of each form, and refused ones.
 const EACH_LINE: &[u8] = b"show\nlegacy eep 50 20\nmain hub 020400000001 46 C0\n\
     attach t 020400000010 06 44\nattach t 0\ndaa\nraise t 11\npolicy none\nserve\nenec 01\n\
-    policy all\nraise x 11\ndisec 01 09\nenec 01 51\nenec 01 09\nraise t 12\nserve\nshow\nsymbols\n";
+    policy all\nraise x 11\ndisec 01 09\nenec 01 51\nenec 01 09\nraise t 12\nserve\nshow\nsymbols\n\
+    attach u 020400000011 06 44\nask-join u\ncut u 65535\nserve\nopen\nround\nround\nend\nend\ndrop u\n\
+    show\n";
 
 // Each write that fails alone ends the run, be it a reply's, a refusal's or a part of `show`, though all later ones
 // would be taken; nothing is printed after it.
@@ -754,14 +758,14 @@ const EACH_LINE: &[u8] = b"show\nlegacy eep 50 20\nmain hub 020400000001 46 C0\n
 fn one_write_fails(rt: HostRuntime) -> Result<(), Fail> {
     let alloc = rt.alloc();
     let (whole, outcome) = run(alloc, EACH_LINE);
-    assert_eq!(rt; outcome, Ok(Tally { refused: 4 }));
+    assert_eq!(rt; outcome, Ok(Tally { refused: 5 }));
     let mut failures = 0u64;
     for before in 0..10_000 {
         let mut reader = EACH_LINE;
         let mut writer = Flaky::new(alloc, b"", before);
         let outcome = run_script(alloc, &mut reader, &mut writer);
         if !writer.has_failed {
-            assert_eq!(rt; outcome, Ok(Tally { refused: 4 }));
+            assert_eq!(rt; outcome, Ok(Tally { refused: 5 }));
             assert_eq!(rt; writer.printed.as_slice(), whole.as_slice());
             break;
         }
@@ -787,7 +791,7 @@ fn one_read_fails(rt: HostRuntime) -> Result<(), Fail> {
         let mut writer = Vec::new(alloc);
         let outcome = run_script(alloc, &mut reader, &mut writer);
         if !reader.has_failed {
-            assert_eq!(rt; outcome, Ok(Tally { refused: 4 }));
+            assert_eq!(rt; outcome, Ok(Tally { refused: 5 }));
             assert_eq!(rt; writer.as_slice(), whole.as_slice());
             break;
         }
