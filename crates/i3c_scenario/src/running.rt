@@ -123,6 +123,7 @@ impl Running {
         wish: &Wish,
         out: &mut W,
     ) -> Result<Reply, Stop>
+        ensures policy { self.new.policy ≡ self.old.policy }
         ensures cuts { self.new.cuts ≡ cuts_left wish.now self.old.cuts }
     {
         let (event, reply) = self.answer(names, wish)?;
@@ -167,6 +168,7 @@ impl Running {
     /// `daa`: opens a session, runs its rounds and ends it. Whoever asks while it is opened is turned down. The cuts that
     /// wait are its opening's.
     fn assign<W: Write>(&mut self, names: &mut Names, out: &mut W) -> Result<(), Stop>
+        ensures policy { self.new.policy ≡ self.old.policy }
         ensures cuts { self.new.cuts ≡ no_cuts }
     {
         self.carry_out(names, Origin::Daa, &Wish::Open, out)?;
@@ -178,6 +180,7 @@ impl Running {
     /// Runs the rounds of a session, and prints each, until nobody hears it any more or no address is left.
     fn rounds<W: Write>(&mut self, names: &mut Names, out: &mut W) -> Result<(), Stop>
         requires uncut { self.old.cuts ≡ no_cuts }
+        ensures policy { self.new.policy ≡ self.old.policy }
         ensures cuts { self.new.cuts ≡ no_cuts }
     {
         // each other round takes a hearer away, so `done` comes after `SLOTS` of them at most

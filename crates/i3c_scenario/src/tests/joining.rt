@@ -1,5 +1,7 @@
 //! Sessions over several lines, joins, drop-offs and cuts.
 
+ghost use Rattle.std.specs.Prelude.{◌<◌};
+
 use crate::tests::{HUB, HUB_LINE, TARGET, goes_on, prints, run, target_goes_on};
 use std::io::Write;
 use std::str;
@@ -11,15 +13,17 @@ const OTHER: &str = "attach u 020400000011 06 44\n";
 /// One whose identity differs from the target's in the last bit alone, and is greater.
 const TWIN: &str = "attach v 020400000010 06 45\n";
 
-/// The usable dynamic address that comes after so many others, from `08` on. Four are left out.
-fn usable_address(before: u8) -> u8 {
-    let mut address = before + 0x08;
-    for skipped in [0x3E, 0x5E, 0x6E, 0x76] {
-        if address >= skipped {
-            address += 1;
-        }
+/// The usable dynamic address that comes after so many others, from `08` on: `3E`, `5E`, `6E` and `76` are left out.
+fn usable_address(before: u8) -> u8
+    requires { before < 108 }
+{
+    match before {
+        0..=53 => before + 0x08,
+        54..=84 => before + 0x09,
+        85..=99 => before + 0x0A,
+        100..=106 => before + 0x0B,
+        _ => before + 0x0C,
     }
-    address
 }
 
 // Devices come to slot 1 one after the other, and each gets an address that nobody had before. The main controller has
