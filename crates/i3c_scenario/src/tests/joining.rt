@@ -247,6 +247,15 @@ fn cuts_are_used_up(rt: HostRuntime) -> Result<(), Fail> {
     Ok(())
 }
 
+// The lines on cuts that docs/FORMATS.md gives as examples.
+#[test]
+fn documented_cuts(rt: HostRuntime) -> Result<(), Fail> {
+    let script = "raise t A5\ncut t 9\nenec 01 50\nserve\nraise t A5\ncut t 9\nserve\nraise t 01\n";
+    let wanted = "raised 1\nrefused NoAnswer 50\nrecorded 1\nraised 2\ntorn\nrefused NoDevice\n";
+    let wire = " S 09/R+ A5.0 P S 09/R+ A5.1 P";
+    target_goes_on(&rt, rt.alloc(), script, wanted, wire, 2)
+}
+
 // The cuts of `daa` are its opening's: its last bit is 9, and a cut past that isn't carried into its rounds.
 #[test]
 fn cuts_of_a_whole_assignment(rt: HostRuntime) -> Result<(), Fail> {
