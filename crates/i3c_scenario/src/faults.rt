@@ -27,7 +27,8 @@ pub enum ScriptFault {
     TooLarge,
 }
 
-/// Why a line was refused. A refused line changes nothing, and is printed by this name.
+/// Why a line was refused. A refused line changes nothing but the cuts that wait, which a frame's line takes. It is
+/// printed by this name.
 #[derive(Clone, Copy, Debug, PartialEq, Eq, Drop)]
 pub(crate) enum Refusal {
     /// The line has no form.

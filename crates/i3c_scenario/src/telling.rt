@@ -12,7 +12,7 @@ use std::io;
 use std::io::Write;
 
 /// What an event is carried out for, by which some replies print less.
-#[derive(Clone, Copy, Debug, PartialEq, Eq)]
+#[derive(Clone, Copy)]
 pub(crate) enum Origin {
     /// The line is the event.
     Line,
