@@ -1,8 +1,8 @@
 -- Decimal digits, and the numbers that they write.
-use Rattle.std.proofs.Common.{◌≡◌, ◌≢◌, ℕ, suc, ◌^◌, ◌<◌, List, [], ◌∷◌, get_or, All, Option, Result, Ok, Err, arith, refl, subst}
+use Rattle.std.proofs.Common.{◌≡◌, ◌≢◌, ℕ, suc, ◌^◌, ◌<◌, List, [], ◌∷◌, get_or, All, Result, Ok, Err, arith, refl, subst}
 use Rattle.std.proofs.lemmas.Str.Parse.{without_leading_plus_none}
 use Rattle.std.specs.Char.{digit_value}
-use Rattle.std.specs.Option.{IsSome, IfSome}
+use Rattle.std.specs.Option.{IsSome}
 use Rattle.std.specs.Result.{OkIff, result_ok}
 use Rattle.std.specs.Str.Parse.{AllDigits, ParsesUnsigned, IsNumeral, digits_value}
 use Rattle.i3c_scenario.specs.Words.{IsDecimal, IsDecimalDigit}
@@ -32,7 +32,3 @@ some_is_short word (Err e) writes some = absurd cc
 pub short_is_some : {E : Type 0} → (word : List ℕ) (r : Result ℕ E) → Writes word r → IsDecimal word → digits_value 10 word < 2 ^ 16 → IsSome (result_ok r)
 short_is_some word (Ok n) writes h short = refl
 short_is_some word (Err e) writes h short = absurd (writes ((h.0, all_decimal word h.1), short))
-
-pub value_written : {E : Type 0} → (word : List ℕ) (r : Result ℕ E) → Writes word r → IfSome (result_ok r) (λ n. n ≡ digits_value 10 word)
-value_written word (Ok n) writes = writes.1
-value_written word (Err e) writes = tt
