@@ -1,5 +1,5 @@
 -- Decimal digits, and the numbers that they write.
-use Rattle.std.proofs.Common.{◌≡◌, ◌≢◌, ℕ, suc, ◌^◌, ◌<◌, List, [], ◌∷◌, get_or, All, Result, Ok, Err, arith, refl, subst}
+use Rattle.std.proofs.Common.{◌≢◌, ℕ, suc, ◌^◌, ◌<◌, List, [], ◌∷◌, get_or, All, Result, Ok, Err, arith, refl, subst}
 use Rattle.std.proofs.lemmas.Str.Parse.{without_leading_plus_none}
 use Rattle.std.specs.Char.{digit_value}
 use Rattle.std.specs.Option.{IsSome}

@@ -1,14 +1,17 @@
 -- The event that a line asks for, and the cuts that it takes or leaves.
-use Rattle.std.specs.Prelude.{◌≡◌, ℕ, Option, Some, None, Result, Ok, Err, if◌then◌else◌, is_some, slice_set}
+use Rattle.std.specs.Prelude.{◌≡◌, ◌⊎◌, ⊤, ℕ, Option, Some, None, Result, Ok, Err, if◌then◌else◌, is_some, slice_set}
 use Rattle.i3c_base.specs.declared.device.Setup.{Setup}
 use Rattle.i3c_base.specs.declared.range.TheConstants.{SLOTS}
 use Rattle.i3c_base.specs.declared.requests.Fixed.{Fixed}
 use Rattle.i3c_base.specs.Cutting.{CutList, cut_of, earlier, no_cuts}
 use Rattle.i3c_base.specs.State.{State, IsPresent, device_at}
 use Rattle.i3c_bus.specs.declared.events.Event.{Event}
+use Rattle.i3c_bus.specs.declared.replies.Reply.{Reply}
+use Rattle.i3c_bus.specs.Step.{Step}
 use Rattle.i3c_scenario.specs.declared.command.Command.{Command}
 use Rattle.i3c_scenario.specs.declared.command.Wish.{Wish}
 use Rattle.i3c_scenario.specs.declared.faults.Refusal.{Refusal}
+use Rattle.i3c_scenario.specs.declared.faults.Stop.{Stop}
 use Rattle.i3c_scenario.specs.declared.names.Names.{Names}
 use Rattle.i3c_scenario.specs.declared.names.Place.{Place}
 use Rattle.i3c_scenario.specs.Naming.{place_named, slot_named}
@@ -53,6 +56,21 @@ Asked st names policy cuts Wish.Open asked = asked ≡ Ok (Event.OpenDaa cuts)
 Asked st names policy cuts Wish.Round asked = asked ≡ Ok (Event.Round cuts)
 Asked st names policy cuts Wish.End asked = asked ≡ Ok Event.EndDaa
 
+-- the event that a line asks for, with this reply, is one step to this state
+abbrev pub Carries : Ran → Names → Wish → Reply → State → Type 0
+Carries ran names wish reply new = (event : Event) × Asked ran.state names ran.policy ran.cuts wish (Ok event) × Step ran.state event reply new
+
+-- what a line does to the bus: one step where the line is an event, or none where it is refused before; `daa` is several
+abbrev pub Moves : Ran → Names → Command → State → Type 0
+Moves ran names (Command.Event wish) new = (new ≡ ran.state) ⊎ ((reply : Reply) × Carries ran names wish reply new)
+Moves ran names Command.Daa new = ⊤
+Moves ran names (Command.Cut name bit) new = new ≡ ran.state
+Moves ran names (Command.Legacy name address lvr) new = new ≡ ran.state
+Moves ran names (Command.Main name setup) new = new ≡ ran.state
+Moves ran names (Command.Policy policy) new = new ≡ ran.state
+Moves ran names Command.Show new = new ≡ ran.state
+Moves ran names Command.Symbols new = new ≡ ran.state
+
 -- the cuts that wait after an event's line: a frame uses them up
 abbrev pub cuts_left : Wish → CutList → CutList
 cuts_left (Wish.Attach name setup) cuts = cuts
@@ -78,6 +96,11 @@ device_named st place = device_in st (slot_named place)
 abbrev pub cut_named : Result ℕ Refusal → ℕ → CutList → CutList
 cut_named (Ok slot) bit cuts = slice_set cuts slot (Some (earlier (cut_of cuts slot) bit))
 cut_named (Err why) bit cuts = cuts
+
+-- what a line comes to that names a device and does no more
+abbrev pub comes_to : Result ℕ Refusal → Result (Unit {0}) Stop
+comes_to (Ok slot) = Ok (tt {0})
+comes_to (Err why) = Err (Stop.Refused why)
 
 -- the cuts that wait after a line, be it refused or not
 abbrev pub cuts_after : Ran → Names → Command → CutList

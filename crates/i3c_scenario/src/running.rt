@@ -46,7 +46,7 @@ impl Running {
     ghost use Rattle.i3c_base.specs.State.{IsStart, legacy_targets_of};
     ghost use Rattle.i3c_base.specs.declared.requests.Verdict.TheVariants.{Accept};
     ghost use Rattle.i3c_bus.specs.Step.{Step};
-    ghost use Rattle.i3c_scenario.specs.Asking.{Asked, cut_named, cuts_after, cuts_left, device_named};
+    ghost use Rattle.i3c_scenario.specs.Asking.{Asked, Carries, Moves, comes_to, cut_named, cuts_after, cuts_left, device_named};
     ghost use Rattle.i3c_scenario.specs.Naming.{place_named};
     ghost use Rattle.i3c_scenario.specs.Policies.{each_kind};
 
@@ -83,7 +83,8 @@ impl Running {
         command: &Command,
         out: &mut W,
     ) -> Result<(), Stop>
-        // refused or not
+        // each refused or not
+        ensures moves { Moves self.old names.old command.now self.new.state }
         ensures cuts { self.new.cuts ≡ cuts_after self.old names.old command.now }
     {
         match command {
@@ -105,6 +106,7 @@ impl Running {
 
     /// `cut`: whatever device is in the slot by then loses power at a bit of the next frame.
     fn cut(&mut self, names: &Names, name: &Name, bit: u16) -> Result<(), Stop>
+        ensures refused { result ≡ comes_to (device_named self.old.state (place_named names.now name.now)) }
         ensures state { self.new.state ≡ self.old.state }
         ensures policy { self.new.policy ≡ self.old.policy }
         ensures cuts { self.new.cuts ≡ cut_named (device_named self.old.state (place_named names.now name.now)) bit self.old.cuts }
@@ -125,6 +127,9 @@ impl Running {
     ) -> Result<Reply, Stop>
         ensures policy { self.new.policy ≡ self.old.policy }
         ensures cuts { self.new.cuts ≡ cuts_left wish.now self.old.cuts }
+        ensures carried { MatchResult result
+            (λ reply. Carries self.old names.old wish.now reply self.new.state)
+            (λ _. Moves self.old names.old (Command.Event wish.now) self.new.state) }
     {
         let (event, reply) = self.answer(names, wish)?;
         tell(names, origin, &event, &reply, out)?;
