@@ -1,3 +1,4 @@
+pub mod Carrying
 pub mod DecimalLaws
 pub mod HexLaws
 pub mod NameLaws

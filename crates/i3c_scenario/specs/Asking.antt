@@ -1,5 +1,5 @@
 -- The event that a line asks for, and the cuts that it takes or leaves.
-use Rattle.std.specs.Prelude.{◌≡◌, ◌⊎◌, ⊤, ℕ, Option, Some, None, Result, Ok, Err, if◌then◌else◌, is_some, slice_set}
+use Rattle.std.specs.Prelude.{◌≡◌, ◌⊎◌, ⊤, ℕ, List, [], ◌∷◌, Option, Some, None, Result, Ok, Err, if◌then◌else◌, is_some, slice_set}
 use Rattle.i3c_base.specs.declared.device.Setup.{Setup}
 use Rattle.i3c_base.specs.declared.range.TheConstants.{SLOTS}
 use Rattle.i3c_base.specs.declared.requests.Fixed.{Fixed}
@@ -60,10 +60,32 @@ Asked st names policy cuts Wish.End asked = asked ≡ Ok Event.EndDaa
 abbrev pub Carries : Ran → Names → Wish → Reply → State → Type 0
 Carries ran names wish reply new = (event : Event) × Asked ran.state names ran.policy ran.cuts wish (Ok event) × Step ran.state event reply new
 
--- what a line does to the bus: one step where the line is an event, or none where it is refused before; `daa` is several
+-- the line asks for no event; that of a device which comes may be short of memory for its name besides
+abbrev pub AsksForNone : Ran → Names → Wish → Type 0
+AsksForNone ran names (Wish.Attach name setup) = ⊤
+AsksForNone ran names wish = (why : Refusal) × Asked ran.state names ran.policy ran.cuts wish (Err why)
+
+-- the event that a line asks for is carried out, or there is none and nothing changes
+abbrev pub CarriesOrNot : Ran → Names → Wish → State → Type 0
+CarriesOrNot ran names wish new = ((new ≡ ran.state) × AsksForNone ran names wish) ⊎ ((reply : Reply) × Carries ran names wish reply new)
+
+-- rounds without cuts, with these replies, the newest first
+abbrev pub Rounds : List Reply → State → State → Type 0
+Rounds [] old new = new ≡ old
+Rounds (reply ∷ earlier) old new = (mid : State) × Rounds earlier old mid × Step mid (Event.Round no_cuts) reply new
+
+-- rounds without cuts, and then the end of their session
+abbrev pub RoundsAndEnd : State → State → Type 0
+RoundsAndEnd old new = (last : State) × ((replies : List Reply) × Rounds replies old last) × ((ended : Reply) × Step last Event.EndDaa ended new)
+
+-- `daa`: an opening with these cuts, and, unless that is refused, rounds without cuts and an end
+abbrev pub Assigns : State → CutList → State → Type 0
+Assigns old cuts new = (opened : State) × ((reply : Reply) × Step old (Event.OpenDaa cuts) reply opened) × ((new ≡ opened) ⊎ RoundsAndEnd opened new)
+
+-- what a line does to the bus, be it refused or not
 abbrev pub Moves : Ran → Names → Command → State → Type 0
-Moves ran names (Command.Event wish) new = (new ≡ ran.state) ⊎ ((reply : Reply) × Carries ran names wish reply new)
-Moves ran names Command.Daa new = ⊤
+Moves ran names (Command.Event wish) new = CarriesOrNot ran names wish new
+Moves ran names Command.Daa new = Assigns ran.state ran.cuts new
 Moves ran names (Command.Cut name bit) new = new ≡ ran.state
 Moves ran names (Command.Legacy name address lvr) new = new ≡ ran.state
 Moves ran names (Command.Main name setup) new = new ≡ ran.state

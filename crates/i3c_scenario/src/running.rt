@@ -40,13 +40,14 @@ impl Model for Running {
 }
 
 impl Running {
-    ghost use Rattle.std.specs.Prelude.{◌≡◌, true, Ok, MatchResult};
+    ghost use Rattle.std.specs.Prelude.{◌≡◌, true, List, Ok, MatchResult};
     ghost use Rattle.i3c_base.specs.Numbers.{is_capable};
     ghost use Rattle.i3c_base.specs.Cutting.{no_cuts};
     ghost use Rattle.i3c_base.specs.State.{IsStart, legacy_targets_of};
     ghost use Rattle.i3c_base.specs.declared.requests.Verdict.TheVariants.{Accept};
     ghost use Rattle.i3c_bus.specs.Step.{Step};
-    ghost use Rattle.i3c_scenario.specs.Asking.{Asked, Carries, Moves, comes_to, cut_named, cuts_after, cuts_left, device_named};
+    ghost use Rattle.i3c_scenario.specs.Asking.{AsksForNone, Asked, Assigns, Carries, CarriesOrNot, Moves, Rounds, comes_to, cut_named, cuts_after, cuts_left, device_named};
+    ghost use Rattle.i3c_bus.specs.declared.replies.Reply.{Reply as ReplyValue};
     ghost use Rattle.i3c_scenario.specs.Naming.{place_named};
     ghost use Rattle.i3c_scenario.specs.Policies.{each_kind};
 
@@ -129,7 +130,7 @@ impl Running {
         ensures cuts { self.new.cuts ≡ cuts_left wish.now self.old.cuts }
         ensures carried { MatchResult result
             (λ reply. Carries self.old names.old wish.now reply self.new.state)
-            (λ _. Moves self.old names.old (Command.Event wish.now) self.new.state) }
+            (λ _. CarriesOrNot self.old names.old wish.now self.new.state) }
     {
         let (event, reply) = self.answer(names, wish)?;
         tell(names, origin, &event, &reply, out)?;
@@ -143,7 +144,7 @@ impl Running {
         ensures cuts { self.new.cuts ≡ cuts_left wish.now self.old.cuts }
         ensures answered { MatchResult result
             (λ (event, reply). Asked self.old.state names.old self.old.policy self.old.cuts wish.now (Ok event) × Step self.old.state event reply self.new.state)
-            (λ _. self.new.state ≡ self.old.state) }
+            (λ _. (self.new.state ≡ self.old.state) × AsksForNone self.old names.old wish.now) }
     {
         let event = event_of(&self.bus, names, self.policy, &mut self.cuts, wish)?;
         if let (Wish::Attach { name, .. }, Event::Attach(slot, _)) = (wish, &event) {
@@ -173,6 +174,7 @@ impl Running {
     /// `daa`: opens a session, runs its rounds and ends it. Whoever asks while it is opened is turned down. The cuts that
     /// wait are its opening's.
     fn assign<W: Write>(&mut self, names: &mut Names, out: &mut W) -> Result<(), Stop>
+        ensures assigns { Assigns self.old.state self.old.cuts self.new.state }
         ensures policy { self.new.policy ≡ self.old.policy }
         ensures cuts { self.new.cuts ≡ no_cuts }
     {
@@ -185,6 +187,7 @@ impl Running {
     /// Runs the rounds of a session, and prints each, until nobody hears it any more or no address is left.
     fn rounds<W: Write>(&mut self, names: &mut Names, out: &mut W) -> Result<(), Stop>
         requires uncut { self.old.cuts ≡ no_cuts }
+        ensures rounds { (replies : List ReplyValue) × Rounds replies self.old.state self.new.state }
         ensures policy { self.new.policy ≡ self.old.policy }
         ensures cuts { self.new.cuts ≡ no_cuts }
     {
