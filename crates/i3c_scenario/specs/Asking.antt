@@ -1,22 +1,27 @@
--- The event that a line asks for.
-use Rattle.std.specs.Prelude.{◌≡◌, ℕ, Option, Some, None, Result, Ok, Err}
+-- The event that a line asks for, and the cuts that it takes or leaves.
+use Rattle.std.specs.Prelude.{◌≡◌, ◌⊎◌, ⊤, ℕ, List, [], ◌∷◌, Option, Some, None, Result, Ok, Err, if◌then◌else◌, is_some, slice_set}
 use Rattle.i3c_base.specs.declared.device.Setup.{Setup}
 use Rattle.i3c_base.specs.declared.range.TheConstants.{SLOTS}
 use Rattle.i3c_base.specs.declared.requests.Fixed.{Fixed}
-use Rattle.i3c_base.specs.Cutting.{no_cuts}
-use Rattle.i3c_base.specs.State.{State, IsPresent}
+use Rattle.i3c_base.specs.Cutting.{CutList, cut_of, earlier, no_cuts}
+use Rattle.i3c_base.specs.State.{State, IsPresent, device_at}
 use Rattle.i3c_bus.specs.declared.events.Event.{Event}
+use Rattle.i3c_bus.specs.declared.replies.Reply.{Reply}
+use Rattle.i3c_bus.specs.Step.{Step}
+use Rattle.i3c_scenario.specs.declared.command.Command.{Command}
 use Rattle.i3c_scenario.specs.declared.command.Wish.{Wish}
 use Rattle.i3c_scenario.specs.declared.faults.Refusal.{Refusal}
+use Rattle.i3c_scenario.specs.declared.faults.Stop.{Stop}
 use Rattle.i3c_scenario.specs.declared.names.Names.{Names}
 use Rattle.i3c_scenario.specs.declared.names.Place.{Place}
 use Rattle.i3c_scenario.specs.Naming.{place_named, slot_named}
 use Rattle.i3c_scenario.specs.Slots.{AllPresentBelow}
 
--- a script with a bus: the bus's state, and which requests its frames accept
+-- a script with a bus: the bus's state, which requests its frames accept, and the cuts that wait for the next frame
 pub record Ran : Type 0 where
   pub state : State
   pub policy : Fixed
+  pub cuts : CutList
 
 -- what stands at this place has the name still
 abbrev pub IsTaken : State → Option Place → Type 0
@@ -33,15 +38,99 @@ Attaches st place setup (Err Refusal.NameTaken) = IsTaken st place
 Attaches st place setup (Err Refusal.SlotTaken) = (¬ IsTaken st place) × AllPresentBelow st SLOTS
 Attaches st place setup (Err _) = ⊥
 
--- the device of a name raises
-abbrev pub raises : Result ℕ Refusal → Option ℕ → Result Event Refusal
-raises (Ok slot) byte = Ok (Event.Raise slot byte)
-raises (Err why) byte = Err why
+-- the event of the slot that a name stands for
+abbrev pub in_its_slot : (ℕ → Event) → Result ℕ Refusal → Result Event Refusal
+in_its_slot event (Ok slot) = Ok (event slot)
+in_its_slot event (Err why) = Err why
 
--- the event that a line asks for under this policy, or why it asks for none
-abbrev pub Asked : State → Names → Fixed → Wish → Result Event Refusal → Type 0
-Asked st names policy (Wish.Attach name setup) asked = Attaches st (place_named names name) setup asked
-Asked st names policy (Wish.Raise name byte) asked = asked ≡ raises (slot_named (place_named names name)) byte
-Asked st names policy Wish.Serve asked = asked ≡ Ok (Event.Serve policy no_cuts)
-Asked st names policy (Wish.Enec choice) asked = asked ≡ Ok (Event.Enec choice.to choice.kinds policy no_cuts)
-Asked st names policy (Wish.Disec choice) asked = asked ≡ Ok (Event.Disec choice.to choice.kinds policy no_cuts)
+-- the event that a line asks for under this policy and with these cuts, or why it asks for none
+abbrev pub Asked : State → Names → Fixed → CutList → Wish → Result Event Refusal → Type 0
+Asked st names policy cuts (Wish.Attach name setup) asked = Attaches st (place_named names name) setup asked
+Asked st names policy cuts (Wish.DropOff name) asked = asked ≡ in_its_slot Event.DropOff (slot_named (place_named names name))
+Asked st names policy cuts (Wish.Raise name byte) asked = asked ≡ in_its_slot (λ slot. Event.Raise slot byte) (slot_named (place_named names name))
+Asked st names policy cuts (Wish.AskJoin name) asked = asked ≡ in_its_slot Event.AskJoin (slot_named (place_named names name))
+Asked st names policy cuts Wish.Serve asked = asked ≡ Ok (Event.Serve policy cuts)
+Asked st names policy cuts (Wish.Enec choice) asked = asked ≡ Ok (Event.Enec choice.to choice.kinds policy cuts)
+Asked st names policy cuts (Wish.Disec choice) asked = asked ≡ Ok (Event.Disec choice.to choice.kinds policy cuts)
+Asked st names policy cuts Wish.Open asked = asked ≡ Ok (Event.OpenDaa cuts)
+Asked st names policy cuts Wish.Round asked = asked ≡ Ok (Event.Round cuts)
+Asked st names policy cuts Wish.End asked = asked ≡ Ok Event.EndDaa
+
+-- the event that a line asks for, with this reply, is one step to this state
+abbrev pub Carries : Ran → Names → Wish → Reply → State → Type 0
+Carries ran names wish reply new = (event : Event) × Asked ran.state names ran.policy ran.cuts wish (Ok event) × Step ran.state event reply new
+
+-- the line asks for no event; that of a device which comes may be short of memory for its name besides
+abbrev pub AsksForNone : Ran → Names → Wish → Type 0
+AsksForNone ran names (Wish.Attach name setup) = ⊤
+AsksForNone ran names wish = (why : Refusal) × Asked ran.state names ran.policy ran.cuts wish (Err why)
+
+-- the event that a line asks for is carried out, or there is none and nothing changes
+abbrev pub CarriesOrNot : Ran → Names → Wish → State → Type 0
+CarriesOrNot ran names wish new = ((new ≡ ran.state) × AsksForNone ran names wish) ⊎ ((reply : Reply) × Carries ran names wish reply new)
+
+-- rounds without cuts, with these replies, the newest first
+abbrev pub Rounds : List Reply → State → State → Type 0
+Rounds [] old new = new ≡ old
+Rounds (reply ∷ earlier) old new = (mid : State) × Rounds earlier old mid × Step mid (Event.Round no_cuts) reply new
+
+-- rounds without cuts, and then the end of their session
+abbrev pub RoundsAndEnd : State → State → Type 0
+RoundsAndEnd old new = (last : State) × ((replies : List Reply) × Rounds replies old last) × ((ended : Reply) × Step last Event.EndDaa ended new)
+
+-- `daa`: an opening with these cuts, and, unless that is refused, rounds without cuts and an end
+abbrev pub Assigns : State → CutList → State → Type 0
+Assigns old cuts new = (opened : State) × ((reply : Reply) × Step old (Event.OpenDaa cuts) reply opened) × ((new ≡ opened) ⊎ RoundsAndEnd opened new)
+
+-- what a line does to the bus, be it refused or not
+abbrev pub Moves : Ran → Names → Command → State → Type 0
+Moves ran names (Command.Event wish) new = CarriesOrNot ran names wish new
+Moves ran names Command.Daa new = Assigns ran.state ran.cuts new
+Moves ran names (Command.Cut name bit) new = new ≡ ran.state
+Moves ran names (Command.Legacy name address lvr) new = new ≡ ran.state
+Moves ran names (Command.Main name setup) new = new ≡ ran.state
+Moves ran names (Command.Policy policy) new = new ≡ ran.state
+Moves ran names Command.Show new = new ≡ ran.state
+Moves ran names Command.Symbols new = new ≡ ran.state
+
+-- the cuts that wait after an event's line: a frame uses them up
+abbrev pub cuts_left : Wish → CutList → CutList
+cuts_left (Wish.Attach name setup) cuts = cuts
+cuts_left (Wish.DropOff name) cuts = cuts
+cuts_left (Wish.Raise name byte) cuts = cuts
+cuts_left (Wish.AskJoin name) cuts = cuts
+cuts_left Wish.Serve cuts = no_cuts
+cuts_left (Wish.Enec choice) cuts = no_cuts
+cuts_left (Wish.Disec choice) cuts = no_cuts
+cuts_left Wish.Open cuts = no_cuts
+cuts_left Wish.Round cuts = no_cuts
+cuts_left Wish.End cuts = cuts
+
+-- the slot of the present device that a name at this place stands for
+abbrev pub device_in : State → Result ℕ Refusal → Result ℕ Refusal
+device_in st (Ok slot) = if is_some (device_at st slot) then Ok slot else Err Refusal.NoDevice
+device_in st (Err why) = Err why
+
+abbrev pub device_named : State → Option Place → Result ℕ Refusal
+device_named st place = device_in st (slot_named place)
+
+-- the same cuts, and one more, if the name stands for a device
+abbrev pub cut_named : Result ℕ Refusal → ℕ → CutList → CutList
+cut_named (Ok slot) bit cuts = slice_set cuts slot (Some (earlier (cut_of cuts slot) bit))
+cut_named (Err why) bit cuts = cuts
+
+-- what a line comes to that names a device and does no more
+abbrev pub comes_to : Result ℕ Refusal → Result (Unit {0}) Stop
+comes_to (Ok slot) = Ok (tt {0})
+comes_to (Err why) = Err (Stop.Refused why)
+
+-- the cuts that wait after a line, be it refused or not
+abbrev pub cuts_after : Ran → Names → Command → CutList
+cuts_after ran names (Command.Event wish) = cuts_left wish ran.cuts
+cuts_after ran names Command.Daa = no_cuts
+cuts_after ran names (Command.Cut name bit) = cut_named (device_named ran.state (place_named names name)) bit ran.cuts
+cuts_after ran names (Command.Legacy name address lvr) = ran.cuts
+cuts_after ran names (Command.Main name setup) = ran.cuts
+cuts_after ran names (Command.Policy policy) = ran.cuts
+cuts_after ran names Command.Show = ran.cuts
+cuts_after ran names Command.Symbols = ran.cuts

@@ -4,9 +4,11 @@ use Rattle.std.specs.Fmt.{decimal, option_append}
 use Rattle.i3c_base.specs.declared.answers.Answer.{Answer}
 use Rattle.i3c_base.specs.declared.answers.RoundReply.{RoundReply}
 use Rattle.i3c_base.specs.declared.requests.Served.{Served}
+use Rattle.i3c_bus.specs.declared.replies.Framed.{Framed}
 use Rattle.i3c_bus.specs.declared.replies.Reply.{Reply}
 use Rattle.i3c_scenario.specs.declared.faults.Refusal.{Refusal}
 use Rattle.i3c_scenario.specs.declared.faults.Stop.{Stop}
+use Rattle.i3c_scenario.specs.declared.telling.Origin.{Origin}
 use Rattle.i3c_scenario.specs.Hex.{byte_text}
 
 -- the name of a refusal
@@ -27,6 +29,7 @@ refusal_word Refusal.NoName = codes "NoName"
 refusal_word Refusal.NoDevice = codes "NoDevice"
 refusal_word Refusal.IsActive = codes "IsActive"
 refusal_word Refusal.NoAddress = codes "NoAddress"
+refusal_word Refusal.HasAddress = codes "HasAddress"
 refusal_word Refusal.ByteMismatch = codes "ByteMismatch"
 refusal_word Refusal.Masked = codes "Masked"
 refusal_word Refusal.Full = codes "Full"
@@ -52,6 +55,7 @@ refusal_tail Refusal.NoName = []
 refusal_tail Refusal.NoDevice = []
 refusal_tail Refusal.IsActive = []
 refusal_tail Refusal.NoAddress = []
+refusal_tail Refusal.HasAddress = []
 refusal_tail Refusal.ByteMismatch = []
 refusal_tail Refusal.Masked = []
 refusal_tail Refusal.Full = []
@@ -93,6 +97,24 @@ answer_text (Answer.Bytes bytes) = codes "done" ++ 10 ∷ []
 answer_text (Answer.NoAnswer a) = []
 answer_text Answer.NoEnd = []
 
+-- what a frame served, and its own part
+abbrev pub framed_text : Framed → Option (List ℕ)
+framed_text framed = option_append (request_text framed.served) (Some (answer_text framed.answer))
+
+-- that a session is open, where the line is its opening
+abbrev pub open_text : Origin → List ℕ
+open_text Origin.Line = codes "open" ++ 10 ∷ []
+open_text Origin.Daa = []
+
+-- what an opening served, and that the session is open
+abbrev pub opened_text : Origin → Served → Option (List ℕ)
+opened_text origin served = option_append (request_text served) (Some (open_text origin))
+
+-- that a session is ended, where the line is its end
+abbrev pub ended_text : Origin → List ℕ
+ended_text Origin.Line = codes "ended" ++ 10 ∷ []
+ended_text Origin.Daa = []
+
 -- a round
 abbrev pub round_text : RoundReply → Option (List ℕ)
 round_text (RoundReply.Assigned a identity) = None
@@ -100,14 +122,16 @@ round_text RoundReply.Nobody = Some (codes "nobody" ++ 10 ∷ [])
 round_text RoundReply.Done = Some (codes "done" ++ 10 ∷ [])
 round_text RoundReply.NoAddress = Some []
 
--- a reply, where its text is said here
-abbrev pub reply_text : Reply → Option (List ℕ)
-reply_text (Reply.Refused why) = Some []
-reply_text Reply.OutOfMemory = Some []
-reply_text Reply.Attached = None
-reply_text (Reply.Raised number) = Some (codes "raised " ++ (decimal number ++ 10 ∷ []))
-reply_text (Reply.Served served) = served_text served
-reply_text (Reply.Framed framed) = option_append (request_text framed.served) (Some (answer_text framed.answer))
-reply_text (Reply.Opened served) = request_text served
-reply_text (Reply.Round answer) = round_text answer
-reply_text Reply.Ended = Some []
+-- a reply to an event that a line is, or that is a part of `daa`, where its text is said here
+abbrev pub reply_text : Origin → Reply → Option (List ℕ)
+reply_text origin (Reply.Refused why) = Some []
+reply_text origin Reply.OutOfMemory = Some []
+reply_text origin Reply.Attached = None
+reply_text origin Reply.Dropped = Some (codes "dropped" ++ 10 ∷ [])
+reply_text origin (Reply.Raised number) = Some (codes "raised " ++ (decimal number ++ 10 ∷ []))
+reply_text origin Reply.Asked = Some (codes "asked" ++ 10 ∷ [])
+reply_text origin (Reply.Served served) = served_text served
+reply_text origin (Reply.Framed framed) = framed_text framed
+reply_text origin (Reply.Opened served) = opened_text origin served
+reply_text origin (Reply.Round answer) = round_text answer
+reply_text origin Reply.Ended = Some (ended_text origin)

@@ -17,6 +17,7 @@ bus_refusal BusRefusal.SlotTaken = Refusal.SlotTaken
 bus_refusal BusRefusal.NoDevice = Refusal.NoDevice
 bus_refusal BusRefusal.IsActive = Refusal.IsActive
 bus_refusal BusRefusal.NoAddress = Refusal.NoAddress
+bus_refusal BusRefusal.HasAddress = Refusal.HasAddress
 bus_refusal BusRefusal.NotCapable = Refusal.NotCapable
 bus_refusal BusRefusal.ByteMismatch = Refusal.ByteMismatch
 bus_refusal BusRefusal.Masked = Refusal.Masked
@@ -42,7 +43,9 @@ abbrev pub reply_stop : Reply → Option Stop
 reply_stop (Reply.Refused why) = Some (Stop.Refused (bus_refusal why))
 reply_stop Reply.OutOfMemory = Some Stop.Memory
 reply_stop Reply.Attached = None
+reply_stop Reply.Dropped = None
 reply_stop (Reply.Raised number) = None
+reply_stop Reply.Asked = None
 reply_stop (Reply.Served served) = None
 reply_stop (Reply.Framed framed) = answer_stop framed.answer
 reply_stop (Reply.Opened served) = None

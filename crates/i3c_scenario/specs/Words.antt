@@ -6,6 +6,14 @@ use Rattle.std.specs.Int.{IsInRange}
 abbrev pub IsHexDigit : ℕ → Type 0
 IsHexDigit byte = IsInRange 48 57 byte ⊎ IsInRange 65 70 byte
 
+-- `0` to `9`
+abbrev pub IsDecimalDigit : ℕ → Type 0
+IsDecimalDigit byte = IsInRange 48 57 byte
+
+-- decimal digits, of which there is one at least
+abbrev pub IsDecimal : List ℕ → Type 0
+IsDecimal word = (0 < length word) × All IsDecimalDigit word
+
 -- so many hex digits
 abbrev pub IsHex : ℕ → List ℕ → Type 0
 IsHex digits word = (length word ≡ digits) × All IsHexDigit word

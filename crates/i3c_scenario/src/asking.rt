@@ -1,43 +1,73 @@
-ghost use Rattle.std.specs.Prelude.{◌↔◌, IsTrue, IfOk, MatchOption};
+ghost use Rattle.std.specs.Prelude.{◌≡◌, ◌↔◌, IsTrue, MatchOption};
+ghost use Rattle.i3c_base.specs.Cutting.{no_cuts};
 ghost use Rattle.i3c_base.specs.State.{IsPresent};
-ghost use Rattle.i3c_bus.specs.Step.{IsUncutEvent};
-ghost use Rattle.i3c_scenario.specs.Asking.{Asked, IsTaken};
+ghost use Rattle.i3c_scenario.specs.Asking.{Asked, Attaches, IsTaken, cuts_left, device_named};
 ghost use Rattle.i3c_scenario.specs.Naming.{place_named};
 ghost use Rattle.i3c_scenario.specs.Slots.{AllPresentBelow};
 
 use crate::command::{Choice, Wish};
 use crate::faults::Refusal;
 use crate::names::{Name, Names, Place};
-use i3c_base::{Cuts, Fixed, SLOTS, Slot};
+use i3c_base::{Cuts, Fixed, SLOTS, Setup, Slot};
 use i3c_bus::{Bus, Event};
+use std::mem;
 
-/// The event that a line asks for, with its names as slots, or why it asks for none.
+/// The event that a line asks for, with its names as slots, or why it asks for none. A frame takes the cuts that wait
+/// for it; a line that sends none leaves them.
 pub(crate) fn event_of(
     bus: &Bus,
     names: &Names,
     policy: Fixed,
+    cuts: &mut Cuts,
     wish: &Wish,
 ) -> Result<Event, Refusal>
-    ensures asked { Asked bus.now.state names.now policy wish.now result }
-    ensures uncut { IfOk result IsUncutEvent }
+    ensures asked { Asked bus.now.state names.now policy cuts.old wish.now result }
+    ensures cuts { cuts.new ≡ cuts_left wish.now cuts.old }
 {
     match wish {
-        Wish::Attach { name, setup } => {
-            if is_taken(bus, names, name) {
-                return Err(Refusal::NameTaken);
-            }
-            match free_slot(bus) {
-                Some(slot) => Ok(Event::Attach(slot, *setup)),
-                None => Err(Refusal::SlotTaken),
-            }
-        }
-        Wish::Raise { name, byte } => match names.slot_of(name) {
-            Ok(slot) => Ok(Event::Raise(slot, *byte)),
-            Err(why) => Err(why),
-        },
-        Wish::Serve => Ok(Event::Serve(policy, Cuts::new())),
-        Wish::Enec(Choice { kinds, to }) => Ok(Event::Enec(*to, *kinds, policy, Cuts::new())),
-        Wish::Disec(Choice { kinds, to }) => Ok(Event::Disec(*to, *kinds, policy, Cuts::new())),
+        Wish::Attach { name, setup } => attachment(bus, names, name, *setup),
+        Wish::DropOff { name } => Ok(Event::DropOff(names.slot_of(name)?)),
+        Wish::Raise { name, byte } => Ok(Event::Raise(names.slot_of(name)?, *byte)),
+        Wish::AskJoin { name } => Ok(Event::AskJoin(names.slot_of(name)?)),
+        Wish::Serve => Ok(Event::Serve(policy, take(cuts))),
+        Wish::Enec(Choice { kinds, to }) => Ok(Event::Enec(*to, *kinds, policy, take(cuts))),
+        Wish::Disec(Choice { kinds, to }) => Ok(Event::Disec(*to, *kinds, policy, take(cuts))),
+        Wish::Open => Ok(Event::OpenDaa(take(cuts))),
+        Wish::Round => Ok(Event::Round(take(cuts))),
+        Wish::End => Ok(Event::EndDaa),
+    }
+}
+
+/// The cuts that wait, of which none is left.
+fn take(cuts: &mut Cuts) -> Cuts
+    ensures taken { result ≡ cuts.old }
+    ensures left { cuts.new ≡ no_cuts }
+{
+    mem::replace(cuts, Cuts::new())
+}
+
+/// The attachment of a device in the lowest free slot, if neither its name nor each slot is taken.
+fn attachment(bus: &Bus, names: &Names, name: &Name, setup: Setup) -> Result<Event, Refusal>
+    ensures { Attaches bus.now.state (place_named names.now name.now) setup result }
+{
+    if is_taken(bus, names, name) {
+        return Err(Refusal::NameTaken);
+    }
+    match free_slot(bus) {
+        Some(slot) => Ok(Event::Attach(slot, setup)),
+        None => Err(Refusal::SlotTaken),
+    }
+}
+
+/// The slot of the present device that a name stands for. It answers `NoDevice` where the device is gone.
+pub(crate) fn slot_of_device(bus: &Bus, names: &Names, name: &Name) -> Result<Slot, Refusal>
+    ensures { result ≡ device_named bus.now.state (place_named names.now name.now) }
+{
+    let slot = names.slot_of(name)?;
+    if bus.present(slot) {
+        Ok(slot)
+    } else {
+        Err(Refusal::NoDevice)
     }
 }
 

@@ -19,14 +19,24 @@ pub(crate) struct Choice {
 pub(crate) enum Wish {
     /// `attach NAME PID BCR DCR [decline]`: a device enters the lowest free slot.
     Attach { name: Name, setup: Setup },
+    /// `drop NAME`: a device loses power, and is gone.
+    DropOff { name: Name },
     /// `raise NAME [BYTE]`: a device raises an interrupt, with its mandatory byte where one is due.
     Raise { name: Name, byte: Option<u8> },
+    /// `ask-join NAME`: a device wishes to join.
+    AskJoin { name: Name },
     /// `serve`: the first request is served.
     Serve,
     /// `enec BYTE [ADDR]`: kinds of events are enabled.
     Enec(Choice),
     /// `disec BYTE [ADDR]`: kinds of events are disabled.
     Disec(Choice),
+    /// `open`: a session of dynamic address assignment is opened, and stays open.
+    Open,
+    /// `round`: one round of the open session.
+    Round,
+    /// `end`: the open session ends.
+    End,
 }
 
 /// What a line asks for.
@@ -47,6 +57,11 @@ pub(crate) enum Command {
     Event(Wish),
     /// `policy all|none|joins|roles|interrupts`: which requests the frames from now on accept.
     Policy(Fixed),
+    /// `cut NAME BIT`: a device loses power at a bit of the next frame.
+    Cut {
+        name: Name,
+        bit: u16,
+    },
     /// `daa`: a whole session of dynamic address assignment.
     Daa,
     /// `show`: the bus as it is.
@@ -67,14 +82,14 @@ impl Command {
             "enec" => Command::Event(Wish::Enec(parse_choice(&mut words)?)),
             "disec" => Command::Event(Wish::Disec(parse_choice(&mut words)?)),
             "policy" => Command::Policy(policy(words.next()?)?),
-            "attach" => {
-                let (name, setup) = parse_device(&mut words)?;
-                Command::Event(Wish::Attach { name, setup })
-            }
-            "main" => {
-                let (name, setup) = parse_device(&mut words)?;
-                Command::Main { name, setup }
-            }
+            "cut" => parse_cut(&mut words)?,
+            "open" => Command::Event(Wish::Open),
+            "round" => Command::Event(Wish::Round),
+            "end" => Command::Event(Wish::End),
+            "attach" => Command::Event(parse_attach(&mut words)?),
+            "drop" => Command::Event(parse_drop(&mut words)?),
+            "ask-join" => Command::Event(parse_ask_join(&mut words)?),
+            "main" => parse_main(&mut words)?,
             "legacy" => parse_legacy(&mut words)?,
             "show" => Command::Show,
             "symbols" => Command::Symbols,
@@ -98,6 +113,18 @@ fn parse_legacy(words: &mut Words<'_>) -> Option<Command> {
     Some(Command::Legacy { name, address, lvr })
 }
 
+/// The words of `main`.
+fn parse_main(words: &mut Words<'_>) -> Option<Command> {
+    let (name, setup) = parse_device(words)?;
+    Some(Command::Main { name, setup })
+}
+
+/// The words of `attach`.
+fn parse_attach(words: &mut Words<'_>) -> Option<Wish> {
+    let (name, setup) = parse_device(words)?;
+    Some(Wish::Attach { name, setup })
+}
+
 /// The words of a device: its name and its identity, and `decline` if it doesn't take the controller role.
 fn parse_device(words: &mut Words<'_>) -> Option<(Name, Setup)> {
     let name = Name::parse(words.next()?)?;
@@ -111,6 +138,25 @@ fn parse_device(words: &mut Words<'_>) -> Option<(Name, Setup)> {
         Some(_) => return None,
     };
     Some((name, Setup { identity, willing }))
+}
+
+/// The word of `drop`: a name.
+fn parse_drop(words: &mut Words<'_>) -> Option<Wish> {
+    let name = Name::parse(words.next()?)?;
+    Some(Wish::DropOff { name })
+}
+
+/// The word of `ask-join`: a name.
+fn parse_ask_join(words: &mut Words<'_>) -> Option<Wish> {
+    let name = Name::parse(words.next()?)?;
+    Some(Wish::AskJoin { name })
+}
+
+/// The words of `cut`: a name and a bit.
+fn parse_cut(words: &mut Words<'_>) -> Option<Command> {
+    let name = Name::parse(words.next()?)?;
+    let bit = words::bit(words.next()?)?;
+    Some(Command::Cut { name, bit })
 }
 
 /// The words of `raise`: a name, and a byte if one is given.

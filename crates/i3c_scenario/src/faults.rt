@@ -27,7 +27,8 @@ pub enum ScriptFault {
     TooLarge,
 }
 
-/// Why a line was refused. A refused line changes nothing, and is printed by this name.
+/// Why a line was refused. A refused line changes nothing but the cuts that wait, which a frame's line takes. It is
+/// printed by this name.
 #[derive(Clone, Copy, Debug, PartialEq, Eq, Drop)]
 pub(crate) enum Refusal {
     /// The line has no form.
@@ -53,6 +54,7 @@ pub(crate) enum Refusal {
     IsActive,
     /// No address is left to give, or the device has none.
     NoAddress,
+    HasAddress,
     ByteMismatch,
     Masked,
     Full,
@@ -86,6 +88,7 @@ impl Refusal {
             Refusal::NoDevice => "NoDevice",
             Refusal::IsActive => "IsActive",
             Refusal::NoAddress => "NoAddress",
+            Refusal::HasAddress => "HasAddress",
             Refusal::ByteMismatch => "ByteMismatch",
             Refusal::Masked => "Masked",
             Refusal::Full => "Full",
@@ -158,6 +161,7 @@ impl From<i3c_bus::Refusal> for Refusal {
             i3c_bus::Refusal::NoDevice => Refusal::NoDevice,
             i3c_bus::Refusal::IsActive => Refusal::IsActive,
             i3c_bus::Refusal::NoAddress => Refusal::NoAddress,
+            i3c_bus::Refusal::HasAddress => Refusal::HasAddress,
             i3c_bus::Refusal::NotCapable => Refusal::NotCapable,
             i3c_bus::Refusal::ByteMismatch => Refusal::ByteMismatch,
             i3c_bus::Refusal::Masked => Refusal::Masked,
@@ -217,7 +221,9 @@ impl Stop {
             Reply::Round(RoundReply::NoAddress) => Some(Stop::Refused(Refusal::NoAddress)),
             Reply::Round(_)
             | Reply::Attached
+            | Reply::Dropped
             | Reply::Raised(_)
+            | Reply::Asked
             | Reply::Served(_)
             | Reply::Opened(_)
             | Reply::Ended => None,

@@ -1,20 +1,21 @@
-use crate::asking::event_of;
+use crate::asking::{event_of, slot_of_device};
 use crate::command::{Command, Wish};
 use crate::faults::{Refusal, Stop};
-use crate::names::Names;
+use crate::names::{Name, Names};
 use crate::policies::ACCEPT_ALL;
 use crate::show::show;
-use crate::telling::tell;
+use crate::telling::{Origin, tell};
 use crate::wires::Wires;
-use i3c_base::{Cuts, Fixed, RoundReply, Setup};
+use i3c_base::{Cuts, Fixed, RoundReply, SLOTS, Setup};
 use i3c_bus::{Bus, Event, Hand, Reply};
 use i3c_legacy::Legacies;
-use std::alloc::{AllocError, Global};
+use std::alloc::Global;
 use std::io::Write;
 use std::marker::Model;
 use std::mem;
 
-/// A bus, its role or session, the last symbols of its wire, and which requests its frames accept.
+/// A bus, its role or session, the last symbols of its wire, which requests its frames accept, and the cuts that wait for
+/// the next frame.
 ///
 /// Its role stands in an `Option`, so that an event can take it from a stage that is lent, and give one back.
 pub(crate) struct Running {
@@ -22,6 +23,7 @@ pub(crate) struct Running {
     hand: Option<Hand>,
     wires: Wires,
     policy: Fixed,
+    cuts: Cuts,
 }
 
 impl Model for Running {
@@ -32,27 +34,29 @@ impl Model for Running {
 
     ghost Value = { Ran };
 
-    ghost view = { λ r. record { state = r.bus.state; policy = r.policy } };
+    ghost view = { λ r. record { state = r.bus.state; policy = r.policy; cuts = r.cuts } };
 
     ghost invariant = { λ r. (hand : HandValue) × (r.hand ≡ Some hand) × HandFits hand r.bus.state };
 }
 
 impl Running {
-    ghost use Rattle.std.specs.Prelude.{◌≡◌, true, false, IfOk, OnOk, MatchResult};
+    ghost use Rattle.std.specs.Prelude.{◌≡◌, true, List, Ok, MatchResult};
     ghost use Rattle.i3c_base.specs.Numbers.{is_capable};
-    ghost use Rattle.i3c_base.specs.State.{IsStart, targets_of};
+    ghost use Rattle.i3c_base.specs.Cutting.{no_cuts};
+    ghost use Rattle.i3c_base.specs.State.{IsStart, legacy_targets_of};
     ghost use Rattle.i3c_base.specs.declared.requests.Verdict.TheVariants.{Accept};
-    ghost use Rattle.i3c_bus.specs.Step.{Step, IsUncutEvent};
-    ghost use Rattle.i3c_bus.specs.declared.events.Event.{Event as EventValue};
+    ghost use Rattle.i3c_bus.specs.Step.{Step};
+    ghost use Rattle.i3c_scenario.specs.Asking.{AsksForNone, Asked, Assigns, Carries, CarriesOrNot, Moves, Rounds, comes_to, cut_named, cuts_after, cuts_left, device_named};
     ghost use Rattle.i3c_bus.specs.declared.replies.Reply.{Reply as ReplyValue};
-    ghost use Rattle.i3c_scenario.specs.Asking.{Asked};
+    ghost use Rattle.i3c_scenario.specs.Naming.{place_named};
     ghost use Rattle.i3c_scenario.specs.Policies.{each_kind};
 
     /// A bus with this main controller, whose frames accept each request.
     pub fn new(alloc: Global, main: Setup, legacies: Legacies, wires: Wires) -> Running
         requires { is_capable main.identity.bcr ≡ true }
-        ensures start { IsStart main (targets_of legacies) result.state }
+        ensures start { IsStart main (legacy_targets_of legacies) result.state }
         ensures policy { result.policy ≡ each_kind Accept }
+        ensures cuts { result.cuts ≡ no_cuts }
     {
         let Ok((bus, role)) = Bus::new(alloc, main, legacies) else {
             unreachable!();
@@ -62,6 +66,7 @@ impl Running {
             hand: Some(Hand::Role(role)),
             wires,
             policy: ACCEPT_ALL,
+            cuts: Cuts::new(),
         }
     }
 
@@ -78,39 +83,70 @@ impl Running {
         names: &mut Names,
         command: &Command,
         out: &mut W,
-    ) -> Result<(), Stop> {
+    ) -> Result<(), Stop>
+        // each refused or not
+        ensures moves { Moves self.old names.old command.now self.new.state }
+        ensures cuts { self.new.cuts ≡ cuts_after self.old names.old command.now }
+    {
         match command {
             Command::Legacy { .. } | Command::Main { .. } => Err(Refusal::BusMade.into()),
-            Command::Event(wish) => self.carry_out(names, wish, out),
+            Command::Event(wish) => {
+                self.carry_out(names, Origin::Line, wish, out)?;
+                Ok(())
+            }
             Command::Policy(named) => {
                 self.policy = *named;
                 Ok(())
             }
+            Command::Cut { name, bit } => self.cut(names, name, *bit),
             Command::Daa => self.assign(names, out),
             Command::Show => show(&self.bus, names, out).map_err(Stop::from),
             Command::Symbols => self.wires.show(out).map_err(Stop::from),
         }
     }
 
-    /// A line of one event: the line is read to the event, the bus answers, and the reply is printed.
+    /// `cut`: whatever device is in the slot by then loses power at a bit of the next frame.
+    fn cut(&mut self, names: &Names, name: &Name, bit: u16) -> Result<(), Stop>
+        ensures refused { result ≡ comes_to (device_named self.old.state (place_named names.now name.now)) }
+        ensures state { self.new.state ≡ self.old.state }
+        ensures policy { self.new.policy ≡ self.old.policy }
+        ensures cuts { self.new.cuts ≡ cut_named (device_named self.old.state (place_named names.now name.now)) bit self.old.cuts }
+    {
+        let slot = slot_of_device(&self.bus, names, name)?;
+        self.cuts.add(slot, bit);
+        Ok(())
+    }
+
+    /// One event, by a line of its own or as a part of `daa`: the wish is read to the event, the bus answers, and the
+    /// reply is printed.
     fn carry_out<W: Write>(
         &mut self,
         names: &mut Names,
+        origin: Origin,
         wish: &Wish,
         out: &mut W,
-    ) -> Result<(), Stop> {
+    ) -> Result<Reply, Stop>
+        ensures policy { self.new.policy ≡ self.old.policy }
+        ensures cuts { self.new.cuts ≡ cuts_left wish.now self.old.cuts }
+        ensures carried { MatchResult result
+            (λ reply. Carries self.old names.old wish.now reply self.new.state)
+            (λ _. CarriesOrNot self.old names.old wish.now self.new.state) }
+    {
         let (event, reply) = self.answer(names, wish)?;
-        tell(names, &event, &reply, out)
+        tell(names, origin, &event, &reply, out)?;
+        Ok(reply)
     }
 
-    /// The event that a line asks for, and the bus's reply to it. A device that is attached gets its name.
+    /// The event that a line asks for, with the cuts that wait if it sends a frame, and the bus's reply to it. A device
+    /// that is attached gets its name.
     fn answer(&mut self, names: &mut Names, wish: &Wish) -> Result<(Event, Reply), Stop>
         ensures policy { self.new.policy ≡ self.old.policy }
+        ensures cuts { self.new.cuts ≡ cuts_left wish.now self.old.cuts }
         ensures answered { MatchResult result
-            (λ (event, reply). Asked self.old.state names.old self.old.policy wish.now (Ok event) × Step self.old.state event reply self.new.state)
-            (λ _. self.new.state ≡ self.old.state) }
+            (λ (event, reply). Asked self.old.state names.old self.old.policy self.old.cuts wish.now (Ok event) × Step self.old.state event reply self.new.state)
+            (λ _. (self.new.state ≡ self.old.state) × AsksForNone self.old names.old wish.now) }
     {
-        let event = event_of(&self.bus, names, self.policy, wish)?;
+        let event = event_of(&self.bus, names, self.policy, &mut self.cuts, wish)?;
         if let (Wish::Attach { name, .. }, Event::Attach(slot, _)) = (wish, &event) {
             names.give_slot(name, *slot)?;
         }
@@ -120,8 +156,8 @@ impl Running {
 
     /// One event: the bus takes the role or session in hand, and gives one back.
     fn step(&mut self, event: &Event) -> Reply
-        requires uncut { IsUncutEvent event.now }
         ensures policy { self.new.policy ≡ self.old.policy }
+        ensures cuts { self.new.cuts ≡ self.old.cuts }
         ensures step { Step self.old.state event.now result self.new.state }
     {
         let Some(hand) = self.hand.take() else {
@@ -135,28 +171,30 @@ impl Running {
         reply
     }
 
-    /// `daa`: opens a session, runs its rounds and ends it. Whoever asks while it is opened is turned down.
-    fn assign<W: Write>(&mut self, names: &Names, out: &mut W) -> Result<(), Stop>
+    /// `daa`: opens a session, runs its rounds and ends it. Whoever asks while it is opened is turned down. The cuts that
+    /// wait are its opening's.
+    fn assign<W: Write>(&mut self, names: &mut Names, out: &mut W) -> Result<(), Stop>
+        ensures assigns { Assigns self.old.state self.old.cuts self.new.state }
         ensures policy { self.new.policy ≡ self.old.policy }
+        ensures cuts { self.new.cuts ≡ no_cuts }
     {
-        let open = Event::OpenDaa(Cuts::new());
-        let opened = self.step(&open);
-        tell(names, &open, &opened, out)?;
+        self.carry_out(names, Origin::Daa, &Wish::Open, out)?;
         let outcome = self.rounds(names, out);
-        self.step(&Event::EndDaa);
+        self.carry_out(names, Origin::Daa, &Wish::End, out)?;
         outcome
     }
 
     /// Runs the rounds of a session, and prints each, until nobody hears it any more or no address is left.
-    fn rounds<W: Write>(&mut self, names: &Names, out: &mut W) -> Result<(), Stop>
+    fn rounds<W: Write>(&mut self, names: &mut Names, out: &mut W) -> Result<(), Stop>
+        requires uncut { self.old.cuts ≡ no_cuts }
+        ensures rounds { (replies : List ReplyValue) × Rounds replies self.old.state self.new.state }
         ensures policy { self.new.policy ≡ self.old.policy }
+        ensures cuts { self.new.cuts ≡ no_cuts }
     {
-        let round = Event::Round(Cuts::new());
-        // every other round takes a hearer away, so `done` comes after `SLOTS` of them at most
-        for _ in 0..u64::MAX {
-            let answer = self.step(&round);
-            tell(names, &round, &answer, out)?;
-            if answer == Reply::Round(RoundReply::Done) {
+        // each other round takes a hearer away, so `done` comes after `SLOTS` of them at most
+        for _ in 0..=SLOTS {
+            let reply = self.carry_out(names, Origin::Daa, &Wish::Round, out)?;
+            if reply == Reply::Round(RoundReply::Done) {
                 break;
             }
         }
@@ -170,6 +208,7 @@ impl Running {
             hand,
             wires: _,
             policy: _,
+            cuts: _,
         } = self;
         match hand {
             Some(hand) => {

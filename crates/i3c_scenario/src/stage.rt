@@ -45,6 +45,7 @@ impl Stage {
                 Command::Main { name, setup } => self.begin(alloc, names, name, *setup, out),
                 Command::Event(_)
                 | Command::Policy(_)
+                | Command::Cut { .. }
                 | Command::Daa
                 | Command::Show
                 | Command::Symbols => Err(Refusal::NoBus.into()),

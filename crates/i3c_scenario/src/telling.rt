@@ -1,6 +1,6 @@
 ghost use Rattle.std.specs.Prelude.{◌≡◌, ◌⊎◌, None, Some, IfSome, MatchResult, OnOk};
 ghost use Rattle.std.specs.Io.KnownBytes.{Appends};
-ghost use Rattle.i3c_scenario.specs.Printed.{reply_text, request_text, round_text, served_text};
+ghost use Rattle.i3c_scenario.specs.Printed.{ended_text, framed_text, opened_text, reply_text, request_text, round_text, served_text};
 ghost use Rattle.i3c_scenario.specs.Stops.{reply_stop};
 ghost use Rattle.i3c_scenario.specs.declared.faults.Stop.TheVariants.{Write};
 
@@ -11,17 +11,27 @@ use i3c_bus::{Event, Framed, Reply};
 use std::io;
 use std::io::Write;
 
+/// What an event is carried out for, by which some replies print less.
+#[derive(Clone, Copy)]
+pub(crate) enum Origin {
+    /// The line is the event.
+    Line,
+    /// The line is `daa`, of whose opening and end nothing is printed but what was served.
+    Daa,
+}
+
 /// Prints the bus's reply to an event. What the line is refused or stopped by is answered, and not printed here.
 pub(crate) fn tell<W: Write>(
     names: &Names,
+    origin: Origin,
     event: &Event,
     reply: &Reply,
     out: &mut W,
 ) -> Result<(), Stop>
     ensures stop { MatchResult result (λ _. reply_stop reply.now ≡ None) (λ stop. (stop ≡ Stop.Write) ⊎ (reply_stop reply.now ≡ Some stop)) }
-    ensures told { OnOk result (IfSome (reply_text reply.now) (Appends (W.contents out.old) (W.contents out.new))) }
+    ensures told { OnOk result (IfSome (reply_text origin reply.now) (Appends (W.contents out.old) (W.contents out.new))) }
 {
-    show_reply(names, event, reply, out)?;
+    show_reply(names, origin, event, reply, out)?;
     match Stop::of_reply(reply) {
         Some(stop) => Err(stop),
         None => Ok(()),
@@ -29,17 +39,26 @@ pub(crate) fn tell<W: Write>(
 }
 
 /// Prints what a reply has to say, but for refusals.
-fn show_reply<W: Write>(names: &Names, event: &Event, reply: &Reply, out: &mut W) -> io::Result<()>
-    ensures { OnOk result (IfSome (reply_text reply.now) (Appends (W.contents out.old) (W.contents out.new))) }
+fn show_reply<W: Write>(
+    names: &Names,
+    origin: Origin,
+    event: &Event,
+    reply: &Reply,
+    out: &mut W,
+) -> io::Result<()>
+    ensures { OnOk result (IfSome (reply_text origin reply.now) (Appends (W.contents out.old) (W.contents out.new))) }
 {
     match reply {
-        Reply::Refused(_) | Reply::OutOfMemory | Reply::Ended => Ok(()),
+        Reply::Refused(_) | Reply::OutOfMemory => Ok(()),
         Reply::Attached => show_attached(names, event, out),
+        Reply::Dropped => out.write_all(b"dropped\n"),
         Reply::Raised(number) => writeln!(out, "raised {number}"),
+        Reply::Asked => out.write_all(b"asked\n"),
         Reply::Served(served) => show_served(served, out),
         Reply::Framed(framed) => show_framed(framed, out),
-        Reply::Opened(served) => show_request(served, out),
+        Reply::Opened(served) => show_opened(origin, served, out),
         Reply::Round(answer) => show_round(answer, out),
+        Reply::Ended => show_ended(origin, out),
     }
 }
 
@@ -80,12 +99,33 @@ fn show_request<W: Write>(served: &Served, out: &mut W) -> io::Result<()>
 
 /// Prints what a frame served, and that its own part was carried out, if it was.
 fn show_framed<W: Write>(framed: &Framed, out: &mut W) -> io::Result<()>
-    ensures { OnOk result (IfSome (reply_text (Reply.Framed framed.now)) (Appends (W.contents out.old) (W.contents out.new))) }
+    ensures { OnOk result (IfSome (framed_text framed.now) (Appends (W.contents out.old) (W.contents out.new))) }
 {
     show_request(&framed.served, out)?;
     match framed.answer {
         Answer::Done | Answer::Bytes(_) => out.write_all(b"done\n"),
         Answer::NoAnswer(_) | Answer::NoEnd => Ok(()),
+    }
+}
+
+/// Prints what was served while a session was opened, and that it is open, if the line is that.
+fn show_opened<W: Write>(origin: Origin, served: &Served, out: &mut W) -> io::Result<()>
+    ensures { OnOk result (IfSome (opened_text origin served.now) (Appends (W.contents out.old) (W.contents out.new))) }
+{
+    show_request(served, out)?;
+    match origin {
+        Origin::Line => out.write_all(b"open\n"),
+        Origin::Daa => Ok(()),
+    }
+}
+
+/// Prints that a session is ended, if the line is that.
+fn show_ended<W: Write>(origin: Origin, out: &mut W) -> io::Result<()>
+    ensures { OnOk result (Appends (W.contents out.old) (W.contents out.new) (ended_text origin)) }
+{
+    match origin {
+        Origin::Line => out.write_all(b"ended\n"),
+        Origin::Daa => Ok(()),
     }
 }
 

@@ -1,6 +1,6 @@
 use crate::faults::{Refusal, Stop};
 use crate::names::{Name, Names};
-use crate::telling::tell;
+use crate::telling::{Origin, tell};
 use crate::{ScriptFault, Tally, run_script};
 use i3c_base::{Addr7, Answer, RoundReply, Served, Slot};
 use i3c_bus::{Event, Framed, Reply};
@@ -10,6 +10,8 @@ use std::io::{ErrorKind, Read, Write};
 use std::process::Abort;
 use std::test::Fail;
 use std::{io, str};
+
+mod joining;
 
 /// How many bytes a script may have.
 const SCRIPT_LENGTH: usize = 1_048_576;
@@ -245,18 +247,24 @@ fn lines_without_a_form(rt: HostRuntime) -> Result<(), Fail> {
         "disec",
         "enec 01 09 09",
         "disec 01 09 09",
+        "drop",
+        "drop hub hub",
+        "ask-join",
+        "ask-join hub hub",
+        "ask join hub",
+        "open now",
+        "round 1",
+        "end end",
+        "cut",
+        "cut hub",
+        "cut 3",
+        "cut hub 3 3",
         // lines that come with other calls
-        "drop hub",
         "ask-role hub",
-        "ask-join hub",
-        "cut hub 3",
         "reset",
         "list",
         "read 09",
         "write 09 01",
-        "open",
-        "round",
-        "end",
         "handover 09",
         // spaces
         " ",
@@ -266,6 +274,10 @@ fn lines_without_a_form(rt: HostRuntime) -> Result<(), Fail> {
         "attach t 020400000010 06 44 ",
         "raise hub ",
         "raise  hub",
+        "cut hub ",
+        "cut hub  3",
+        "cut hub 3 ",
+        "open ",
         "policy all ",
         "enec 01 ",
         "attach\tt 020400000010 06 44",
@@ -292,6 +304,18 @@ fn lines_without_a_form(rt: HostRuntime) -> Result<(), Fail> {
         "enec 1",
         "disec 011",
         "enec 0b",
+        "cut hub +3",
+        "cut hub -3",
+        "cut hub 65536",
+        "cut hub 0065536",
+        "cut hub 4294967296",
+        "cut hub 99999999999999999999999999",
+        "cut hub A",
+        "cut hub 1A",
+        "cut hub 0x3",
+        "cut hub 3.0",
+        "cut hub 3/",
+        "cut hub 3:",
         // addresses
         "enec 01 80",
         "disec 01 FF",
@@ -306,6 +330,9 @@ fn lines_without_a_form(rt: HostRuntime) -> Result<(), Fail> {
         "attach t_u 020400000010 06 44",
         "attach  020400000010 06 44",
         "raise HUB",
+        "drop HUB",
+        "ask-join HUB",
+        "cut HUB 3",
         "raise abcdefghijklmnopq",
         "attach abcdefghijklmnopq 020400000010 06 44",
         "attach é 020400000010 06 44",
@@ -721,7 +748,9 @@ impl Write for Flaky<'_> {
 /// A script with a line of each form, and refused ones.
 const EACH_LINE: &[u8] = b"show\nlegacy eep 50 20\nmain hub 020400000001 46 C0\n\
     attach t 020400000010 06 44\nattach t 0\ndaa\nraise t 11\npolicy none\nserve\nenec 01\n\
-    policy all\nraise x 11\ndisec 01 09\nenec 01 51\nenec 01 09\nraise t 12\nserve\nshow\nsymbols\n";
+    policy all\nraise x 11\ndisec 01 09\nenec 01 51\nenec 01 09\nraise t 12\nserve\nshow\nsymbols\n\
+    attach u 020400000011 06 44\nask-join u\ncut u 65535\nserve\nopen\nround\nround\nend\nend\ndrop u\n\
+    show\n";
 
 // Each write that fails alone ends the run, be it a reply's, a refusal's or a part of `show`, though all later ones
 // would be taken; nothing is printed after it.
@@ -729,14 +758,14 @@ const EACH_LINE: &[u8] = b"show\nlegacy eep 50 20\nmain hub 020400000001 46 C0\n
 fn one_write_fails(rt: HostRuntime) -> Result<(), Fail> {
     let alloc = rt.alloc();
     let (whole, outcome) = run(alloc, EACH_LINE);
-    assert_eq!(rt; outcome, Ok(Tally { refused: 4 }));
+    assert_eq!(rt; outcome, Ok(Tally { refused: 5 }));
     let mut failures = 0u64;
     for before in 0..10_000 {
         let mut reader = EACH_LINE;
         let mut writer = Flaky::new(alloc, b"", before);
         let outcome = run_script(alloc, &mut reader, &mut writer);
         if !writer.has_failed {
-            assert_eq!(rt; outcome, Ok(Tally { refused: 4 }));
+            assert_eq!(rt; outcome, Ok(Tally { refused: 5 }));
             assert_eq!(rt; writer.printed.as_slice(), whole.as_slice());
             break;
         }
@@ -762,7 +791,7 @@ fn one_read_fails(rt: HostRuntime) -> Result<(), Fail> {
         let mut writer = Vec::new(alloc);
         let outcome = run_script(alloc, &mut reader, &mut writer);
         if !reader.has_failed {
-            assert_eq!(rt; outcome, Ok(Tally { refused: 4 }));
+            assert_eq!(rt; outcome, Ok(Tally { refused: 5 }));
             assert_eq!(rt; writer.as_slice(), whole.as_slice());
             break;
         }
@@ -820,15 +849,11 @@ fn symbols_are_a_trace(rt: HostRuntime) -> Result<(), Fail> {
     Ok(())
 }
 
-// Refusals that no line comes to today.
+// Refusals that no line comes to today, or at another address.
 #[test]
 fn words_of_refusals(rt: HostRuntime) -> Result<(), Fail> {
     let cases = [
-        (Refusal::SessionOpen, "SessionOpen"),
-        (Refusal::NoSession, "NoSession"),
-        (Refusal::ActiveStays, "ActiveStays"),
         (Refusal::NoEnd, "NoEnd"),
-        (Refusal::NoAddress, "NoAddress"),
         (Refusal::NoAnswer(Addr7::new(0x7E)?), "NoAnswer 7E"),
     ];
     for (refusal, wanted) in cases {
@@ -838,7 +863,7 @@ fn words_of_refusals(rt: HostRuntime) -> Result<(), Fail> {
     Ok(())
 }
 
-// What is printed for replies that no line gets today, and what stops their lines.
+// What is printed for replies that hardly a line gets today, and what stops their lines.
 #[test]
 fn texts_of_replies(rt: HostRuntime) -> Result<(), Fail> {
     let nine = Addr7::new(9)?;
@@ -848,26 +873,46 @@ fn texts_of_replies(rt: HostRuntime) -> Result<(), Fail> {
     };
     let silent = Stop::Refused(Refusal::NoEnd);
     let none_left = Stop::Refused(Refusal::NoAddress);
+    let (line, daa) = (Origin::Line, Origin::Daa);
     let cases = [
-        (Reply::Served(Served::Torn), "torn\n", None),
-        (Reply::Served(Served::Joining), "joining\n", None),
+        (line, Reply::Served(Served::Torn), "torn\n", None),
+        (line, Reply::Served(Served::Joining), "joining\n", None),
         (
+            line,
             Reply::Served(Served::WantsRole(nine)),
             "wants role 09\n",
             None,
         ),
-        (Reply::Opened(Served::Quiet), "", None),
-        (Reply::Opened(Served::Recorded(3)), "recorded 3\n", None),
-        (Reply::Framed(unanswered), "torn\n", Some(silent)),
-        (Reply::Round(RoundReply::Nobody), "nobody\n", None),
-        (Reply::Round(RoundReply::NoAddress), "", Some(none_left)),
-        (Reply::OutOfMemory, "", Some(Stop::Memory)),
-        (Reply::Ended, "", None),
+        (line, Reply::Opened(Served::Quiet), "open\n", None),
+        (daa, Reply::Opened(Served::Quiet), "", None),
+        (
+            line,
+            Reply::Opened(Served::Recorded(3)),
+            "recorded 3\nopen\n",
+            None,
+        ),
+        (
+            daa,
+            Reply::Opened(Served::Recorded(3)),
+            "recorded 3\n",
+            None,
+        ),
+        (line, Reply::Framed(unanswered), "torn\n", Some(silent)),
+        (line, Reply::Round(RoundReply::Nobody), "nobody\n", None),
+        (
+            daa,
+            Reply::Round(RoundReply::NoAddress),
+            "",
+            Some(none_left),
+        ),
+        (line, Reply::OutOfMemory, "", Some(Stop::Memory)),
+        (line, Reply::Ended, "ended\n", None),
+        (daa, Reply::Ended, "", None),
     ];
     let names = Names::new(rt.alloc());
-    for (reply, wanted, stop) in cases {
+    for (origin, reply, wanted, stop) in cases {
         let mut printed = Vec::new(rt.alloc());
-        let told = tell(&names, &Event::EndDaa, &reply, &mut printed);
+        let told = tell(&names, origin, &Event::EndDaa, &reply, &mut printed);
         assert_eq!(rt; printed.as_slice(), wanted.as_bytes());
         assert_eq!(rt; told.err(), stop);
     }

@@ -1,13 +1,16 @@
 ghost use Rattle.std.specs.Prelude.{◌≡◌, ◌<◌, ◌^◌, ◌≤◌, ◌↔◌, All, IsTrue, IsSome, IfSome};
 ghost use Rattle.std.specs.Str.Parse.{digits_value};
 ghost use Rattle.i3c_base.specs.Numbers.{kind_set};
-ghost use Rattle.i3c_scenario.specs.Words.{IsHex, IsHexDigit};
+ghost use Rattle.i3c_scenario.specs.Words.{IsDecimal, IsDecimalDigit, IsHex, IsHexDigit};
 
 use bitflags::Flags;
 use i3c_base::{Addr7, Kinds, Pid};
 
 /// Numbers are written in hex.
 const RADIX: u32 = 16;
+
+/// Bits of frames are written in decimal.
+const BIT_RADIX: u32 = 10;
 
 /// How many digits a byte has: an address, a BCR, a DCR or an LVR.
 const BYTE_DIGITS: usize = 2;
@@ -54,6 +57,26 @@ pub(crate) fn address(word: &str) -> Option<Addr7>
 {
     let number = byte(word)?;
     Addr7::new(number).ok()
+}
+
+/// Whether a word is of decimal digits alone.
+fn is_decimal(word: &str) -> bool
+    ensures { IsTrue result ↔ All IsDecimalDigit word.now }
+{
+    word.as_bytes()
+        .iter()
+        .all(|byte| matches!(*byte, b'0'..=b'9'))
+}
+
+/// A bit of a frame: decimal digits, up to 65535. Zeros may lead them, and a sign may not.
+pub(crate) fn bit(word: &str) -> Option<u16>
+    ensures form { IsSome result ↔ (IsDecimal word.now × (digits_value BIT_RADIX word.now < 2 ^ 16)) }
+    ensures value { IfSome result (λ b. b ≡ digits_value BIT_RADIX word.now) }
+{
+    if word.is_empty() || !is_decimal(word) {
+        return None;
+    }
+    u16::from_str_radix(word, BIT_RADIX).ok()
 }
 
 /// Kinds of events: two hex digits, of which bit 0 names interrupts, bit 1 role requests and bit 3 Hot-Join.

@@ -25,6 +25,8 @@ A script says what happens on the bus, one line for each event, and each line pr
   daa                           devices without an address get one
   raise t 11                    the device t raises an interrupt, with its byte
   serve                         the controller serves the first request
+  drop t                        the device t loses power, and is gone
+  cut t 9                       it does so in the midst of the next frame, at bit 9
   show                          who is there, at which addresses, and what was recorded
   symbols                       the last symbols of the wire
 
