@@ -78,7 +78,7 @@ Rounds (reply ∷ earlier) old new = (mid : State) × Rounds earlier old mid × 
 abbrev pub RoundsAndEnd : State → State → Type 0
 RoundsAndEnd old new = (last : State) × ((replies : List Reply) × Rounds replies old last) × ((ended : Reply) × Step last Event.EndDaa ended new)
 
--- `daa`: an opening with these cuts, and, unless that is refused, rounds without cuts and an end
+-- `daa`: an opening with these cuts, and, unless the line stops there, rounds without cuts and an end
 abbrev pub Assigns : State → CutList → State → Type 0
 Assigns old cuts new = (opened : State) × ((reply : Reply) × Step old (Event.OpenDaa cuts) reply opened) × ((new ≡ opened) ⊎ RoundsAndEnd opened new)
 
