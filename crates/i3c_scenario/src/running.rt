@@ -191,8 +191,8 @@ impl Running {
         ensures policy { self.new.policy ≡ self.old.policy }
         ensures cuts { self.new.cuts ≡ no_cuts }
     {
-        // each other round takes a hearer away, so `done` comes after `SLOTS` of them at most
-        for _ in 0..=SLOTS {
+        // of so many rounds one is the last, by the law `sessions_end` of the bus
+        for _ in 0..SLOTS {
             let reply = self.carry_out(names, Origin::Daa, &Wish::Round, out)?;
             if reply == Reply::Round(RoundReply::Done) {
                 break;
