@@ -25,6 +25,13 @@ const C: u64 = 0x0204_0000_0020_46C1;
 
 const P: u64 = 0x0204_0000_0030_0044;
 
+// The types in an event and a reply: the prover wants them named in each function that moves one into a list.
+type Known = (
+    Refusal, Framed, Served, Answer, RoundReply, Identity, Pid, Bcr, Dcr, Addr7, Fixed, Verdict, Kinds, Cuts, Setup, Slot,
+);
+
+const KNOWN: Option<Known> = None;
+
 const QUIET: Reply = Reply::Opened(Served::Quiet);
 
 const DONE: Reply = Reply::Round(RoundReply::Done);
@@ -60,6 +67,7 @@ impl Row {
     }
 
     fn choose(&mut self, choice: Choice, event: Event, reply: Reply) -> Result<(), Fail> {
+        let _ = KNOWN;
         self.events.push(event)?;
         self.choices.push(choice)?;
         self.replies.push(reply)?;
@@ -68,6 +76,7 @@ impl Row {
 
     // A session in which these addresses are given, after a frame that served this.
     fn daa(&mut self, served: Served, given: &[(u8, u64)]) -> Result<(), Fail> {
+        let _ = KNOWN;
         self.then(open(), Reply::Opened(served))?;
         for (address, bits) in given {
             self.then(round(), assigned(*address, *bits)?)?;
@@ -96,6 +105,7 @@ impl Row {
 
 // The plain machine after a row's events, and its replies to them.
 fn run_plain(alloc: Global, row: &Row) -> Result<(Plain, Vec<Reply>), Fail> {
+    let _ = KNOWN;
     let mut plain = Plain::new(alloc, setup(HUB)?, legacies(row.legacy)?)?;
     let mut replies = Vec::new(alloc);
     for (event, choice) in row.events.iter().zip(row.choices.as_slice()) {
@@ -285,6 +295,7 @@ fn numbered(number: u64) -> u64 {
 
 // A device in slot 1 gets this address in a session of its own.
 fn visit(row: &mut Row, number: u64, address: u8) -> Result<(), Fail> {
+    let _ = KNOWN;
     row.then(attach(1, numbered(number))?, Reply::Attached)?;
     row.then(open(), QUIET)?;
     row.then(round(), assigned(address, numbered(number))?)
@@ -342,6 +353,7 @@ fn a_lost_winner_takes_no_address(rt: HostRuntime) -> Result<(), Fail> {
 
 // T is cut inside the round that it would have won: V wins in its place, or nobody does.
 fn contended(alloc: Global, choice: Choice, bit: u16) -> Result<Row, Fail> {
+    let _ = KNOWN;
     let mut row = Row::hub(alloc);
     row.then(attach(1, T)?, Reply::Attached)?;
     row.then(attach(2, V)?, Reply::Attached)?;
@@ -563,6 +575,7 @@ fn one_identity_has_one_address(rt: HostRuntime) -> Result<(), Fail> {
 // A device that comes while a session is open doesn't hear it, and may ask for the next.
 #[test]
 fn a_late_device_joins(rt: HostRuntime) -> Result<(), Fail> {
+    let _ = KNOWN;
     let mut row = Row::hub(rt.alloc());
     row.then(attach(1, T)?, Reply::Attached)?;
     row.then(open(), QUIET)?;

@@ -51,6 +51,7 @@ fn on_plain(
     at: usize,
     choice: Choice,
 ) -> Result<(Vec<Reply>, Seen, Vec<Record>), Fail> {
+    let _ = KNOWN;
     let slots = slots()?;
     let mut plain = Plain::new(alloc, setup(HUB)?, Legacies::new())?;
     let mut replies = Vec::new(alloc);
