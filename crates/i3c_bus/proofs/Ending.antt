@@ -146,7 +146,7 @@ settled_start : (main : Setup) (legacy : List (Option LegacyTarget)) (start : St
 settled_start main legacy start h = (
   Active-start main legacy start h,
   λ d p. let e = start_device main legacy h.0 start.active d (subst (λ (st : State). device_at st start.active ≡ Some d) h.2 p) in
-  subst IsSettled (sym e.1) (record { addressed = refl; deaf = refl }),
+      subst IsSettled (sym e.1) (record { addressed = refl; deaf = refl }),
 )
 
 -- there are as many places for devices as slots

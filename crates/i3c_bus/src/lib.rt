@@ -22,12 +22,13 @@ pub use i3c_hotjoin::JoinRefusal;
 pub use i3c_ibi::{Fixed, Policy, Record, Verdict};
 pub use laws::{
     accepted_interrupts_are_recorded, addresses_are_unique, interrupts_are_recorded_once,
-    one_is_active, raises_stay_in_order, runs_are_histories, sessions_end, slots_are_kept, stays_begin_by_attachments, steps_are_given, uncut_steps_are_determined,
+    one_is_active, raises_stay_in_order, runs_are_histories, sessions_end, slots_are_kept,
+    stays_begin_by_attachments, steps_are_given, uncut_steps_are_determined,
 };
 pub use parts::{Bus, Records};
 pub use replies::{
-    ActiveStays, DropRefusal, FrameFault, Framed, OutOfMemory, RaiseRefusal, Refusal,
-    Reply, RunFault, SlotTaken, StartFault, TargetFault,
+    ActiveStays, DropRefusal, FrameFault, Framed, OutOfMemory, RaiseRefusal, Refusal, Reply,
+    RunFault, SlotTaken, StartFault, TargetFault,
 };
 pub use runs::{Outcome, run_events};
 pub use tokens::{Hand, Session};

@@ -27,7 +27,22 @@ const P: u64 = 0x0204_0000_0030_0044;
 
 // The types in an event and a reply: the prover wants them named in each function that moves one into a list.
 type Known = (
-    Refusal, Framed, Served, Answer, RoundReply, Identity, Pid, Bcr, Dcr, Addr7, Fixed, Verdict, Kinds, Cuts, Setup, Slot,
+    Refusal,
+    Framed,
+    Served,
+    Answer,
+    RoundReply,
+    Identity,
+    Pid,
+    Bcr,
+    Dcr,
+    Addr7,
+    Fixed,
+    Verdict,
+    Kinds,
+    Cuts,
+    Setup,
+    Slot,
 );
 
 const KNOWN: Option<Known> = None;

@@ -45,6 +45,7 @@ fn a_refused_growth_loses_nothing(rt: HostRuntime) -> Result<(), Fail> {
     assert_eq!(rt; bus.records(), &due[..]);
     let _records = bus.retire(Hand::Role(role));
     if first == Err(FrameFault::OutOfMemory) {
+        println!(rt; "refused")?;
         assert_eq!(rt; (waiting, second), (1, Ok(Served::Recorded(1))));
     } else {
         assert_eq!(rt; first, Ok(Served::Recorded(1)));
