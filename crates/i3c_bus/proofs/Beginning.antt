@@ -3,15 +3,16 @@ use Rattle.std.proofs.Common.{◌≡◌, ℕ, suc, Bool, true, false, ◌≤◌,
 use Rattle.std.specs.List.{All}
 use Rattle.std.proofs.lemmas.List.Elements.{All-head}
 use Rattle.i3c_base.specs.declared.device.Waiting.{Waiting}
+use Rattle.i3c_base.specs.declared.requests.Fixed.{Fixed}
 use Rattle.i3c_base.specs.declared.requests.Record.{Record}
 use Rattle.i3c_base.specs.declared.requests.Request.{Request}
 use Rattle.i3c_base.specs.declared.requests.Request.TheVariants.{Join, Role, Interrupt}
 use Rattle.i3c_base.specs.declared.requests.Served.{Served}
 use Rattle.i3c_base.specs.declared.requests.Verdict.TheVariants.{Refuse}
 use Rattle.i3c_base.specs.Numbers.{has_byte}
-use Rattle.i3c_base.specs.Cutting.{CutList}
+use Rattle.i3c_base.specs.Cutting.{CutList, Lost}
 use Rattle.i3c_base.specs.State.{Device, State, entry_at}
-use Rattle.i3c_base.specs.Serve.{IsFirst, IsWordBits, byte_due, refuse_all, verdict}
+use Rattle.i3c_base.specs.Serve.{IsFirst, IsTorn, IsWordBits, byte_due, drives, refuse_all, verdict}
 use Rattle.i3c_ibi.specs.declared.serving.Reading.{Reading}
 use Rattle.i3c_ibi.specs.declared.serving.Reading.TheVariants.{Quiet, Refused, Joined, WantsRole, Due, Torn}
 use Rattle.i3c_ibi.specs.Serving.{FitsTable, IsServing, kept, served_as, word_bits}
@@ -81,6 +82,12 @@ due_is st r place first word =
     let at : word.0 ≡ r.at = cc in
     bits_alike (is_some r.byte) (byte_due (entry_at st word.0)) word.2 ∙ ap (λ a. byte_due (entry_at st a)) at
 
+-- each driver of a torn interrupt is lost
+torn_gone : (st : State) (policy : Fixed) (lost : Lost) (a : ℕ) (new : State) → IsFirst st (Interrupt a) → IsTorn st policy lost new → (s : ℕ) → drives st (Interrupt a) s ≡ true → lost s ≡ true
+torn_gone st policy lost a new first h s driven =
+    let same : Interrupt h.at ≡ Interrupt a = first_unique st (Interrupt h.at) (Interrupt a) h.first first in
+    h.gone s (subst (λ r. drives st r s ≡ true) (sym same) driven)
+
 -- what was read of it is its first symbols
 begun_as : (st : State) (cuts : CutList) (reading : Reading) (devices : List (Option Device)) (records : List Record) (ack : Bool) → IsServing st cuts reading devices
     → records ≡ kept_in reading st.records → IsAck st cuts 0 ack → IsBegun st cuts (served_as (length st.records) reading) (record st { devices = devices; records = records }) (begun reading ack)
@@ -88,8 +95,8 @@ begun_as st cuts Quiet devices records ack h e acked = (ack, acked, refl)
 begun_as st cuts (Refused r) devices records ack h e acked = (r, h.first, refl)
 begun_as st cuts Joined devices records ack h e acked = refl
 begun_as st cuts (WantsRole a) devices records ack h e acked = refl
-begun_as st cuts (Due r) devices records ack h e acked = (r, e, due_is st r (suc (length st.records)) h.first h.word, refl)
-begun_as st cuts (Torn a byte) devices records ack h e acked = (a, byte, h.first, refl)
+begun_as st cuts (Due r) devices records ack h e acked = (r, e, due_is st r (suc (length st.records)) h.first h.word, h.ended, refl)
+begun_as st cuts (Torn a byte) devices records ack h e acked = (a, byte, h.first, torn_gone st _ _ a _ h.first (h.serves 0), refl)
 
 pub begun_by : (st : State) (cuts : CutList) (reading : Reading) (devices : List (Option Device)) (records : List Record) (served : Served) (ack : Bool) → IsServing st cuts reading devices
     → served ≡ served_as (length st.records) reading → records ≡ kept_in reading st.records → IsAck st cuts 0 ack

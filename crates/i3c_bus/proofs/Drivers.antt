@@ -1,6 +1,6 @@
 -- Who drives a request.
 use Rattle.std.proofs.lemmas.Bool.{and_parts, both_ways, eqb-true, not-true, false≢true}
-use Rattle.std.proofs.Common.{◌≡◌, ℕ, true, false, not, Option, Some, None, ◌==◌, sym, refl, ap, ◌∙◌, subst}
+use Rattle.std.proofs.Common.{◌≡◌, ℕ, true, false, not, Option, Some, None, ◌==◌, ◌⊎◌, inl, inr, sym, refl, ap, ◌∙◌, subst}
 use Rattle.i3c_base.specs.declared.requests.Fixed.{Fixed}
 use Rattle.i3c_base.specs.declared.requests.Request.TheVariants.{Join, Role, Interrupt}
 use Rattle.i3c_base.specs.declared.requests.Served.{Served}
@@ -35,16 +35,13 @@ Drives-from st a s h = let parts = and_parts (not (s == st.active)) (in_slot (λ
         let r = and_parts (not (is_empty d.waiting)) _ q.1 in
         record { device = d; there = e; address = is_the-true a d.address p.0; other = n; asks = not-true _ r.0 }
 
--- an accepted interrupt with a driver that isn't lost is recorded
-pub accepted_recorded : (old : State) (policy : Fixed) (lost : Lost) (served : Served) (mid : State) (a s : ℕ)
-    → Serves old policy lost served mid → IsFirst old (Interrupt a) → verdict old policy (Interrupt a) ≡ Accept
-    → drives old (Interrupt a) s ≡ true → lost s ≡ false → (place : ℕ) × (served ≡ Recorded place)
-accepted_recorded old policy lost Quiet mid a s h first accept driven left = absurd (both_ways _ (h.0 s (Interrupt a)) driven)
-accepted_recorded old policy lost Refused mid a s h first accept driven left =
+-- an accepted interrupt is recorded, or torn
+pub accepted_served : (old : State) (policy : Fixed) (lost : Lost) (served : Served) (mid : State) (a : ℕ)
+    → Serves old policy lost served mid → IsFirst old (Interrupt a) → verdict old policy (Interrupt a) ≡ Accept → ((place : ℕ) × (served ≡ Recorded place)) ⊎ (served ≡ Torn)
+accepted_served old policy lost Quiet mid a h first accept = absurd (both_ways _ (h.0 first.driven.0 (Interrupt a)) first.driven.1)
+accepted_served old policy lost Refused mid a h first accept =
     absurd (accept≢refuse (sym accept ∙ subst (λ r. verdict old policy r ≡ Refuse) (first_unique old h.0.0 (Interrupt a) h.0.1 first) h.0.2))
-accepted_recorded old policy lost Joining mid a s h first accept driven left = let e : Join ≡ Interrupt a = first_unique old Join (Interrupt a) h.0 first in cc
-accepted_recorded old policy lost (WantsRole b) mid a s h first accept driven left = let e : Role b ≡ Interrupt a = first_unique old (Role b) (Interrupt a) h.0 first in cc
-accepted_recorded old policy lost (Recorded place) mid a s h first accept driven left = (place, refl)
-accepted_recorded old policy lost Torn mid a s h first accept driven left =
-    let e : Interrupt h.at ≡ Interrupt a = first_unique old (Interrupt h.at) (Interrupt a) h.first first in
-    absurd (both_ways _ left (h.gone s (subst (λ r. drives old r s ≡ true) (sym e) driven)))
+accepted_served old policy lost Joining mid a h first accept = let e : Join ≡ Interrupt a = first_unique old Join (Interrupt a) h.0 first in cc
+accepted_served old policy lost (WantsRole b) mid a h first accept = let e : Role b ≡ Interrupt a = first_unique old (Role b) (Interrupt a) h.0 first in cc
+accepted_served old policy lost (Recorded place) mid a h first accept = inl (place, refl)
+accepted_served old policy lost Torn mid a h first accept = inr refl

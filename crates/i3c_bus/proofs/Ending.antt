@@ -1,9 +1,9 @@
 -- A session without cuts comes to its end.
-use Rattle.std.proofs.lemmas.Bool.{and_parts, both_ways, cond-false, cond-true, eq-eqb, false≢true}
+use Rattle.std.proofs.lemmas.Bool.{both_ways, cond-false, eq-eqb, false≢true}
 use Rattle.std.proofs.lemmas.List.Elements.{All-head, All-tail}
 use Rattle.std.proofs.lemmas.List.{length-set}
 use Rattle.std.proofs.lemmas.Option.{none-some}
-use Rattle.std.proofs.Common.{◌≡◌, ℕ, zero, suc, ◌+◌, ◌≤◌, ◌<◌, Bool, true, false, not, ◌&&◌, ◌==◌, List, [], ◌∷◌, length, get_or, Option, Some, None, is_some, option_map, MatchOption, if◌then◌else◌, ◌⊎◌, inl, inr, sym, refl, ap, ◌∙◌, subst, arith}
+use Rattle.std.proofs.Common.{◌≡◌, ℕ, zero, suc, ◌+◌, ◌≤◌, ◌<◌, Bool, true, false, not, ◌&&◌, List, [], ◌∷◌, length, get_or, Option, Some, None, is_some, option_map, MatchOption, if◌then◌else◌, ◌⊎◌, inl, inr, sym, refl, ap, ◌∙◌, subst, arith}
 use Rattle.std.specs.List.{All, Contains}
 use Rattle.i3c_base.specs.declared.answers.RoundReply.{RoundReply}
 use Rattle.i3c_base.specs.declared.device.Setup.{Setup}
@@ -12,7 +12,7 @@ use Rattle.i3c_base.specs.declared.identity.Identity.{Identity}
 use Rattle.i3c_base.specs.declared.range.TheConstants.{SLOTS}
 use Rattle.i3c_base.specs.Cutting.{CutList, IsUncut, Lost, lost_by}
 use Rattle.i3c_base.specs.Numbers.{same_identity}
-use Rattle.i3c_base.specs.Round.{IsHearer, Rounds, assigned, winner, wins}
+use Rattle.i3c_base.specs.Round.{Rounds, assigned, winner, wins}
 use Rattle.i3c_base.specs.Serve.{emptied}
 use Rattle.i3c_base.specs.State.{Device, IsStart, State, attached, device_at, in_slot, no_devices}
 use Rattle.i3c_base.proofs.Lookups.{each_at, each_from, emptied_at, emptied_from, length-no_devices}
@@ -30,7 +30,6 @@ use Rattle.i3c_bus.proofs.Lost.{unlost}
 use Rattle.i3c_bus.proofs.Recording.{Contains-first}
 use Rattle.i3c_bus.proofs.SlotLaws.{slots_kept}
 use Rattle.i3c_bus.proofs.StayLaws.{attached_free}
-use Rattle.i3c_bus.proofs.Steps.{IsIdle, refused, short, step_cases}
 
 -- whoever is in this slot hears the session
 abbrev hears_at : Option Device → Bool

@@ -25,8 +25,7 @@ use Rattle.i3c_bus.specs.Beginning.{Begins, IsWay, LeavesBy}
 use Rattle.i3c_bus.specs.Commands.{kinds_event}
 use Rattle.i3c_bus.specs.Hands.{HandFits}
 use Rattle.i3c_bus.specs.Step.{Nothing, Step, cuts_active, first_refusal, frame_checks, is_no_target, target_checks}
-use Rattle.i3c_events.specs.Telling.{IsKindsWire}
-use Rattle.i3c_bus.specs.Wire.{IsBegun, IsFrameWire, IsServeWire, IsWire}
+use Rattle.i3c_bus.specs.Wire.{IsBegun, IsFrameWire, IsKindsPart, IsServeWire, IsWire}
 use Rattle.i3c_bus.proofs.Acting.{acting}
 use Rattle.i3c_bus.proofs.Slots.{Stands, Stands-same, Stands-serves, Stands-then}
 
@@ -73,7 +72,7 @@ begun_later old cuts Quiet mid new wire e h = h
 begun_later old cuts Refused mid new wire e h = h
 begun_later old cuts Joining mid new wire e h = h
 begun_later old cuts (WantsRole a) mid new wire e h = h
-begun_later old cuts (Recorded place) mid new wire e h = (h.0, e ∙ h.1, h.2, h.3)
+begun_later old cuts (Recorded place) mid new wire e h = (h.0, e ∙ h.1, h.2, h.3, h.4)
 begun_later old cuts Torn mid new wire e h = h
 
 -- a frame that ends where it has begun
@@ -83,8 +82,8 @@ tells_serve gives tap first new old mid after cuts served same told stop =
     (told.0 ++ Stop ∷ [], NotesAll-push gives tap told.0 first Stop new told.1 stop, (told.0, begun_later old cuts served mid after told.0 same told.2, refl))
 
 -- a frame that goes on
-pub tells_frame : {T : Type 0} (gives : T → Symbol → T → Type 0) (tap first new : T) (old mid after : State) (cuts : CutList) (served : Served) (word : ℕ) (IsOwn : List Symbol → Type 0)
-    → after.records ≡ mid.records → Begins old cuts served word mid → Tells gives tap first (IsWay old cuts served word mid) → Tells gives first new IsOwn → Tells gives tap new (IsFrameWire old cuts served after IsOwn)
+pub tells_frame : {T : Type 0} (gives : T → Symbol → T → Type 0) (tap first new : T) (old mid after : State) (cuts : CutList) (served : Served) (word : ℕ) (IsOwn : ℕ → List Symbol → Type 0)
+    → after.records ≡ mid.records → Begins old cuts served word mid → Tells gives tap first (IsWay old cuts served word mid) → Tells gives first new (IsOwn (word + header_bits served)) → Tells gives tap new (IsFrameWire old cuts served after IsOwn)
 tells_frame gives tap first new old mid after cuts served word IsOwn same begins way own = (
   way.0 ++ own.0,
   NotesAll-append gives tap way.0 first own.0 new way.1 own.1,
@@ -102,7 +101,7 @@ kinds_step Disable old to kinds policy cuts served answer new free frame =
 
 -- and what they tell
 pub kinds_told : {T : Type 0} (gives : T → Symbol → T → Type 0) (tap last : T) (change : Change) (old : State) (to : Option ℕ) (kinds : Kinds) (policy : Fixed) (cuts : CutList) (served : Served) (answer : Answer) (new : State)
-    → Tells gives tap last (IsFrameWire old cuts served new (IsKindsWire change to kinds answer))
+    → Tells gives tap last (IsFrameWire old cuts served new (IsKindsPart old cuts change to kinds answer))
     → Tells gives tap last (IsWire old (kinds_event change to kinds policy cuts) (Reply.Framed (record { served = served; answer = answer })) new)
 kinds_told gives tap last Enable old to kinds policy cuts served answer new told = told
 kinds_told gives tap last Disable old to kinds policy cuts served answer new told = told

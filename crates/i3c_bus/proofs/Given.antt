@@ -1,14 +1,12 @@
 -- The policy that a reply gives serves as the one that was asked.
-use Rattle.std.proofs.lemmas.Bool.{cond-true}
 use Rattle.std.proofs.Common.{◌≡◌, ℕ, ◌+◌, Bool, true, false, Option, Some, None, is_some, MatchOption, if◌then◌else◌, ◌⊎◌, inl, inr, sym, refl, ap, subst}
 use Rattle.i3c_base.specs.declared.requests.Fixed.{Fixed}
-use Rattle.i3c_base.specs.declared.requests.Request.TheVariants.{Join, Role, Interrupt}
 use Rattle.i3c_base.specs.declared.requests.Served.{Served}
 use Rattle.i3c_base.specs.declared.requests.Served.TheVariants.{Quiet, Recorded, Refused, Torn, Joining, WantsRole}
 use Rattle.i3c_base.specs.declared.requests.Verdict.{Verdict}
 use Rattle.i3c_base.specs.declared.requests.Verdict.TheVariants.{Accept, Refuse}
 use Rattle.i3c_base.specs.Cutting.{CutList, Lost, lost_by}
-use Rattle.i3c_base.specs.Serve.{Frame, Serves, verdict}
+use Rattle.i3c_base.specs.Serve.{Frame, Serves}
 use Rattle.i3c_base.specs.State.{State, entry_at}
 use Rattle.i3c_ibi.specs.Serving.{given_for}
 use Rattle.i3c_bus.specs.declared.events.Event.{Event}

@@ -32,7 +32,7 @@ begun_anyway Torn old cuts mid new wire none h = h
 -- a frame told part by part
 tells_parts : {T : Type 0} (gives : T → Symbol → T → Type 0) (tap first second new : T) (old : State) (cuts : CutList) (served : Served) (word : ℕ) (after : State) (IsOwn : List Symbol → Type 0)
     → IsWordBits old served word → Tells gives tap first (IsBegun old cuts served after) → Tells gives first second (IsOn old cuts served word) → Tells gives second new IsOwn
-    → Tells gives tap new (IsFrameWire old cuts served after IsOwn)
+    → Tells gives tap new (IsFrameWire old cuts served after (λ begun. IsOwn))
 tells_parts gives tap first second new old cuts served word after IsOwn sent begun on own = (
   begun.0 ++ on.0 ++ own.0,
   NotesAll-append gives tap (begun.0 ++ on.0) second own.0 new (NotesAll-append gives tap begun.0 first on.0 second begun.1 on.1) own.1,

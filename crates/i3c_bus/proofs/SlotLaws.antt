@@ -1,16 +1,16 @@
 -- What a step changes of slots and sessions.
-use Rattle.std.proofs.Common.{◌≡◌, ℕ, Bool, true, false, None, ◌⊎◌, inl, inr, sym, refl, ap, ◌∙◌, subst}
+use Rattle.std.proofs.Common.{◌≡◌, ℕ, inl, inr, sym, refl, ap, ◌∙◌}
 use Rattle.i3c_base.specs.declared.answers.RoundReply.{RoundReply}
 use Rattle.i3c_base.specs.declared.requests.Fixed.{Fixed}
 use Rattle.i3c_base.specs.declared.requests.Served.{Served}
 use Rattle.i3c_base.specs.Cutting.{CutList, Lost}
 use Rattle.i3c_base.specs.Round.{Rounds}
 use Rattle.i3c_base.specs.Serve.{Frame, emptied}
-use Rattle.i3c_base.specs.State.{IsPresent, State}
+use Rattle.i3c_base.specs.State.{State}
 use Rattle.i3c_bus.specs.declared.events.Event.{Event}
 use Rattle.i3c_bus.specs.declared.events.Event.TheVariants.{Attach, DropOff, Raise, AskJoin, Serve, Enec, Disec, OpenDaa, Round, EndDaa}
 use Rattle.i3c_bus.specs.declared.replies.Reply.{Reply}
-use Rattle.i3c_bus.specs.Slots.{HasAttached, KeepsSlots, session_after}
+use Rattle.i3c_bus.specs.Slots.{KeepsSlots, session_after}
 use Rattle.i3c_bus.specs.Step.{Acts, Step}
 use Rattle.i3c_bus.proofs.Follows.{Came-step}
 use Rattle.i3c_bus.proofs.Slots.{Stands, Stands-rekinds, Stands-same, Stands-serves, Stands-then}

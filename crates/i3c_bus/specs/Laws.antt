@@ -7,14 +7,14 @@ use Rattle.i3c_base.specs.declared.requests.Fixed.{Fixed}
 use Rattle.i3c_base.specs.declared.requests.Request.{Request}
 use Rattle.i3c_base.specs.declared.requests.Served.{Served}
 use Rattle.i3c_base.specs.declared.requests.Verdict.{Verdict}
-use Rattle.i3c_base.specs.Serve.{IsFirst, drives, verdict}
+use Rattle.i3c_base.specs.Serve.{IsFirst, verdict}
 use Rattle.i3c_base.specs.State.{Device, HasDistinctIdentities, HasUniqueAnswers, IsPresent, IsStart, State, device_at}
 use Rattle.i3c_bus.specs.declared.events.Event.{Event}
 use Rattle.i3c_bus.specs.declared.replies.Reply.{Reply}
 use Rattle.i3c_bus.specs.Step.{IsUncutEvent, Step}
 use Rattle.i3c_bus.specs.Runs.{IsLegalRun, IsRun}
 use Rattle.i3c_bus.specs.History.{AllDistinct, History, IsLegal, events_of, reached, replies_of}
-use Rattle.i3c_bus.specs.Records.{HasFaithfulRecords, RecordsFront}
+use Rattle.i3c_bus.specs.Records.{HasFaithfulRecords, IsRecordedOrTorn}
 use Rattle.i3c_bus.specs.Asking.{given_by, under}
 use Rattle.i3c_bus.specs.Sessions.{IsLastRound, IsUncutRound}
 use Rattle.i3c_bus.specs.Serving.{policy_of, served_of}
@@ -43,13 +43,12 @@ abbrev pub InterruptsAreRecordedOnce : Type 0
 InterruptsAreRecordedOnce = (main : Setup) (legacy : List (Option LegacyTarget)) (start : State) (h : History)
     → IsStart main legacy start → IsLegal start h → AllDistinct start h → HasFaithfulRecords start h
 
--- A frame that accepts its first request, an interrupt of which some driver is still there afterwards, records it: at its
--- address, of the lowest driver's slot, with the number of its front.
+-- A frame that accepts its first request, an interrupt, records it, at its address, of the lowest driver's slot, with the
+-- number of its front; or it was torn, where a byte was due and each driver went in the frame.
 abbrev pub AcceptedInterruptsAreRecorded : Type 0
-AcceptedInterruptsAreRecorded = (old : State) (event : Event) (reply : Reply) (new : State) (policy : Fixed) (served : Served) (a s : ℕ)
+AcceptedInterruptsAreRecorded = (old : State) (event : Event) (reply : Reply) (new : State) (policy : Fixed) (served : Served) (a : ℕ)
     → Step old event reply new → policy_of event ≡ Some policy → served_of reply ≡ Some served
-    → IsFirst old (Request.Interrupt a) → verdict old policy (Request.Interrupt a) ≡ Verdict.Accept → drives old (Request.Interrupt a) s ≡ true → IsPresent new s
-    → RecordsFront old a reply new
+    → IsFirst old (Request.Interrupt a) → verdict old policy (Request.Interrupt a) ≡ Verdict.Accept → IsRecordedOrTorn old a reply new
 
 -- Of a present device's stay, the accepted raises are the recorded ones and then those that wait, in order.
 abbrev pub RaisesStayInOrder : Type 0

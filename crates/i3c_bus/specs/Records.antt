@@ -1,14 +1,15 @@
 -- How the records of a history came about.
-use Rattle.std.specs.Prelude.{◌≡◌, ℕ, ◌==◌, ◌⊎◌, List, [], ◌∷◌, ◌++◌, length, map, filter, Option, Some, None, Contains, slice_get, ⊤}
+use Rattle.std.specs.Prelude.{◌≡◌, ℕ, true, ◌==◌, ◌⊎◌, List, [], ◌∷◌, ◌++◌, length, map, filter, Option, Some, None, Contains, slice_get, ⊤}
 use Rattle.std.specs.List.Sorted.{IsStrictlyIncreasing}
 use Rattle.i3c_base.specs.declared.device.Waiting.{Waiting}
 use Rattle.i3c_base.specs.declared.requests.Record.{Record}
 use Rattle.i3c_base.specs.declared.requests.Request.TheVariants.{Interrupt}
-use Rattle.i3c_base.specs.Serve.{IsFront, IsLowestDriver}
-use Rattle.i3c_base.specs.State.{Device, State, device_at}
+use Rattle.i3c_base.specs.declared.requests.Served.{Served}
+use Rattle.i3c_base.specs.Serve.{IsFront, IsLowestDriver, byte_due, drives}
+use Rattle.i3c_base.specs.State.{Device, IsPresent, State, device_at, entry_at}
 use Rattle.i3c_bus.specs.declared.replies.Reply.{Reply}
 use Rattle.i3c_bus.specs.History.{History, WasRaised, reached}
-use Rattle.i3c_bus.specs.Serving.{recorded_at}
+use Rattle.i3c_bus.specs.Serving.{recorded_at, served_of}
 
 -- the raise that a record names
 abbrev pub raise_of : Record → Waiting
@@ -24,6 +25,16 @@ pub record RecordsFront (old : State) (a : ℕ) (reply : Reply) (new : State) : 
   pub front : Waiting
   pub fronted : IsFront old last.slot front
   pub number : last.number ≡ front.number
+
+-- an interrupt at the address a is torn: a byte was due of it, and each of its drivers went in the frame
+pub record IsTornOff (old : State) (a : ℕ) (served : Served) (new : State) : Type 0 where
+  pub torn : served ≡ Served.Torn
+  pub due : byte_due (entry_at old a) ≡ true
+  pub gone : (s : ℕ) → drives old (Interrupt a) s ≡ true → ¬ IsPresent new s
+
+-- it is recorded, or else torn
+abbrev pub IsRecordedOrTorn : State → ℕ → Reply → State → Type 0
+IsRecordedOrTorn old a reply new = RecordsFront old a reply new ⊎ ((served : Served) × (served_of reply ≡ Some served) × IsTornOff old a served new)
 
 -- the last record: at its device's address, with the number and byte of a raise of that device's present stay
 pub record IsLastRecord (start : State) (earlier : History) (after : State) (place : ℕ) : Type 0 where

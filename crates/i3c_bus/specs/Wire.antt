@@ -1,19 +1,20 @@
 -- What an event puts on the wire, for whoever taps it. An ACK depends on who is left at its bit.
-use Rattle.std.specs.Prelude.{◌≡◌, ◌↔◌, ℕ, ◌+◌, Bool, true, false, List, [], ◌∷◌, ◌++◌, is_some, MatchOption}
+use Rattle.std.specs.Prelude.{◌≡◌, ◌↔◌, ℕ, ◌+◌, Bool, true, false, List, [], ◌∷◌, ◌++◌, Option, Some, None, is_some, MatchOption, ⊤}
 use Rattle.i3c_base.specs.declared.answers.Answer.{Answer}
 use Rattle.i3c_base.specs.declared.answers.RoundReply.{RoundReply}
 use Rattle.i3c_base.specs.declared.kinds.Change.{Change}
+use Rattle.i3c_base.specs.declared.kinds.Kinds.{Kinds}
 use Rattle.i3c_base.specs.declared.requests.Record.{Record}
 use Rattle.i3c_base.specs.declared.requests.Request.{Request}
 use Rattle.i3c_base.specs.declared.requests.Request.TheVariants.{Join, Role, Interrupt}
 use Rattle.i3c_base.specs.declared.requests.Served.{Served}
 use Rattle.i3c_base.specs.Cutting.{CutList, lost_by}
 use Rattle.i3c_base.specs.State.{State, entry_at}
-use Rattle.i3c_base.specs.Serve.{IsFirst, IsWordBits, byte_due}
-use Rattle.i3c_base.specs.Frames.{AnyLeft}
+use Rattle.i3c_base.specs.Serve.{IsFirst, IsWordBits, byte_due, drives, header_bits}
+use Rattle.i3c_base.specs.Frames.{AnyLeft, SomeLeftAt}
 use Rattle.i3c_word.specs.declared.Word.{Word}
 use Rattle.i3c_entdaa.specs.declared.outcome.Round.{Round}
-use Rattle.i3c_entdaa.specs.Rounds.{IsRead, reply_of}
+use Rattle.i3c_entdaa.specs.Rounds.{IsAcknowledged, IsRead, reply_of}
 use Rattle.i3c_entdaa.specs.Telling.{IsRoundWire}
 use Rattle.i3c_events.specs.Telling.{IsKindsWire, IsWord}
 use Rattle.i3c_ibi.specs.Telling.{byte_word, request_header}
@@ -28,16 +29,19 @@ use Rattle.i3c_bus.specs.Step.{cuts_in}
 abbrev pub IsAck : State → CutList → ℕ → Bool → Type 0
 IsAck st cuts bit ack = (ack ≡ true) ↔ AnyLeft st (lost_by cuts bit)
 
--- an accepted interrupt: its header, and the mandatory byte where one is due, as the new record says
-abbrev pub IsRecordedWire : State → State → List Symbol → Type 0
-IsRecordedWire old new wire =
+-- an accepted interrupt: its header, and the mandatory byte where one is due, as the new record says, which a driver that
+-- isn't lost by its T ended
+abbrev pub IsRecordedWire : State → CutList → State → List Symbol → Type 0
+IsRecordedWire old cuts new wire =
     (r : Record) × (new.records ≡ old.records ++ r ∷ []) × (is_some r.byte ≡ byte_due (entry_at old r.at))
+    × (is_some r.byte ≡ true → (s : ℕ) × (drives old (Interrupt r.at) s ≡ true) × (lost_by cuts 9 s ≡ false))
     × (wire ≡ Start ∷ request_header (Interrupt r.at) true ∷ byte_word r.byte)
 
--- an accepted interrupt whose byte nobody ended: T is read as 1
-abbrev pub IsTornWire : State → List Symbol → Type 0
-IsTornWire old wire =
-    (a : ℕ) × (byte : ℕ) × IsFirst old (Interrupt a) × (wire ≡ Start ∷ request_header (Interrupt a) true ∷ Symbol.Word (record { byte = byte; t = true }) ∷ [])
+-- an accepted interrupt whose byte nobody ended: each driver is lost by its T, which is read as 1
+abbrev pub IsTornWire : State → CutList → List Symbol → Type 0
+IsTornWire old cuts wire =
+    (a : ℕ) × (byte : ℕ) × IsFirst old (Interrupt a) × ((s : ℕ) → drives old (Interrupt a) s ≡ true → lost_by cuts 9 s ≡ true)
+    × (wire ≡ Start ∷ request_header (Interrupt a) true ∷ Symbol.Word (record { byte = byte; t = true }) ∷ [])
 
 -- the beginning of a frame by what it served: START, the header of the broadcast or of who won it, and what was read
 abbrev pub IsBegun : State → CutList → Served → State → List Symbol → Type 0
@@ -45,8 +49,8 @@ IsBegun old cuts Served.Quiet new wire = (ack : Bool) × IsAck old cuts 0 ack ×
 IsBegun old cuts Served.Refused new wire = (r : Request) × IsFirst old r × (wire ≡ Start ∷ request_header r false ∷ [])
 IsBegun old cuts Served.Joining new wire = wire ≡ Start ∷ request_header Join true ∷ []
 IsBegun old cuts (Served.WantsRole a) new wire = wire ≡ Start ∷ request_header (Role a) true ∷ []
-IsBegun old cuts (Served.Recorded place) new wire = IsRecordedWire old new wire
-IsBegun old cuts Served.Torn new wire = IsTornWire old wire
+IsBegun old cuts (Served.Recorded place) new wire = IsRecordedWire old cuts new wire
+IsBegun old cuts Served.Torn new wire = IsTornWire old cuts wire
 
 -- how a frame goes on to its own part: at once where nobody asked, else after a repeated START and the broadcast header,
 -- whose ninth bit comes nine bits after the mandatory word
@@ -54,17 +58,26 @@ abbrev pub IsOn : State → CutList → Served → ℕ → List Symbol → Type 
 IsOn old cuts Served.Quiet word wire = wire ≡ []
 IsOn old cuts _ word wire = (ack : Bool) × IsAck old cuts (word + 9) ack × (wire ≡ Repeated ∷ Header 0x7E false ack ∷ [])
 
--- a frame: its beginning, the way to its own part, and its own part
-abbrev pub IsFrameWire : State → CutList → Served → State → (List Symbol → Type 0) → List Symbol → Type 0
+-- a frame: its beginning, the way to its own part, and its own part, which comes after so many bits
+abbrev pub IsFrameWire : State → CutList → Served → State → (ℕ → List Symbol → Type 0) → List Symbol → Type 0
 IsFrameWire old cuts served new IsOwn wire =
     (begun : List Symbol) × (word : ℕ) × (on : List Symbol) × (own : List Symbol)
-    × IsBegun old cuts served new begun × IsWordBits old served word × IsOn old cuts served word on × IsOwn own × (wire ≡ begun ++ on ++ own)
+    × IsBegun old cuts served new begun × IsWordBits old served word × IsOn old cuts served word on × IsOwn (word + header_bits served) own × (wire ≡ begun ++ on ++ own)
+
+-- a command to an address is acknowledged there exactly where somebody isn't lost by the ninth bit of its header
+abbrev pub IsAnswered : State → CutList → Option ℕ → ℕ → Answer → Type 0
+IsAnswered st cuts None begun answer = ⊤
+IsAnswered st cuts (Some a) begun answer = (answer ≡ Answer.Done) ↔ SomeLeftAt st a (lost_by cuts (begun + 18))
+
+-- ENEC or DISEC after so many bits
+abbrev pub IsKindsPart : State → CutList → Change → Option ℕ → Kinds → Answer → ℕ → List Symbol → Type 0
+IsKindsPart old cuts change to kinds answer begun wire = IsKindsWire change to kinds answer wire × IsAnswered old cuts to begun answer
 
 -- the own part of a frame that is answered, by its event
-abbrev pub IsOwnWire : State → Event → Answer → List Symbol → Type 0
-IsOwnWire old (Enec to kinds policy cuts) answer wire = IsKindsWire Change.Enable to kinds answer wire
-IsOwnWire old (Disec to kinds policy cuts) answer wire = IsKindsWire Change.Disable to kinds answer wire
-IsOwnWire old _ answer wire = ⊥
+abbrev pub IsOwnWire : State → CutList → Event → Answer → ℕ → List Symbol → Type 0
+IsOwnWire old cuts (Enec to kinds policy others) answer begun wire = IsKindsPart old cuts Change.Enable to kinds answer begun wire
+IsOwnWire old cuts (Disec to kinds policy others) answer begun wire = IsKindsPart old cuts Change.Disable to kinds answer begun wire
+IsOwnWire old cuts _ answer begun wire = ⊥
 
 -- ENTDAA: the code 07. The session goes on with its rounds
 abbrev pub IsOpenWire : List Symbol → Type 0
@@ -74,9 +87,10 @@ IsOpenWire wire = (code : Word) × IsWord 0x07 code × (wire ≡ Symbol.Word cod
 abbrev pub IsServeWire : State → CutList → Served → State → List Symbol → Type 0
 IsServeWire old cuts served new wire = (begun : List Symbol) × IsBegun old cuts served new begun × (wire ≡ begun ++ Stop ∷ [])
 
--- the wire of a round with this answer, whose bits are those that the contest of the hearers' numbers reads
+-- the wire of a round with this answer, whose bits are those that the contest of the hearers' numbers reads, and whose ACKs
+-- are those of who hears and is left
 abbrev pub IsRoundWireOf : State → CutList → RoundReply → List Symbol → Type 0
-IsRoundWireOf st cuts answer wire = (round : Round) × (reply_of round ≡ answer) × IsRead st cuts round × IsRoundWire round wire
+IsRoundWireOf st cuts answer wire = (round : Round) × (reply_of round ≡ answer) × IsRead st cuts round × IsAcknowledged st cuts round × IsRoundWire round wire
 
 -- a wire of the event's cuts
 abbrev pub OfCuts : Event → (CutList → Type 0) → Type 0
@@ -92,7 +106,7 @@ IsWire old event Reply.Dropped new wire = wire ≡ []
 IsWire old event (Reply.Raised number) new wire = wire ≡ []
 IsWire old event Reply.Asked new wire = wire ≡ []
 IsWire old event (Reply.Served served) new wire = OfCuts event (λ cuts. IsServeWire old cuts served new wire)
-IsWire old event (Reply.Framed framed) new wire = OfCuts event (λ cuts. IsFrameWire old cuts framed.served new (IsOwnWire old event framed.answer) wire)
-IsWire old event (Reply.Opened served) new wire = OfCuts event (λ cuts. IsFrameWire old cuts served new IsOpenWire wire)
+IsWire old event (Reply.Framed framed) new wire = OfCuts event (λ cuts. IsFrameWire old cuts framed.served new (IsOwnWire old cuts event framed.answer) wire)
+IsWire old event (Reply.Opened served) new wire = OfCuts event (λ cuts. IsFrameWire old cuts served new (λ begun. IsOpenWire) wire)
 IsWire old event (Reply.Round answer) new wire = OfCuts event (λ cuts. IsRoundWireOf old cuts answer wire)
 IsWire old event Reply.Ended new wire = wire ≡ Stop ∷ []

@@ -44,7 +44,7 @@ impl Bus {
     ghost use Rattle.i3c_bus.specs.Room.{IsUntouched};
     ghost use Rattle.i3c_bus.specs.Serving.{place_of};
     ghost use Rattle.i3c_bus.specs.Step.{cuts_active, is_no_target};
-    ghost use Rattle.i3c_bus.specs.Wire.{IsBegun, IsOn};
+    ghost use Rattle.i3c_bus.specs.Wire.{IsAnswered, IsBegun, IsOn};
     ghost use Rattle.i3c_bus.specs.declared.events.Event.{Event};
     ghost use Rattle.i3c_bus.specs.declared.tokens.Hand.{Hand};
 
@@ -186,6 +186,7 @@ impl Bus {
     ) -> Answer
         requires { begun ≤ 18 }
         ensures rekinds { LeavesBy cuts.now (begun + kinds_bits to result) (Rekinds to (changed_kinds change kinds) result) self.old.state self.new.state }
+        ensures answered { IsAnswered self.old.state cuts.now to begun result }
         ensures told { Tells T.note_gives tap.old tap.new (IsKindsWire change to kinds result) }
         ensures room { self.new.room ≡ self.old.room }
     {

@@ -22,8 +22,8 @@ pub fn interrupts_are_recorded_once()
     ensures { InterruptsAreRecordedOnce }
 {}
 
-/// A frame that accepts its first request, an interrupt of which some driver is still there afterwards, records it: at
-/// its address, of the lowest driver's slot, with the number of its front.
+/// A frame that accepts its first request, an interrupt, records it, at its address, of the lowest driver's slot, with
+/// the number of its front; or it was torn, where a byte was due and each driver went in the frame.
 pub fn accepted_interrupts_are_recorded()
     ensures { AcceptedInterruptsAreRecorded }
 {}

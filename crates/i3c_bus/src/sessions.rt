@@ -14,7 +14,7 @@ const CODE_BITS: u16 = 9;
 impl Bus {
     ghost use Rattle.std.specs.Prelude.{◌≡◌, true, false, IfErr};
     ghost use Rattle.i3c_base.specs.Round.{Rounds, ended, opened};
-    ghost use Rattle.i3c_entdaa.specs.Rounds.{IsRead, reply_of};
+    ghost use Rattle.i3c_entdaa.specs.Rounds.{IsAcknowledged, IsRead, reply_of};
     ghost use Rattle.i3c_entdaa.specs.Telling.{IsRoundWire};
     ghost use Rattle.i3c_frame.specs.Taps.{Tells};
     ghost use Rattle.i3c_bus.specs.Calls.{Carries};
@@ -59,6 +59,7 @@ impl Bus {
     fn round<T: Tap>(&mut self, tap: &mut T, cuts: &Cuts) -> Round
         ensures rounds { Rounds self.old.state cuts.now (reply_of result) self.new.state }
         ensures read { IsRead self.old.state cuts.now result }
+        ensures acknowledged { IsAcknowledged self.old.state cuts.now result }
         ensures told { Tells T.note_gives tap.old tap.new (IsRoundWire result) }
         ensures room { self.new.room ≡ self.old.room }
     {

@@ -14,6 +14,8 @@ use Rattle.i3c_bus.specs.Step.{is_no_target}
 use Rattle.i3c_frame.specs.Taps.{Tells}
 use Rattle.i3c_events.specs.Telling.{IsKindsWire}
 use Rattle.i3c_bus.proofs.Framing.{fits_left, frame_by, kinds_step, kinds_told, records_rekinds, target_free, tells_frame}
+use Rattle.i3c_bus.specs.Wire.{IsAnswered, IsKindsPart}
+use Rattle.i3c_bus.proofs.Heard.{answered_before}
 use Rattle.i3c_bus.proofs.Slots.{Stands-rekinds}
 use Rattle.i3c_bus.proofs.parts.Bus.change_kinds.Goals as goal
 use Rattle.i3c_bus.proofs.parts.Bus.change_kinds.Goals.{in-Some+else-is_no_target, in_default}
@@ -38,14 +40,19 @@ returns-clause-carried g c =
     let last : ℕ = c.in-Ok.begun.bits + kinds_bits c.args.to answer in
     let leaves : LeavesBy c.args.cuts.now last (Own c.args.to) mid new =
     subst (λ (t : Option ℕ). LeavesBy c.args.cuts.now (c.in-Ok.begun.bits + kinds_bits t answer) (Own t) mid new) to c.command_kinds-answer.ensures.rekinds in
-    let told : Tells g.T.Tap.note_gives c.begin_frame.new.tap c.command_kinds-answer.new.tap (IsKindsWire c.args.change c.args.to c.args.kinds answer) =
-    subst (λ (t : Option ℕ). Tells g.T.Tap.note_gives c.begin_frame.new.tap c.command_kinds-answer.new.tap (IsKindsWire c.args.change t c.args.kinds answer)) to c.command_kinds-answer.ensures.told in
+    let wire = subst (λ (t : Option ℕ). Tells g.T.Tap.note_gives c.begin_frame.new.tap c.command_kinds-answer.new.tap (IsKindsWire c.args.change t c.args.kinds answer)) to c.command_kinds-answer.ensures.told in
+    let answered : IsAnswered old c.args.cuts.now c.args.to (begun.0 + header_bits served) answer =
+    answered_before old (given_for served) _ served mid c.args.cuts.now c.args.to (begun.0 + header_bits served) answer (begun.1.serves 0)
+    (subst (λ (bits : ℕ). IsAnswered mid c.args.cuts.now c.args.to bits answer) begun.2
+    (subst (λ (t : Option ℕ). IsAnswered mid c.args.cuts.now t c.in-Ok.begun.bits answer) to c.command_kinds-answer.ensures.answered)) in
+    let told : Tells g.T.Tap.note_gives c.begin_frame.new.tap c.command_kinds-answer.new.tap
+    (IsKindsPart old c.args.cuts.now c.args.change c.args.to c.args.kinds answer (begun.0 + header_bits served)) = (wire.0, wire.1, (wire.2, answered)) in
     let same : new.records ≡ mid.records = ap (λ (st : State). st.records) leaves.2 ∙ records_rekinds c.args.to (changed_kinds c.args.change c.args.kinds) answer _ mid leaves.0 leaves.1 in record {
       step = kinds_step c.args.change old c.args.to c.args.kinds (given_for served) c.args.cuts.now served answer new
           (target_free old c.args.cuts.now c.args.to c.requires.fits.1 (sym c.cuts_active.ensures ∙ c.if-cuts_active.false) there)
           (frame_by old c.args.cuts.now served begun.0 (header_bits served + kinds_bits c.args.to answer) last (Own c.args.to) mid new begun.1 (omega (arith, begun.2)) leaves);
       told = kinds_told g.T.Tap.note_gives c.args.tap.now c.command_kinds-answer.new.tap c.args.change old c.args.to c.args.kinds (given_for served) c.args.cuts.now served answer new
-          (tells_frame g.T.Tap.note_gives c.args.tap.now c.begin_frame.new.tap c.command_kinds-answer.new.tap old mid new c.args.cuts.now served begun.0 (IsKindsWire c.args.change c.args.to c.args.kinds answer)
+          (tells_frame g.T.Tap.note_gives c.args.tap.now c.begin_frame.new.tap c.command_kinds-answer.new.tap old mid new c.args.cuts.now served begun.0 (IsKindsPart old c.args.cuts.now c.args.change c.args.to c.args.kinds answer)
           same begun.1 begun.3 told);
       fits = fits_left (Hand.Role c.args.role.now) old c.args.cuts.now served begun.0 last (Own c.args.to) mid new begun.1
           (λ lost done h. Stands-rekinds c.args.to (changed_kinds c.args.change c.args.kinds) answer lost mid done h) leaves c.requires.fits;

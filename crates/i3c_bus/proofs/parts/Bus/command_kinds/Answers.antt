@@ -6,6 +6,8 @@ use Rattle.i3c_base.specs.Frames.{Rekinds, changed_kinds, kinds_bits}
 use Rattle.i3c_base.specs.Serve.{emptied}
 use Rattle.i3c_base.specs.State.{HasDevices, Held, State}
 use Rattle.i3c_events.specs.Hearing.{answer_of}
+use Rattle.i3c_bus.specs.Wire.{IsAnswered}
+use Rattle.i3c_bus.proofs.Heard.{answered_by}
 use Rattle.i3c_bus.proofs.Seen.{seen}
 use Rattle.i3c_bus.proofs.Soundness.{sound_rekinds}
 use Rattle.i3c_bus.proofs.parts.Bus.command_kinds.Goals as goal
@@ -29,3 +31,10 @@ returns-clause-rekinds g c =
       c.drop_lost.ensures.state
           ∙ ap (λ (n : ℕ). emptied (lost_by c.args.cuts.now (c.args.begun + n)) done) c.kinds_bits.ensures,
     )
+
+pub returns-clause-answered : goal.returns-clause-answered
+returns-clause-answered g c =
+    let same : HasDevices (seen c.self.inside) c.self.inside.devices c.active-active.result = (refl, ap (λ (h : Held). h.state.active) c.self.view_is ∙ sym c.active-active.ensures) in
+    subst (λ (h : Held). IsAnswered h.state c.args.cuts.now c.args.to c.args.begun c.answer_of-answer.result) c.self.view_is
+    (subst (λ (a : Answer). IsAnswered (seen c.self.inside) c.args.cuts.now c.args.to c.args.begun a) (sym c.answer_of-answer.ensures)
+    (answered_by (seen c.self.inside) c.args.cuts.now c.args.to c.args.begun c.hear_kinds-heard.result (λ a e. c.hear_kinds-heard.ensures.answered (seen c.self.inside) a same e)))

@@ -2,7 +2,7 @@
 use Rattle.std.proofs.Common.{refl, subst, ◌∙◌}
 use Rattle.i3c_base.specs.Round.{Rounds}
 use Rattle.i3c_base.specs.State.{Held, State}
-use Rattle.i3c_entdaa.specs.Rounds.{IsRead, reply_of}
+use Rattle.i3c_entdaa.specs.Rounds.{IsAcknowledged, IsRead, reply_of}
 use Rattle.i3c_bus.specs.Parts.{state_of}
 use Rattle.i3c_bus.proofs.Soundness.{sound_round}
 use Rattle.i3c_bus.proofs.parts.Bus.round.Goals as goal
@@ -26,3 +26,8 @@ pub returns-clause-read : goal.returns-clause-read
 returns-clause-read g c =
     let before : State = state_of c.self.inside.devices c.self.inside.raised c.self.inside.active c.self.inside.table c.self.inside.legacy c.self.inside.in_session c.self.inside.records.items in
     subst (λ (h : Held). IsRead h.state c.args.cuts.now c.round-round.result) c.self.view_is (c.round-round.ensures.read before refl c.self.invariant.covered)
+
+pub returns-clause-acknowledged : goal.returns-clause-acknowledged
+returns-clause-acknowledged g c =
+    let before : State = state_of c.self.inside.devices c.self.inside.raised c.self.inside.active c.self.inside.table c.self.inside.legacy c.self.inside.in_session c.self.inside.records.items in
+    subst (λ (h : Held). IsAcknowledged h.state c.args.cuts.now c.round-round.result) c.self.view_is (c.round-round.ensures.acknowledged before refl)
