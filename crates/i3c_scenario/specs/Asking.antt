@@ -1,5 +1,5 @@
 -- The event that a line asks for, and the cuts that it takes or leaves.
-use Rattle.std.specs.Prelude.{◌≡◌, ◌⊎◌, ⊤, ℕ, List, [], ◌∷◌, Option, Some, None, Result, Ok, Err, if◌then◌else◌, is_some, slice_set}
+use Rattle.std.specs.Prelude.{◌≡◌, ◌⊎◌, ℕ, List, [], ◌∷◌, Option, Some, None, Result, Ok, Err, if◌then◌else◌, is_some, slice_set}
 use Rattle.i3c_base.specs.declared.device.Setup.{Setup}
 use Rattle.i3c_base.specs.declared.range.TheConstants.{SLOTS}
 use Rattle.i3c_base.specs.declared.requests.Fixed.{Fixed}
@@ -60,14 +60,18 @@ Asked st names policy cuts Wish.End asked = asked ≡ Ok Event.EndDaa
 abbrev pub Carries : Ran → Names → Wish → Reply → State → Type 0
 Carries ran names wish reply new = (event : Event) × Asked ran.state names ran.policy ran.cuts wish (Ok event) × Step ran.state event reply new
 
--- the line asks for no event; that of a device which comes may be short of memory for its name besides
-abbrev pub AsksForNone : Ran → Names → Wish → Type 0
-AsksForNone ran names (Wish.Attach name setup) = ⊤
-AsksForNone ran names wish = (why : Refusal) × Asked ran.state names ran.policy ran.cuts wish (Err why)
+-- the line asks for no event, and is refused so
+abbrev pub IsRefused : Ran → Names → Wish → Stop → Type 0
+IsRefused ran names wish stop = (why : Refusal) × Asked ran.state names ran.policy ran.cuts wish (Err why) × (stop ≡ Stop.Refused why)
+
+-- the same; the line of a device that comes may be short of memory for its name besides
+abbrev pub AsksForNone : Ran → Names → Wish → Stop → Type 0
+AsksForNone ran names (Wish.Attach name setup) stop = IsRefused ran names (Wish.Attach name setup) stop ⊎ (stop ≡ Stop.Memory)
+AsksForNone ran names wish stop = IsRefused ran names wish stop
 
 -- the event that a line asks for is carried out, or there is none and nothing changes
 abbrev pub CarriesOrNot : Ran → Names → Wish → State → Type 0
-CarriesOrNot ran names wish new = ((new ≡ ran.state) × AsksForNone ran names wish) ⊎ ((reply : Reply) × Carries ran names wish reply new)
+CarriesOrNot ran names wish new = ((new ≡ ran.state) × ((stop : Stop) × AsksForNone ran names wish stop)) ⊎ ((reply : Reply) × Carries ran names wish reply new)
 
 -- rounds without cuts, with these replies, the newest first
 abbrev pub Rounds : List Reply → State → State → Type 0

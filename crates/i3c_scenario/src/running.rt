@@ -144,9 +144,12 @@ impl Running {
         ensures cuts { self.new.cuts ≡ cuts_left wish.now self.old.cuts }
         ensures answered { MatchResult result
             (λ (event, reply). Asked self.old.state names.old self.old.policy self.old.cuts wish.now (Ok event) × Step self.old.state event reply self.new.state)
-            (λ _. (self.new.state ≡ self.old.state) × AsksForNone self.old names.old wish.now) }
+            (λ stop. (self.new.state ≡ self.old.state) × AsksForNone self.old names.old wish.now stop) }
     {
-        let event = event_of(&self.bus, names, self.policy, &mut self.cuts, wish)?;
+        let event = match event_of(&self.bus, names, self.policy, &mut self.cuts, wish) {
+            Ok(event) => event,
+            Err(why) => return Err(Stop::Refused(why)),
+        };
         if let (Wish::Attach { name, .. }, Event::Attach(slot, _)) = (wish, &event) {
             names.give_slot(name, *slot)?;
         }
