@@ -42,6 +42,8 @@ impl Bus {
             Event::Disec(to, kinds, policy, cuts) => {
                 self.send(hand, Command::Disec(*to, *kinds), *policy, tap, cuts)
             }
+            // these three come next
+            Event::AskRole(_) | Event::Reset(_, _) | Event::SendList(_, _) => unreachable!(),
             Event::OpenDaa(cuts) => self.step_open(hand, tap, cuts),
             Event::Round(cuts) => self.step_round(hand, tap, cuts),
             Event::EndDaa => self.step_end(hand, tap),

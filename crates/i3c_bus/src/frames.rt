@@ -134,6 +134,8 @@ impl Bus {
                 Ok(framed) => Reply::Framed(framed),
                 Err(fault) => Reply::from(fault),
             },
+            // these two come next
+            Command::Reset | Command::SendList => unreachable!(),
             Command::Disec(to, kinds) => match self.disec(role, to, kinds, policy, tap, cuts) {
                 Ok(framed) => Reply::Framed(framed),
                 Err(fault) => Reply::from(fault),
