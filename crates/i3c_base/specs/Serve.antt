@@ -77,6 +77,15 @@ verdict st policy (Interrupt a) = if is_some (entry_at st a) then policy.interru
 abbrev pub refuse_all : Fixed
 refuse_all = record { join = Refuse; role = Refuse; interrupt = Refuse }
 
+-- the policy that has the verdict which was given on what was served, and refuses else
+abbrev pub given_for : Served → Fixed
+given_for Served.Joining = record refuse_all { join = Accept }
+given_for (Served.WantsRole a) = record refuse_all { role = Accept }
+given_for (Served.Recorded place) = record refuse_all { interrupt = Accept }
+given_for Served.Torn = record refuse_all { interrupt = Accept }
+given_for Served.Quiet = refuse_all
+given_for Served.Refused = refuse_all
+
 -- byte is the AND of the bytes that these slots drive
 abbrev pub IsAnd : ℕ → (ℕ → ℕ → Type 0) → Type 0
 IsAnd byte Drives = (byte < 256) × ((bit : ℕ) → bit < 8 → ((bit_at byte bit ≡ 1) ↔ ((s v : ℕ) → Drives s v → bit_at v bit ≡ 1)))

@@ -10,6 +10,7 @@ mod device;
 mod identity;
 mod kinds;
 mod range;
+mod refusals;
 mod requests;
 
 pub use answers::{Answer, RoundReply};
@@ -18,6 +19,7 @@ pub use device::{LegacyTarget, REGISTERS, Setup, WAITING, Waiting};
 pub use identity::{Bcr, Dcr, Identity, Lvr};
 pub use kinds::{Change, Kinds};
 pub use range::{ADDRESSES, Addr7, OutOfRange, Pid, SLOTS, Slot};
+pub use refusals::{JoinRefusal, RaiseRefusal, RoleRefusal};
 pub use requests::{Fixed, Record, Request, Served, Verdict};
 
 #[cfg(test)]

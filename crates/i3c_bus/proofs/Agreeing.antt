@@ -10,10 +10,9 @@ use Rattle.i3c_base.specs.declared.requests.Verdict.{Verdict}
 use Rattle.i3c_base.specs.declared.requests.Verdict.TheVariants.{Refuse}
 use Rattle.i3c_base.specs.Cutting.{CutList, Lost, lost_by}
 use Rattle.i3c_base.specs.State.{Held, State}
-use Rattle.i3c_base.specs.Serve.{Frame, IsFirst, Serves, verdict}
+use Rattle.i3c_base.specs.Serve.{Frame, IsFirst, Serves, given_for, verdict}
 use Rattle.i3c_frame.specs.declared.symbols.Symbol.{Symbol}
 use Rattle.i3c_ibi.specs.Policies.{Decides, is_known, verdict_in}
-use Rattle.i3c_ibi.specs.Serving.{given_for}
 use Rattle.i3c_bus.specs.Asking.{Asks, given_by}
 use Rattle.i3c_bus.specs.Calls.{Carries}
 use Rattle.i3c_bus.specs.Commands.{event_of}

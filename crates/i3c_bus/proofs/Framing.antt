@@ -10,13 +10,12 @@ use Rattle.i3c_base.specs.declared.requests.Served.TheVariants.{Quiet, Recorded,
 use Rattle.i3c_base.specs.Cutting.{CutList, Lost, lost_by}
 use Rattle.i3c_base.specs.Frames.{Rekinds, changed_kinds, kinds_bits}
 use Rattle.i3c_base.specs.Numbers.{KindSet}
-use Rattle.i3c_base.specs.Serve.{Frame, emptied, header_bits}
+use Rattle.i3c_base.specs.Serve.{Frame, emptied, given_for, header_bits}
 use Rattle.i3c_base.specs.State.{State}
 use Rattle.i3c_frame.specs.declared.symbols.Symbol.{Symbol}
 use Rattle.i3c_frame.specs.declared.symbols.Symbol.TheVariants.{Stop}
 use Rattle.i3c_frame.specs.Taps.{Tells}
 use Rattle.i3c_frame.proofs.TapLaws.{NotesAll-append, NotesAll-push}
-use Rattle.i3c_ibi.specs.Serving.{given_for}
 use Rattle.i3c_bus.specs.declared.events.Event.{Event}
 use Rattle.i3c_bus.specs.declared.replies.Refusal.{Refusal}
 use Rattle.i3c_bus.specs.declared.replies.Reply.{Reply}

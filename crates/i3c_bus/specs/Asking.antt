@@ -5,9 +5,8 @@ use Rattle.i3c_base.specs.declared.requests.Fixed.{Fixed}
 use Rattle.i3c_base.specs.declared.requests.Request.{Request}
 use Rattle.i3c_base.specs.declared.requests.Verdict.{Verdict}
 use Rattle.i3c_base.specs.State.{State}
-use Rattle.i3c_base.specs.Serve.{refuse_all}
+use Rattle.i3c_base.specs.Serve.{given_for, refuse_all}
 use Rattle.i3c_ibi.specs.Policies.{Decides}
-use Rattle.i3c_ibi.specs.Serving.{given_for}
 use Rattle.i3c_bus.specs.declared.events.Event.{Event}
 use Rattle.i3c_bus.specs.declared.replies.Reply.{Reply}
 use Rattle.i3c_bus.specs.Serving.{served_of}

@@ -4,11 +4,10 @@ use Rattle.i3c_base.specs.declared.requests.Record.{Record}
 use Rattle.i3c_base.specs.declared.requests.Served.{Served}
 use Rattle.i3c_base.specs.Cutting.{CutList, Lost, lost_by}
 use Rattle.i3c_base.specs.State.{State}
-use Rattle.i3c_base.specs.Serve.{IsWordBits, Serves, emptied}
+use Rattle.i3c_base.specs.Serve.{IsWordBits, Serves, emptied, given_for}
 use Rattle.i3c_frame.specs.declared.symbols.Symbol.{Symbol}
 use Rattle.i3c_ibi.specs.declared.serving.Reading.{Reading}
 use Rattle.i3c_ibi.specs.declared.serving.Reading.TheVariants.{Quiet, Refused, Joined, WantsRole, Due, Torn}
-use Rattle.i3c_ibi.specs.Serving.{given_for}
 use Rattle.i3c_bus.specs.Wire.{IsBegun, IsOn}
 
 -- the records after what was read: one that is due is appended

@@ -30,11 +30,10 @@ impl Bus {
     ghost use Rattle.std.specs.Prelude.{ℕ, ◌+◌, ◌≤◌, true, false, None, IfOk, OnErr};
     ghost use Rattle.i3c_base.specs.Cutting.{Lost, lost_by};
     ghost use Rattle.i3c_base.specs.Frames.{Rekinds, changed_kinds, kinds_bits};
-    ghost use Rattle.i3c_base.specs.Serve.{IsWordBits, Serves, emptied, header_bits, refuse_all};
+    ghost use Rattle.i3c_base.specs.Serve.{IsWordBits, Serves, emptied, given_for, header_bits, refuse_all};
     ghost use Rattle.i3c_events.specs.Telling.{IsKindsWire};
     ghost use Rattle.i3c_frame.specs.Taps.{Tells};
     ghost use Rattle.i3c_ibi.specs.Policies.{Decides};
-    ghost use Rattle.i3c_ibi.specs.Serving.{given_for};
     ghost use Rattle.i3c_bus.specs.Asking.{Asks, given_by};
     ghost use Rattle.i3c_bus.specs.Beginning.{Begins, IsWay, LeavesBy};
     ghost use Rattle.i3c_bus.specs.Calls.{Carries};

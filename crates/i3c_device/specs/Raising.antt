@@ -4,12 +4,12 @@ use Rattle.i3c_base.specs.declared.device.TheConstants.{WAITING}
 use Rattle.i3c_base.specs.declared.device.Waiting.{Waiting}
 use Rattle.i3c_base.specs.Numbers.{can_interrupt, has_byte, same_bool}
 use Rattle.i3c_base.specs.State.{Device}
-use Rattle.i3c_device.specs.declared.faults.RaiseFault.{RaiseFault}
-use Rattle.i3c_device.specs.declared.faults.RaiseFault.TheVariants.{NoAddress, NotCapable, ByteMismatch, Masked, Full}
+use Rattle.i3c_base.specs.declared.refusals.RaiseRefusal.{RaiseRefusal}
+use Rattle.i3c_base.specs.declared.refusals.RaiseRefusal.TheVariants.{NoAddress, NotCapable, ByteMismatch, Masked, Full}
 
 -- the first fault of a raise with this byte: no address, no interrupts by its BCR, a byte where none is due or none
 -- where one is, interrupts disabled, or eight that wait
-abbrev pub raise_fault : Device → Option ℕ → Option RaiseFault
+abbrev pub raise_fault : Device → Option ℕ → Option RaiseRefusal
 raise_fault d byte =
     if is_none d.address then Some NoAddress else
     (if not (can_interrupt d.identity.bcr) then Some NotCapable else
@@ -18,12 +18,12 @@ raise_fault d byte =
     (if nat_le WAITING (length d.waiting) then Some Full else None))))
 
 -- the fault, or that the slot's raises can't be counted further
-abbrev pub or_uncounted : Option RaiseFault → ℕ → Option RaiseFault
+abbrev pub or_uncounted : Option RaiseRefusal → ℕ → Option RaiseRefusal
 or_uncounted (Some fault) raised = Some fault
 or_uncounted None raised = if nat_le (2 ^ 64 - 1) raised then Some Full else None
 
 -- the first fault of a device's next raise, where `raised` of its slot were accepted
-abbrev pub next_fault : Device → Option ℕ → ℕ → Option RaiseFault
+abbrev pub next_fault : Device → Option ℕ → ℕ → Option RaiseRefusal
 next_fault d byte raised = or_uncounted (raise_fault d byte) raised
 
 -- a device with one more interrupt that waits

@@ -1,7 +1,6 @@
-use crate::faults::RaiseFault;
 use crate::kinds::{all, difference, may_ask_role, may_interrupt, may_join, named, union};
 use arrayvec::ArrayVec;
-use i3c_base::{Addr7, Identity, Kinds, REGISTERS, Request, Setup, WAITING, Waiting};
+use i3c_base::{Addr7, Identity, Kinds, REGISTERS, RaiseRefusal, Request, Setup, WAITING, Waiting};
 use i3c_ccc::Code;
 use i3c_word::Word;
 use std::marker::Model;
@@ -178,37 +177,37 @@ impl Device {
     }
 
     /// Whether it may raise an interrupt with this byte now: the first fault, if there is one.
-    pub fn may_raise(&self, byte: Option<u8>) -> Result<(), RaiseFault>
+    pub fn may_raise(&self, byte: Option<u8>) -> Result<(), RaiseRefusal>
         ensures { MatchResult result (λ _. raise_fault self.now byte ≡ None) (λ fault. raise_fault self.now byte ≡ Some fault) }
     {
         if self.address.is_none() {
-            return Err(RaiseFault::NoAddress);
+            return Err(RaiseRefusal::NoAddress);
         }
         if !self.identity.bcr.interrupts() {
-            return Err(RaiseFault::NotCapable);
+            return Err(RaiseRefusal::NotCapable);
         }
         if self.identity.bcr.has_byte() != byte.is_some() {
-            return Err(RaiseFault::ByteMismatch);
+            return Err(RaiseRefusal::ByteMismatch);
         }
         if !may_interrupt(self.kinds) {
-            return Err(RaiseFault::Masked);
+            return Err(RaiseRefusal::Masked);
         }
         if self.waiting.is_full() {
-            return Err(RaiseFault::Full);
+            return Err(RaiseRefusal::Full);
         }
         Ok(())
     }
 
     /// Raises the interrupt after this many of its slot, and answers its number: it waits as the last one. The first
     /// fault refuses it, and changes nothing; a count that can't grow is `Full` too.
-    pub fn raise(&mut self, raised: u64, byte: Option<u8>) -> Result<u64, RaiseFault>
+    pub fn raise(&mut self, raised: u64, byte: Option<u8>) -> Result<u64, RaiseRefusal>
         ensures fault { MatchResult result (λ number. (number ≡ suc raised) × (next_fault self.old byte raised ≡ None)) (λ fault. next_fault self.old byte raised ≡ Some fault) }
         ensures raised { OnOk result (self.new ≡ with_raise (suc raised) byte self.old) }
         ensures unchanged { OnErr result (self.new ≡ self.old) }
     {
         self.may_raise(byte)?;
         let Some(number) = raised.checked_add(1) else {
-            return Err(RaiseFault::Full);
+            return Err(RaiseRefusal::Full);
         };
         self.waiting.push(Waiting { number, byte });
         Ok(number)

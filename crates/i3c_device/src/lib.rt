@@ -3,13 +3,11 @@
 #![tactic(auto)]
 
 mod attached;
-mod faults;
 mod kinds;
 mod places;
 mod slots;
 
 pub use attached::Device;
-pub use faults::RaiseFault;
 pub use slots::Devices;
 
 #[cfg(test)]

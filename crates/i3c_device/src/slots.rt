@@ -1,8 +1,7 @@
 use crate::attached::Device;
-use crate::faults::RaiseFault;
 use crate::places::{accept, assign, driven, drives, drop_lost, hear, open, reaches, silence};
 use arrayvec::ArrayVec;
-use i3c_base::{Addr7, Cuts, Identity, Request, SLOTS, Slot};
+use i3c_base::{Addr7, Cuts, Identity, RaiseRefusal, Request, SLOTS, Slot};
 use i3c_ccc::Code;
 use i3c_word::Word;
 use std::marker::Model;
@@ -79,7 +78,7 @@ impl Devices {
 
     /// The slot's device raises the interrupt after this many of its slot, and answers its number. The first fault
     /// refuses it, and changes nothing.
-    pub fn raise(&mut self, slot: Slot, raised: u64, byte: Option<u8>) -> Result<u64, RaiseFault>
+    pub fn raise(&mut self, slot: Slot, raised: u64, byte: Option<u8>) -> Result<u64, RaiseRefusal>
         requires { (d : DeviceState) × (slice_index_or self.old slot None ≡ Some d) }
         ensures fault { (d : DeviceState) → slice_index_or self.old slot None ≡ Some d → MatchResult result (λ number. (number ≡ suc raised) × (next_fault d byte raised ≡ None)) (λ fault. next_fault d byte raised ≡ Some fault) }
         ensures raised { OnOk result (self.new ≡ slice_set self.old slot (option_map (with_raise (suc raised) byte) (slice_index_or self.old slot None))) }

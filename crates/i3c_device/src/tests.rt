@@ -1,7 +1,9 @@
 ghost use Rattle.std.specs.Prelude.{◌≤◌};
 
-use crate::{Device, Devices, RaiseFault};
-use i3c_base::{Addr7, Bcr, Cuts, Dcr, Identity, Pid, Request, Setup, Slot, Waiting};
+use crate::{Device, Devices};
+use i3c_base::{
+    Addr7, Bcr, Cuts, Dcr, Identity, Pid, RaiseRefusal, Request, Setup, Slot, Waiting,
+};
 use i3c_ccc::Code;
 use i3c_word::write_word;
 use std::test::Fail;
@@ -49,18 +51,18 @@ fn the_first_fault_refuses(rt: HostRuntime) -> Result<(), Fail> {
     let mask = [write_word(0x01)];
     let mut device = attached(0x04)?;
     device.hear(Code::Disec, &mask);
-    assert_eq!(rt; device.may_raise(None), Err(RaiseFault::NoAddress));
-    assert_eq!(rt; device.raise(0, None), Err(RaiseFault::NoAddress));
+    assert_eq!(rt; device.may_raise(None), Err(RaiseRefusal::NoAddress));
+    assert_eq!(rt; device.raise(0, None), Err(RaiseRefusal::NoAddress));
     device.take_address(Addr7::new(0x09)?);
-    assert_eq!(rt; device.raise(0, None), Err(RaiseFault::NotCapable));
+    assert_eq!(rt; device.raise(0, None), Err(RaiseRefusal::NotCapable));
     let mut button = addressed(0x02, 0x09)?;
     button.hear(Code::Disec, &mask);
-    assert_eq!(rt; button.raise(0, Some(0x20)), Err(RaiseFault::ByteMismatch));
-    assert_eq!(rt; button.raise(0, None), Err(RaiseFault::Masked));
+    assert_eq!(rt; button.raise(0, Some(0x20)), Err(RaiseRefusal::ByteMismatch));
+    assert_eq!(rt; button.raise(0, None), Err(RaiseRefusal::Masked));
     let mut thermometer = addressed(0x06, 0x0A)?;
     thermometer.hear(Code::Disec, &mask);
-    assert_eq!(rt; thermometer.raise(0, None), Err(RaiseFault::ByteMismatch));
-    assert_eq!(rt; thermometer.raise(0, Some(0x20)), Err(RaiseFault::Masked));
+    assert_eq!(rt; thermometer.raise(0, None), Err(RaiseRefusal::ByteMismatch));
+    assert_eq!(rt; thermometer.raise(0, Some(0x20)), Err(RaiseRefusal::Masked));
     assert_eq!(rt; thermometer.waiting(), 0);
     Ok(())
 }
@@ -73,14 +75,14 @@ fn eight_interrupts_wait_and_a_ninth_is_refused(rt: HostRuntime) -> Result<(), F
         assert_eq!(rt; device.raise(raised, None), Ok(raised + 1));
     }
     assert_eq!(rt; device.waiting(), 8);
-    assert_eq!(rt; device.may_raise(None), Err(RaiseFault::Full));
-    assert_eq!(rt; device.raise(8, None), Err(RaiseFault::Full));
+    assert_eq!(rt; device.may_raise(None), Err(RaiseRefusal::Full));
+    assert_eq!(rt; device.raise(8, None), Err(RaiseRefusal::Full));
     assert_eq!(rt; device.waiting(), 8);
     device.lose_front();
-    assert_eq!(rt; device.raise(u64::MAX, None), Err(RaiseFault::Full));
+    assert_eq!(rt; device.raise(u64::MAX, None), Err(RaiseRefusal::Full));
     assert_eq!(rt; device.raise(8, None), Ok(9));
     device.hear(Code::Disec, &[write_word(0x01)]);
-    assert_eq!(rt; device.raise(9, None), Err(RaiseFault::Masked));
+    assert_eq!(rt; device.raise(9, None), Err(RaiseRefusal::Masked));
     Ok(())
 }
 

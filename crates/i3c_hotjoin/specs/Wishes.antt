@@ -1,7 +1,7 @@
 -- Who may wish to join.
 use Rattle.std.specs.Prelude.{not, Option, Some, None, is_some, if◌then◌else◌}
 use Rattle.i3c_base.specs.State.{Device}
-use Rattle.i3c_hotjoin.specs.declared.wishes.JoinRefusal.{JoinRefusal}
+use Rattle.i3c_base.specs.declared.refusals.JoinRefusal.{JoinRefusal}
 
 -- why whatever is in a slot may not: there is no device, it has an address, or its joins are disabled
 abbrev pub refusal_of : Option Device → Option JoinRefusal

@@ -6,7 +6,8 @@
 
 mod wishes;
 
-pub use wishes::{JoinRefusal, ask};
+pub use i3c_base::JoinRefusal;
+pub use wishes::ask;
 
 #[cfg(test)]
 mod tests;

@@ -2,23 +2,8 @@ ghost use Rattle.std.specs.Prelude.{◌≡◌, None, Some, option_map, slice_ind
 ghost use Rattle.i3c_device.specs.Raising.{wishing_join};
 ghost use Rattle.i3c_hotjoin.specs.Wishes.{refusal_of};
 
-use i3c_base::Slot;
+use i3c_base::{JoinRefusal, Slot};
 use i3c_device::Devices;
-use thiserror::Error;
-
-/// Why a slot's device doesn't wish to join.
-#[derive(Clone, Copy, Debug, PartialEq, Eq, Drop, Error)]
-pub enum JoinRefusal {
-    /// The slot holds no device.
-    #[error("the slot holds no device")]
-    NoDevice,
-    /// The device has an address.
-    #[error("the device has an address")]
-    HasAddress,
-    /// The device's joins are disabled.
-    #[error("the device's joins are disabled")]
-    Masked,
-}
 
 /// The slot's device wishes to join (Hot-Join, I3C Basic 5.1.5). The first refusal that holds is answered, and changes
 /// nothing.

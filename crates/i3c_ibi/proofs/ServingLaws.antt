@@ -12,7 +12,7 @@ use Rattle.i3c_base.specs.declared.requests.Verdict.TheVariants.{Accept, Refuse}
 use Rattle.i3c_base.specs.Cutting.{CutList, Lost, cut_of, is_by, lost_by}
 use Rattle.i3c_base.specs.Places.{changed}
 use Rattle.i3c_base.specs.State.{Device, Entry, HasDevices, State, device_at, entry_at, entry_in}
-use Rattle.i3c_base.specs.Serve.{IsFirst, IsRead, NoneAsks, byte_due, drives, each_driver, recorded, refuse_all, verdict, without, without_front}
+use Rattle.i3c_base.specs.Serve.{IsFirst, IsRead, NoneAsks, byte_due, drives, each_driver, given_for, recorded, refuse_all, verdict, without, without_front}
 use Rattle.i3c_base.proofs.Lookups.{changed_same}
 use Rattle.i3c_device.specs.Walks.{AnyDrives, SomeDrives, accepted_at, drives_at}
 use Rattle.i3c_ibi.specs.declared.serving.Reading.{Reading}
@@ -20,7 +20,7 @@ use Rattle.i3c_ibi.specs.declared.serving.Reading.TheVariants.{Quiet, Refused, J
 use Rattle.i3c_ibi.specs.Driving.{HaveBytes, IsReading}
 use Rattle.i3c_ibi.proofs.ReadingLaws.{no_byte}
 use Rattle.i3c_ibi.specs.Policies.{Decides, is_known, verdict_in}
-use Rattle.i3c_ibi.specs.Serving.{FitsTable, IsServing, given_for, served_as}
+use Rattle.i3c_ibi.specs.Serving.{FitsTable, IsServing, served_as}
 
 -- what a walk over the devices leaves, of whom drives the request
 accepted_is : (st : State) (r : Request) (k : ℕ) (o : Option Device) → device_at st k ≡ o → accepted_at st.active r k o ≡ option_map (λ d. if drives st r k then without r d else d) o

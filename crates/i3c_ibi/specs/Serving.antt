@@ -1,28 +1,17 @@
 -- Serving the first request of a frame, as the controller sees it on the wire.
 use Rattle.std.specs.Prelude.{◌≡◌, ℕ, suc, ◌+◌, true, false, length, List, Option, is_some, if◌then◌else◌, ⊤}
 use Rattle.i3c_base.specs.declared.device.Waiting.{Waiting}
-use Rattle.i3c_base.specs.declared.requests.Fixed.{Fixed}
 use Rattle.i3c_base.specs.declared.requests.Request.TheVariants.{Interrupt, Join, Role}
 use Rattle.i3c_base.specs.declared.requests.Served.{Served}
-use Rattle.i3c_base.specs.declared.requests.Verdict.TheVariants.{Accept}
 use Rattle.i3c_base.specs.Cutting.{CutList, lost_by}
 use Rattle.i3c_base.specs.State.{Device, State, entry_at}
-use Rattle.i3c_base.specs.Serve.{IsFirst, IsFront, IsWordBits, NoneAsks, Serves, byte_due, drives, recorded, refuse_all}
+use Rattle.i3c_base.specs.Serve.{IsFirst, IsFront, IsWordBits, NoneAsks, Serves, byte_due, drives, given_for, recorded}
 use Rattle.i3c_ibi.specs.declared.serving.Reading.{Reading}
 use Rattle.i3c_ibi.specs.declared.serving.Reading.TheVariants.{Quiet, Refused, Joined, WantsRole, Due, Torn}
 
 -- what waits at the front of a driver has a mandatory byte exactly where the table says that one is due
 abbrev pub FitsTable : State → Type 0
 FitsTable st = (a s : ℕ) (w : Waiting) → drives st (Interrupt a) s ≡ true → IsFront st s w → is_some w.byte ≡ byte_due (entry_at st a)
-
--- the policy that has the verdict which was given on what was served, and refuses else
-abbrev pub given_for : Served → Fixed
-given_for Served.Joining = record refuse_all { join = Accept }
-given_for (Served.WantsRole a) = record refuse_all { role = Accept }
-given_for (Served.Recorded place) = record refuse_all { interrupt = Accept }
-given_for Served.Torn = record refuse_all { interrupt = Accept }
-given_for Served.Quiet = refuse_all
-given_for Served.Refused = refuse_all
 
 -- what a frame served, where so many records stood before
 abbrev pub served_as : ℕ → Reading → Served

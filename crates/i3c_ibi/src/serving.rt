@@ -2,10 +2,10 @@ ghost use Rattle.std.specs.Prelude.{◌≡◌, ℕ, length, true};
 ghost use Rattle.i3c_base.specs.declared.requests.Request.{Request as RequestValue};
 ghost use Rattle.i3c_base.specs.declared.requests.Verdict.{Verdict as VerdictValue};
 ghost use Rattle.i3c_base.specs.State.{HasDevices, State};
-ghost use Rattle.i3c_base.specs.Serve.{IsFirst};
+ghost use Rattle.i3c_base.specs.Serve.{IsFirst, given_for};
 ghost use Rattle.i3c_device.specs.Walks.{AnyDrives};
 ghost use Rattle.i3c_ibi.specs.Policies.{Decides, is_known, verdict_in};
-ghost use Rattle.i3c_ibi.specs.Serving.{FitsTable, IsServing, given_for, served_as};
+ghost use Rattle.i3c_ibi.specs.Serving.{FitsTable, IsServing, served_as};
 
 use crate::first::first_request;
 use crate::policies::{Policy, decide};

@@ -5,7 +5,8 @@ use Rattle.i3c_base.specs.State.{Held, State}
 use Rattle.i3c_base.specs.declared.requests.Served.{Served}
 use Rattle.i3c_device.specs.Walks.{SomeReached}
 use Rattle.i3c_ibi.specs.Policies.{Decides}
-use Rattle.i3c_ibi.specs.Serving.{IsServing, given_for, served_as}
+use Rattle.i3c_ibi.specs.Serving.{IsServing, served_as}
+use Rattle.i3c_base.specs.Serve.{given_for}
 use Rattle.i3c_bus.specs.Beginning.{Begins}
 use Rattle.i3c_ibi.specs.Telling.{begun}
 use Rattle.i3c_bus.specs.Wire.{IsBegun}

@@ -1,11 +1,10 @@
 -- Room, the first request, and how the frame goes on.
 use Rattle.std.proofs.Common.{◌≡◌, ◌+◌, ◌++◌, ℕ, refl, subst, sym}
 use Rattle.i3c_base.specs.declared.requests.Served.{Served}
-use Rattle.i3c_base.specs.Serve.{header_bits}
+use Rattle.i3c_base.specs.Serve.{given_for, header_bits}
 use Rattle.i3c_base.specs.State.{State}
 use Rattle.i3c_frame.specs.Taps.{Tells}
 use Rattle.i3c_frame.proofs.TapLaws.{NotesAll-append}
-use Rattle.i3c_ibi.specs.Serving.{given_for}
 use Rattle.i3c_bus.specs.Beginning.{Begins, IsWay}
 use Rattle.i3c_bus.specs.Wire.{IsBegun}
 use Rattle.i3c_bus.proofs.Heard.{on_before}

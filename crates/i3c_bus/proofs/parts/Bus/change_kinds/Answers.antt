@@ -5,9 +5,8 @@ use Rattle.i3c_base.specs.declared.answers.Answer.{Answer}
 use Rattle.i3c_base.specs.declared.requests.Served.{Served}
 use Rattle.i3c_base.specs.Cutting.{Lost}
 use Rattle.i3c_base.specs.Frames.{Rekinds, changed_kinds, kinds_bits}
-use Rattle.i3c_base.specs.Serve.{header_bits}
+use Rattle.i3c_base.specs.Serve.{given_for, header_bits}
 use Rattle.i3c_base.specs.State.{State}
-use Rattle.i3c_ibi.specs.Serving.{given_for}
 use Rattle.i3c_bus.specs.declared.tokens.Hand.{Hand}
 use Rattle.i3c_bus.specs.Beginning.{LeavesBy}
 use Rattle.i3c_bus.specs.Step.{is_no_target}
