@@ -13,17 +13,18 @@ use Rattle.i3c_base.specs.State.{Held, State}
 use Rattle.i3c_base.specs.Serve.{Frame, IsFirst, Serves, given_for, verdict}
 use Rattle.i3c_frame.specs.declared.symbols.Symbol.{Symbol}
 use Rattle.i3c_ibi.specs.Policies.{Decides, is_known, verdict_in}
-use Rattle.i3c_bus.specs.Asking.{Asks, given_by}
+use Rattle.i3c_bus.specs.Asking.{Asks}
+use Rattle.i3c_step.specs.Giving.{given_by}
 use Rattle.i3c_bus.specs.Calls.{Carries}
-use Rattle.i3c_bus.specs.Commands.{event_of}
+use Rattle.i3c_step.specs.Commands.{event_of}
 use Rattle.i3c_bus.specs.Wire.{IsWire}
-use Rattle.i3c_bus.specs.declared.events.Command.{Command}
+use Rattle.i3c_step.specs.declared.events.Command.{Command}
 use Rattle.i3c_bus.specs.declared.tokens.Hand.{Hand}
-use Rattle.i3c_bus.specs.Step.{Acts, IsShort, Step, checks, first_refusal}
-use Rattle.i3c_bus.specs.declared.events.Event.{Event}
-use Rattle.i3c_bus.specs.declared.replies.Refusal.{Refusal}
-use Rattle.i3c_bus.specs.declared.replies.Reply.{Reply}
-use Rattle.i3c_bus.proofs.Uniqueness.{first_unique}
+use Rattle.i3c_step.specs.Step.{Acts, IsShort, Step, checks, first_refusal}
+use Rattle.i3c_step.specs.declared.events.Event.{Event}
+use Rattle.i3c_step.specs.declared.replies.Refusal.{Refusal}
+use Rattle.i3c_step.specs.declared.replies.Reply.{Reply}
+use Rattle.i3c_step.proofs.Uniqueness.{first_unique}
 
 -- they have one verdict on whichever request comes first
 pub Agree : State → Fixed → Fixed → Type 0

@@ -17,12 +17,12 @@ use Rattle.i3c_ibi.specs.declared.serving.Reading.{Reading}
 use Rattle.i3c_ibi.specs.declared.serving.Reading.TheVariants.{Quiet, Refused, Joined, WantsRole, Due, Torn}
 use Rattle.i3c_ibi.specs.Serving.{FitsTable, IsServing, kept, served_as, word_bits}
 use Rattle.i3c_bus.specs.Beginning.{Begins, kept_in}
-use Rattle.i3c_bus.specs.Sound.{IsSound}
+use Rattle.i3c_step.specs.Sound.{IsSound}
 use Rattle.i3c_ibi.specs.Telling.{begun}
 use Rattle.i3c_bus.specs.Wire.{IsAck, IsBegun}
-use Rattle.i3c_bus.proofs.Drivers.{Drives-from}
-use Rattle.i3c_bus.proofs.Maps.{same_device}
-use Rattle.i3c_bus.proofs.Uniqueness.{first_unique}
+use Rattle.i3c_step.proofs.Drivers.{Drives-from}
+use Rattle.i3c_step.proofs.Maps.{same_device}
+use Rattle.i3c_step.proofs.Uniqueness.{first_unique}
 
 -- on a sound bus each front has a mandatory byte exactly where the table says that one is due
 pub fits_table : (st : State) → IsSound st → FitsTable st
@@ -103,13 +103,3 @@ pub begun_by : (st : State) (cuts : CutList) (reading : Reading) (devices : List
     → IsBegun st cuts served (record st { devices = devices; records = records }) (begun reading ack)
 begun_by st cuts reading devices records served ack h e f acked =
     subst (λ s. IsBegun st cuts s (record st { devices = devices; records = records }) (begun reading ack)) (sym e) (begun_as st cuts reading devices records ack h f acked)
-
-refuse_either : (b : Bool) → (if b then Refuse else Refuse) ≡ Refuse
-refuse_either true = refl
-refuse_either false = refl
-
--- a frame that refuses each request refuses the first
-pub refuses : (st : State) (r : Request) → verdict st refuse_all r ≡ Refuse
-refuses st Join = refl
-refuses st (Role a) = refuse_either (is_some (entry_at st a))
-refuses st (Interrupt a) = refuse_either (is_some (entry_at st a))

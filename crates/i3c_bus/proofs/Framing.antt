@@ -16,17 +16,17 @@ use Rattle.i3c_frame.specs.declared.symbols.Symbol.{Symbol}
 use Rattle.i3c_frame.specs.declared.symbols.Symbol.TheVariants.{Stop}
 use Rattle.i3c_frame.specs.Taps.{Tells}
 use Rattle.i3c_frame.proofs.TapLaws.{NotesAll-append, NotesAll-push}
-use Rattle.i3c_bus.specs.declared.events.Event.{Event}
-use Rattle.i3c_bus.specs.declared.replies.Refusal.{Refusal}
-use Rattle.i3c_bus.specs.declared.replies.Reply.{Reply}
+use Rattle.i3c_step.specs.declared.events.Event.{Event}
+use Rattle.i3c_step.specs.declared.replies.Refusal.{Refusal}
+use Rattle.i3c_step.specs.declared.replies.Reply.{Reply}
 use Rattle.i3c_bus.specs.declared.tokens.Hand.{Hand}
 use Rattle.i3c_bus.specs.Beginning.{Begins, IsWay, LeavesBy}
-use Rattle.i3c_bus.specs.Commands.{kinds_event}
+use Rattle.i3c_step.specs.Commands.{kinds_event}
 use Rattle.i3c_bus.specs.Hands.{HandFits}
-use Rattle.i3c_bus.specs.Step.{Nothing, Step, cuts_active, first_refusal, frame_checks, is_no_target, target_checks}
+use Rattle.i3c_step.specs.Step.{Nothing, Step, cuts_active, first_refusal, frame_checks, is_no_target, target_checks}
 use Rattle.i3c_bus.specs.Wire.{IsBegun, IsFrameWire, IsKindsPart, IsServeWire, IsWire}
-use Rattle.i3c_bus.proofs.Acting.{acting}
-use Rattle.i3c_bus.proofs.Slots.{Stands, Stands-same, Stands-serves, Stands-then}
+use Rattle.i3c_step.proofs.Acting.{acting}
+use Rattle.i3c_step.proofs.Slots.{Stands, Stands-same, Stands-serves, Stands-then}
 
 -- a frame that is neither in a session nor cuts the active controller
 pub frame_free : (st : State) (cuts : CutList) → st.in_session ≡ false → cuts_active st cuts ≡ false → first_refusal (frame_checks st cuts) ≡ None
@@ -104,11 +104,3 @@ pub kinds_told : {T : Type 0} (gives : T → Symbol → T → Type 0) (tap last 
     → Tells gives tap last (IsWire old (kinds_event change to kinds policy cuts) (Reply.Framed (record { served = served; answer = answer })) new)
 kinds_told gives tap last Enable old to kinds policy cuts served answer new told = told
 kinds_told gives tap last Disable old to kinds policy cuts served answer new told = told
-
--- enabling and disabling leave the records
-pub records_rekinds : (to : Option ℕ) (f : KindSet → KindSet) (answer : Answer) (lost : Lost) (mid done : State) → Rekinds to f answer lost mid done → done.records ≡ mid.records
-records_rekinds None f answer lost mid done h = ap (λ (st : State). st.records) h.1
-records_rekinds (Some a) f answer lost mid done h = elim h [
-  | inl k ↦ ap (λ (st : State). st.records) k.2
-  | inr k ↦ ap (λ (st : State). st.records) k.2
-]

@@ -3,9 +3,9 @@ use Rattle.std.proofs.Common.{◌≡◌, ℕ, List, Option, Result, Ok, Err, OnO
 use Rattle.std.specs.Prelude.{slice_set}
 use Rattle.i3c_base.specs.State.{Device, State, device_at}
 use Rattle.i3c_device.specs.Raising.{wishing_join}
-use Rattle.i3c_hotjoin.specs.declared.wishes.JoinRefusal.{JoinRefusal}
-use Rattle.i3c_bus.specs.Sound.{IsSound}
-use Rattle.i3c_bus.proofs.Soundness.{sound_wishes}
+use Rattle.i3c_base.specs.declared.refusals.JoinRefusal.{JoinRefusal}
+use Rattle.i3c_step.specs.Sound.{IsSound}
+use Rattle.i3c_step.proofs.Soundness.{sound_wishes}
 
 pub sound_asked : (result : Result (Unit {0}) JoinRefusal) (s : ℕ) (devices : List (Option Device)) (st : State)
     → OnOk result (devices ≡ slice_set st.devices s (option_map wishing_join (device_at st s))) → OnErr result (devices ≡ st.devices) → IsSound st → IsSound (record st { devices = devices })

@@ -8,16 +8,16 @@ use Rattle.i3c_base.specs.Serve.{IsWordBits, Serves, emptied, header_bits, refus
 use Rattle.i3c_base.specs.State.{Held, State}
 use Rattle.i3c_frame.specs.declared.symbols.Symbol.{Symbol}
 use Rattle.i3c_frame.proofs.TapLaws.{NotesAll-append}
-use Rattle.i3c_bus.specs.declared.events.Event.{Event}
-use Rattle.i3c_bus.specs.declared.replies.Reply.{Reply}
+use Rattle.i3c_step.specs.declared.events.Event.{Event}
+use Rattle.i3c_step.specs.declared.replies.Reply.{Reply}
 use Rattle.i3c_bus.specs.declared.tokens.Hand.{Hand}
 use Rattle.i3c_bus.specs.Calls.{Carries}
 use Rattle.i3c_bus.specs.Hands.{HandFits}
-use Rattle.i3c_bus.specs.Serving.{place_of}
-use Rattle.i3c_bus.specs.Step.{cuts_active}
+use Rattle.i3c_step.specs.Serving.{place_of}
+use Rattle.i3c_step.specs.Step.{cuts_active}
 use Rattle.i3c_frame.specs.Taps.{Tells}
 use Rattle.i3c_bus.specs.Wire.{IsBegun, IsFrameWire, IsOn, IsOpenWire}
-use Rattle.i3c_bus.proofs.Acting.{acting}
+use Rattle.i3c_step.proofs.Acting.{acting}
 use Rattle.i3c_bus.proofs.Framing.{frame_free}
 
 -- what told the beginning of a frame that recorded nothing doesn't depend on the state after it

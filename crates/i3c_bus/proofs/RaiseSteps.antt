@@ -7,23 +7,23 @@ use Rattle.i3c_base.specs.Local.{raise}
 use Rattle.i3c_base.specs.Numbers.{can_interrupt, has_byte, same_bool}
 use Rattle.i3c_base.specs.State.{Device, State, device_at, in_slot, raised_at}
 use Rattle.i3c_device.specs.Raising.{next_fault, or_uncounted, with_raise}
-use Rattle.i3c_device.specs.declared.faults.RaiseFault.{RaiseFault}
-use Rattle.i3c_bus.specs.declared.events.Event.{Event}
-use Rattle.i3c_bus.specs.declared.replies.Refusal.TheVariants.{NoDevice, IsActive, NoAddress, NotCapable, ByteMismatch, Masked, Full}
-use Rattle.i3c_bus.specs.declared.replies.Reply.{Reply}
-use Rattle.i3c_bus.specs.Replies.{of_device, raise_refusal}
-use Rattle.i3c_bus.specs.Sound.{IsSound, IsWhole}
-use Rattle.i3c_bus.specs.Step.{Checks, checks, first_refusal}
-use Rattle.i3c_bus.proofs.Acting.{acting}
-use Rattle.i3c_bus.proofs.Soundness.{sound_step}
+use Rattle.i3c_base.specs.declared.refusals.RaiseRefusal.{RaiseRefusal}
+use Rattle.i3c_step.specs.declared.events.Event.{Event}
+use Rattle.i3c_step.specs.declared.replies.Refusal.TheVariants.{NoDevice, IsActive, NoAddress, NotCapable, ByteMismatch, Masked, Full}
+use Rattle.i3c_step.specs.declared.replies.Reply.{Reply}
+use Rattle.i3c_step.specs.Replies.{raise_refusal}
+use Rattle.i3c_step.specs.Sound.{IsSound, IsWhole}
+use Rattle.i3c_step.specs.Step.{Checks, checks, first_refusal}
+use Rattle.i3c_step.proofs.Acting.{acting}
+use Rattle.i3c_step.proofs.Soundness.{sound_step}
 
 -- the device's tests in their order
 fault_table : (a b c e f : Bool) (raised : ℕ) → first_refusal ((a, NoAddress) ∷ (b, NotCapable) ∷ (c, ByteMismatch) ∷ (e, Masked) ∷ (f || nat_le (2 ^ 64 - 1) raised, Full) ∷ [])
-    ≡ option_map raise_refusal (option_map of_device (or_uncounted (if a then Some RaiseFault.NoAddress else
-    (if b then Some RaiseFault.NotCapable else
-    (if c then Some RaiseFault.ByteMismatch else
-    (if e then Some RaiseFault.Masked else
-    (if f then Some RaiseFault.Full else None))))) raised))
+    ≡ option_map raise_refusal (or_uncounted (if a then Some RaiseRefusal.NoAddress else
+    (if b then Some RaiseRefusal.NotCapable else
+    (if c then Some RaiseRefusal.ByteMismatch else
+    (if e then Some RaiseRefusal.Masked else
+    (if f then Some RaiseRefusal.Full else None))))) raised)
 fault_table true b c e f raised = refl
 fault_table false true c e f raised = refl
 fault_table false false true e f raised = refl
@@ -31,7 +31,7 @@ fault_table false false false true f raised = refl
 fault_table false false false false true raised = refl
 fault_table false false false false false raised = go (nat_le (2 ^ 64 - 1) raised)
   where
-    go : (g : Bool) → first_refusal ((g, Full) ∷ []) ≡ option_map raise_refusal (option_map of_device (if g then Some RaiseFault.Full else None))
+    go : (g : Bool) → first_refusal ((g, Full) ∷ []) ≡ option_map raise_refusal (if g then Some RaiseRefusal.Full else None)
     go true = refl
     go false = refl
 
@@ -42,7 +42,7 @@ raise_free st s byte d there other none =
     ap (λ (o : Option Device). first_refusal (table o (s == st.active))) there
     ∙ (ap (λ (b : Bool). first_refusal (table (Some d) b)) other
     ∙ (fault_table (is_none d.address) (not (can_interrupt d.identity.bcr)) (not (same_bool (has_byte d.identity.bcr) (is_some byte))) (not d.kinds.interrupt) (nat_le WAITING (length d.waiting)) (raised_at st s)
-    ∙ ap (λ (o : Option RaiseFault). option_map raise_refusal (option_map of_device o)) none))
+    ∙ ap (λ (o : Option RaiseRefusal). option_map raise_refusal o) none))
   where
     table : Option Device → Bool → Checks
     table o active =

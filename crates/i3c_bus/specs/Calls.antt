@@ -2,12 +2,12 @@
 use Rattle.i3c_base.specs.State.{Held}
 use Rattle.i3c_frame.specs.declared.symbols.Symbol.{Symbol}
 use Rattle.std.specs.Prelude.{List}
-use Rattle.i3c_bus.specs.declared.events.Event.{Event}
-use Rattle.i3c_bus.specs.declared.replies.Reply.{Reply}
+use Rattle.i3c_step.specs.declared.events.Event.{Event}
+use Rattle.i3c_step.specs.declared.replies.Reply.{Reply}
 use Rattle.i3c_bus.specs.declared.tokens.Hand.{Hand}
 use Rattle.i3c_bus.specs.Hands.{HandFits}
 use Rattle.i3c_bus.specs.Room.{KeepsRoom}
-use Rattle.i3c_bus.specs.Step.{Step}
+use Rattle.i3c_step.specs.Step.{Step}
 use Rattle.i3c_bus.specs.Wire.{IsWire}
 
 -- the event with this reply is carried out: it is a step, its wire was told, the hand fits afterwards, and room is kept

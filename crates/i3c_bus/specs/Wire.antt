@@ -20,10 +20,10 @@ use Rattle.i3c_events.specs.Telling.{IsKindsWire, IsWord}
 use Rattle.i3c_ibi.specs.Telling.{byte_word, request_header}
 use Rattle.i3c_frame.specs.declared.symbols.Symbol.{Symbol}
 use Rattle.i3c_frame.specs.declared.symbols.Symbol.TheVariants.{Start, Repeated, Stop, Header}
-use Rattle.i3c_bus.specs.declared.events.Event.{Event}
-use Rattle.i3c_bus.specs.declared.events.Event.TheVariants.{Enec, Disec}
-use Rattle.i3c_bus.specs.declared.replies.Reply.{Reply}
-use Rattle.i3c_bus.specs.Step.{cuts_in}
+use Rattle.i3c_step.specs.declared.events.Event.{Event}
+use Rattle.i3c_step.specs.declared.events.Event.TheVariants.{Enec, Disec}
+use Rattle.i3c_step.specs.declared.replies.Reply.{Reply}
+use Rattle.i3c_step.specs.Step.{cuts_in}
 
 -- whether some device other than the active controller, not lost by this bit, acknowledges a broadcast there
 abbrev pub IsAck : State → CutList → ℕ → Bool → Type 0

@@ -1,16 +1,15 @@
-use crate::events::{Command, Event};
 use crate::parts::Bus;
-use crate::replies::{ActiveStays, Refusal, Reply, SlotTaken};
 use crate::tokens::Hand;
 use i3c_base::{Cuts, Fixed};
 use i3c_frame::Tap;
+use i3c_step::{ActiveStays, Command, Event, Refusal, Reply, SlotTaken};
 
 impl Bus {
     ghost use Rattle.i3c_frame.specs.Taps.{Tells};
     ghost use Rattle.i3c_bus.specs.Calls.{Carries};
-    ghost use Rattle.i3c_bus.specs.Commands.{event_of};
+    ghost use Rattle.i3c_step.specs.Commands.{event_of};
     ghost use Rattle.i3c_bus.specs.Hands.{HandFits};
-    ghost use Rattle.i3c_bus.specs.declared.events.Event.{Event};
+    ghost use Rattle.i3c_step.specs.declared.events.Event.{Event};
 
     /// Carries out one event, or refuses it: a frame other than a round or an end while a session is open is
     /// `SessionOpen`, a round or end without one `NoSession`.

@@ -1,11 +1,9 @@
 ghost use Rattle.std.specs.Prelude.{◌≡◌, ◌<◌, None, length, vec_len, vec_capacity};
 ghost use Rattle.i3c_ibi.specs.Serving.{served_as};
 ghost use Rattle.i3c_bus.specs.Beginning.{kept_in};
-ghost use Rattle.i3c_bus.specs.Serving.{place_of};
+ghost use Rattle.i3c_step.specs.Serving.{place_of};
 
-use crate::events::Command;
 use crate::parts::Bus;
-use crate::replies::{FrameFault, Framed, OutOfMemory, Refusal, Reply, TargetFault};
 use crate::tokens::Hand;
 use i3c_base::{Addr7, Answer, Change, Cuts, Kinds, Record, Served};
 use i3c_events::{answer_of, hear_kinds, kinds_bits, tell_kinds};
@@ -15,6 +13,7 @@ use i3c_ibi::{
     Policy, Reading, first_request, serve, tell_broadcast, tell_reading, tell_repeated,
     tell_request,
 };
+use i3c_step::{Command, FrameFault, Framed, OutOfMemory, Refusal, Reply, TargetFault};
 
 /// The bits of a header.
 const HEADER_BITS: u16 = 9;
@@ -34,17 +33,18 @@ impl Bus {
     ghost use Rattle.i3c_events.specs.Telling.{IsKindsWire};
     ghost use Rattle.i3c_frame.specs.Taps.{Tells};
     ghost use Rattle.i3c_ibi.specs.Policies.{Decides};
-    ghost use Rattle.i3c_bus.specs.Asking.{Asks, given_by};
+    ghost use Rattle.i3c_bus.specs.Asking.{Asks};
+    ghost use Rattle.i3c_step.specs.Giving.{given_by};
     ghost use Rattle.i3c_bus.specs.Beginning.{Begins, IsWay, LeavesBy};
     ghost use Rattle.i3c_bus.specs.Calls.{Carries};
-    ghost use Rattle.i3c_bus.specs.Commands.{event_of, kinds_event};
+    ghost use Rattle.i3c_step.specs.Commands.{event_of, kinds_event};
     ghost use Rattle.i3c_bus.specs.Hands.{HandFits};
-    ghost use Rattle.i3c_bus.specs.Replies.{framed_reply, served_reply};
+    ghost use Rattle.i3c_step.specs.Replies.{framed_reply, served_reply};
     ghost use Rattle.i3c_bus.specs.Room.{IsUntouched};
-    ghost use Rattle.i3c_bus.specs.Serving.{place_of};
-    ghost use Rattle.i3c_bus.specs.Step.{cuts_active, is_no_target};
+    ghost use Rattle.i3c_step.specs.Serving.{place_of};
+    ghost use Rattle.i3c_step.specs.Step.{cuts_active, is_no_target};
     ghost use Rattle.i3c_bus.specs.Wire.{IsAnswered, IsBegun, IsOn};
-    ghost use Rattle.i3c_bus.specs.declared.events.Event.{Event};
+    ghost use Rattle.i3c_step.specs.declared.events.Event.{Event};
     ghost use Rattle.i3c_bus.specs.declared.tokens.Hand.{Hand};
 
     /// Serves the first request, and nothing else (I3C Basic 5.1.6.2): the policy decides on it, unless its address has

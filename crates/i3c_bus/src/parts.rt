@@ -1,14 +1,14 @@
 ghost use Rattle.std.specs.Prelude.{◌≡◌};
 
-use crate::replies::{DropRefusal, OutOfMemory, RaiseRefusal, SlotTaken, StartFault};
 use crate::tokens::Hand;
-use i3c_base::{Addr7, Record, SLOTS, Setup, Slot};
+use i3c_base::{Addr7, RaiseRefusal, Record, SLOTS, Setup, Slot};
 use i3c_device::{Device, Devices};
 use i3c_handoff::{Active, Role, retire};
 use i3c_hotjoin::{JoinRefusal, ask};
 use i3c_legacy::{LEGACIES, Legacies, LegacyTargets};
 use i3c_picker::pick;
 use i3c_table::{Row, Table};
+use i3c_step::{DropRefusal, OutOfMemory, SlotTaken, StartFault};
 use std::alloc::Global;
 use std::marker::Model;
 
@@ -54,7 +54,7 @@ impl Model for Bus {
     ghost use Rattle.std.specs.Prelude.{nat_lt, vec_len, vec_capacity};
     ghost use Rattle.i3c_base.specs.State.{Held};
     ghost use Rattle.i3c_bus.specs.Parts.{state_of};
-    ghost use Rattle.i3c_bus.specs.Sound.{IsWhole};
+    ghost use Rattle.i3c_step.specs.Sound.{IsWhole};
 
     ghost Value = { Held };
 
@@ -71,12 +71,12 @@ impl Bus {
     ghost use Rattle.i3c_base.specs.Numbers.{is_capable};
     ghost use Rattle.i3c_base.specs.Covered.{IsTable};
     ghost use Rattle.i3c_base.specs.State.{device_at, IsStart, legacy_targets_of};
-    ghost use Rattle.i3c_bus.specs.Step.{Step};
+    ghost use Rattle.i3c_step.specs.Step.{Step};
     ghost use Rattle.i3c_bus.specs.Hands.{HandFits};
     ghost use Rattle.i3c_bus.specs.Readings.{address_of, waiting_of};
     ghost use Rattle.i3c_bus.specs.Room.{StaysAround};
-    ghost use Rattle.i3c_bus.specs.Replies.{attached_reply, dropped_reply, joins_reply, raised_reply};
-    ghost use Rattle.i3c_bus.specs.declared.events.Event.{Event};
+    ghost use Rattle.i3c_step.specs.Replies.{attached_reply, dropped_reply, joins_reply, raised_reply};
+    ghost use Rattle.i3c_step.specs.declared.events.Event.{Event};
     ghost use Rattle.i3c_bus.specs.declared.tokens.Hand.{Hand};
 
     /// A bus with its main controller, in slot 0 at the least pickable address, beside these legacy targets.

@@ -1,16 +1,15 @@
 ghost use Rattle.std.specs.Prelude.{◌≡◌, ◌↔◌, false, IfOk, IsErrOf};
 ghost use Rattle.i3c_base.specs.Numbers.{is_capable};
 ghost use Rattle.i3c_base.specs.State.{HasDistinctIdentities, HasUniqueAnswers, IsPresent, legacy_targets_of};
-ghost use Rattle.i3c_bus.specs.Runs.{IsLegalRun};
+ghost use Rattle.i3c_step.specs.Runs.{IsLegalRun};
 ghost use Rattle.i3c_bus.specs.Hands.{HandFits};
 
-use crate::events::Event;
 use crate::parts::Bus;
-use crate::replies::{Reply, RunFault};
 use crate::tokens::Hand;
 use i3c_base::Setup;
 use i3c_frame::Silent;
 use i3c_legacy::Legacies;
+use i3c_step::{Event, Reply, RunFault};
 use std::alloc::Global;
 
 /// What a run of events led to: the bus, the role or session in hand, and a reply for each event.

@@ -1,12 +1,12 @@
 use crate::frames::Begun;
 use crate::parts::Bus;
-use crate::replies::ActiveStays;
 use crate::tokens::Session;
 use crate::wire::tell_open;
 use i3c_base::{Cuts, RoundReply, Served};
 use i3c_entdaa::{Round, round, tell_round};
 use i3c_frame::{Symbol, Tap};
 use i3c_handoff::Role;
+use i3c_step::ActiveStays;
 
 /// The bits of ENTDAA's code.
 const CODE_BITS: u16 = 9;
@@ -18,9 +18,9 @@ impl Bus {
     ghost use Rattle.i3c_entdaa.specs.Telling.{IsRoundWire};
     ghost use Rattle.i3c_frame.specs.Taps.{Tells};
     ghost use Rattle.i3c_bus.specs.Calls.{Carries};
-    ghost use Rattle.i3c_bus.specs.Hands.{HandFits};
-    ghost use Rattle.i3c_bus.specs.Replies.{opened_hand, opened_reply};
-    ghost use Rattle.i3c_bus.specs.declared.events.Event.{Event};
+    ghost use Rattle.i3c_bus.specs.Hands.{HandFits, opened_hand};
+    ghost use Rattle.i3c_step.specs.Replies.{opened_reply};
+    ghost use Rattle.i3c_step.specs.declared.events.Event.{Event};
     ghost use Rattle.i3c_bus.specs.declared.tokens.Hand.{Hand};
 
     /// Opens a session (ENTDAA, I3C Basic 5.1.4.2): each device without an address hears it. Requests are turned down.
@@ -82,10 +82,10 @@ impl Session {
     ghost use Rattle.std.specs.Prelude.{◌≡◌};
     ghost use Rattle.i3c_frame.specs.Taps.{Tells};
     ghost use Rattle.i3c_bus.specs.Calls.{Carries};
-    ghost use Rattle.i3c_bus.specs.Hands.{HandFits};
-    ghost use Rattle.i3c_bus.specs.Replies.{rounded_reply};
-    ghost use Rattle.i3c_bus.specs.declared.events.Event.{Event};
-    ghost use Rattle.i3c_bus.specs.declared.replies.Reply.{Reply};
+    ghost use Rattle.i3c_bus.specs.Hands.{HandFits, opened_hand};
+    ghost use Rattle.i3c_step.specs.Replies.{rounded_reply};
+    ghost use Rattle.i3c_step.specs.declared.events.Event.{Event};
+    ghost use Rattle.i3c_step.specs.declared.replies.Reply.{Reply};
     ghost use Rattle.i3c_bus.specs.declared.tokens.Hand.{Hand};
 
     /// One round: the least identity of those who hear gets its address (I3C Basic 5.1.4.2). Where the active controller

@@ -17,8 +17,8 @@ use Rattle.i3c_base.specs.Round.{opened}
 use Rattle.i3c_base.specs.Serve.{Frame, IsFirst, IsFirstRequest, IsFront, IsLowestDriver, IsRead, IsRecorded, IsWordBits, NoneAsks, Serves, byte_due, drives, each_driver, emptied, header_bits, recorded, refuse_all, verdict, without, without_front}
 use Rattle.i3c_base.specs.State.{Device, IsTargetAt, State, device_at, entry_at, has_address}
 use Rattle.i3c_base.proofs.Lookups.{each_at, each_from}
-use Rattle.i3c_bus.specs.Step.{Becomes}
-use Rattle.i3c_bus.proofs.Uniqueness.{accept≢refuse, first_unique}
+use Rattle.i3c_step.specs.Step.{Becomes}
+use Rattle.i3c_step.proofs.Uniqueness.{accept≢refuse, first_unique}
 use Rattle.i3c_model.specs.Meaning.{MayAnswer, is_meant}
 use Rattle.i3c_model.specs.Storing.{IsRecordDue}
 

@@ -10,7 +10,7 @@ use Rattle.i3c_base.specs.declared.device.Waiting.{Waiting}
 use Rattle.i3c_base.specs.Cutting.{Lost}
 use Rattle.i3c_base.specs.State.{Device, State, device_at, has_address, in_slot}
 use Rattle.i3c_base.specs.Serve.{DrivesByte, IsAnd, IsFront, IsRead, asks, drives, is_empty}
-use Rattle.i3c_bus.proofs.Uniqueness.{and_unique}
+use Rattle.i3c_step.proofs.Uniqueness.{and_unique}
 use Rattle.i3c_model.proofs.Requests.{drives_in}
 
 -- the bytes that the slots below n drive

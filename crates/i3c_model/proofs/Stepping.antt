@@ -8,15 +8,15 @@ use denote.Enum.Bare.{sameb}
 use Rattle.i3c_base.specs.Cutting.{Lost as LostDevices}
 use Rattle.i3c_base.specs.Round.{AllHearersLost, AnyHears, IsAddressFor, IsHearer}
 use Rattle.i3c_base.specs.State.{Device, State, IsKept, IsPick, IsPickable, IsUnknown, IsUsable, device_at, entry_at, legacy_target_at}
-use Rattle.i3c_bus.specs.declared.events.Event.{Event}
-use Rattle.i3c_bus.specs.declared.events.Event.TheVariants.{Attach, AskJoin, Disec, DropOff, EndDaa, Enec, OpenDaa, Raise, Round, Serve}
-use Rattle.i3c_bus.specs.declared.replies.Refusal.{Refusal}
-use Rattle.i3c_bus.specs.declared.replies.Refusal.TheVariants.{NoDevice}
-use Rattle.i3c_bus.specs.declared.replies.Reply.{Reply}
+use Rattle.i3c_step.specs.declared.events.Event.{Event}
+use Rattle.i3c_step.specs.declared.events.Event.TheVariants.{Attach, AskJoin, Disec, DropOff, EndDaa, Enec, OpenDaa, Raise, Round, Serve}
+use Rattle.i3c_step.specs.declared.replies.Refusal.{Refusal}
+use Rattle.i3c_step.specs.declared.replies.Refusal.TheVariants.{NoDevice}
+use Rattle.i3c_step.specs.declared.replies.Reply.{Reply}
 use Rattle.i3c_model.specs.contracts.plain.Choice.{the_type}
 use Rattle.i3c_model.specs.declared.plain.Choice.{Choice}
 use Rattle.i3c_model.specs.declared.plain.Choice.TheVariants.{Heard, Lost, Silent}
-use Rattle.i3c_bus.specs.Step.{Acts, IsShort, Step, checks, first_refusal}
+use Rattle.i3c_step.specs.Step.{Acts, IsShort, Step, checks, first_refusal}
 
 -- an event that no test refuses acts, and one that a test refuses changes nothing
 pub acts_there : (old : State) (event : Event) (reply : Reply) (new : State) → first_refusal (checks old event) ≡ None → Acts old event reply new → Step old event reply new

@@ -16,11 +16,11 @@ use Rattle.i3c_base.specs.Numbers.{KindSet}
 use Rattle.i3c_base.specs.Round.{AllHearersLost, AnyHears, IsBeatenByLost, Rounds}
 use Rattle.i3c_base.specs.Serve.{Frame, IsWordBits, Serves, byte_due, header_bits}
 use Rattle.i3c_base.specs.State.{Device, IsTargetAt, State, entry_at}
-use Rattle.i3c_bus.specs.declared.events.Event.{Event}
-use Rattle.i3c_bus.specs.declared.replies.Framed.{Framed}
-use Rattle.i3c_bus.specs.declared.replies.Reply.{Reply}
-use Rattle.i3c_bus.specs.Step.{Acts, IsShort, Nothing, RekindsBy, Step, checks, first_refusal}
-use Rattle.i3c_bus.proofs.Uniqueness.{first_unique}
+use Rattle.i3c_step.specs.declared.events.Event.{Event}
+use Rattle.i3c_step.specs.declared.replies.Framed.{Framed}
+use Rattle.i3c_step.specs.declared.replies.Reply.{Reply}
+use Rattle.i3c_step.specs.Step.{Acts, IsShort, Nothing, RekindsBy, Step, checks, first_refusal}
+use Rattle.i3c_step.proofs.Uniqueness.{first_unique}
 use Rattle.i3c_model.specs.declared.plain.Choice.{Choice}
 use Rattle.i3c_model.specs.declared.plain.Choice.TheVariants.{Heard, Lost, Silent}
 use Rattle.i3c_model.specs.Choosing.{AnswersAsChosen, Follows, IsTaken, MayStandFor, Question, ServesAsChosen, of_answer, of_own_part, of_request, of_round, of_served, order, stands_for}

@@ -9,8 +9,8 @@ use Rattle.i3c_base.specs.Frames.{AllLostAt, AnyAt}
 use Rattle.i3c_base.specs.Round.{AllHearersLost, IsBeatenByLost}
 use Rattle.i3c_base.specs.Serve.{Serves}
 use Rattle.i3c_base.specs.State.{State}
-use Rattle.i3c_bus.specs.declared.replies.Reply.{Reply}
-use Rattle.i3c_bus.specs.Serving.{served_of}
+use Rattle.i3c_step.specs.declared.replies.Reply.{Reply}
+use Rattle.i3c_step.specs.Serving.{served_of}
 use Rattle.i3c_model.specs.declared.plain.Choice.{Choice}
 use Rattle.i3c_model.specs.declared.plain.Choice.TheVariants.{Heard, Lost, Silent}
 

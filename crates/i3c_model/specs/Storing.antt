@@ -8,9 +8,9 @@ use Rattle.i3c_base.specs.Cutting.{CutList, lost_by}
 use Rattle.i3c_base.specs.Round.{AnyPickable, IsWinner}
 use Rattle.i3c_base.specs.Serve.{IsFirst, verdict}
 use Rattle.i3c_base.specs.State.{State}
-use Rattle.i3c_bus.specs.declared.events.Event.{Event}
-use Rattle.i3c_bus.specs.declared.events.Event.TheVariants.{Attach, DropOff, Raise, AskJoin, Serve, Enec, Disec, OpenDaa, Round, EndDaa}
-use Rattle.i3c_bus.specs.Step.{checks, first_refusal}
+use Rattle.i3c_step.specs.declared.events.Event.{Event}
+use Rattle.i3c_step.specs.declared.events.Event.TheVariants.{Attach, DropOff, Raise, AskJoin, Serve, Enec, Disec, OpenDaa, Round, EndDaa}
+use Rattle.i3c_step.specs.Step.{checks, first_refusal}
 
 -- an interrupt comes first and is accepted, so a record may be due
 abbrev pub IsRecordDue : State → Fixed → Type 0

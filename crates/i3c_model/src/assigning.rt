@@ -10,9 +10,9 @@ impl Plain {
     ghost use Rattle.i3c_base.specs.Round.{AllHearersLost, AnyHears, IsBeatenByLost, IsWinner, Rounds, assigned, ended, opened};
     ghost use Rattle.i3c_base.specs.Serve.{Frame, header_bits, refuse_all};
     ghost use Rattle.i3c_base.specs.State.{IsKept, IsPick, IsPickable, IsUnknown};
-    ghost use Rattle.i3c_bus.specs.Step.{Acts, Becomes};
-    ghost use Rattle.i3c_bus.specs.declared.events.Event.{Event};
-    ghost use Rattle.i3c_bus.specs.declared.replies.Reply.{Reply};
+    ghost use Rattle.i3c_step.specs.Step.{Acts, Becomes};
+    ghost use Rattle.i3c_step.specs.declared.events.Event.{Event};
+    ghost use Rattle.i3c_step.specs.declared.replies.Reply.{Reply};
     ghost use Rattle.i3c_model.specs.declared.plain.Choice.{Choice as ChoiceValue};
     ghost use Rattle.i3c_model.specs.Choosing.{Follows};
     ghost use Rattle.i3c_model.specs.Meaning.{IsLeastHearer, NoHearer};

@@ -11,8 +11,8 @@ impl Plain {
     ghost use Rattle.i3c_base.specs.Cutting.{lost_by};
     ghost use Rattle.i3c_base.specs.Frames.{AnyAt, Rekinds, SomeLeftAt, changed_kinds, kinds_bits, rekinded};
     ghost use Rattle.i3c_base.specs.Serve.{Frame, header_bits};
-    ghost use Rattle.i3c_bus.specs.Step.{RekindsBy};
-    ghost use Rattle.i3c_bus.specs.declared.replies.Reply.{Reply};
+    ghost use Rattle.i3c_step.specs.Step.{RekindsBy};
+    ghost use Rattle.i3c_step.specs.declared.replies.Reply.{Reply};
     ghost use Rattle.i3c_model.specs.Choosing.{AnswersAsChosen, Follows};
     ghost use Rattle.i3c_model.specs.Meaning.{MayAnswer};
     ghost use Rattle.i3c_model.specs.Storing.{IsRecordDue};

@@ -7,8 +7,8 @@ impl Plain {
     ghost use Rattle.std.specs.Prelude.{◌≡◌, suc, IfOk, None, OnErr, OnOk};
     ghost use Rattle.i3c_base.specs.Local.{ask_join, attach, drop_off, raise};
     ghost use Rattle.i3c_base.specs.State.{raised_at};
-    ghost use Rattle.i3c_bus.specs.Step.{checks, first_refusal};
-    ghost use Rattle.i3c_bus.specs.declared.events.Event.{Event};
+    ghost use Rattle.i3c_step.specs.Step.{checks, first_refusal};
+    ghost use Rattle.i3c_step.specs.declared.events.Event.{Event};
 
     // A device enters a slot, without an address.
     pub(crate) fn attach(&mut self, slot: Slot, setup: &Setup) -> Result<(), OutOfMemory>

@@ -54,8 +54,8 @@ impl Plain {
     ghost use Rattle.std.specs.Prelude.{◌≡◌, ◌≢◌, ◌↔◌, IfOk, IsTrue, None, OnErr, length, is_some, option_and_then, option_map};
     ghost use Rattle.i3c_base.specs.declared.range.TheConstants.{SLOTS as SLOT_COUNT};
     ghost use Rattle.i3c_base.specs.State.{device_at, entry_at, IsPresent};
-    ghost use Rattle.i3c_bus.specs.Step.{Acts, Step, checks, first_refusal};
-    ghost use Rattle.i3c_bus.specs.declared.replies.Reply.{Reply};
+    ghost use Rattle.i3c_step.specs.Step.{Acts, Step, checks, first_refusal};
+    ghost use Rattle.i3c_step.specs.declared.replies.Reply.{Reply};
     ghost use Rattle.i3c_model.specs.Choosing.{Follows};
     ghost use Rattle.i3c_model.specs.Storing.{MayStore, Stores};
 

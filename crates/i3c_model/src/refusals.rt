@@ -5,8 +5,8 @@ use i3c_bus::{Event, Refusal};
 impl Plain {
     ghost use Rattle.std.specs.Prelude.{◌≡◌, ◌++◌};
     ghost use Rattle.i3c_base.specs.declared.device.Setup.{Setup};
-    ghost use Rattle.i3c_bus.specs.Step.{checks, first_refusal, frame_checks, is_no_target, target_checks};
-    ghost use Rattle.i3c_bus.specs.declared.events.Event.{Event as EventValue};
+    ghost use Rattle.i3c_step.specs.Step.{checks, first_refusal, frame_checks, is_no_target, target_checks};
+    ghost use Rattle.i3c_step.specs.declared.events.Event.{Event as EventValue};
 
     // Why an event is refused, if it is.
     pub(crate) fn refusal(&self, event: &Event) -> Option<Refusal>

@@ -11,9 +11,9 @@ impl Plain {
     ghost use Rattle.i3c_base.specs.Cutting.{Lost, lost_by};
     ghost use Rattle.i3c_base.specs.Serve.{Frame, IsFirst, IsWordBits, Serves, byte_due, each_driver, emptied, header_bits, recorded, verdict, without};
     ghost use Rattle.i3c_base.specs.State.{State, entry_at};
-    ghost use Rattle.i3c_bus.specs.Step.{Acts, Nothing};
-    ghost use Rattle.i3c_bus.specs.declared.events.Event.{Event};
-    ghost use Rattle.i3c_bus.specs.declared.replies.Reply.{Reply};
+    ghost use Rattle.i3c_step.specs.Step.{Acts, Nothing};
+    ghost use Rattle.i3c_step.specs.declared.events.Event.{Event};
+    ghost use Rattle.i3c_step.specs.declared.replies.Reply.{Reply};
     ghost use Rattle.i3c_model.specs.Choosing.{Follows, ServesAsChosen};
     ghost use Rattle.i3c_model.specs.Storing.{IsRecordDue};
 

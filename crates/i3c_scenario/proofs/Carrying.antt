@@ -3,9 +3,9 @@ use Rattle.std.proofs.Common.{◌≡◌, List, ◌∷◌, Result, Ok, Err, inl, 
 use Rattle.std.specs.Result.{MatchResult}
 use Rattle.i3c_base.specs.Cutting.{no_cuts}
 use Rattle.i3c_base.specs.State.{State}
-use Rattle.i3c_bus.specs.declared.events.Event.{Event}
-use Rattle.i3c_bus.specs.declared.replies.Reply.{Reply}
-use Rattle.i3c_bus.specs.Step.{Step}
+use Rattle.i3c_step.specs.declared.events.Event.{Event}
+use Rattle.i3c_step.specs.declared.replies.Reply.{Reply}
+use Rattle.i3c_step.specs.Step.{Step}
 use Rattle.i3c_scenario.specs.declared.command.Wish.{Wish}
 use Rattle.i3c_scenario.specs.declared.faults.Refusal.{Refusal}
 use Rattle.i3c_scenario.specs.declared.faults.Stop.{Stop}

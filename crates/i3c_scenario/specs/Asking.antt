@@ -5,9 +5,9 @@ use Rattle.i3c_base.specs.declared.range.TheConstants.{SLOTS}
 use Rattle.i3c_base.specs.declared.requests.Fixed.{Fixed}
 use Rattle.i3c_base.specs.Cutting.{CutList, cut_of, earlier, no_cuts}
 use Rattle.i3c_base.specs.State.{State, IsPresent, device_at}
-use Rattle.i3c_bus.specs.declared.events.Event.{Event}
-use Rattle.i3c_bus.specs.declared.replies.Reply.{Reply}
-use Rattle.i3c_bus.specs.Step.{Step}
+use Rattle.i3c_step.specs.declared.events.Event.{Event}
+use Rattle.i3c_step.specs.declared.replies.Reply.{Reply}
+use Rattle.i3c_step.specs.Step.{Step}
 use Rattle.i3c_scenario.specs.declared.command.Command.{Command}
 use Rattle.i3c_scenario.specs.declared.command.Wish.{Wish}
 use Rattle.i3c_scenario.specs.declared.faults.Refusal.{Refusal}

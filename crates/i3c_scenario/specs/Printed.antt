@@ -4,8 +4,8 @@ use Rattle.std.specs.Fmt.{decimal, option_append}
 use Rattle.i3c_base.specs.declared.answers.Answer.{Answer}
 use Rattle.i3c_base.specs.declared.answers.RoundReply.{RoundReply}
 use Rattle.i3c_base.specs.declared.requests.Served.{Served}
-use Rattle.i3c_bus.specs.declared.replies.Framed.{Framed}
-use Rattle.i3c_bus.specs.declared.replies.Reply.{Reply}
+use Rattle.i3c_step.specs.declared.replies.Framed.{Framed}
+use Rattle.i3c_step.specs.declared.replies.Reply.{Reply}
 use Rattle.i3c_scenario.specs.declared.faults.Refusal.{Refusal}
 use Rattle.i3c_scenario.specs.declared.faults.Stop.{Stop}
 use Rattle.i3c_scenario.specs.declared.telling.Origin.{Origin}

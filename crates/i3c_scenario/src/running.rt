@@ -45,9 +45,9 @@ impl Running {
     ghost use Rattle.i3c_base.specs.Cutting.{no_cuts};
     ghost use Rattle.i3c_base.specs.State.{IsStart, legacy_targets_of};
     ghost use Rattle.i3c_base.specs.declared.requests.Verdict.TheVariants.{Accept};
-    ghost use Rattle.i3c_bus.specs.Step.{Step};
+    ghost use Rattle.i3c_step.specs.Step.{Step};
     ghost use Rattle.i3c_scenario.specs.Asking.{AsksForNone, Asked, Assigns, Carries, CarriesOrNot, Moves, Rounds, comes_to, cut_named, cuts_after, cuts_left, device_named};
-    ghost use Rattle.i3c_bus.specs.declared.replies.Reply.{Reply as ReplyValue};
+    ghost use Rattle.i3c_step.specs.declared.replies.Reply.{Reply as ReplyValue};
     ghost use Rattle.i3c_scenario.specs.Naming.{place_named};
     ghost use Rattle.i3c_scenario.specs.Policies.{each_kind};
 

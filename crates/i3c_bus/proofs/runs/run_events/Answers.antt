@@ -1,8 +1,8 @@
 -- Each event adds a step, and the laws hold of every legal run.
 use Rattle.std.proofs.lemmas.List.{take_more}
-use Rattle.i3c_bus.proofs.Active.{active_along}
-use Rattle.i3c_bus.proofs.Answering.{unique_along}
-use Rattle.i3c_bus.proofs.RunLaws.{legal_more, legal_none}
+use Rattle.i3c_step.proofs.Active.{active_along}
+use Rattle.i3c_step.proofs.Answering.{unique_along}
+use Rattle.i3c_step.proofs.RunLaws.{legal_more, legal_none}
 use Rattle.i3c_bus.proofs.runs.run_events.Goals as goal
 
 pub loop-event-init : goal.loop-event-init

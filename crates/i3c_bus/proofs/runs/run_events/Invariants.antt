@@ -1,6 +1,6 @@
 use Rattle.std.proofs.Common.{take}
 use Rattle.i3c_base.specs.State.{legacy_targets_of}
-use Rattle.i3c_bus.specs.Runs.{IsLegalRun}
+use Rattle.i3c_step.specs.Runs.{IsLegalRun}
 use Rattle.i3c_bus.specs.Hands.{HandFits}
 use Rattle.i3c_bus.proofs.runs.run_events.Given as goal
 

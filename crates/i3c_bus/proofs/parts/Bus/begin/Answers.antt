@@ -13,7 +13,7 @@ use Rattle.i3c_bus.specs.Wire.{IsBegun}
 use Rattle.i3c_bus.proofs.Beginning.{begins_by, begun_by, fits_table}
 use Rattle.i3c_bus.proofs.Heard.{is_ack}
 use Rattle.i3c_bus.proofs.Seen.{seen}
-use Rattle.i3c_bus.proofs.Soundness.{sound_serves}
+use Rattle.i3c_step.proofs.Soundness.{sound_serves}
 use Rattle.i3c_bus.proofs.parts.Bus.begin.Goals as goal
 
 pub invariant_of-self : goal.invariant_of-self

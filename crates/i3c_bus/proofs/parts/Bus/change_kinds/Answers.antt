@@ -9,13 +9,13 @@ use Rattle.i3c_base.specs.Serve.{given_for, header_bits}
 use Rattle.i3c_base.specs.State.{State}
 use Rattle.i3c_bus.specs.declared.tokens.Hand.{Hand}
 use Rattle.i3c_bus.specs.Beginning.{LeavesBy}
-use Rattle.i3c_bus.specs.Step.{is_no_target}
+use Rattle.i3c_step.specs.Step.{is_no_target}
 use Rattle.i3c_frame.specs.Taps.{Tells}
 use Rattle.i3c_events.specs.Telling.{IsKindsWire}
-use Rattle.i3c_bus.proofs.Framing.{fits_left, frame_by, kinds_step, kinds_told, records_rekinds, target_free, tells_frame}
+use Rattle.i3c_bus.proofs.Framing.{fits_left, frame_by, kinds_step, kinds_told, target_free, tells_frame}
 use Rattle.i3c_bus.specs.Wire.{IsAnswered, IsKindsPart}
 use Rattle.i3c_bus.proofs.Heard.{answered_before}
-use Rattle.i3c_bus.proofs.Slots.{Stands-rekinds}
+use Rattle.i3c_step.proofs.Slots.{Stands-rekinds, records_rekinds}
 use Rattle.i3c_bus.proofs.parts.Bus.change_kinds.Goals as goal
 use Rattle.i3c_bus.proofs.parts.Bus.change_kinds.Goals.{in-Some+else-is_no_target, in_default}
 

@@ -9,7 +9,7 @@ use Rattle.i3c_events.specs.Hearing.{answer_of}
 use Rattle.i3c_bus.specs.Wire.{IsAnswered}
 use Rattle.i3c_bus.proofs.Heard.{answered_by}
 use Rattle.i3c_bus.proofs.Seen.{seen}
-use Rattle.i3c_bus.proofs.Soundness.{sound_rekinds}
+use Rattle.i3c_step.proofs.Soundness.{sound_rekinds}
 use Rattle.i3c_bus.proofs.parts.Bus.command_kinds.Goals as goal
 
 pub invariant_of-self : goal.invariant_of-self

@@ -6,7 +6,7 @@ use Rattle.i3c_base.specs.declared.range.TheConstants.{SLOTS}
 use Rattle.i3c_base.specs.Round.{winner}
 use Rattle.i3c_base.specs.State.{entry_of, legacy_targets_of, IsPickIn, IsPickableIn, IsStart, no_entries}
 use Rattle.i3c_bus.specs.Parts.{state_of}
-use Rattle.i3c_bus.proofs.Soundness.{sound_start}
+use Rattle.i3c_step.proofs.Soundness.{sound_start}
 use Rattle.i3c_bus.proofs.Starting.{lvrs_kept, some_free, start_seen, zeros}
 use Rattle.i3c_bus.proofs.parts.Bus.new.Goals as goal
 

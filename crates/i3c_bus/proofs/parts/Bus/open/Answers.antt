@@ -2,8 +2,8 @@
 use Rattle.std.proofs.Common.{List, Option, subst, sym, true}
 use Rattle.i3c_base.specs.State.{Device}
 use Rattle.i3c_bus.specs.Parts.{state_of}
-use Rattle.i3c_bus.specs.Sound.{IsSound}
-use Rattle.i3c_bus.proofs.Soundness.{sound_opened}
+use Rattle.i3c_step.specs.Sound.{IsSound}
+use Rattle.i3c_step.proofs.Soundness.{sound_opened}
 use Rattle.i3c_bus.proofs.parts.Bus.open.Goals as goal
 
 pub invariant_of-self : goal.invariant_of-self

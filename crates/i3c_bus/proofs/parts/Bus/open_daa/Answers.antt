@@ -3,8 +3,8 @@ use Rattle.std.proofs.Common.{sym, subst, ◌∙◌}
 use Rattle.i3c_base.specs.declared.requests.Served.{Served}
 use Rattle.i3c_bus.specs.Calls.{Carries}
 use Rattle.i3c_frame.specs.Taps.{Tells}
-use Rattle.i3c_bus.specs.declared.events.Event.{Event}
-use Rattle.i3c_bus.specs.declared.replies.Reply.{Reply}
+use Rattle.i3c_step.specs.declared.events.Event.{Event}
+use Rattle.i3c_step.specs.declared.replies.Reply.{Reply}
 use Rattle.i3c_bus.specs.declared.tokens.Hand.{Hand}
 use Rattle.i3c_bus.proofs.Opening.{opening_carried}
 use Rattle.i3c_bus.proofs.parts.Bus.open_daa.Goals as goal

@@ -4,7 +4,7 @@ use Rattle.i3c_base.specs.Round.{Rounds}
 use Rattle.i3c_base.specs.State.{Held, State}
 use Rattle.i3c_entdaa.specs.Rounds.{IsAcknowledged, IsRead, reply_of}
 use Rattle.i3c_bus.specs.Parts.{state_of}
-use Rattle.i3c_bus.proofs.Soundness.{sound_round}
+use Rattle.i3c_step.proofs.Soundness.{sound_round}
 use Rattle.i3c_bus.proofs.parts.Bus.round.Goals as goal
 
 pub invariant_of-self : goal.invariant_of-self

@@ -3,14 +3,14 @@ use Rattle.std.proofs.Common.{◌∙◌, ℕ, ap, refl, subst, sym, arith}
 use Rattle.i3c_base.specs.declared.requests.Served.{Served}
 use Rattle.i3c_base.specs.State.{State}
 use Rattle.i3c_base.specs.Serve.{given_for}
-use Rattle.i3c_bus.specs.declared.events.Event.{Event}
-use Rattle.i3c_bus.specs.declared.replies.Reply.{Reply}
+use Rattle.i3c_step.specs.declared.events.Event.{Event}
+use Rattle.i3c_step.specs.declared.replies.Reply.{Reply}
 use Rattle.i3c_bus.specs.declared.tokens.Hand.{Hand}
 use Rattle.i3c_bus.specs.Beginning.{Begins, LeavesBy}
-use Rattle.i3c_bus.specs.Step.{Nothing}
+use Rattle.i3c_step.specs.Step.{Nothing}
 use Rattle.i3c_frame.specs.Taps.{Tells}
 use Rattle.i3c_bus.specs.Wire.{IsBegun}
-use Rattle.i3c_bus.proofs.Acting.{acting}
+use Rattle.i3c_step.proofs.Acting.{acting}
 use Rattle.i3c_bus.proofs.Framing.{fits_left, frame_by, frame_free, stands_still, tells_serve}
 use Rattle.i3c_bus.proofs.parts.Bus.serve.Goals as goal
 

@@ -1,5 +1,5 @@
 use Rattle.std.proofs.Common.{refl, arith}
-use Rattle.i3c_bus.specs.Step.{Nothing}
+use Rattle.i3c_step.specs.Step.{Nothing}
 use Rattle.i3c_base.specs.Cutting.{lost_by}
 use Rattle.i3c_base.specs.Serve.{Frame}
 use Rattle.i3c_model.proofs.Framing.{frame_of}

@@ -1,6 +1,6 @@
 use Rattle.std.proofs.Common.{◌≡◌, List}
 use Rattle.i3c_base.specs.Cutting.{no_cuts}
-use Rattle.i3c_bus.specs.declared.replies.Reply.{Reply}
+use Rattle.i3c_step.specs.declared.replies.Reply.{Reply}
 use Rattle.i3c_scenario.specs.Asking.{Rounds}
 use Rattle.i3c_scenario.proofs.running.Running.rounds.Given as goal
 

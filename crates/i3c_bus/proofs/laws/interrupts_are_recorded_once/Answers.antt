@@ -1,6 +1,0 @@
--- By induction over the history.
-use Rattle.i3c_bus.proofs.Recording.{faithful_records}
-use Rattle.i3c_bus.proofs.laws.interrupts_are_recorded_once.Goals as goal
-
-pub returns : goal.returns
-returns c main legacy start h begins legal distinct = faithful_records main legacy start h begins legal distinct

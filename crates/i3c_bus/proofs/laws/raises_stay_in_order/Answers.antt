@@ -1,6 +1,0 @@
--- By induction over the history.
-use Rattle.i3c_bus.proofs.StayOrder.{stays_in_order}
-use Rattle.i3c_bus.proofs.laws.raises_stay_in_order.Goals as goal
-
-pub returns : goal.returns
-returns c main legacy start h begins legal distinct s d p = stays_in_order main legacy start h begins legal distinct s d p

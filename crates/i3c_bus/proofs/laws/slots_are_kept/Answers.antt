@@ -1,6 +1,0 @@
--- No event does anything else.
-use Rattle.i3c_bus.proofs.SlotLaws.{slots_kept}
-use Rattle.i3c_bus.proofs.laws.slots_are_kept.Goals as goal
-
-pub returns : goal.returns
-returns c old event reply new h = slots_kept old event reply new h

@@ -1,0 +1,134 @@
+-- The active controller stays present.
+use Rattle.std.proofs.lemmas.Bool.{cond-false, eqb-false, ne_eqb}
+use Rattle.std.proofs.Common.{◌≡◌, ℕ, suc, ◌++◌, length, false, true, ◌∷◌, [], List, Option, Some, None, option_map, ◌==◌, ◌<◌, arith, if◌then◌else◌, inl, inr, sym, ap, ◌∙◌, subst}
+use Rattle.i3c_base.specs.declared.answers.Answer.{Answer}
+use Rattle.i3c_base.specs.declared.answers.RoundReply.{RoundReply}
+use Rattle.i3c_base.specs.declared.device.Setup.{Setup}
+use Rattle.i3c_base.specs.declared.device.LegacyTarget.{LegacyTarget}
+use Rattle.i3c_base.specs.declared.identity.Identity.{Identity}
+use Rattle.i3c_base.specs.declared.range.TheConstants.{SLOTS}
+use Rattle.i3c_base.specs.declared.requests.Fixed.{Fixed}
+use Rattle.i3c_base.specs.declared.requests.Request.{Request}
+use Rattle.i3c_base.specs.declared.requests.Served.{Served}
+use Rattle.i3c_base.specs.declared.requests.Served.TheVariants.{Quiet, Recorded, Refused, Torn, Joining, WantsRole}
+use Rattle.i3c_base.specs.Cutting.{CutList, Lost, lost_by}
+use Rattle.i3c_base.specs.Numbers.{KindSet}
+use Rattle.i3c_base.specs.State.{Device, State, IsPresent, IsStart, attached, change, device_at, each, no_devices, raised_at, unaddressed}
+use Rattle.i3c_base.specs.Serve.{Frame, Serves, drives, each_driver, emptied, without_front, without_join, without_role}
+use Rattle.i3c_base.specs.Frames.{Rekinds, reaches, rekinded}
+use Rattle.i3c_base.specs.Round.{Rounds, assigned, hears, opened, unhearing, winner, wins}
+use Rattle.i3c_base.proofs.Lookups.{change_at, drop_off_at, each_at, emptied_at, length-no_devices, set_at, set_in}
+use Rattle.i3c_step.specs.declared.events.Event.{Event}
+use Rattle.i3c_step.specs.declared.events.Event.TheVariants.{Attach, DropOff, Raise, AskJoin, Serve, Enec, Disec, OpenDaa, Round, EndDaa}
+use Rattle.i3c_step.specs.declared.replies.Reply.{Reply}
+use Rattle.i3c_step.specs.Runs.{IsLegalRun}
+use Rattle.i3c_step.proofs.Kept.{run_keeps}
+use Rattle.i3c_step.specs.Step.{Acts, Step, checks, first_refusal, target_checks}
+use Rattle.i3c_step.proofs.Steps.{active_left, no_test, step_cases}
+
+-- the active slot is occupied
+abbrev pub HasActive : State → Type 0
+HasActive st = IsPresent st st.active
+
+-- so it is, and the frame doesn't lose it
+record IsSafe (lost : Lost) (st : State) : Type 0 where
+  present : HasActive st
+  left : lost st.active ≡ false
+
+-- a present device stays, whatever changes in it
+Present-each : (f : ℕ → Device → Device) (st : State) (s : ℕ) → IsPresent st s → IsPresent (each f st) s
+Present-each f st s h = (f s h.0, each_at f st s ∙ ap (option_map (f s)) h.1)
+
+Present-change : (t : ℕ) (f : Device → Device) (st : State) (s : ℕ) → IsPresent st s → IsPresent (change t f st) s
+Present-change t f st s h = (_, change_at t f st s ∙ ap (option_map (λ d. if s == t then f d else d)) h.1)
+
+Present-driver : (r : Request) (f : Device → Device) (st : State) (s : ℕ) → IsPresent st s → IsPresent (each_driver r f st) s
+Present-driver r f st = Present-each (λ s d. if drives st r s then f d else d) st
+
+Present-rekinded : (to : Option ℕ) (f : KindSet → KindSet) (st : State) (s : ℕ) → IsPresent st s → IsPresent (rekinded to f st) s
+Present-rekinded to f st = Present-each (λ s d. if reaches st to s d then record d { kinds = f d.kinds } else d) st
+
+Present-assigned : (lost : Lost) (i : Identity) (a : ℕ) (st : State) (s : ℕ) → IsPresent st s → IsPresent (assigned lost i a st) s
+Present-assigned lost i a st = Present-each (λ s d. if wins lost i s d then winner a d else d) st
+
+Safe-same : (lost : Lost) (mid done : State) → done ≡ mid → IsSafe lost mid → IsSafe lost done
+Safe-same lost mid done e h = subst (IsSafe lost) (sym e) h
+
+Safe-driver : (lost : Lost) (r : Request) (f : Device → Device) (st : State) → IsSafe lost st → IsSafe lost (each_driver r f st)
+Safe-driver lost r f st h = record { present = Present-driver r f st _ h.present; left = h.left }
+
+-- serving keeps each device
+Safe-serves : (st : State) (policy : Fixed) (lost : Lost) (served : Served) (new : State) → Serves st policy lost served new → IsSafe lost st → IsSafe lost new
+Safe-serves st policy lost Quiet new h p = Safe-same lost st new h.1 p
+Safe-serves st policy lost Refused new h p = Safe-same lost st new h.1 p
+Safe-serves st policy lost Joining new h p = Safe-same lost _ new h.2 (Safe-driver lost Request.Join without_join st p)
+Safe-serves st policy lost (WantsRole a) new h p = Safe-same lost _ new h.2 (Safe-driver lost (Request.Role a) without_role st p)
+Safe-serves st policy lost (Recorded place) new h p = subst (IsSafe lost) (sym h.left)
+    (let q = Safe-driver lost (Request.Interrupt h.at) without_front st p in record { present = q.present; left = q.left })
+Safe-serves st policy lost Torn new h p = Safe-same lost _ new h.left (Safe-driver lost (Request.Interrupt h.at) without_front st p)
+
+Active-emptied : (lost : Lost) (st : State) → IsSafe lost st → HasActive (emptied lost st)
+Active-emptied lost st h = (h.present.0, emptied_at lost st st.active ∙ (cond-false (lost st.active) None (device_at st st.active) h.left ∙ h.present.1))
+
+-- a frame that doesn't cut the active controller keeps it present
+Active-frame : (old : State) (policy : Fixed) (cuts : CutList) (served : Served) (rest : ℕ) (Own : Lost → State → State → Type 0) (new : State)
+    → ((lost : Lost) (mid done : State) → Own lost mid done → IsSafe lost mid → IsSafe lost done)
+    → Frame old policy cuts served rest Own new → ((last : ℕ) → lost_by cuts last old.active ≡ false) → HasActive old → HasActive new
+Active-frame old policy cuts served rest Own new own frame uncut h =
+    let mid : IsSafe _ frame.mid = Safe-serves old policy _ served frame.mid frame.serves (record { present = h; left = uncut _ }) in
+    subst HasActive (sym frame.left) (Active-emptied _ frame.done (own _ frame.mid frame.done frame.own mid))
+
+Safe-rekinded : (to : Option ℕ) (f : KindSet → KindSet) (lost : Lost) (st : State) → IsSafe lost st → IsSafe lost (rekinded to f st)
+Safe-rekinded to f lost st h = record { present = Present-rekinded to f st _ h.present; left = h.left }
+
+Safe-rekinds : (to : Option ℕ) (f : KindSet → KindSet) (answer : Answer) (lost : Lost) (mid done : State) → Rekinds to f answer lost mid done → IsSafe lost mid → IsSafe lost done
+Safe-rekinds None f answer lost mid done h p = Safe-same lost _ done h.1 (Safe-rekinded None f lost mid p)
+Safe-rekinds (Some a) f answer lost mid done h p = elim h [
+  | inl e ↦ Safe-same lost _ done e.2 (Safe-rekinded (Some a) f lost mid p)
+  | inr e ↦ Safe-same lost mid done e.2 p
+]
+
+Safe-opened : (lost : Lost) (mid done : State) → done ≡ opened mid → IsSafe lost mid → IsSafe lost done
+Safe-opened lost mid done e h = Safe-same lost (opened mid) done e (record { present = Present-each (λ s d. hears d) mid _ h.present; left = h.left })
+
+Active-round : (old : State) (cuts : CutList) (answer : RoundReply) (new : State) → Rounds old cuts answer new
+    → ((last : ℕ) → lost_by cuts last old.active ≡ false) → HasActive old → HasActive new
+Active-round old cuts RoundReply.NoAddress new h uncut p = subst HasActive (sym h.1) p
+Active-round old cuts RoundReply.Done new h uncut p = subst HasActive (sym h.2) (Active-emptied (lost_by cuts 0) old (record { present = p; left = uncut 0 }))
+Active-round old cuts RoundReply.Nobody new h uncut p = subst HasActive (sym h.3) (Active-emptied (lost_by cuts 73) old (record { present = p; left = uncut 73 }))
+Active-round old cuts (RoundReply.Assigned a i) new h uncut p = subst HasActive (sym h.3)
+    (Active-emptied (lost_by cuts 73) (assigned (lost_by cuts 73) i a old) (record { present = Present-assigned (lost_by cuts 73) i a old _ p; left = uncut 73 }))
+
+Active-acts : (old : State) (event : Event) (reply : Reply) (new : State) → first_refusal (checks old event) ≡ None → Acts old event reply new → HasActive old → HasActive new
+Active-acts old (Attach s setup) reply new free h p = subst HasActive (sym h.1)
+    (elim (set_at old.devices s old.active (Some (attached setup)) None) [ inl e ↦ (attached setup, e.1) | inr e ↦ (p.0, e ∙ p.1) ])
+Active-acts old (DropOff s) reply new free h p =
+    let other : (s == old.active) ≡ false = no_test 1 (checks old (DropOff s)) free in
+    subst HasActive (sym h.1) (p.0, drop_off_at s old old.active ∙ (cond-false (old.active == s) None (device_at old old.active) (ne_eqb old.active s (λ e. eqb-false s old.active other (sym e))) ∙ p.1))
+Active-acts old (AskJoin s) reply new free h p = subst HasActive (sym h.1) (Present-change s (λ d. record d { join_wish = true }) old _ p)
+Active-acts old (Raise s byte) reply new free h p = subst HasActive (sym h.1)
+    (Present-change s (λ d. record d { waiting = d.waiting ++ record { number = suc (raised_at old s); byte = byte } ∷ [] }) old _ p)
+Active-acts old (Serve policy cuts) reply new free h p = Active-frame old policy cuts _ _ _ new Safe-same h.2 (λ last. active_left old cuts _ _ _ [] last free) p
+Active-acts old (Enec to kinds policy cuts) reply new free h p =
+    Active-frame old policy cuts _ _ _ new (Safe-rekinds to _ _) h.2 (λ last. active_left old cuts _ _ _ (target_checks old to) last free) p
+Active-acts old (Disec to kinds policy cuts) reply new free h p =
+    Active-frame old policy cuts _ _ _ new (Safe-rekinds to _ _) h.2 (λ last. active_left old cuts _ _ _ (target_checks old to) last free) p
+Active-acts old (OpenDaa cuts) reply new free h p = Active-frame old _ cuts _ _ _ new Safe-opened h.2 (λ last. active_left old cuts _ _ _ [] last free) p
+Active-acts old (Round cuts) reply new free h p = Active-round old cuts h.0 new h.2 (λ last. active_left old cuts _ _ _ [] last free) p
+Active-acts old EndDaa reply new free h p = subst HasActive (sym h.1) (Present-each (λ s d. unhearing d) old _ p)
+
+-- each step keeps it
+pub Active-step : (old : State) (event : Event) (reply : Reply) (new : State) → Step old event reply new → HasActive old → HasActive new
+Active-step old event reply new h p = step_cases old event reply new h (λ idle e. subst HasActive (sym e) p) (λ free acts. Active-acts old event reply new free acts p)
+
+-- a start's active controller is the main one, in slot 0
+pub Active-start : (main : Setup) (legacy : List (Option LegacyTarget)) (start : State) → IsStart main legacy start → HasActive start
+Active-start main legacy start h = subst HasActive (sym h.2)
+    (Present-change 0 (λ (d : Device). record d { address = Some h.0 }) (unaddressed main legacy) 0 (attached main, set_in no_devices 0 0 (Some (attached main)) None low))
+  where
+    low : 0 < length no_devices
+    low = let n : length no_devices ≡ SLOTS = length-no_devices in omega arith
+
+-- so a device is in the active slot of each state that a legal run leads to
+pub active_along : (main : Setup) (legacy : List (Option LegacyTarget)) (events : List Event) (replies : List Reply) (new : State) → IsLegalRun main legacy events replies new → HasActive new
+active_along main legacy events replies new run = run_keeps HasActive Active-step run.0 events replies new run.2 (Active-start main legacy run.0 run.1)

@@ -1,0 +1,228 @@
+-- A session without cuts comes to its end.
+use Rattle.std.proofs.lemmas.Bool.{both_ways, cond-false, eq-eqb, false≢true}
+use Rattle.std.proofs.lemmas.List.Elements.{All-head, All-tail}
+use Rattle.std.proofs.lemmas.List.{length-set}
+use Rattle.std.proofs.lemmas.Option.{none-some}
+use Rattle.std.proofs.Common.{◌≡◌, ℕ, zero, suc, ◌+◌, ◌≤◌, ◌<◌, Bool, true, false, not, ◌&&◌, List, [], ◌∷◌, length, get_or, Option, Some, None, is_some, option_map, MatchOption, if◌then◌else◌, ◌⊎◌, inl, inr, sym, refl, ap, ◌∙◌, subst, arith}
+use Rattle.std.specs.List.{All, Contains}
+use Rattle.i3c_base.specs.declared.answers.RoundReply.{RoundReply}
+use Rattle.i3c_base.specs.declared.device.Setup.{Setup}
+use Rattle.i3c_base.specs.declared.device.LegacyTarget.{LegacyTarget}
+use Rattle.i3c_base.specs.declared.identity.Identity.{Identity}
+use Rattle.i3c_base.specs.declared.range.TheConstants.{SLOTS}
+use Rattle.i3c_base.specs.Cutting.{CutList, IsUncut, Lost, lost_by}
+use Rattle.i3c_base.specs.Numbers.{same_identity}
+use Rattle.i3c_base.specs.Round.{Rounds, assigned, winner, wins}
+use Rattle.i3c_base.specs.Serve.{emptied}
+use Rattle.i3c_base.specs.State.{Device, IsStart, State, attached, device_at, in_slot, no_devices}
+use Rattle.i3c_base.proofs.Lookups.{each_at, each_from, emptied_at, emptied_from, length-no_devices}
+use Rattle.i3c_step.specs.declared.events.Event.{Event}
+use Rattle.i3c_step.specs.declared.replies.Reply.{Reply}
+use Rattle.i3c_step.specs.declared.replies.Refusal.{Refusal}
+use Rattle.i3c_step.specs.Runs.{IsLegalRun, IsRun}
+use Rattle.i3c_step.specs.Sessions.{IsLastRound, IsUncutRound}
+use Rattle.i3c_step.specs.Step.{Acts, IsShort, Step, checks, cuts_active, first_refusal}
+use Rattle.i3c_step.proofs.Active.{Active-start, Active-step, HasActive}
+use Rattle.i3c_step.proofs.Addresses.{start_device}
+use Rattle.i3c_step.proofs.Follows.{Came-step, Follows-round, IsSettled}
+use Rattle.i3c_step.proofs.Kept.{run_keeps}
+use Rattle.i3c_step.proofs.Lost.{unlost}
+use Rattle.i3c_step.proofs.Recording.{Contains-first}
+use Rattle.i3c_step.proofs.SlotLaws.{slots_kept}
+use Rattle.i3c_step.proofs.StayLaws.{attached_free}
+
+-- whoever is in this slot hears the session
+abbrev hears_at : Option Device → Bool
+hears_at place = in_slot (λ d. d.hearing) place
+
+abbrev one_if : Bool → ℕ
+one_if b = if b then 1 else 0
+
+-- how many of these hear it
+hearers : List (Option Device) → ℕ
+hearers [] = 0
+hearers (place ∷ places) = one_if (hears_at place) + hearers places
+
+one_more : (a b : Bool) → (a ≡ true → b ≡ true) → one_if a ≤ one_if b
+one_more true b h = subst (λ c. 1 ≤ one_if c) (sym (h refl)) (omega arith)
+one_more false true h = omega arith
+one_more false false h = omega arith
+
+-- who hears afterwards heard before
+abbrev IsWithin : List (Option Device) → List (Option Device) → Type 0
+IsWithin xs ys = (k : ℕ) → hears_at (get_or xs k None) ≡ true → hears_at (get_or ys k None) ≡ true
+
+not_more : (xs ys : List (Option Device)) → length xs ≡ length ys → IsWithin xs ys → hearers xs ≤ hearers ys
+unfolding hearers
+not_more [] [] e h = omega arith
+not_more [] (y ∷ ys) e h = omega arith
+not_more (x ∷ xs) [] e h = absurd (omega (arith, e))
+not_more (x ∷ xs) (y ∷ ys) e h =
+    let first : one_if (hears_at x) ≤ one_if (hears_at y) = one_more (hears_at x) (hears_at y) (h 0) in
+    let rest : hearers xs ≤ hearers ys = not_more xs ys (omega (arith, e)) (λ k. h (suc k)) in
+    omega (arith, first, rest)
+
+-- and one who hears no more makes them fewer
+fewer : (xs ys : List (Option Device)) (j : ℕ) → length xs ≡ length ys → IsWithin xs ys → hears_at (get_or ys j None) ≡ true → hears_at (get_or xs j None) ≡ false → hearers xs < hearers ys
+unfolding hearers
+fewer [] [] j e h was is = absurd (both_ways _ refl was)
+fewer [] (y ∷ ys) j e h was is = absurd (omega (arith, e))
+fewer (x ∷ xs) [] j e h was is = absurd (omega (arith, e))
+fewer (x ∷ xs) (y ∷ ys) zero e h was is =
+    let none : one_if (hears_at x) ≡ 0 = ap one_if is in
+    let one : one_if (hears_at y) ≡ 1 = ap one_if was in
+    let rest : hearers xs ≤ hearers ys = not_more xs ys (omega (arith, e)) (λ k. h (suc k)) in
+    omega (arith, none, one, rest)
+fewer (x ∷ xs) (y ∷ ys) (suc j) e h was is =
+    let first : one_if (hears_at x) ≤ one_if (hears_at y) = one_more (hears_at x) (hears_at y) (h 0) in
+    let rest : hearers xs < hearers ys = fewer xs ys j (omega (arith, e)) (λ k. h (suc k)) was is in
+    omega (arith, first, rest)
+
+at_most_one : (b : Bool) → one_if b ≤ 1
+at_most_one true = omega arith
+at_most_one false = omega arith
+
+at_most : (xs : List (Option Device)) → hearers xs ≤ length xs
+unfolding hearers
+at_most [] = omega arith
+at_most (x ∷ xs) = omega (arith, at_most_one (hears_at x), at_most xs)
+
+-- where a device doesn't hear, not each place does
+not_all : (xs : List (Option Device)) (j : ℕ) (d : Device) → get_or xs j None ≡ Some d → d.hearing ≡ false → hearers xs < length xs
+unfolding hearers
+not_all [] j d p deaf = absurd (none-some d p)
+not_all (x ∷ xs) zero d p deaf =
+    let none : one_if (hears_at x) ≡ 0 = ap (λ place. one_if (hears_at place)) p ∙ ap one_if deaf in
+    omega (arith, none, at_most xs)
+not_all (x ∷ xs) (suc j) d p deaf = omega (arith, at_most_one (hears_at x), not_all xs j d p deaf)
+
+-- an identity is the same as itself
+itself : (i : Identity) → same_identity i i ≡ true
+itself i = λ k. eq-eqb i.pid i.pid refl k && (eq-eqb i.bcr.0 i.bcr.0 refl k && eq-eqb i.dcr.0 i.dcr.0 refl k)
+
+-- who hears after a round heard before
+within_assigned : (lost : Lost) (i : Identity) (a : ℕ) (old : State) → IsWithin (emptied lost (assigned lost i a old)).devices old.devices
+within_assigned lost i a old k h = go (device_at (emptied lost (assigned lost i a old)) k) refl h
+  where
+    one : (x d : Device) (b : Bool) → (if b then winner a x else x) ≡ d → d.hearing ≡ true → x.hearing ≡ true
+    one x d true e hears = absurd (both_ways _ refl (ap (λ (y : Device). y.hearing) e ∙ hears))
+    one x d false e hears = ap (λ (y : Device). y.hearing) e ∙ hears
+
+    go : (o : Option Device) → device_at (emptied lost (assigned lost i a old)) k ≡ o → hears_at o ≡ true → hears_at (device_at old k) ≡ true
+    go None e hears = absurd (false≢true hears)
+    go (Some d) e hears =
+        let left = emptied_from lost (assigned lost i a old) k d e in
+        let x = each_from (λ s y. if wins lost i s y then winner a y else y) old k d left.1 in
+        ap hears_at x.1 ∙ one x.0 d (wins lost i k x.0) x.2 hears
+
+-- the winner hears no more
+winner_deaf : (lost : Lost) (i : Identity) (a : ℕ) (old : State) (s : ℕ) (d : Device) → device_at old s ≡ Some d → d.hearing ≡ true → lost s ≡ false → d.identity ≡ i
+    → hears_at (device_at (emptied lost (assigned lost i a old)) s) ≡ false
+winner_deaf lost i a old s d there hears left same =
+    let won : wins lost i s d ≡ true = (λ k. hears k && (not (left k) && same_identity (same k) i)) ∙ itself i in
+    let at : device_at (emptied lost (assigned lost i a old)) s ≡ Some (winner a d) =
+    emptied_at lost (assigned lost i a old) s
+    ∙ (cond-false (lost s) None (device_at (assigned lost i a old) s) left
+    ∙ (each_at (λ t y. if wins lost i t y then winner a y else y) old s
+    ∙ (ap (option_map (λ (y : Device). if wins lost i s y then winner a y else y)) there ∙ ap (λ (b : Bool). Some (if b then winner a d else d)) won))) in
+    ap hears_at at
+
+-- the active controller has an address and hears no session
+abbrev ActiveSettled : State → Type 0
+ActiveSettled st = HasActive st × ((d : Device) → device_at st st.active ≡ Some d → IsSettled d)
+
+settled_step : (old : State) (event : Event) (reply : Reply) (new : State) → Step old event reply new → ActiveSettled old → ActiveSettled new
+settled_step old event reply new h inv =
+    let active : new.active ≡ old.active = (slots_kept old event reply new h).active in (
+      Active-step old event reply new h inv.0,
+      λ d p. elim ((Came-step old event reply new h).0 old.active d (ap (device_at new) (sym active) ∙ p)) [
+        | inl a ↦ absurd (none-some inv.0.0 (sym (attached_free old event reply new old.active h a) ∙ inv.0.1))
+        | inr x ↦ x.2 (inv.1 x.0 x.1)
+      ],
+    )
+
+settled_start : (main : Setup) (legacy : List (Option LegacyTarget)) (start : State) → IsStart main legacy start → ActiveSettled start
+settled_start main legacy start h = (
+  Active-start main legacy start h,
+  λ d p. let e = start_device main legacy h.0 start.active d (subst (λ (st : State). device_at st start.active ≡ Some d) h.2 p) in
+      subst IsSettled (sym e.1) (record { addressed = refl; deaf = refl }),
+)
+
+-- there are as many places for devices as slots
+abbrev IsSlotted : State → Type 0
+IsSlotted st = length st.devices ≡ SLOTS
+
+slotted_step : (old : State) (event : Event) (reply : Reply) (new : State) → Step old event reply new → IsSlotted old → IsSlotted new
+slotted_step old event reply new h e = (Came-step old event reply new h).1 ∙ e
+
+slotted_start : (main : Setup) (legacy : List (Option LegacyTarget)) (start : State) → IsStart main legacy start → IsSlotted start
+slotted_start main legacy start h = ap (λ (st : State). length st.devices) h.2 ∙ (length-set _ 0 _ ∙ (length-set no_devices 0 (Some (attached main)) ∙ length-no_devices))
+
+-- what a round without cuts answers, if it isn't the last
+record Goes (old : State) (reply : Reply) (new : State) : Type 0 where
+  less : hearers new.devices < hearers old.devices
+  session : new.in_session ≡ true
+
+lost_none : {P : Type 0} (cuts : CutList) → IsUncut cuts → (last s : ℕ) → lost_by cuts last s ≡ true → P
+lost_none cuts uncut last s h = absurd (both_ways _ (unlost cuts uncut last s) h)
+
+goes_on : (old : State) (cuts : CutList) (reply : Reply) (new : State) → IsUncut cuts → old.in_session ≡ true → (answer : RoundReply) → reply ≡ Reply.Round answer → Rounds old cuts answer new
+    → IsLastRound reply ⊎ Goes old reply new
+goes_on old cuts reply new uncut busy RoundReply.NoAddress e h = inl (inr e)
+goes_on old cuts reply new uncut busy RoundReply.Done e h = inl (inl e)
+goes_on old cuts reply new uncut busy RoundReply.Nobody e h = elim h.2 [
+  | inl lost ↦ lost_none cuts uncut 73 h.1.0 (lost h.1.0 h.1.1 h.1.2)
+  | inr beaten ↦ lost_none cuts uncut 73 beaten.0 beaten.3
+]
+goes_on old cuts reply new uncut busy (RoundReply.Assigned a i) e h =
+    let lost : Lost = lost_by cuts 73 in
+    let after : State = emptied lost (assigned lost i a old) in
+    let c = h.1.0 in
+    let long : length after.devices ≡ length old.devices = ap (λ (st : State). length st.devices) (sym h.3) ∙ (Follows-round old cuts (RoundReply.Assigned a i) new h).long in
+    let less : hearers after.devices < hearers old.devices =
+    fewer after.devices old.devices c.0 long (within_assigned lost i a old) (ap hears_at c.2.0 ∙ c.2.1) (winner_deaf lost i a old c.0 c.1 c.2.0 c.2.1 c.3 c.4) in
+    inr (record { less = subst (λ (st : State). hearers st.devices < hearers old.devices) (sym h.3) less; session = ap (λ (st : State). st.in_session) h.3 ∙ busy })
+
+-- an uncut round of a session isn't refused
+round_goes : (old : State) (cuts : CutList) (reply : Reply) (new : State) → IsUncut cuts → old.in_session ≡ true → Step old (Event.Round cuts) reply new → IsLastRound reply ⊎ Goes old reply new
+round_goes old cuts reply new uncut busy h = go (first_refusal (checks old (Event.Round cuts))) free h
+  where
+    free : first_refusal (checks old (Event.Round cuts)) ≡ None
+    free = ap (λ b. first_refusal ((not b, Refusal.NoSession) ∷ (cuts_active old cuts, Refusal.ActiveStays) ∷ [])) busy
+        ∙ ap (λ (o : Option ℕ). first_refusal ((is_some o, Refusal.ActiveStays) ∷ [])) (uncut old.active)
+
+    go : (o : Option Refusal) → o ≡ None
+        → MatchOption o (IsShort old (Event.Round cuts) reply new ⊎ Acts old (Event.Round cuts) reply new) (λ why. (reply ≡ Reply.Refused why) × (new ≡ old))
+        → IsLastRound reply ⊎ Goes old reply new
+    go (Some why) e k = absurd (none-some why (sym e))
+    go None e k = elim k [
+      | inl s ↦ absurd (false≢true s.0)
+      | inr a ↦ goes_on old cuts reply new uncut busy a.0 a.1 a.2
+    ]
+
+Contains-later : {A : Type 0} (y : A) (xs : List A) (x : A) → Contains xs x → Contains (y ∷ xs) x
+Contains-later y xs x h = (suc h.0, omega (arith, h.1), h.2)
+
+-- so a last one comes while fewer hear than rounds are left
+ends : (old : State) (rounds : List Event) (answers : List Reply) (new : State) → All IsUncutRound rounds → hearers old.devices < length rounds → old.in_session ≡ true → IsRun old rounds answers new
+    → (answer : Reply) × Contains answers answer × IsLastRound answer
+ends old [] answers new all less busy run = absurd (omega (arith, less))
+ends old (round ∷ rounds) [] new all less busy run = absurd run
+ends old (round ∷ rounds) (answer ∷ answers) new all less busy run =
+    let r = All-head IsUncutRound round rounds all in
+    let step : Step old (Event.Round r.0) answer run.0 = subst (λ e. Step old e answer run.0) r.1 run.1 in
+    elim (round_goes old r.0 answer run.0 r.2 busy step) [
+      | inl last ↦ (answer, Contains-first answer answers, last)
+      | inr g ↦
+          let later = ends run.0 rounds answers new (All-tail IsUncutRound round rounds all) (omega (arith, less, g.less)) g.session run.2 in
+          (later.0, Contains-later answer answers later.0 later.1, later.2)
+    ]
+
+pub sessions_end : (main : Setup) (legacy : List (Option LegacyTarget)) (events : List Event) (replies : List Reply) (mid : State) → IsLegalRun main legacy events replies mid → mid.in_session ≡ true
+    → (rounds : List Event) (answers : List Reply) (new : State) → All IsUncutRound rounds → length rounds ≡ SLOTS → IsRun mid rounds answers new
+    → (answer : Reply) × Contains answers answer × IsLastRound answer
+sessions_end main legacy events replies mid legal busy rounds answers new all long run =
+    let settled : ActiveSettled mid = run_keeps ActiveSettled settled_step legal.0 events replies mid legal.2 (settled_start main legacy legal.0 legal.1) in
+    let slots : length mid.devices ≡ SLOTS = run_keeps IsSlotted slotted_step legal.0 events replies mid legal.2 (slotted_start main legacy legal.0 legal.1) in
+    let less : hearers mid.devices < length mid.devices = not_all mid.devices mid.active settled.0.0 settled.0.1 (settled.1 settled.0.0 settled.0.1).deaf in
+    ends mid rounds answers new all (omega (arith, less, slots, long)) busy run

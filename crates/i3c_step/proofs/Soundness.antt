@@ -1,0 +1,235 @@
+-- Every bus is sound: waiting interrupts fit their devices, and each step keeps that.
+use Rattle.std.proofs.lemmas.Bool.{eqb-true, not-false}
+use Rattle.std.proofs.lemmas.List.Elements.{All-append, All-cons, All-drop, All-nil}
+use Rattle.std.proofs.Common.{◌≡◌, ℕ, suc, Bool, true, false, not, List, [], ◌∷◌, ◌++◌, Option, Some, None, is_none, is_some, ◌==◌, if◌then◌else◌, inl, inr, sym, refl, ap, ◌∙◌, subst}
+use Rattle.std.specs.List.{All}
+use Rattle.i3c_base.specs.declared.answers.Answer.{Answer}
+use Rattle.i3c_base.specs.declared.answers.RoundReply.{RoundReply}
+use Rattle.i3c_base.specs.declared.device.Setup.{Setup}
+use Rattle.i3c_base.specs.declared.device.LegacyTarget.{LegacyTarget}
+use Rattle.i3c_base.specs.declared.device.Waiting.{Waiting}
+use Rattle.i3c_base.specs.declared.identity.Bcr.{Bcr}
+use Rattle.i3c_base.specs.declared.identity.Identity.{Identity}
+use Rattle.i3c_base.specs.declared.requests.Fixed.{Fixed}
+use Rattle.i3c_base.specs.declared.requests.Request.{Request}
+use Rattle.i3c_base.specs.declared.requests.Served.{Served}
+use Rattle.i3c_base.specs.declared.requests.Served.TheVariants.{Quiet, Recorded, Refused, Torn, Joining, WantsRole}
+use Rattle.i3c_base.specs.Numbers.{KindSet, has_byte}
+use Rattle.i3c_base.specs.State.{Device, State, IsStart, device_at, each, in_slot, raised_at}
+use Rattle.i3c_base.specs.Cutting.{CutList, Lost, lost_by}
+use Rattle.i3c_base.specs.Local.{ask_join, attach, drop_off, raise}
+use Rattle.i3c_base.specs.Serve.{Frame, Serves, drives, each_driver, emptied, tail, without_front, without_join, without_role}
+use Rattle.i3c_base.specs.Frames.{Rekinds, reaches, rekinded}
+use Rattle.i3c_base.specs.Round.{Rounds, assigned, ended, hears, opened, unhearing, winner, wins}
+use Rattle.i3c_base.specs.Numbers.{same_bool}
+use Rattle.i3c_base.proofs.Lookups.{attach_from, change_from, drop_off_from, each_from, emptied_from}
+use Rattle.i3c_step.specs.declared.events.Event.{Event}
+use Rattle.i3c_step.specs.declared.events.Event.TheVariants.{Attach, DropOff, Raise, AskJoin, Serve, Enec, Disec, OpenDaa, Round, EndDaa}
+use Rattle.i3c_step.specs.declared.replies.Reply.{Reply}
+use Rattle.i3c_step.specs.Step.{Acts, Step, checks, first_refusal}
+use Rattle.i3c_step.specs.Sound.{IsFitting, IsSound}
+use Rattle.i3c_step.proofs.Addresses.{Addresses-emptied, Addresses-none_new, Addresses-round, Addresses-start, Addresses-step, NoneNew-attach, NoneNew-change, NoneNew-drop_off, NoneNew-ended, NoneNew-opened, NoneNew-rekinds, NoneNew-serves, start_device}
+use Rattle.i3c_step.proofs.Steps.{no_test, step_cases}
+
+-- what waits in each device fits it
+abbrev AllFit : State → Type 0
+AllFit st = (s : ℕ) (d : Device) → device_at st s ≡ Some d → IsFitting d
+
+-- the interrupt has a byte exactly where the BCR says so
+abbrev FitsBcr : Bcr → Waiting → Type 0
+FitsBcr bcr w = is_some w.byte ≡ has_byte bcr
+
+Fits-if : (b : Bool) (d e : Device) → IsFitting e → IsFitting d → IsFitting (if b then e else d)
+Fits-if true d e x y = x
+Fits-if false d e x y = y
+
+All-tail : (P : Waiting → Type 0) (ws : List Waiting) → All P ws → All P (tail ws)
+All-tail P [] h = h
+All-tail P (w ∷ ws) h = All-drop P 1 (w ∷ ws) h
+
+AllFit-each : (f : ℕ → Device → Device) (st : State) → ((s : ℕ) (d : Device) → IsFitting d → IsFitting (f s d)) → AllFit st → AllFit (each f st)
+AllFit-each f st keeps all s d p = let w = each_from f st s d p in subst IsFitting w.2 (keeps s w.0 (all s w.0 w.1))
+
+AllFit-driver : (r : Request) (f : Device → Device) (st : State) → ((d : Device) → IsFitting d → IsFitting (f d)) → AllFit st → AllFit (each_driver r f st)
+AllFit-driver r f st keeps = AllFit-each (λ s d. if drives st r s then f d else d) st (λ s d h. Fits-if (drives st r s) d (f d) (keeps d h) h)
+
+AllFit-emptied : (lost : Lost) (st : State) → AllFit st → AllFit (emptied lost st)
+AllFit-emptied lost st all s d p = all s d (emptied_from lost st s d p).1
+
+-- an attached device has nothing waiting
+AllFit-attach : (s : ℕ) (setup : Setup) (st : State) → AllFit st → AllFit (attach s setup st)
+AllFit-attach s setup st all t d p = elim (attach_from s setup st t d p) [
+  | inl e ↦ subst IsFitting e.1 (All-nil (FitsBcr setup.identity.bcr))
+  | inr e ↦ all t d e
+]
+
+same_bool-true : (a b : Bool) → same_bool a b ≡ true → b ≡ a
+same_bool-true true b h = h
+same_bool-true false true h = sym h
+same_bool-true false false h = refl
+
+-- a raise that isn't refused brings a byte that fits
+AllFit-raise : (s : ℕ) (byte : Option ℕ) (st : State) → first_refusal (checks st (Raise s byte)) ≡ None → AllFit st → AllFit (raise s byte st)
+AllFit-raise s byte st free all t d p = let w = change_from s more st t d p in subst IsFitting w.2 (go w.0 w.1 (t == s) refl)
+  where
+    raised : Waiting
+    raised = record { number = suc (raised_at st s); byte = byte }
+
+    more : Device → Device
+    more x = record x { waiting = x.waiting ++ raised ∷ [] }
+
+    fits : (x : Device) → device_at st s ≡ Some x → is_some byte ≡ has_byte x.identity.bcr
+    fits x there =
+        let mismatch : Device → Bool = λ (y : Device). not (same_bool (has_byte y.identity.bcr) (is_some byte)) in
+        let none : mismatch x ≡ false = subst (λ (o : Option Device). in_slot mismatch o ≡ false) there (no_test 4 (checks st (Raise s byte)) free) in
+        same_bool-true (has_byte x.identity.bcr) (is_some byte) (not-false _ none)
+
+    go : (x : Device) → device_at st t ≡ Some x → (b : Bool) → (t == s) ≡ b → IsFitting (if b then more x else x)
+    go x there true e =
+        let here : device_at st s ≡ Some x = ap (device_at st) (sym (eqb-true t s e)) ∙ there in
+        All-append (FitsBcr x.identity.bcr) x.waiting (raised ∷ []) (all t x there)
+        (All-cons (FitsBcr x.identity.bcr) raised [] (fits x here) (All-nil (FitsBcr x.identity.bcr)))
+    go x there false e = all t x there
+
+AllFit-fronts : (st : State) (a : ℕ) → AllFit st → AllFit (each_driver (Request.Interrupt a) without_front st)
+AllFit-fronts st a = AllFit-driver (Request.Interrupt a) without_front st (λ d h. All-tail (FitsBcr d.identity.bcr) d.waiting h)
+
+-- serving takes wishes and fronts away
+AllFit-serves : (st : State) (policy : Fixed) (lost : Lost) (served : Served) (new : State) → Serves st policy lost served new → AllFit st → AllFit new
+AllFit-serves st policy lost Quiet new h all = subst AllFit (sym h.1) all
+AllFit-serves st policy lost Refused new h all = subst AllFit (sym h.1) all
+AllFit-serves st policy lost Joining new h all = subst AllFit (sym h.2) (AllFit-driver Request.Join without_join st (λ d f. f) all)
+AllFit-serves st policy lost (WantsRole a) new h all = subst AllFit (sym h.2) (AllFit-driver (Request.Role a) without_role st (λ d f. f) all)
+AllFit-serves st policy lost (Recorded place) new h all = subst AllFit (sym h.left) (AllFit-fronts st h.at all)
+AllFit-serves st policy lost Torn new h all = subst AllFit (sym h.left) (AllFit-fronts st h.at all)
+
+AllFit-rekinded : (to : Option ℕ) (f : KindSet → KindSet) (st : State) → AllFit st → AllFit (rekinded to f st)
+AllFit-rekinded to f st = AllFit-each (λ s d. if reaches st to s d then record d { kinds = f d.kinds } else d) st
+    (λ s d h. Fits-if (reaches st to s d) d (record d { kinds = f d.kinds }) h h)
+
+AllFit-rekinds : (to : Option ℕ) (f : KindSet → KindSet) (answer : Answer) (lost : Lost) (mid done : State) → Rekinds to f answer lost mid done → AllFit mid → AllFit done
+AllFit-rekinds None f answer lost mid done h all = subst AllFit (sym h.1) (AllFit-rekinded None f mid all)
+AllFit-rekinds (Some a) f answer lost mid done h all = elim h [
+  | inl e ↦ subst AllFit (sym e.2) (AllFit-rekinded (Some a) f mid all)
+  | inr e ↦ subst AllFit (sym e.2) all
+]
+
+AllFit-opened : (st : State) → AllFit st → AllFit (opened st)
+AllFit-opened st = AllFit-each (λ s d. hears d) st (λ s d h. Fits-if (is_none d.address) d (record d { hearing = true }) h h)
+
+AllFit-assigned : (lost : Lost) (i : Identity) (a : ℕ) (st : State) → AllFit st → AllFit (assigned lost i a st)
+AllFit-assigned lost i a st = AllFit-each (λ s d. if wins lost i s d then winner a d else d) st (λ s d h. Fits-if (wins lost i s d) d (winner a d) h h)
+
+AllFit-round : (old : State) (cuts : CutList) (answer : RoundReply) (new : State) → Rounds old cuts answer new → AllFit old → AllFit new
+AllFit-round old cuts RoundReply.NoAddress new h all = subst AllFit (sym h.1) all
+AllFit-round old cuts RoundReply.Done new h all = subst AllFit (sym h.2) (AllFit-emptied _ old all)
+AllFit-round old cuts RoundReply.Nobody new h all = subst AllFit (sym h.3) (AllFit-emptied _ old all)
+AllFit-round old cuts (RoundReply.Assigned a i) new h all =
+    subst AllFit (sym h.3) (AllFit-emptied (lost_by cuts 73) (assigned (lost_by cuts 73) i a old) (AllFit-assigned (lost_by cuts 73) i a old all))
+
+-- a frame keeps what its own part keeps
+AllFit-frame : (old : State) (policy : Fixed) (cuts : CutList) (served : Served) (rest : ℕ) (Own : Lost → State → State → Type 0) (new : State)
+    → ((lost : Lost) (mid done : State) → Own lost mid done → AllFit mid → AllFit done) → Frame old policy cuts served rest Own new → AllFit old → AllFit new
+AllFit-frame old policy cuts served rest Own new own frame all =
+    let mid : AllFit frame.mid = AllFit-serves old policy _ served frame.mid frame.serves all in
+    subst AllFit (sym frame.left) (AllFit-emptied _ frame.done (own _ frame.mid frame.done frame.own mid))
+
+AllFit-drop_off : (s : ℕ) (st : State) → AllFit st → AllFit (drop_off s st)
+AllFit-drop_off s st all t d p = all t d (drop_off_from s st t d p).1
+
+AllFit-ask_join : (s : ℕ) (st : State) → AllFit st → AllFit (ask_join s st)
+AllFit-ask_join s st all t d p =
+    let x = change_from s (λ (y : Device). record y { join_wish = true }) st t d p in
+    subst IsFitting x.2 (Fits-if (t == s) x.0 (record x.0 { join_wish = true }) (all t x.0 x.1) (all t x.0 x.1))
+
+AllFit-acts : (old : State) (event : Event) (reply : Reply) (new : State) → first_refusal (checks old event) ≡ None → Acts old event reply new → AllFit old → AllFit new
+AllFit-acts old (Attach s setup) reply new free h all = subst AllFit (sym h.1) (AllFit-attach s setup old all)
+AllFit-acts old (DropOff s) reply new free h all = subst AllFit (sym h.1) (AllFit-drop_off s old all)
+AllFit-acts old (AskJoin s) reply new free h all = subst AllFit (sym h.1) (AllFit-ask_join s old all)
+AllFit-acts old (Raise s byte) reply new free h all = subst AllFit (sym h.1) (AllFit-raise s byte old free all)
+AllFit-acts old (Serve policy cuts) reply new free h all = AllFit-frame old policy cuts _ _ _ new (λ lost mid done e fit. subst AllFit (sym e) fit) h.2 all
+AllFit-acts old (Enec to kinds policy cuts) reply new free h all = AllFit-frame old policy cuts _ _ _ new (AllFit-rekinds to _ _) h.2 all
+AllFit-acts old (Disec to kinds policy cuts) reply new free h all = AllFit-frame old policy cuts _ _ _ new (AllFit-rekinds to _ _) h.2 all
+AllFit-acts old (OpenDaa cuts) reply new free h all =
+    AllFit-frame old _ cuts _ _ _ new (λ lost mid done e fit. subst AllFit (sym e) (AllFit-opened mid fit)) h.2 all
+AllFit-acts old (Round cuts) reply new free h all = AllFit-round old cuts h.0 new h.2 all
+AllFit-acts old EndDaa reply new free h all = subst AllFit (sym h.1) (AllFit-each (λ s d. unhearing d) old (λ s d f. f) all)
+
+-- a start is sound: nothing waits there
+pub sound_start : (main : Setup) (legacy : List (Option LegacyTarget)) (st : State) → IsStart main legacy st → IsSound st
+sound_start main legacy st h = record {
+  addresses = Addresses-start main legacy st h;
+  fitting = subst AllFit (sym h.2) (λ s d p.
+      subst IsFitting (sym (start_device main legacy h.0 s d p).1) (All-nil (FitsBcr main.identity.bcr)));
+}
+
+-- serving keeps a bus sound, whatever the frame loses
+pub sound_serves : (st : State) (policy : Fixed) (lost : Lost) (served : Served) (new : State) → Serves st policy lost served new → IsSound st → IsSound new
+sound_serves st policy lost served new h sound = record {
+  addresses = Addresses-none_new st new (NoneNew-serves st policy lost served new h) sound.addresses;
+  fitting = AllFit-serves st policy lost served new h sound.fitting;
+}
+
+-- so does enabling and disabling
+pub sound_rekinds : (to : Option ℕ) (f : KindSet → KindSet) (answer : Answer) (lost : Lost) (mid done : State) → Rekinds to f answer lost mid done → IsSound mid → IsSound done
+sound_rekinds to f answer lost mid done h sound = record {
+  addresses = Addresses-none_new mid done (NoneNew-rekinds to f answer lost mid done h) sound.addresses;
+  fitting = AllFit-rekinds to f answer lost mid done h sound.fitting;
+}
+
+-- so does a device that enters an empty slot
+pub sound_attached : (s : ℕ) (setup : Setup) (st : State) → IsSound st → IsSound (attach s setup st)
+sound_attached s setup st sound = record {
+  addresses = Addresses-none_new st (attach s setup st) (NoneNew-attach s setup st) sound.addresses;
+  fitting = AllFit-attach s setup st sound.fitting;
+}
+
+-- one that drops off
+pub sound_dropped : (s : ℕ) (st : State) → IsSound st → IsSound (drop_off s st)
+sound_dropped s st sound = record {
+  addresses = Addresses-none_new st (drop_off s st) (NoneNew-drop_off s st) sound.addresses;
+  fitting = AllFit-drop_off s st sound.fitting;
+}
+
+-- one that wishes to join
+pub sound_wishes : (s : ℕ) (st : State) → IsSound st → IsSound (ask_join s st)
+sound_wishes s st sound = record {
+  addresses = Addresses-none_new st (ask_join s st) (NoneNew-change s (λ d. record d { join_wish = true }) st (λ d. record { identity = refl; address = λ a p. p })) sound.addresses;
+  fitting = AllFit-ask_join s st sound.fitting;
+}
+
+-- devices that are gone
+pub sound_emptied : (lost : Lost) (st : State) → IsSound st → IsSound (emptied lost st)
+sound_emptied lost st sound = record {
+  addresses = Addresses-emptied lost st sound.addresses;
+  fitting = AllFit-emptied lost st sound.fitting;
+}
+
+-- a session that is opened
+pub sound_opened : (st : State) → IsSound st → IsSound (opened st)
+sound_opened st sound = record {
+  addresses = Addresses-none_new st (opened st) (NoneNew-opened st) sound.addresses;
+  fitting = AllFit-opened st sound.fitting;
+}
+
+-- one that is ended
+pub sound_ended : (st : State) → IsSound st → IsSound (ended st)
+sound_ended st sound = record {
+  addresses = Addresses-none_new st (ended st) (NoneNew-ended st) sound.addresses;
+  fitting = AllFit-each (λ s d. unhearing d) st (λ s d f. f) sound.fitting;
+}
+
+-- and a round
+pub sound_round : (old : State) (cuts : CutList) (answer : RoundReply) (new : State) → Rounds old cuts answer new → IsSound old → IsSound new
+sound_round old cuts answer new h sound = record {
+  addresses = Addresses-round old cuts answer new h sound.addresses;
+  fitting = AllFit-round old cuts answer new h sound.fitting;
+}
+
+-- each step keeps it
+pub sound_step : (old : State) (event : Event) (reply : Reply) (new : State) → Step old event reply new → IsSound old → IsSound new
+sound_step old event reply new h sound = record {
+  addresses = Addresses-step old event reply new h sound.addresses;
+  fitting = step_cases old event reply new h (λ idle e. subst AllFit (sym e) sound.fitting)
+      (λ free acts. AllFit-acts old event reply new free acts sound.fitting);
+}

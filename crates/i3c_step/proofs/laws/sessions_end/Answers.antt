@@ -1,0 +1,6 @@
+-- Each round takes a hearer away, and the active controller never hears.
+use Rattle.i3c_step.proofs.Ending.{sessions_end}
+use Rattle.i3c_step.proofs.laws.sessions_end.Goals as goal
+
+pub returns : goal.returns
+returns c main legacy events replies mid legal busy rounds answers new all long run = sessions_end main legacy events replies mid legal busy rounds answers new all long run

@@ -1,0 +1,18 @@
+-- The policy that a reply gives.
+use Rattle.std.specs.Option.{option_map_or}
+use Rattle.i3c_base.specs.declared.requests.Fixed.{Fixed}
+use Rattle.i3c_base.specs.Serve.{given_for, refuse_all}
+use Rattle.i3c_step.specs.declared.events.Event.{Event}
+use Rattle.i3c_step.specs.declared.replies.Reply.{Reply}
+use Rattle.i3c_step.specs.Serving.{served_of}
+
+-- the policy that has the verdict which was given for what a frame served, and refuses else
+abbrev pub given_by : Reply → Fixed
+given_by reply = option_map_or given_for (served_of reply) refuse_all
+
+-- the event under this policy, if it carries one
+abbrev pub under : Fixed → Event → Event
+under policy (Event.Serve other cuts) = Event.Serve policy cuts
+under policy (Event.Enec to kinds other cuts) = Event.Enec to kinds policy cuts
+under policy (Event.Disec to kinds other cuts) = Event.Disec to kinds policy cuts
+under policy event = event

@@ -1,0 +1,84 @@
+-- What holds over every legal run.
+use Rattle.std.specs.Prelude.{◌≡◌, ◌≢◌, ℕ, true, List, ◌++◌, length, Option, Some, All, Contains}
+use Rattle.i3c_base.specs.declared.range.TheConstants.{SLOTS}
+use Rattle.i3c_base.specs.declared.device.Setup.{Setup}
+use Rattle.i3c_base.specs.declared.device.LegacyTarget.{LegacyTarget}
+use Rattle.i3c_base.specs.declared.requests.Fixed.{Fixed}
+use Rattle.i3c_base.specs.declared.requests.Request.{Request}
+use Rattle.i3c_base.specs.declared.requests.Served.{Served}
+use Rattle.i3c_base.specs.declared.requests.Verdict.{Verdict}
+use Rattle.i3c_base.specs.Serve.{IsFirst, verdict}
+use Rattle.i3c_base.specs.State.{Device, HasDistinctIdentities, HasUniqueAnswers, IsPresent, IsStart, State, device_at}
+use Rattle.i3c_step.specs.declared.events.Event.{Event}
+use Rattle.i3c_step.specs.declared.replies.Reply.{Reply}
+use Rattle.i3c_step.specs.Step.{IsUncutEvent, Step}
+use Rattle.i3c_step.specs.Runs.{IsLegalRun, IsRun}
+use Rattle.i3c_step.specs.History.{AllDistinct, History, IsLegal, events_of, reached, replies_of}
+use Rattle.i3c_step.specs.Records.{HasFaithfulRecords, IsRecordedOrTorn}
+use Rattle.i3c_step.specs.Giving.{given_by, under}
+use Rattle.i3c_step.specs.Sessions.{IsLastRound, IsUncutRound}
+use Rattle.i3c_step.specs.Serving.{policy_of, served_of}
+use Rattle.i3c_step.specs.Slots.{KeepsSlots}
+use Rattle.i3c_step.specs.Stays.{accepted_in_stay, accepted_since_attachment, recorded_in_stay}
+
+-- No two devices answer to one address, legacy targets included, in a state that a legal run leads to
+-- and in which devices present together have distinct identities.
+abbrev pub AddressesAreUnique : Type 0
+AddressesAreUnique = (main : Setup) (legacy : List (Option LegacyTarget)) (events : List Event) (replies : List Reply) (new : State)
+    → IsLegalRun main legacy events replies new → HasDistinctIdentities new → HasUniqueAnswers new
+
+-- In each state that a legal run leads to, a device is in the active slot. (The state names one slot, so no other is active.)
+abbrev pub OneIsActive : Type 0
+OneIsActive = (main : Setup) (legacy : List (Option LegacyTarget)) (events : List Event) (replies : List Reply) (new : State)
+    → IsLegalRun main legacy events replies new → IsPresent new new.active
+
+-- Each run is a legal history, with the states between, so what holds of histories holds of runs.
+abbrev pub RunsAreHistories : Type 0
+RunsAreHistories = (start : State) (events : List Event) (replies : List Reply) (new : State) → IsRun start events replies new
+    → (h : History) × IsLegal start h × (reached start h ≡ new) × (events_of h ≡ events) × (replies_of h ≡ replies)
+
+-- Each accepted interrupt is recorded once, under the address of the device that raised it while enabled, where
+-- devices present together always had distinct identities.
+abbrev pub InterruptsAreRecordedOnce : Type 0
+InterruptsAreRecordedOnce = (main : Setup) (legacy : List (Option LegacyTarget)) (start : State) (h : History)
+    → IsStart main legacy start → IsLegal start h → AllDistinct start h → HasFaithfulRecords start h
+
+-- A frame that accepts its first request, an interrupt, records it, at its address, of the lowest driver's slot, with the
+-- number of its front; or it was torn, where a byte was due and each driver went in the frame.
+abbrev pub AcceptedInterruptsAreRecorded : Type 0
+AcceptedInterruptsAreRecorded = (old : State) (event : Event) (reply : Reply) (new : State) (policy : Fixed) (served : Served) (a : ℕ)
+    → Step old event reply new → policy_of event ≡ Some policy → served_of reply ≡ Some served
+    → IsFirst old (Request.Interrupt a) → verdict old policy (Request.Interrupt a) ≡ Verdict.Accept → IsRecordedOrTorn old a reply new
+
+-- Of a present device's stay, the accepted raises are the recorded ones and then those that wait, in order.
+abbrev pub RaisesStayInOrder : Type 0
+RaisesStayInOrder = (main : Setup) (legacy : List (Option LegacyTarget)) (start : State) (h : History)
+    → IsStart main legacy start → IsLegal start h → AllDistinct start h
+    → (s : ℕ) (d : Device) → device_at (reached start h) s ≡ Some d → accepted_in_stay start h s ≡ recorded_in_stay start h s ++ d.waiting
+
+-- Without cuts, and where there is memory, the bus is a machine: the state and the event determine the reply and the next state.
+abbrev pub UncutStepsAreDetermined : Type 0
+UncutStepsAreDetermined = (old : State) (event : Event) (reply other : Reply) (new next : State)
+    → IsUncutEvent event → Step old event reply new → Step old event other next → reply ≢ Reply.OutOfMemory → other ≢ Reply.OutOfMemory → (reply ≡ other) × (new ≡ next)
+
+-- A step moves the active controller never, opens and ends a session with those answers alone, and puts a device only into
+-- the slot of an accepted attachment.
+abbrev pub SlotsAreKept : Type 0
+SlotsAreKept = (old : State) (event : Event) (reply : Reply) (new : State) → Step old event reply new → KeepsSlots old event reply new
+
+-- A step is one under the policy that its reply gives, too.
+abbrev pub StepsAreGiven : Type 0
+StepsAreGiven = (old : State) (event : Event) (reply : Reply) (new : State) → Step old event reply new → Step old (under (given_by reply) event) reply new
+
+-- A slot that is taken again is another stay: what was accepted in a present device's stay is what was accepted of its slot
+-- since the last accepted attachment there.
+abbrev pub StaysBeginByAttachments : Type 0
+StaysBeginByAttachments = (start : State) (h : History) → IsLegal start h
+    → (s : ℕ) (d : Device) → device_at (reached start h) s ≡ Some d → accepted_in_stay start h s ≡ accepted_since_attachment h s
+
+-- Of as many rounds as there are slots, in a session and without cuts, one answers that nobody hears any more, or that no
+-- address is left.
+abbrev pub SessionsEnd : Type 0
+SessionsEnd = (main : Setup) (legacy : List (Option LegacyTarget)) (events : List Event) (replies : List Reply) (mid : State) → IsLegalRun main legacy events replies mid → mid.in_session ≡ true
+    → (rounds : List Event) (answers : List Reply) (new : State) → All IsUncutRound rounds → length rounds ≡ SLOTS → IsRun mid rounds answers new
+    → (answer : Reply) × Contains answers answer × IsLastRound answer

@@ -1,0 +1,13 @@
+pub mod Step
+pub mod Runs
+pub mod Commands
+pub mod Sound
+pub mod Replies
+pub mod Serving
+pub mod Giving
+pub mod History
+pub mod Records
+pub mod Stays
+pub mod Laws
+pub mod Slots
+pub mod Sessions

@@ -1,0 +1,86 @@
+-- The reply that a typed call's answer is.
+use Rattle.std.specs.Prelude.{ℕ, Result, Ok, Err}
+use Rattle.i3c_base.specs.declared.answers.RoundReply.{RoundReply}
+use Rattle.i3c_base.specs.declared.requests.Served.{Served}
+use Rattle.i3c_base.specs.declared.refusals.JoinRefusal.{JoinRefusal}
+use Rattle.i3c_base.specs.declared.refusals.RaiseRefusal.{RaiseRefusal}
+use Rattle.i3c_step.specs.declared.replies.ActiveStays.{ActiveStays}
+use Rattle.i3c_step.specs.declared.replies.DropRefusal.{DropRefusal}
+use Rattle.i3c_step.specs.declared.replies.Framed.{Framed}
+use Rattle.i3c_step.specs.declared.replies.FrameFault.{FrameFault}
+use Rattle.i3c_step.specs.declared.replies.SlotTaken.{SlotTaken}
+use Rattle.i3c_step.specs.declared.replies.TargetFault.{TargetFault}
+use Rattle.i3c_step.specs.declared.replies.Refusal.{Refusal}
+use Rattle.i3c_step.specs.declared.replies.Reply.{Reply}
+
+-- of `attach`
+abbrev pub attached_reply : Result (Unit {0}) SlotTaken → Reply
+attached_reply (Ok done) = Reply.Attached
+attached_reply (Err why) = Reply.Refused Refusal.SlotTaken
+
+-- why a raise is refused, among all refusals
+abbrev pub raise_refusal : RaiseRefusal → Refusal
+raise_refusal RaiseRefusal.NoDevice = Refusal.NoDevice
+raise_refusal RaiseRefusal.IsActive = Refusal.IsActive
+raise_refusal RaiseRefusal.NoAddress = Refusal.NoAddress
+raise_refusal RaiseRefusal.NotCapable = Refusal.NotCapable
+raise_refusal RaiseRefusal.ByteMismatch = Refusal.ByteMismatch
+raise_refusal RaiseRefusal.Masked = Refusal.Masked
+raise_refusal RaiseRefusal.Full = Refusal.Full
+
+-- why a device doesn't drop off, among all refusals
+abbrev pub drop_refusal : DropRefusal → Refusal
+drop_refusal DropRefusal.NoDevice = Refusal.NoDevice
+drop_refusal DropRefusal.ActiveStays = Refusal.ActiveStays
+
+-- of `drop_off`
+abbrev pub dropped_reply : Result (Unit {0}) DropRefusal → Reply
+dropped_reply (Ok done) = Reply.Dropped
+dropped_reply (Err why) = Reply.Refused (drop_refusal why)
+
+-- why a device doesn't wish to join, among all refusals
+abbrev pub join_refusal : JoinRefusal → Refusal
+join_refusal JoinRefusal.NoDevice = Refusal.NoDevice
+join_refusal JoinRefusal.HasAddress = Refusal.HasAddress
+join_refusal JoinRefusal.Masked = Refusal.Masked
+
+-- of `ask_join`
+abbrev pub joins_reply : Result (Unit {0}) JoinRefusal → Reply
+joins_reply (Ok done) = Reply.Asked
+joins_reply (Err why) = Reply.Refused (join_refusal why)
+
+-- of `raise`
+abbrev pub raised_reply : Result ℕ RaiseRefusal → Reply
+raised_reply (Ok number) = Reply.Raised number
+raised_reply (Err why) = Reply.Refused (raise_refusal why)
+
+-- of a fault of a frame to nobody in particular
+abbrev pub frame_fault_reply : FrameFault → Reply
+frame_fault_reply FrameFault.ActiveStays = Reply.Refused Refusal.ActiveStays
+frame_fault_reply FrameFault.OutOfMemory = Reply.OutOfMemory
+
+-- of `serve`
+abbrev pub served_reply : Result Served FrameFault → Reply
+served_reply (Ok served) = Reply.Served served
+served_reply (Err why) = frame_fault_reply why
+
+-- of a fault of a frame to one address
+abbrev pub target_fault_reply : TargetFault → Reply
+target_fault_reply TargetFault.ActiveStays = Reply.Refused Refusal.ActiveStays
+target_fault_reply (TargetFault.NoAnswer a) = Reply.Refused (Refusal.NoAnswer a)
+target_fault_reply TargetFault.OutOfMemory = Reply.OutOfMemory
+
+-- of `enec` and `disec`
+abbrev pub framed_reply : Result Framed TargetFault → Reply
+framed_reply (Ok framed) = Reply.Framed framed
+framed_reply (Err why) = target_fault_reply why
+
+-- of `open_daa`, which answers a session, or the role that comes back
+abbrev pub opened_reply : Result (ℕ × Served) (ℕ × ActiveStays) → Reply
+opened_reply (Ok opened) = Reply.Opened opened.1
+opened_reply (Err refused) = Reply.Refused Refusal.ActiveStays
+
+-- of `round`
+abbrev pub rounded_reply : Result RoundReply ActiveStays → Reply
+rounded_reply (Ok answer) = Reply.Round answer
+rounded_reply (Err why) = Reply.Refused Refusal.ActiveStays

@@ -1,0 +1,133 @@
+-- One step of the bus: what an event may answer and leave.
+use Rattle.std.specs.Prelude.{◌≡◌, ℕ, suc, ◌+◌, ◌-◌, ◌^◌, Bool, true, false, not, ◌||◌, ◌==◌, ◌⊎◌, nat_le, List, [], ◌∷◌, ◌++◌, length, Option, Some, None, if◌then◌else◌, is_none, is_some, MatchOption, ⊤}
+use Rattle.i3c_base.specs.declared.answers.RoundReply.{RoundReply}
+use Rattle.i3c_base.specs.declared.device.TheConstants.{WAITING}
+use Rattle.i3c_base.specs.declared.requests.Fixed.{Fixed}
+use Rattle.i3c_base.specs.declared.requests.Served.{Served}
+use Rattle.i3c_base.specs.declared.kinds.Change.{Change}
+use Rattle.i3c_base.specs.Numbers.{KindSet, can_interrupt, has_byte, same_bool}
+use Rattle.i3c_base.specs.State.{State, device_at, entry_at, in_slot, raised_at}
+use Rattle.i3c_base.specs.Cutting.{CutList, IsUncut, Lost, cut_of}
+use Rattle.i3c_base.specs.Local.{ask_join, attach, drop_off, raise}
+use Rattle.i3c_base.specs.Serve.{Frame, header_bits, refuse_all}
+use Rattle.i3c_base.specs.Frames.{Rekinds, active_has, changed_kinds, kinds_bits}
+use Rattle.i3c_base.specs.Round.{Rounds, ended, opened}
+use Rattle.i3c_step.specs.declared.events.Event.{Event}
+use Rattle.i3c_step.specs.declared.events.Event.TheVariants.{Attach, DropOff, Raise, AskJoin, Serve, Enec, Disec, OpenDaa, Round, EndDaa}
+use Rattle.i3c_step.specs.declared.replies.Framed.{Framed}
+use Rattle.i3c_step.specs.declared.replies.Refusal.{Refusal}
+use Rattle.i3c_step.specs.declared.replies.Refusal.TheVariants.{SessionOpen, NoSession, ActiveStays, SlotTaken, NoDevice, IsActive, NoAddress, HasAddress, NotCapable, ByteMismatch, Masked, Full, NoAnswer}
+use Rattle.i3c_step.specs.declared.replies.Reply.{Reply}
+
+-- tests with the refusal that each stands for, in order
+abbrev pub Checks : Type 0
+Checks = List (Bool × Refusal)
+
+-- the refusal of the first test that holds
+abbrev pub first_refusal : Checks → Option Refusal
+first_refusal [] = None
+first_refusal (check ∷ rest) = if check.0 then Some check.1 else first_refusal rest
+
+-- the cuts name the active controller's slot
+abbrev pub cuts_active : State → CutList → Bool
+cuts_active st cuts = is_some (cut_of cuts st.active)
+
+-- the refusals of a frame under the role
+abbrev pub frame_checks : State → CutList → Checks
+frame_checks st cuts = (st.in_session, SessionOpen) ∷ (cuts_active st cuts, ActiveStays) ∷ []
+
+-- the table has no entry at the address, or it is the active controller's own
+abbrev pub is_no_target : State → ℕ → Bool
+is_no_target st a = is_none (entry_at st a) || active_has st a
+
+-- the refusals of a command to one address
+abbrev pub target_checks : State → Option ℕ → Checks
+target_checks st None = []
+target_checks st (Some a) = (is_no_target st a, NoAnswer a) ∷ []
+
+-- the refusals of each event, in order
+abbrev pub checks : State → Event → Checks
+checks st (Attach s setup) = (is_some (device_at st s), SlotTaken) ∷ []
+checks st (DropOff s) = (is_none (device_at st s), NoDevice) ∷ (s == st.active, ActiveStays) ∷ []
+checks st (Raise s byte) =
+    (is_none (device_at st s), NoDevice) ∷ (s == st.active, IsActive)
+    ∷ (in_slot (λ d. is_none d.address) (device_at st s), NoAddress)
+    ∷ (in_slot (λ d. not (can_interrupt d.identity.bcr)) (device_at st s), NotCapable)
+    ∷ (in_slot (λ d. not (same_bool (has_byte d.identity.bcr) (is_some byte))) (device_at st s), ByteMismatch)
+    ∷ (in_slot (λ d. not d.kinds.interrupt) (device_at st s), Masked)
+    ∷ (in_slot (λ d. nat_le WAITING (length d.waiting) || nat_le (2 ^ 64 - 1) (raised_at st s)) (device_at st s), Full) ∷ []
+checks st (AskJoin s) =
+    (is_none (device_at st s), NoDevice) ∷ (in_slot (λ d. is_some d.address) (device_at st s), HasAddress)
+    ∷ (in_slot (λ d. not d.kinds.join) (device_at st s), Masked) ∷ []
+checks st (Serve policy cuts) = frame_checks st cuts
+checks st (Enec to kinds policy cuts) = frame_checks st cuts ++ target_checks st to
+checks st (Disec to kinds policy cuts) = frame_checks st cuts ++ target_checks st to
+checks st (OpenDaa cuts) = frame_checks st cuts
+checks st (Round cuts) = (not st.in_session, NoSession) ∷ (cuts_active st cuts, ActiveStays) ∷ []
+checks st EndDaa = (not st.in_session, NoSession) ∷ []
+
+-- the frames that may record, and so may want memory before their first bit
+abbrev pub may_want_memory : Event → Bool
+may_want_memory (Serve policy cuts) = true
+may_want_memory (Enec to kinds policy cuts) = true
+may_want_memory (Disec to kinds policy cuts) = true
+may_want_memory (Attach s setup) = false
+may_want_memory (DropOff s) = false
+may_want_memory (Raise s byte) = false
+may_want_memory (AskJoin s) = false
+may_want_memory (OpenDaa cuts) = false
+may_want_memory (Round cuts) = false
+may_want_memory EndDaa = false
+
+-- an own part that is nothing
+abbrev pub Nothing : Lost → State → State → Type 0
+Nothing lost mid done = done ≡ mid
+
+-- a frame's own part that is a function of the state
+abbrev pub Becomes : (State → State) → Lost → State → State → Type 0
+Becomes f lost mid done = done ≡ f mid
+
+-- a frame of ENEC or DISEC, where f is what it makes of enabled kinds
+abbrev pub RekindsBy : State → Option ℕ → (KindSet → KindSet) → Fixed → CutList → Reply → State → Type 0
+RekindsBy old to f policy cuts reply new =
+    (framed : Framed) × (reply ≡ Reply.Framed framed)
+    × Frame old policy cuts framed.served (header_bits framed.served + kinds_bits to framed.answer) (Rekinds to f framed.answer) new
+
+-- what an event that isn't refused answers and leaves
+abbrev pub Acts : State → Event → Reply → State → Type 0
+Acts old (Attach s setup) reply new = (reply ≡ Reply.Attached) × (new ≡ attach s setup old)
+Acts old (DropOff s) reply new = (reply ≡ Reply.Dropped) × (new ≡ drop_off s old)
+Acts old (Raise s byte) reply new = (reply ≡ Reply.Raised (suc (raised_at old s))) × (new ≡ raise s byte old)
+Acts old (AskJoin s) reply new = (reply ≡ Reply.Asked) × (new ≡ ask_join s old)
+Acts old (Serve policy cuts) reply new = (served : Served) × (reply ≡ Reply.Served served) × Frame old policy cuts served 0 Nothing new
+Acts old (Enec to kinds policy cuts) reply new = RekindsBy old to (changed_kinds Change.Enable kinds) policy cuts reply new
+Acts old (Disec to kinds policy cuts) reply new = RekindsBy old to (changed_kinds Change.Disable kinds) policy cuts reply new
+Acts old (OpenDaa cuts) reply new =
+    (served : Served) × (reply ≡ Reply.Opened served) × Frame old refuse_all cuts served (header_bits served + 9) (Becomes opened) new
+Acts old (Round cuts) reply new = (answer : RoundReply) × (reply ≡ Reply.Round answer) × Rounds old cuts answer new
+Acts old EndDaa reply new = (reply ≡ Reply.Ended) × (new ≡ ended old)
+
+-- the event wants memory that it doesn't get
+abbrev pub IsShort : State → Event → Reply → State → Type 0
+IsShort old event reply new = (may_want_memory event ≡ true) × (reply ≡ Reply.OutOfMemory) × (new ≡ old)
+
+-- one step: refused with the first refusal, or short of memory, which both change nothing, or done
+abbrev pub Step : State → Event → Reply → State → Type 0
+Step old event reply new = MatchOption (first_refusal (checks old event)) (IsShort old event reply new ⊎ Acts old event reply new) (λ why. (reply ≡ Reply.Refused why) × (new ≡ old))
+
+-- the cuts that a frame carries
+abbrev pub cuts_in : Event → Option CutList
+cuts_in (Serve policy cuts) = Some cuts
+cuts_in (Enec to kinds policy cuts) = Some cuts
+cuts_in (Disec to kinds policy cuts) = Some cuts
+cuts_in (OpenDaa cuts) = Some cuts
+cuts_in (Round cuts) = Some cuts
+cuts_in (Attach s setup) = None
+cuts_in (DropOff s) = None
+cuts_in (Raise s byte) = None
+cuts_in (AskJoin s) = None
+cuts_in EndDaa = None
+
+-- the event cuts nobody
+abbrev pub IsUncutEvent : Event → Type 0
+IsUncutEvent event = MatchOption (cuts_in event) ⊤ IsUncut

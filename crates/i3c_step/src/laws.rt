@@ -1,0 +1,63 @@
+ghost use Rattle.i3c_step.specs.Laws.{AcceptedInterruptsAreRecorded, AddressesAreUnique, InterruptsAreRecordedOnce, OneIsActive, RaisesStayInOrder, RunsAreHistories, SessionsEnd, SlotsAreKept, StaysBeginByAttachments, StepsAreGiven, UncutStepsAreDetermined};
+
+/// Over every legal run: where devices that are present together have distinct identities, no two devices answer to
+/// one address, legacy targets included.
+pub fn addresses_are_unique()
+    ensures { AddressesAreUnique }
+{}
+
+/// Over every legal run a device is in the active slot.
+pub fn one_is_active()
+    ensures { OneIsActive }
+{}
+
+/// Each legal run is a legal history, of which the laws on records and raises speak.
+pub fn runs_are_histories()
+    ensures { RunsAreHistories }
+{}
+
+/// Over every legal history: each accepted interrupt is recorded once, under the address of the device that raised it
+/// while its interrupts were enabled.
+pub fn interrupts_are_recorded_once()
+    ensures { InterruptsAreRecordedOnce }
+{}
+
+/// A frame that accepts its first request, an interrupt, records it, at its address, of the lowest driver's slot, with
+/// the number of its front; or it was torn, where a byte was due and each driver went in the frame.
+pub fn accepted_interrupts_are_recorded()
+    ensures { AcceptedInterruptsAreRecorded }
+{}
+
+/// Over every legal history: of a present device's stay, the accepted raises are the recorded ones and then those that
+/// wait, in order.
+pub fn raises_stay_in_order()
+    ensures { RaisesStayInOrder }
+{}
+
+/// Where nothing is cut and there is memory, the state and the event determine the reply and the next state.
+pub fn uncut_steps_are_determined()
+    ensures { UncutStepsAreDetermined }
+{}
+
+/// A step moves the active controller never, opens and ends a session with those answers alone, and puts a device only
+/// into the slot of an accepted attachment.
+pub fn slots_are_kept()
+    ensures { SlotsAreKept }
+{}
+
+/// A step is one under the policy that its reply gives, too.
+pub fn steps_are_given()
+    ensures { StepsAreGiven }
+{}
+
+/// A slot that is taken again is another stay: what was accepted in a present device's stay is what was accepted of its
+/// slot since the last accepted attachment there.
+pub fn stays_begin_by_attachments()
+    ensures { StaysBeginByAttachments }
+{}
+
+/// Of as many rounds as there are slots, in a session and without cuts, one answers that nobody hears any more, or that
+/// no address is left.
+pub fn sessions_end()
+    ensures { SessionsEnd }
+{}

@@ -1,0 +1,20 @@
+//! One step of an I3C bus: the events that may happen on it, their replies, and the laws over all runs.
+//!
+//! `specs/Step.antt` says what one event may answer and leave. Nothing here carries an event out: the bus does, and a
+//! plain machine to test it against. The functions of `laws` state what holds over every run of such steps.
+#![tactic(auto)]
+
+mod events;
+mod laws;
+mod replies;
+
+pub use events::{Command, Event};
+pub use laws::{
+    accepted_interrupts_are_recorded, addresses_are_unique, interrupts_are_recorded_once,
+    one_is_active, raises_stay_in_order, runs_are_histories, sessions_end, slots_are_kept,
+    stays_begin_by_attachments, steps_are_given, uncut_steps_are_determined,
+};
+pub use replies::{
+    ActiveStays, DropRefusal, FrameFault, Framed, OutOfMemory, Refusal, Reply, RunFault, SlotTaken,
+    StartFault, TargetFault,
+};

@@ -1,0 +1,208 @@
+use i3c_base::{Addr7, Answer, JoinRefusal, RaiseRefusal, RoundReply, Served};
+use thiserror::Error;
+
+/// Why an event is refused. It changes nothing then.
+#[derive(Clone, Copy, Debug, PartialEq, Eq)]
+pub enum Refusal {
+    /// A session is open, and the frame isn't one of its own.
+    SessionOpen,
+    /// No session is open.
+    NoSession,
+    /// The active controller can't be cut or leave.
+    ActiveStays,
+    /// The slot holds a device.
+    SlotTaken,
+    /// The slot holds no device.
+    NoDevice,
+    /// The slot's device is the active controller.
+    IsActive,
+    /// The device has no address.
+    NoAddress,
+    /// The device has an address.
+    HasAddress,
+    /// The device can't do this by its BCR.
+    NotCapable,
+    /// A mandatory byte is due by the device's BCR and is missing, or is given and isn't due.
+    ByteMismatch,
+    /// The device's events of this kind are disabled.
+    Masked,
+    /// No more interrupts of the slot may wait or be counted.
+    Full,
+    /// No device of the active controller's table has this address, or it is the active controller's own.
+    NoAnswer(Addr7),
+}
+
+/// What a frame served, and the answer to its own part.
+#[derive(Clone, Copy, Debug, PartialEq, Eq)]
+pub struct Framed {
+    pub served: Served,
+    pub answer: Answer,
+}
+
+/// The reply to an event.
+#[derive(Clone, Copy, Debug, PartialEq, Eq)]
+pub enum Reply {
+    Refused(Refusal),
+    /// There was no memory for a record, before the frame's first bit. Nothing changed.
+    OutOfMemory,
+    Attached,
+    Dropped,
+    /// The number of the raise: those of a slot count from 1, over all its stays.
+    Raised(u64),
+    /// The device wishes what it was asked to.
+    Asked,
+    /// The frame served this, and nothing else.
+    Served(Served),
+    Framed(Framed),
+    /// A session is open; the frame served this.
+    Opened(Served),
+    Round(RoundReply),
+    Ended,
+}
+
+/// Why a bus can't start.
+#[derive(Clone, Copy, Debug, PartialEq, Eq, Drop, Error)]
+pub enum StartFault {
+    /// The main device's BCR isn't a controller's.
+    #[error("the main device can't be a controller")]
+    NotCapable,
+}
+
+/// The slot holds a device.
+#[derive(Clone, Copy, Debug, PartialEq, Eq, Drop, Error)]
+#[error("the slot is taken")]
+pub struct SlotTaken;
+
+/// Why a slot's device doesn't drop off.
+#[derive(Clone, Copy, Debug, PartialEq, Eq, Drop, Error)]
+pub enum DropRefusal {
+    /// The slot holds no device.
+    #[error("the slot holds no device")]
+    NoDevice,
+    /// The slot's device is the active controller.
+    #[error("the active controller stays")]
+    ActiveStays,
+}
+
+impl From<DropRefusal> for Refusal {
+    ghost use Rattle.std.specs.Prelude.{◌≡◌};
+    ghost use Rattle.i3c_step.specs.Replies.{drop_refusal};
+
+    ghost from_gives = { λ why refusal. refusal ≡ drop_refusal why };
+
+    fn from(why: DropRefusal) -> Refusal {
+        match why {
+            DropRefusal::NoDevice => Refusal::NoDevice,
+            DropRefusal::ActiveStays => Refusal::ActiveStays,
+        }
+    }
+}
+
+impl From<JoinRefusal> for Refusal {
+    ghost use Rattle.std.specs.Prelude.{◌≡◌};
+    ghost use Rattle.i3c_step.specs.Replies.{join_refusal};
+
+    ghost from_gives = { λ why refusal. refusal ≡ join_refusal why };
+
+    fn from(why: JoinRefusal) -> Refusal {
+        match why {
+            JoinRefusal::NoDevice => Refusal::NoDevice,
+            JoinRefusal::HasAddress => Refusal::HasAddress,
+            JoinRefusal::Masked => Refusal::Masked,
+        }
+    }
+}
+
+/// The active controller can't be cut.
+#[derive(Clone, Copy, Debug, PartialEq, Eq, Drop, Error)]
+#[error("the active controller stays")]
+pub struct ActiveStays;
+
+impl From<RaiseRefusal> for Refusal {
+    ghost use Rattle.std.specs.Prelude.{◌≡◌};
+    ghost use Rattle.i3c_step.specs.Replies.{raise_refusal};
+
+    ghost from_gives = { λ why refusal. refusal ≡ raise_refusal why };
+
+    fn from(why: RaiseRefusal) -> Refusal {
+        match why {
+            RaiseRefusal::NoDevice => Refusal::NoDevice,
+            RaiseRefusal::IsActive => Refusal::IsActive,
+            RaiseRefusal::NoAddress => Refusal::NoAddress,
+            RaiseRefusal::NotCapable => Refusal::NotCapable,
+            RaiseRefusal::ByteMismatch => Refusal::ByteMismatch,
+            RaiseRefusal::Masked => Refusal::Masked,
+            RaiseRefusal::Full => Refusal::Full,
+        }
+    }
+}
+
+/// There was no memory for a record. Nothing changed.
+#[derive(Clone, Copy, Debug, PartialEq, Eq, Drop, Error)]
+#[error("out of memory")]
+pub struct OutOfMemory;
+
+/// Why a frame to nobody in particular is not sent.
+#[derive(Clone, Copy, Debug, PartialEq, Eq, Drop, Error)]
+pub enum FrameFault {
+    /// The active controller can't be cut.
+    #[error("the active controller stays")]
+    ActiveStays,
+    /// There was no memory for a record.
+    #[error("out of memory")]
+    OutOfMemory,
+}
+
+impl From<FrameFault> for Reply {
+    ghost use Rattle.std.specs.Prelude.{◌≡◌};
+    ghost use Rattle.i3c_step.specs.Replies.{frame_fault_reply};
+
+    ghost from_gives = { λ fault reply. reply ≡ frame_fault_reply fault };
+
+    fn from(fault: FrameFault) -> Reply {
+        match fault {
+            FrameFault::ActiveStays => Reply::Refused(Refusal::ActiveStays),
+            FrameFault::OutOfMemory => Reply::OutOfMemory,
+        }
+    }
+}
+
+/// Why a frame to one address is not sent.
+#[derive(Clone, Copy, Debug, PartialEq, Eq, Drop, Error)]
+pub enum TargetFault {
+    /// The active controller can't be cut.
+    #[error("the active controller stays")]
+    ActiveStays,
+    /// No device of the active controller's table has this address, or it is the active controller's own.
+    #[error("no device answers to the address")]
+    NoAnswer(Addr7),
+    /// There was no memory for a record.
+    #[error("out of memory")]
+    OutOfMemory,
+}
+
+impl From<TargetFault> for Reply {
+    ghost use Rattle.std.specs.Prelude.{◌≡◌};
+    ghost use Rattle.i3c_step.specs.Replies.{target_fault_reply};
+
+    ghost from_gives = { λ fault reply. reply ≡ target_fault_reply fault };
+
+    fn from(fault: TargetFault) -> Reply {
+        match fault {
+            TargetFault::ActiveStays => Reply::Refused(Refusal::ActiveStays),
+            TargetFault::NoAnswer(address) => Reply::Refused(Refusal::NoAnswer(address)),
+            TargetFault::OutOfMemory => Reply::OutOfMemory,
+        }
+    }
+}
+
+/// Why a run gave no outcome.
+#[derive(Clone, Copy, Debug, PartialEq, Eq, Drop, Error)]
+pub enum RunFault {
+    /// The main device's BCR isn't a controller's.
+    #[error("the main device can't be a controller")]
+    NotCapable,
+    /// There was no memory for the replies.
+    #[error("out of memory")]
+    OutOfMemory,
+}
