@@ -15,11 +15,11 @@ use Rattle.i3c_base.specs.Cutting.{CutList, Lost, lost_by}
 use Rattle.i3c_base.specs.Numbers.{KindSet}
 use Rattle.i3c_base.specs.State.{Device, State, IsPresent, IsStart, attached, change, device_at, each, no_devices, raised_at, unaddressed}
 use Rattle.i3c_base.specs.Serve.{Frame, Serves, drives, each_driver, emptied, without_front, without_join, without_role}
-use Rattle.i3c_base.specs.Frames.{Rekinds, reaches, rekinded}
+use Rattle.i3c_base.specs.Frames.{Rekinds, list, reaches, rekinded, reset, unaddressed_device}
 use Rattle.i3c_base.specs.Round.{Rounds, assigned, hears, opened, unhearing, winner, wins}
 use Rattle.i3c_base.proofs.Lookups.{change_at, drop_off_at, each_at, emptied_at, length-no_devices, set_at, set_in}
 use Rattle.i3c_step.specs.declared.events.Event.{Event}
-use Rattle.i3c_step.specs.declared.events.Event.TheVariants.{Attach, DropOff, Raise, AskJoin, Serve, Enec, Disec, OpenDaa, Round, EndDaa}
+use Rattle.i3c_step.specs.declared.events.Event.TheVariants.{Attach, DropOff, Raise, AskJoin, AskRole, Serve, Enec, Disec, Reset, SendList, OpenDaa, Round, EndDaa}
 use Rattle.i3c_step.specs.declared.replies.Reply.{Reply}
 use Rattle.i3c_step.specs.Runs.{IsLegalRun}
 use Rattle.i3c_step.proofs.Kept.{run_keeps}
@@ -91,6 +91,13 @@ Safe-rekinds (Some a) f answer lost mid done h p = elim h [
 Safe-opened : (lost : Lost) (mid done : State) → done ≡ opened mid → IsSafe lost mid → IsSafe lost done
 Safe-opened lost mid done e h = Safe-same lost (opened mid) done e (record { present = Present-each (λ s d. hears d) mid _ h.present; left = h.left })
 
+Safe-reset : (lost : Lost) (mid done : State) → done ≡ reset mid → IsSafe lost mid → IsSafe lost done
+Safe-reset lost mid done e h =
+    subst (IsSafe lost) (sym e) (record { present = Present-each (λ s d. if s == mid.active then without_role d else unaddressed_device d) mid _ h.present; left = h.left })
+
+Safe-list : (lost : Lost) (mid done : State) → done ≡ list mid → IsSafe lost mid → IsSafe lost done
+Safe-list lost mid done e h = subst (IsSafe lost) (sym e) (record { present = h.present; left = h.left })
+
 Active-round : (old : State) (cuts : CutList) (answer : RoundReply) (new : State) → Rounds old cuts answer new
     → ((last : ℕ) → lost_by cuts last old.active ≡ false) → HasActive old → HasActive new
 Active-round old cuts RoundReply.NoAddress new h uncut p = subst HasActive (sym h.1) p
@@ -113,6 +120,9 @@ Active-acts old (Enec to kinds policy cuts) reply new free h p =
     Active-frame old policy cuts _ _ _ new (Safe-rekinds to _ _) h.2 (λ last. active_left old cuts _ _ _ (target_checks old to) last free) p
 Active-acts old (Disec to kinds policy cuts) reply new free h p =
     Active-frame old policy cuts _ _ _ new (Safe-rekinds to _ _) h.2 (λ last. active_left old cuts _ _ _ (target_checks old to) last free) p
+Active-acts old (AskRole s) reply new free h p = subst HasActive (sym h.1) (Present-change s (λ d. record d { role_wish = true }) old _ p)
+Active-acts old (Reset policy cuts) reply new free h p = Active-frame old policy cuts _ _ _ new Safe-reset h.2 (λ last. active_left old cuts _ _ _ [] last free) p
+Active-acts old (SendList policy cuts) reply new free h p = Active-frame old policy cuts _ _ _ new Safe-list h.2 (λ last. active_left old cuts _ _ _ [] last free) p
 Active-acts old (OpenDaa cuts) reply new free h p = Active-frame old _ cuts _ _ _ new Safe-opened h.2 (λ last. active_left old cuts _ _ _ [] last free) p
 Active-acts old (Round cuts) reply new free h p = Active-round old cuts h.0 new h.2 (λ last. active_left old cuts _ _ _ [] last free) p
 Active-acts old EndDaa reply new free h p = subst HasActive (sym h.1) (Present-each (λ s d. unhearing d) old _ p)

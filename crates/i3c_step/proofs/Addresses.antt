@@ -1,12 +1,12 @@
 -- The invariant on addresses, and that each step keeps it.
 use Rattle.std.proofs.lemmas.Bool.{and_parts, cases_eq, cases_lt, cond-false, cond-true, eq-eqb, eqb-true, ne_eqb}
 use Rattle.std.proofs.lemmas.List.{get_or_past, length-set}
-use Rattle.std.proofs.Common.{◌≡◌, ℕ, ◌∷◌, [], ◌++◌, suc, Bool, true, false, not, ◌&&◌, ◌==◌, if◌then◌else◌, List, length, get_or, ◌≤◌, ◌<◌, arith, Option, Some, None, ◌⊎◌, inl, inr, sym, refl, ap, ◌∙◌, subst}
+use Rattle.std.proofs.Common.{◌≡◌, ℕ, ◌∷◌, [], ◌++◌, suc, Bool, true, false, not, ◌&&◌, ◌==◌, if◌then◌else◌, List, length, get_or, ◌≤◌, ◌<◌, arith, Option, Some, None, option_map, ◌⊎◌, inl, inr, sym, refl, ap, ◌∙◌, subst}
 use Rattle.std.proofs.lemmas.Option.{none-some, same_Some}
 use Rattle.i3c_base.specs.declared.identity.Identity.{Identity}
 use Rattle.i3c_base.specs.Cutting.{CutList, Lost, lost_by}
 use Rattle.i3c_step.specs.declared.events.Event.{Event}
-use Rattle.i3c_step.specs.declared.events.Event.TheVariants.{Attach, DropOff, Raise, AskJoin, Serve, Enec, Disec, OpenDaa, Round, EndDaa}
+use Rattle.i3c_step.specs.declared.events.Event.TheVariants.{Attach, DropOff, Raise, AskJoin, AskRole, Serve, Enec, Disec, Reset, SendList, OpenDaa, Round, EndDaa}
 use Rattle.i3c_base.specs.declared.requests.Fixed.{Fixed}
 use Rattle.i3c_base.specs.declared.requests.Request.{Request}
 use Rattle.i3c_step.specs.declared.replies.Reply.{Reply}
@@ -16,10 +16,10 @@ use Rattle.i3c_base.specs.declared.requests.Served.TheVariants.{Quiet, Recorded,
 use Rattle.i3c_base.specs.declared.device.Setup.{Setup}
 use Rattle.i3c_base.specs.declared.device.LegacyTarget.{LegacyTarget}
 use Rattle.i3c_base.specs.Numbers.{same_identity}
-use Rattle.i3c_base.specs.State.{Device, Entry, State, IsStart, addressed, attached, change, device_at, each, entry_at, entry_of, kept_entry_of, kept_of, no_devices, no_entries, raised_at, legacy_target_at, unaddressed, unkept}
+use Rattle.i3c_base.specs.State.{Device, Entry, State, IsStart, addressed, attached, change, device_at, each, entry_at, has_address, in_slot, is_the, entry_of, kept_entry_of, kept_of, no_devices, no_entries, raised_at, legacy_target_at, unaddressed, unkept}
 use Rattle.i3c_base.specs.declared.range.TheConstants.{ADDRESSES}
 use Rattle.i3c_base.specs.Local.{attach, drop_off, raise}
-use Rattle.i3c_base.specs.Frames.{Rekinds, reaches, rekinded}
+use Rattle.i3c_base.specs.Frames.{Rekinds, active_has, list, reaches, rekinded, reset, unaddressed_device}
 use Rattle.i3c_base.specs.Numbers.{KindSet}
 use Rattle.i3c_base.specs.declared.answers.Answer.{Answer}
 use Rattle.i3c_base.specs.Serve.{Frame, Serves, drives, each_driver, emptied, without_front, without_join, without_role}
@@ -27,7 +27,7 @@ use Rattle.i3c_base.specs.Round.{IsAddressFor, Rounds, assigned, ended, opened, 
 use Rattle.i3c_step.specs.Step.{Acts, Becomes, Step}
 use Rattle.i3c_step.specs.Sound.{Addresses, IsFor}
 use Rattle.i3c_step.proofs.Steps.{step_cases}
-use Rattle.i3c_base.proofs.Lookups.{attach_from, change_from, drop_off_from, each_from, emptied_from, length-no_entries, no_devices_at, no_entries_at, set_from, set_in}
+use Rattle.i3c_base.proofs.Lookups.{attach_from, changed_at, length-changed, change_from, drop_off_from, each_from, emptied_from, length-no_entries, no_devices_at, no_entries_at, set_from, set_in}
 use Rattle.i3c_step.proofs.Maps.{cond_some_from, cond_kept_from, same_identity-true}
 
 -- device d had its identity and address in the same slot before
@@ -292,6 +292,54 @@ Addresses-round old cuts RoundReply.Nobody new h inv = subst Addresses (sym h.3)
 Addresses-round old cuts (RoundReply.Assigned a i) new h inv =
     subst Addresses (sym h.3) (Addresses-emptied (lost_by cuts 73) _ (Addresses-assigned (lost_by cuts 73) i a old h.2 inv))
 
+-- a reset leaves the active controller's address and its entry
+NoneNew-reset : (st : State) → NoneNew st (reset st)
+NoneNew-reset st = record {
+  devices = λ s a d p q. let x = each_from f st s d p in was s a d x.0 x.1 q (s == st.active) refl x.2;
+  entries = λ s a d e p q g. let x = each_from f st s d p in
+      (unkept e, at a ∙ (cond-true (active_has st a) _ _ (held s a d x.0 x.1 q (s == st.active) refl x.2) ∙ ap (option_map unkept) g), IsRest-unkept e);
+  given = λ a e g. from (active_has st a) (entry_at st a) e (sym (at a) ∙ g);
+  legacy = λ a l. l;
+  long = length-changed h st.given;
+}
+  where
+    f : ℕ → Device → Device
+    f s d = if s == st.active then without_role d else unaddressed_device d
+
+    h : ℕ → Option Entry → Option Entry
+    h a place = if active_has st a then option_map unkept place else None
+
+    none : (b : Bool) → (if b then option_map unkept None else None) ≡ None
+    none true = refl
+    none false = refl
+
+    at : (a : ℕ) → entry_at (reset st) a ≡ h a (entry_at st a)
+    at a = changed_at h st.given a None (none (active_has st a))
+
+    was : (s a : ℕ) (d x : Device) → device_at st s ≡ Some x → d.address ≡ Some a → (b : Bool) → (s == st.active) ≡ b → (if s == st.active then without_role x else unaddressed_device x) ≡ d → WasThere st s a d
+    was s a d x there q true e k =
+        let same : without_role x ≡ d = sym (cond-true (s == st.active) _ _ e) ∙ k in
+        record { was = x; there = there; address = ap (λ (y : Device). y.address) same ∙ q; identity = ap (λ (y : Device). y.identity) same }
+    was s a d x there q false e k =
+        let same : unaddressed_device x ≡ d = sym (cond-false (s == st.active) _ _ e) ∙ k in absurd (none-some a (ap (λ (y : Device). y.address) same ∙ q))
+
+    held : (s a : ℕ) (d x : Device) → device_at st s ≡ Some x → d.address ≡ Some a → (b : Bool) → (s == st.active) ≡ b → (if s == st.active then without_role x else unaddressed_device x) ≡ d → active_has st a ≡ true
+    held s a d x there q true e k =
+        let same : without_role x ≡ d = sym (cond-true (s == st.active) _ _ e) ∙ k in
+        let here : device_at st st.active ≡ Some x = ap (device_at st) (sym (eqb-true s st.active e)) ∙ there in
+        ap (in_slot (has_address a)) here ∙ (ap (is_the a) (ap (λ (y : Device). y.address) same ∙ q) ∙ eq-eqb a a refl)
+    held s a d x there q false e k =
+        let same : unaddressed_device x ≡ d = sym (cond-false (s == st.active) _ _ e) ∙ k in absurd (none-some a (ap (λ (y : Device). y.address) same ∙ q))
+
+    from : (b : Bool) (o : Option Entry) (e : Entry) → (if b then option_map unkept o else None) ≡ Some e → (k : Entry) × (o ≡ Some k)
+    from true None e g = absurd (none-some e g)
+    from true (Some k) e g = (k, refl)
+    from false o e g = absurd (none-some e g)
+
+-- a list changes nothing of it
+NoneNew-list : (st : State) → NoneNew st (list st)
+NoneNew-list st = NoneNew-from st (list st) (λ s a d p q. record { was = d; there = p; address = q; identity = refl }) refl (λ a l. l)
+
 -- what a frame's own part leaves has no new address
 NoneNew-becomes : (f : State → State) → ((st : State) → NoneNew st (f st)) → (lost : Lost) (mid done : State) → Becomes f lost mid done → NoneNew mid done
 NoneNew-becomes f h lost mid done e = subst (NoneNew mid) (sym e) (h mid)
@@ -307,6 +355,10 @@ Addresses-acts old (Serve policy cuts) reply new h inv =
     Addresses-frame old policy cuts _ _ _ new (λ lost mid done e. subst (NoneNew mid) (sym e) (NoneNew-refl mid)) h.2 inv
 Addresses-acts old (Enec to kinds policy cuts) reply new h inv = Addresses-frame old policy cuts _ _ _ new (NoneNew-rekinds to _ _) h.2 inv
 Addresses-acts old (Disec to kinds policy cuts) reply new h inv = Addresses-frame old policy cuts _ _ _ new (NoneNew-rekinds to _ _) h.2 inv
+Addresses-acts old (AskRole s) reply new h inv =
+    subst Addresses (sym h.1) (Addresses-none_new old _ (NoneNew-change s (λ d. record d { role_wish = true }) old (λ d. record { identity = refl; address = λ a p. p })) inv)
+Addresses-acts old (Reset policy cuts) reply new h inv = Addresses-frame old policy cuts _ _ _ new (NoneNew-becomes reset NoneNew-reset) h.2 inv
+Addresses-acts old (SendList policy cuts) reply new h inv = Addresses-frame old policy cuts _ _ _ new (NoneNew-becomes list NoneNew-list) h.2 inv
 Addresses-acts old (OpenDaa cuts) reply new h inv = Addresses-frame old _ cuts _ _ _ new (NoneNew-becomes opened NoneNew-opened) h.2 inv
 Addresses-acts old (Round cuts) reply new h inv = Addresses-round old cuts h.0 new h.2 inv
 Addresses-acts old EndDaa reply new h inv = subst Addresses (sym h.1) (Addresses-none_new old _ (NoneNew-ended old) inv)

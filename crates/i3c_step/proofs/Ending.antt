@@ -137,7 +137,7 @@ settled_step old event reply new h inv =
       Active-step old event reply new h inv.0,
       λ d p. elim ((Came-step old event reply new h).0 old.active d (ap (device_at new) (sym active) ∙ p)) [
         | inl a ↦ absurd (none-some inv.0.0 (sym (attached_free old event reply new old.active h a) ∙ inv.0.1))
-        | inr x ↦ x.2 (inv.1 x.0 x.1)
+        | inr x ↦ x.2 refl (inv.1 x.0 x.1)
       ],
     )
 

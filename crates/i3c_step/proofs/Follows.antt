@@ -1,5 +1,5 @@
 -- Devices stay in their slots, and one that has an address and hears no session goes on so.
-use Rattle.std.proofs.lemmas.Bool.{both_ways}
+use Rattle.std.proofs.lemmas.Bool.{both_ways, cond-true, eq-eqb}
 use Rattle.std.proofs.lemmas.List.{length-set}
 use Rattle.std.proofs.Common.{◌≡◌, ℕ, suc, Bool, true, false, [], ◌∷◌, ◌++◌, length, Option, Some, None, is_none, is_some, option_map, ◌==◌, ◌⊎◌, if◌then◌else◌, inl, inr, sym, refl, ap, ◌∙◌, subst}
 use Rattle.i3c_base.specs.declared.answers.Answer.{Answer}
@@ -11,7 +11,7 @@ use Rattle.i3c_base.specs.declared.requests.Request.TheVariants.{Join, Role, Int
 use Rattle.i3c_base.specs.declared.requests.Served.{Served}
 use Rattle.i3c_base.specs.declared.requests.Served.TheVariants.{Quiet, Recorded, Refused, Torn, Joining, WantsRole}
 use Rattle.i3c_base.specs.Cutting.{CutList, Lost, lost_by}
-use Rattle.i3c_base.specs.Frames.{Rekinds, reaches, rekinded}
+use Rattle.i3c_base.specs.Frames.{Rekinds, list, reaches, rekinded, reset, unaddressed_device}
 use Rattle.i3c_base.specs.Local.{drop_off, raise}
 use Rattle.i3c_base.specs.Numbers.{KindSet}
 use Rattle.i3c_base.specs.Round.{Rounds, assigned, ended, hears, opened, unhearing, winner, wins}
@@ -19,7 +19,7 @@ use Rattle.i3c_base.specs.Serve.{Frame, Serves, drives, each_driver, emptied, wi
 use Rattle.i3c_base.specs.State.{Device, State, change, device_at, each, raised_at}
 use Rattle.i3c_base.proofs.Lookups.{attach_from, change_from, drop_off_from, each_from, emptied_from, length-changed}
 use Rattle.i3c_step.specs.declared.events.Event.{Event}
-use Rattle.i3c_step.specs.declared.events.Event.TheVariants.{Attach, DropOff, Raise, AskJoin, Serve, Enec, Disec, OpenDaa, Round, EndDaa}
+use Rattle.i3c_step.specs.declared.events.Event.TheVariants.{Attach, DropOff, Raise, AskJoin, AskRole, Serve, Enec, Disec, Reset, SendList, OpenDaa, Round, EndDaa}
 use Rattle.i3c_step.specs.declared.replies.Reply.{Reply}
 use Rattle.i3c_step.specs.Slots.{HasAttached}
 use Rattle.i3c_step.specs.Step.{Acts, Step}
@@ -30,23 +30,26 @@ pub record IsSettled (d : Device) : Type 0 where
   pub addressed : is_some d.address ≡ true
   pub deaf : d.hearing ≡ false
 
--- each device was in its slot before, and is settled if it was
+-- the active controller is the same, each device was in its slot before, and the active controller's is settled if it was
 pub record Follows (old new : State) : Type 0 where
-  pub devices : (s : ℕ) (d : Device) → device_at new s ≡ Some d → (x : Device) × (device_at old s ≡ Some x) × (IsSettled x → IsSettled d)
+  pub devices : (s : ℕ) (d : Device) → device_at new s ≡ Some d → (x : Device) × (device_at old s ≡ Some x) × (s ≡ old.active → IsSettled x → IsSettled d)
+  pub active : new.active ≡ old.active
   pub long : length new.devices ≡ length old.devices
 
 pub Follows-refl : (st : State) → Follows st st
-Follows-refl st = record { devices = λ s d p. (d, p, λ h. h); long = refl }
+Follows-refl st = record { devices = λ s d p. (d, p, λ a h. h); active = refl; long = refl }
 
 pub Follows-then : (old mid new : State) → Follows old mid → Follows mid new → Follows old new
 Follows-then old mid new h k = record {
-  devices = λ s d p. let x = k.devices s d p in let y = h.devices s x.0 x.1 in (y.0, y.1, λ t. x.2 (y.2 t));
+  devices = λ s d p. let x = k.devices s d p in let y = h.devices s x.0 x.1 in (y.0, y.1, λ a t. x.2 (a ∙ sym h.active) (y.2 a t));
+  active = k.active ∙ h.active;
   long = k.long ∙ h.long;
 }
 
-pub Follows-each : (f : ℕ → Device → Device) (st : State) → ((s : ℕ) (d : Device) → IsSettled d → IsSettled (f s d)) → Follows st (each f st)
+pub Follows-each : (f : ℕ → Device → Device) (st : State) → ((s : ℕ) (d : Device) → s ≡ st.active → IsSettled d → IsSettled (f s d)) → Follows st (each f st)
 Follows-each f st settles = record {
-  devices = λ s d p. let x = each_from f st s d p in (x.0, x.1, λ h. subst IsSettled x.2 (settles s x.0 h));
+  devices = λ s d p. let x = each_from f st s d p in (x.0, x.1, λ a h. subst IsSettled x.2 (settles s x.0 a h));
+  active = refl;
   long = length-changed (λ s place. option_map (f s) place) st.devices;
 }
 
@@ -56,26 +59,28 @@ settled_if false d e h k = k
 
 pub Follows-change : (s : ℕ) (f : Device → Device) (st : State) → ((d : Device) → IsSettled d → IsSettled (f d)) → Follows st (change s f st)
 Follows-change s f st settles = record {
-  devices = λ t d p. let x = change_from s f st t d p in (x.0, x.1, λ h. subst IsSettled x.2 (settled_if (t == s) x.0 (f x.0) (settles x.0) h));
+  devices = λ t d p. let x = change_from s f st t d p in (x.0, x.1, λ a h. subst IsSettled x.2 (settled_if (t == s) x.0 (f x.0) (settles x.0) h));
+  active = refl;
   long = length-set st.devices s _;
 }
 
 Follows-emptied : (lost : Lost) (st : State) → Follows st (emptied lost st)
 Follows-emptied lost st = record {
-  devices = λ s d p. (d, (emptied_from lost st s d p).1, λ h. h);
+  devices = λ s d p. (d, (emptied_from lost st s d p).1, λ a h. h);
+  active = refl;
   long = length-changed (λ s place. if lost s then None else place) st.devices;
 }
 
 Follows-drop_off : (s : ℕ) (st : State) → Follows st (drop_off s st)
-Follows-drop_off s st = record { devices = λ t d p. (d, (drop_off_from s st t d p).1, λ h. h); long = length-set st.devices s None }
+Follows-drop_off s st = record { devices = λ t d p. (d, (drop_off_from s st t d p).1, λ a h. h); active = refl; long = length-set st.devices s None }
 
 Follows-raise : (s : ℕ) (byte : Option ℕ) (st : State) → Follows st (raise s byte st)
 Follows-raise s byte st =
     let n = Follows-change s (λ d. record d { waiting = d.waiting ++ record { number = suc (raised_at st s); byte = byte } ∷ [] }) st (λ d h. record { addressed = h.addressed; deaf = h.deaf }) in
-    record { devices = n.devices; long = n.long }
+    record { devices = n.devices; active = refl; long = n.long }
 
 Follows-driver : (r : Request) (f : Device → Device) (st : State) → ((d : Device) → IsSettled d → IsSettled (f d)) → Follows st (each_driver r f st)
-Follows-driver r f st settles = Follows-each (λ s d. if drives st r s then f d else d) st (λ s d h. settled_if (drives st r s) d (f d) (settles d) h)
+Follows-driver r f st settles = Follows-each (λ s d. if drives st r s then f d else d) st (λ s d a h. settled_if (drives st r s) d (f d) (settles d) h)
 
 Follows-serves : (st : State) (policy : Fixed) (lost : Lost) (served : Served) (new : State) → Serves st policy lost served new → Follows st new
 Follows-serves st policy lost Quiet new h = subst (Follows st) (sym h.1) (Follows-refl st)
@@ -83,12 +88,12 @@ Follows-serves st policy lost Refused new h = subst (Follows st) (sym h.1) (Foll
 Follows-serves st policy lost Joining new h = subst (Follows st) (sym h.2) (Follows-driver Join without_join st (λ d k. record { addressed = k.addressed; deaf = k.deaf }))
 Follows-serves st policy lost (WantsRole a) new h = subst (Follows st) (sym h.2) (Follows-driver (Role a) without_role st (λ d k. record { addressed = k.addressed; deaf = k.deaf }))
 Follows-serves st policy lost (Recorded place) new h = subst (Follows st) (sym h.left)
-    (let n = Follows-driver (Interrupt h.at) without_front st (λ d k. record { addressed = k.addressed; deaf = k.deaf }) in record { devices = n.devices; long = n.long })
+    (let n = Follows-driver (Interrupt h.at) without_front st (λ d k. record { addressed = k.addressed; deaf = k.deaf }) in record { devices = n.devices; active = refl; long = n.long })
 Follows-serves st policy lost Torn new h = subst (Follows st) (sym h.left) (Follows-driver (Interrupt h.at) without_front st (λ d k. record { addressed = k.addressed; deaf = k.deaf }))
 
 Follows-rekinded : (to : Option ℕ) (f : KindSet → KindSet) (st : State) → Follows st (rekinded to f st)
 Follows-rekinded to f st = Follows-each (λ s d. if reaches st to s d then record d { kinds = f d.kinds } else d) st
-    (λ s d h. settled_if (reaches st to s d) d (record d { kinds = f d.kinds }) (λ k. record { addressed = k.addressed; deaf = k.deaf }) h)
+    (λ s d a h. settled_if (reaches st to s d) d (record d { kinds = f d.kinds }) (λ k. record { addressed = k.addressed; deaf = k.deaf }) h)
 
 Follows-rekinds : (to : Option ℕ) (f : KindSet → KindSet) (answer : Answer) (lost : Lost) (mid done : State) → Rekinds to f answer lost mid done → Follows mid done
 Follows-rekinds None f answer lost mid done h = subst (Follows mid) (sym h.1) (Follows-rekinded None f mid)
@@ -106,15 +111,25 @@ settled_hears d h = go d.address refl h.addressed
     go (Some a) e some = subst IsSettled (sym (ap (λ (o : Option ℕ). if is_none o then record d { hearing = true } else d) e)) h
 
 Follows-opened : (st : State) → Follows st (opened st)
-Follows-opened st = let n = Follows-each (λ s d. hears d) st (λ s d h. settled_hears d h) in record { devices = n.devices; long = n.long }
+Follows-opened st = let n = Follows-each (λ s d. hears d) st (λ s d a h. settled_hears d h) in record { devices = n.devices; active = refl; long = n.long }
 
 Follows-ended : (st : State) → Follows st (ended st)
-Follows-ended st = let n = Follows-each (λ s d. unhearing d) st (λ s d h. record { addressed = h.addressed; deaf = refl }) in record { devices = n.devices; long = n.long }
+Follows-ended st = let n = Follows-each (λ s d. unhearing d) st (λ s d a h. record { addressed = h.addressed; deaf = refl }) in record { devices = n.devices; active = refl; long = n.long }
+
+-- a reset leaves the active controller its address
+Follows-reset : (st : State) → Follows st (reset st)
+Follows-reset st =
+    let n = Follows-each (λ s d. if s == st.active then without_role d else unaddressed_device d) st
+        (λ s d a h. subst IsSettled (sym (cond-true (s == st.active) (without_role d) (unaddressed_device d) (eq-eqb s st.active a))) (record { addressed = h.addressed; deaf = h.deaf })) in
+    record { devices = n.devices; active = refl; long = n.long }
+
+Follows-list : (st : State) → Follows st (list st)
+Follows-list st = record { devices = λ s d p. (d, p, λ a h. h); active = refl; long = refl }
 
 Follows-assigned : (lost : Lost) (i : Identity) (a : ℕ) (st : State) → Follows st (assigned lost i a st)
 Follows-assigned lost i a st =
-    let n = Follows-each (λ s d. if wins lost i s d then winner a d else d) st (λ s d h. settled_if (wins lost i s d) d (winner a d) (λ k. record { addressed = refl; deaf = refl }) h) in
-    record { devices = n.devices; long = n.long }
+    let n = Follows-each (λ s d. if wins lost i s d then winner a d else d) st (λ s d b h. settled_if (wins lost i s d) d (winner a d) (λ k. record { addressed = refl; deaf = refl }) h) in
+    record { devices = n.devices; active = refl; long = n.long }
 
 pub Follows-round : (old : State) (cuts : CutList) (answer : RoundReply) (new : State) → Rounds old cuts answer new → Follows old new
 Follows-round old cuts RoundReply.NoAddress new h = subst (Follows old) (sym h.1) (Follows-refl old)
@@ -132,7 +147,7 @@ Follows-frame old policy cuts served rest Own new own frame =
 
 -- a device of a later state was attached there, or was there
 abbrev pub Came : State → Event → Reply → State → Type 0
-Came old event reply new = (s : ℕ) (d : Device) → device_at new s ≡ Some d → HasAttached event reply s ⊎ ((x : Device) × (device_at old s ≡ Some x) × (IsSettled x → IsSettled d))
+Came old event reply new = (s : ℕ) (d : Device) → device_at new s ≡ Some d → HasAttached event reply s ⊎ ((x : Device) × (device_at old s ≡ Some x) × (s ≡ old.active → IsSettled x → IsSettled d))
 
 came : (old : State) (event : Event) (reply : Reply) (new : State) → Follows old new → Came old event reply new × (length new.devices ≡ length old.devices)
 came old event reply new h = (λ s d p. inr (h.devices s d p), h.long)
@@ -141,7 +156,7 @@ Came-acts : (old : State) (event : Event) (reply : Reply) (new : State) → Acts
 Came-acts old (Attach s setup) reply new h = (
   λ t d p. elim (attach_from s setup old t d (subst (λ (st : State). device_at st t ≡ Some d) h.1 p)) [
     | inl e ↦ inl (setup, ap (λ k. Attach k setup) (sym e.0), h.0)
-    | inr e ↦ inr (d, e, λ k. k)
+    | inr e ↦ inr (d, e, λ a k. k)
   ],
   ap (λ (st : State). length st.devices) h.1 ∙ length-set old.devices s _,
 )
@@ -153,6 +168,12 @@ Came-acts old (Serve policy cuts) reply new h = came old (Serve policy cuts) rep
     (Follows-frame old policy cuts _ _ _ new (λ lost mid done e. subst (Follows mid) (sym e) (Follows-refl mid)) h.2)
 Came-acts old (Enec to kinds policy cuts) reply new h = came old (Enec to kinds policy cuts) reply new (Follows-frame old policy cuts _ _ _ new (Follows-rekinds to _ _) h.2)
 Came-acts old (Disec to kinds policy cuts) reply new h = came old (Disec to kinds policy cuts) reply new (Follows-frame old policy cuts _ _ _ new (Follows-rekinds to _ _) h.2)
+Came-acts old (AskRole s) reply new h = came old (AskRole s) reply new
+    (subst (Follows old) (sym h.1) (Follows-change s (λ d. record d { role_wish = true }) old (λ d k. record { addressed = k.addressed; deaf = k.deaf })))
+Came-acts old (Reset policy cuts) reply new h = came old (Reset policy cuts) reply new
+    (Follows-frame old policy cuts _ _ _ new (λ lost mid done e. subst (Follows mid) (sym e) (Follows-reset mid)) h.2)
+Came-acts old (SendList policy cuts) reply new h = came old (SendList policy cuts) reply new
+    (Follows-frame old policy cuts _ _ _ new (λ lost mid done e. subst (Follows mid) (sym e) (Follows-list mid)) h.2)
 Came-acts old (OpenDaa cuts) reply new h = came old (OpenDaa cuts) reply new
     (Follows-frame old _ cuts _ _ _ new (λ lost mid done e. subst (Follows mid) (sym e) (Follows-opened mid)) h.2)
 Came-acts old (Round cuts) reply new h = came old (Round cuts) reply new (Follows-round old cuts h.0 new h.2)

@@ -8,7 +8,7 @@ use Rattle.i3c_base.specs.Round.{Rounds}
 use Rattle.i3c_base.specs.Serve.{Frame, emptied}
 use Rattle.i3c_base.specs.State.{State}
 use Rattle.i3c_step.specs.declared.events.Event.{Event}
-use Rattle.i3c_step.specs.declared.events.Event.TheVariants.{Attach, DropOff, Raise, AskJoin, Serve, Enec, Disec, OpenDaa, Round, EndDaa}
+use Rattle.i3c_step.specs.declared.events.Event.TheVariants.{Attach, DropOff, Raise, AskJoin, AskRole, Serve, Enec, Disec, Reset, SendList, OpenDaa, Round, EndDaa}
 use Rattle.i3c_step.specs.declared.replies.Reply.{Reply}
 use Rattle.i3c_step.specs.Slots.{KeepsSlots, session_after}
 use Rattle.i3c_step.specs.Step.{Acts, Step}
@@ -57,6 +57,14 @@ Settles-acts old (Enec to kinds policy cuts) reply new h =
     Settles-stands old reply new (ap (λ r. session_after r old.in_session) h.1) (Stands-frame old policy cuts h.0.served _ _ new (Stands-rekinds to _ _) h.2)
 Settles-acts old (Disec to kinds policy cuts) reply new h =
     Settles-stands old reply new (ap (λ r. session_after r old.in_session) h.1) (Stands-frame old policy cuts h.0.served _ _ new (Stands-rekinds to _ _) h.2)
+Settles-acts old (AskRole s) reply new h =
+    Settles-stands old reply new (ap (λ r. session_after r old.in_session) h.0) (ap (λ (st : State). st.active) h.1, ap (λ (st : State). st.in_session) h.1)
+Settles-acts old (Reset policy cuts) reply new h =
+    Settles-stands old reply new (ap (λ r. session_after r old.in_session) h.1)
+    (Stands-frame old policy cuts h.0 _ _ new (λ lost mid done e. (ap (λ (st : State). st.active) e, ap (λ (st : State). st.in_session) e)) h.2)
+Settles-acts old (SendList policy cuts) reply new h =
+    Settles-stands old reply new (ap (λ r. session_after r old.in_session) h.1)
+    (Stands-frame old policy cuts h.0 _ _ new (λ lost mid done e. (ap (λ (st : State). st.active) e, ap (λ (st : State). st.in_session) e)) h.2)
 Settles-acts old (OpenDaa cuts) reply new h = (
   ap (λ (st : State). st.active) h.2.left ∙ (ap (λ (st : State). st.active) h.2.own ∙ (Stands-mid old _ cuts h.0 _ _ new h.2).0),
   ap (λ (st : State). st.in_session) h.2.left ∙ (ap (λ (st : State). st.in_session) h.2.own ∙ sym (ap (λ r. session_after r old.in_session) h.1)),

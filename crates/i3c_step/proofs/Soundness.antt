@@ -17,14 +17,14 @@ use Rattle.i3c_base.specs.declared.requests.Served.TheVariants.{Quiet, Recorded,
 use Rattle.i3c_base.specs.Numbers.{KindSet, has_byte}
 use Rattle.i3c_base.specs.State.{Device, State, IsStart, device_at, each, in_slot, raised_at}
 use Rattle.i3c_base.specs.Cutting.{CutList, Lost, lost_by}
-use Rattle.i3c_base.specs.Local.{ask_join, attach, drop_off, raise}
+use Rattle.i3c_base.specs.Local.{ask_join, ask_role, attach, drop_off, raise}
 use Rattle.i3c_base.specs.Serve.{Frame, Serves, drives, each_driver, emptied, tail, without_front, without_join, without_role}
-use Rattle.i3c_base.specs.Frames.{Rekinds, reaches, rekinded}
+use Rattle.i3c_base.specs.Frames.{Rekinds, reaches, rekinded, reset, unaddressed_device}
 use Rattle.i3c_base.specs.Round.{Rounds, assigned, ended, hears, opened, unhearing, winner, wins}
 use Rattle.i3c_base.specs.Numbers.{same_bool}
 use Rattle.i3c_base.proofs.Lookups.{attach_from, change_from, drop_off_from, each_from, emptied_from}
 use Rattle.i3c_step.specs.declared.events.Event.{Event}
-use Rattle.i3c_step.specs.declared.events.Event.TheVariants.{Attach, DropOff, Raise, AskJoin, Serve, Enec, Disec, OpenDaa, Round, EndDaa}
+use Rattle.i3c_step.specs.declared.events.Event.TheVariants.{Attach, DropOff, Raise, AskJoin, AskRole, Serve, Enec, Disec, Reset, SendList, OpenDaa, Round, EndDaa}
 use Rattle.i3c_step.specs.declared.replies.Reply.{Reply}
 use Rattle.i3c_step.specs.Step.{Acts, Step, checks, first_refusal}
 use Rattle.i3c_step.specs.Sound.{IsFitting, IsSound}
@@ -142,6 +142,15 @@ AllFit-ask_join s st all t d p =
     let x = change_from s (λ (y : Device). record y { join_wish = true }) st t d p in
     subst IsFitting x.2 (Fits-if (t == s) x.0 (record x.0 { join_wish = true }) (all t x.0 x.1) (all t x.0 x.1))
 
+AllFit-ask_role : (s : ℕ) (st : State) → AllFit st → AllFit (ask_role s st)
+AllFit-ask_role s st all t d p =
+    let x = change_from s (λ (y : Device). record y { role_wish = true }) st t d p in
+    subst IsFitting x.2 (Fits-if (t == s) x.0 (record x.0 { role_wish = true }) (all t x.0 x.1) (all t x.0 x.1))
+
+AllFit-reset : (st : State) → AllFit st → AllFit (reset st)
+AllFit-reset st = AllFit-each (λ s d. if s == st.active then without_role d else unaddressed_device d) st
+    (λ s d h. Fits-if (s == st.active) (unaddressed_device d) (without_role d) h h)
+
 AllFit-acts : (old : State) (event : Event) (reply : Reply) (new : State) → first_refusal (checks old event) ≡ None → Acts old event reply new → AllFit old → AllFit new
 AllFit-acts old (Attach s setup) reply new free h all = subst AllFit (sym h.1) (AllFit-attach s setup old all)
 AllFit-acts old (DropOff s) reply new free h all = subst AllFit (sym h.1) (AllFit-drop_off s old all)
@@ -150,6 +159,9 @@ AllFit-acts old (Raise s byte) reply new free h all = subst AllFit (sym h.1) (Al
 AllFit-acts old (Serve policy cuts) reply new free h all = AllFit-frame old policy cuts _ _ _ new (λ lost mid done e fit. subst AllFit (sym e) fit) h.2 all
 AllFit-acts old (Enec to kinds policy cuts) reply new free h all = AllFit-frame old policy cuts _ _ _ new (AllFit-rekinds to _ _) h.2 all
 AllFit-acts old (Disec to kinds policy cuts) reply new free h all = AllFit-frame old policy cuts _ _ _ new (AllFit-rekinds to _ _) h.2 all
+AllFit-acts old (AskRole s) reply new free h all = subst AllFit (sym h.1) (AllFit-ask_role s old all)
+AllFit-acts old (Reset policy cuts) reply new free h all = AllFit-frame old policy cuts _ _ _ new (λ lost mid done e fit. subst AllFit (sym e) (AllFit-reset mid fit)) h.2 all
+AllFit-acts old (SendList policy cuts) reply new free h all = AllFit-frame old policy cuts _ _ _ new (λ lost mid done e fit. subst AllFit (sym e) fit) h.2 all
 AllFit-acts old (OpenDaa cuts) reply new free h all =
     AllFit-frame old _ cuts _ _ _ new (λ lost mid done e fit. subst AllFit (sym e) (AllFit-opened mid fit)) h.2 all
 AllFit-acts old (Round cuts) reply new free h all = AllFit-round old cuts h.0 new h.2 all

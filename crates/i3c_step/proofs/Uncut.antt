@@ -17,7 +17,7 @@ use Rattle.i3c_base.specs.Serve.{refuse_all}
 use Rattle.i3c_base.specs.Round.{AllHearersLost, AnyHears, IsAddressFor, IsBeatenByLost, IsContender}
 use Rattle.i3c_base.specs.declared.kinds.Change.{Change}
 use Rattle.i3c_step.specs.declared.events.Event.{Event}
-use Rattle.i3c_step.specs.declared.events.Event.TheVariants.{Attach, DropOff, Raise, AskJoin, Serve, Enec, Disec, OpenDaa, Round, EndDaa}
+use Rattle.i3c_step.specs.declared.events.Event.TheVariants.{Attach, DropOff, Raise, AskJoin, AskRole, Serve, Enec, Disec, Reset, SendList, OpenDaa, Round, EndDaa}
 use Rattle.i3c_step.specs.declared.replies.Refusal.{Refusal}
 use Rattle.i3c_step.specs.declared.replies.Reply.{Reply}
 use Rattle.i3c_step.specs.Step.{Acts, IsShort, RekindsBy, Step, checks, cuts_in, first_refusal}
@@ -108,6 +108,13 @@ acts_unique old (Serve policy cuts) reply other new next u h k =
     (h.1 ∙ (ap Reply.Served r.0 ∙ sym k.1), r.2)
 acts_unique old (Enec to kinds policy cuts) reply other new next u h k = rekinds_by_unique old to (changed_kinds Change.Enable kinds) policy cuts reply other new next u h k
 acts_unique old (Disec to kinds policy cuts) reply other new next u h k = rekinds_by_unique old to (changed_kinds Change.Disable kinds) policy cuts reply other new next u h k
+acts_unique old (AskRole s) reply other new next u h k = (h.0 ∙ sym k.0, h.1 ∙ sym k.1)
+acts_unique old (Reset policy cuts) reply other new next u h k =
+    let r = frames_agree old policy cuts h.0 k.0 _ _ _ _ new next ⊤ u (λ mid done last x y. (tt, x ∙ sym y)) h.2 k.2 in
+    (h.1 ∙ (ap (λ s. Reply.Framed (record { served = s; answer = Answer.Done })) r.0 ∙ sym k.1), r.2)
+acts_unique old (SendList policy cuts) reply other new next u h k =
+    let r = frames_agree old policy cuts h.0 k.0 _ _ _ _ new next ⊤ u (λ mid done last x y. (tt, x ∙ sym y)) h.2 k.2 in
+    (h.1 ∙ (ap (λ s. Reply.Framed (record { served = s; answer = Answer.Done })) r.0 ∙ sym k.1), r.2)
 acts_unique old (OpenDaa cuts) reply other new next u h k =
     let r = frames_agree old refuse_all cuts h.0 k.0 _ _ _ _ new next ⊤ u (λ mid done last x y. (tt, x ∙ sym y)) h.2 k.2 in
     (h.1 ∙ (ap Reply.Opened r.0 ∙ sym k.1), r.2)

@@ -10,9 +10,9 @@ use Rattle.i3c_base.specs.declared.requests.Request.{Request}
 use Rattle.i3c_base.specs.Cutting.{CutList, Lost, lost_by}
 use Rattle.i3c_base.specs.Numbers.{KindSet}
 use Rattle.i3c_base.specs.State.{Device, State, attached, device_at, each}
-use Rattle.i3c_base.specs.Local.{ask_join, attach, drop_off}
-use Rattle.i3c_base.specs.Serve.{drives, each_driver, emptied}
-use Rattle.i3c_base.specs.Frames.{Rekinds, reaches, rekinded}
+use Rattle.i3c_base.specs.Local.{ask_join, ask_role, attach, drop_off}
+use Rattle.i3c_base.specs.Serve.{drives, each_driver, emptied, without_role}
+use Rattle.i3c_base.specs.Frames.{Rekinds, list, reaches, rekinded, reset, unaddressed_device}
 use Rattle.i3c_base.specs.Round.{Rounds, assigned, ended, hears, opened, unhearing, winner, wins}
 use Rattle.i3c_base.proofs.Lookups.{attach_from, change_from, drop_off_from, each_at, emptied_from, length-changed}
 
@@ -85,6 +85,26 @@ Unserved-drop_off s st = record {
   raised = refl;
   long = length-set st.devices s None;
 }
+
+pub Unserved-ask_role : (s : ℕ) (st : State) → Unserved st (ask_role s st)
+Unserved-ask_role s st = record {
+  waiting = λ t d p.
+      let x = change_from s (λ (y : Device). record y { role_wish = true }) st t d p in
+      ap (λ (y : Device). y.waiting) (sym x.2) ∙ (waiting-if (t == s) (record x.0 { role_wish = true }) x.0 refl ∙ sym (ap waiting_in x.1));
+  records = refl;
+  raised = refl;
+  long = length-set st.devices s _;
+}
+
+pub Unserved-reset : (st : State) → Unserved st (reset st)
+Unserved-reset st = Unserved-each (λ s d. if s == st.active then without_role d else unaddressed_device d) st (reset st) (λ s d. kept (s == st.active) d) refl refl refl
+  where
+    kept : (b : Bool) (d : Device) → (if b then without_role d else unaddressed_device d).waiting ≡ d.waiting
+    kept true d = refl
+    kept false d = refl
+
+pub Unserved-list : (st : State) → Unserved st (list st)
+Unserved-list st = record { waiting = λ s d p. sym (ap waiting_in p); records = refl; raised = refl; long = refl }
 
 pub Unserved-ask_join : (s : ℕ) (st : State) → Unserved st (ask_join s st)
 Unserved-ask_join s st = record {

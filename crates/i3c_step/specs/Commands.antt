@@ -16,5 +16,7 @@ kinds_event Disable to kinds policy cuts = Event.Disec to kinds policy cuts
 -- the event that a command is, with its policy and its cuts
 abbrev pub event_of : Command → Fixed → CutList → Event
 event_of Command.Serve policy cuts = Event.Serve policy cuts
+event_of Command.Reset policy cuts = Event.Reset policy cuts
+event_of Command.SendList policy cuts = Event.SendList policy cuts
 event_of (Command.Enec to kinds) policy cuts = Event.Enec to kinds policy cuts
 event_of (Command.Disec to kinds) policy cuts = Event.Disec to kinds policy cuts

@@ -15,4 +15,6 @@ abbrev pub under : Fixed → Event → Event
 under policy (Event.Serve other cuts) = Event.Serve policy cuts
 under policy (Event.Enec to kinds other cuts) = Event.Enec to kinds policy cuts
 under policy (Event.Disec to kinds other cuts) = Event.Disec to kinds policy cuts
+under policy (Event.Reset other cuts) = Event.Reset policy cuts
+under policy (Event.SendList other cuts) = Event.SendList policy cuts
 under policy event = event

@@ -27,5 +27,7 @@ abbrev pub policy_of : Event → Option Fixed
 policy_of (Event.Serve policy cuts) = Some policy
 policy_of (Event.Enec to kinds policy cuts) = Some policy
 policy_of (Event.Disec to kinds policy cuts) = Some policy
+policy_of (Event.Reset policy cuts) = Some policy
+policy_of (Event.SendList policy cuts) = Some policy
 policy_of (Event.OpenDaa cuts) = Some refuse_all
 policy_of _ = None

@@ -1,19 +1,20 @@
 -- One step of the bus: what an event may answer and leave.
 use Rattle.std.specs.Prelude.{◌≡◌, ℕ, suc, ◌+◌, ◌-◌, ◌^◌, Bool, true, false, not, ◌||◌, ◌==◌, ◌⊎◌, nat_le, List, [], ◌∷◌, ◌++◌, length, Option, Some, None, if◌then◌else◌, is_none, is_some, MatchOption, ⊤}
+use Rattle.i3c_base.specs.declared.answers.Answer.{Answer}
 use Rattle.i3c_base.specs.declared.answers.RoundReply.{RoundReply}
 use Rattle.i3c_base.specs.declared.device.TheConstants.{WAITING}
 use Rattle.i3c_base.specs.declared.requests.Fixed.{Fixed}
 use Rattle.i3c_base.specs.declared.requests.Served.{Served}
 use Rattle.i3c_base.specs.declared.kinds.Change.{Change}
-use Rattle.i3c_base.specs.Numbers.{KindSet, can_interrupt, has_byte, same_bool}
+use Rattle.i3c_base.specs.Numbers.{KindSet, can_interrupt, has_byte, is_capable, same_bool}
 use Rattle.i3c_base.specs.State.{State, device_at, entry_at, in_slot, raised_at}
 use Rattle.i3c_base.specs.Cutting.{CutList, IsUncut, Lost, cut_of}
-use Rattle.i3c_base.specs.Local.{ask_join, attach, drop_off, raise}
+use Rattle.i3c_base.specs.Local.{ask_join, ask_role, attach, drop_off, raise}
 use Rattle.i3c_base.specs.Serve.{Frame, header_bits, refuse_all}
-use Rattle.i3c_base.specs.Frames.{Rekinds, active_has, changed_kinds, kinds_bits}
+use Rattle.i3c_base.specs.Frames.{Rekinds, active_has, changed_kinds, kinds_bits, list, list_bits, reset}
 use Rattle.i3c_base.specs.Round.{Rounds, ended, opened}
 use Rattle.i3c_step.specs.declared.events.Event.{Event}
-use Rattle.i3c_step.specs.declared.events.Event.TheVariants.{Attach, DropOff, Raise, AskJoin, Serve, Enec, Disec, OpenDaa, Round, EndDaa}
+use Rattle.i3c_step.specs.declared.events.Event.TheVariants.{Attach, DropOff, Raise, AskJoin, AskRole, Serve, Enec, Disec, Reset, SendList, OpenDaa, Round, EndDaa}
 use Rattle.i3c_step.specs.declared.replies.Framed.{Framed}
 use Rattle.i3c_step.specs.declared.replies.Refusal.{Refusal}
 use Rattle.i3c_step.specs.declared.replies.Refusal.TheVariants.{SessionOpen, NoSession, ActiveStays, SlotTaken, NoDevice, IsActive, NoAddress, HasAddress, NotCapable, ByteMismatch, Masked, Full, NoAnswer}
@@ -59,7 +60,14 @@ checks st (Raise s byte) =
 checks st (AskJoin s) =
     (is_none (device_at st s), NoDevice) ∷ (in_slot (λ d. is_some d.address) (device_at st s), HasAddress)
     ∷ (in_slot (λ d. not d.kinds.join) (device_at st s), Masked) ∷ []
+checks st (AskRole s) =
+    (is_none (device_at st s), NoDevice) ∷ (s == st.active, IsActive)
+    ∷ (in_slot (λ d. is_none d.address) (device_at st s), NoAddress)
+    ∷ (in_slot (λ d. not (is_capable d.identity.bcr)) (device_at st s), NotCapable)
+    ∷ (in_slot (λ d. not d.kinds.role) (device_at st s), Masked) ∷ []
 checks st (Serve policy cuts) = frame_checks st cuts
+checks st (Reset policy cuts) = frame_checks st cuts
+checks st (SendList policy cuts) = frame_checks st cuts
 checks st (Enec to kinds policy cuts) = frame_checks st cuts ++ target_checks st to
 checks st (Disec to kinds policy cuts) = frame_checks st cuts ++ target_checks st to
 checks st (OpenDaa cuts) = frame_checks st cuts
@@ -71,6 +79,9 @@ abbrev pub may_want_memory : Event → Bool
 may_want_memory (Serve policy cuts) = true
 may_want_memory (Enec to kinds policy cuts) = true
 may_want_memory (Disec to kinds policy cuts) = true
+may_want_memory (Reset policy cuts) = true
+may_want_memory (SendList policy cuts) = true
+may_want_memory (AskRole s) = false
 may_want_memory (Attach s setup) = false
 may_want_memory (DropOff s) = false
 may_want_memory (Raise s byte) = false
@@ -93,12 +104,20 @@ RekindsBy old to f policy cuts reply new =
     (framed : Framed) × (reply ≡ Reply.Framed framed)
     × Frame old policy cuts framed.served (header_bits framed.served + kinds_bits to framed.answer) (Rekinds to f framed.answer) new
 
+-- a frame to all that is done, and that f says of what it leaves; its own part has so many bits
+abbrev pub Announces : State → ℕ → (State → State) → Fixed → CutList → Reply → State → Type 0
+Announces old bits f policy cuts reply new =
+    (served : Served) × (reply ≡ Reply.Framed (record { served = served; answer = Answer.Done })) × Frame old policy cuts served (header_bits served + bits) (Becomes f) new
+
 -- what an event that isn't refused answers and leaves
 abbrev pub Acts : State → Event → Reply → State → Type 0
 Acts old (Attach s setup) reply new = (reply ≡ Reply.Attached) × (new ≡ attach s setup old)
 Acts old (DropOff s) reply new = (reply ≡ Reply.Dropped) × (new ≡ drop_off s old)
 Acts old (Raise s byte) reply new = (reply ≡ Reply.Raised (suc (raised_at old s))) × (new ≡ raise s byte old)
 Acts old (AskJoin s) reply new = (reply ≡ Reply.Asked) × (new ≡ ask_join s old)
+Acts old (AskRole s) reply new = (reply ≡ Reply.Asked) × (new ≡ ask_role s old)
+Acts old (Reset policy cuts) reply new = Announces old 9 reset policy cuts reply new
+Acts old (SendList policy cuts) reply new = Announces old (list_bits old) list policy cuts reply new
 Acts old (Serve policy cuts) reply new = (served : Served) × (reply ≡ Reply.Served served) × Frame old policy cuts served 0 Nothing new
 Acts old (Enec to kinds policy cuts) reply new = RekindsBy old to (changed_kinds Change.Enable kinds) policy cuts reply new
 Acts old (Disec to kinds policy cuts) reply new = RekindsBy old to (changed_kinds Change.Disable kinds) policy cuts reply new
@@ -120,6 +139,9 @@ abbrev pub cuts_in : Event → Option CutList
 cuts_in (Serve policy cuts) = Some cuts
 cuts_in (Enec to kinds policy cuts) = Some cuts
 cuts_in (Disec to kinds policy cuts) = Some cuts
+cuts_in (Reset policy cuts) = Some cuts
+cuts_in (SendList policy cuts) = Some cuts
+cuts_in (AskRole s) = None
 cuts_in (OpenDaa cuts) = Some cuts
 cuts_in (Round cuts) = Some cuts
 cuts_in (Attach s setup) = None

@@ -11,6 +11,8 @@ pub enum Event {
     Raise(Slot, Option<u8>),
     /// The slot's device wishes to join (Hot-Join, I3C Basic 5.1.5).
     AskJoin(Slot),
+    /// The slot's device wishes for the controller role (I3C Basic 5.1.7.1).
+    AskRole(Slot),
     /// The active controller serves the first request, and nothing else.
     Serve(Fixed, Cuts),
     /// Kinds of events are enabled (ENEC, I3C Basic 5.1.9.3.1): of the devices at an address, or without one of all
@@ -18,6 +20,10 @@ pub enum Event {
     Enec(Option<Addr7>, Kinds, Fixed, Cuts),
     /// Kinds of events are disabled (DISEC, I3C Basic 5.1.9.3.1), of the same.
     Disec(Option<Addr7>, Kinds, Fixed, Cuts),
+    /// All addresses but the active controller's are cleared (RSTDAA, I3C Basic 5.1.9.3.4).
+    Reset(Fixed, Cuts),
+    /// Each device is told of all others (DEFTGTS, I3C Basic 5.1.9.3.7).
+    SendList(Fixed, Cuts),
     /// The active controller opens a session of dynamic address assignment (ENTDAA, I3C Basic 5.1.4.2).
     OpenDaa(Cuts),
     /// One round of the open session.
@@ -35,4 +41,8 @@ pub enum Command {
     Enec(Option<Addr7>, Kinds),
     /// Disables kinds of events, of the same.
     Disec(Option<Addr7>, Kinds),
+    /// Clears all addresses but the active controller's.
+    Reset,
+    /// Tells each device of all others.
+    SendList,
 }
