@@ -18,7 +18,7 @@ use Rattle.i3c_step.specs.Records.{IsRecordedOrTorn, IsTornOff, RecordsFront}
 use Rattle.i3c_step.specs.Serving.{place_of, policy_of, served_of}
 use Rattle.i3c_step.specs.Step.{Acts, Step}
 use Rattle.i3c_step.specs.declared.events.Event.{Event}
-use Rattle.i3c_step.specs.declared.events.Event.TheVariants.{Attach, DropOff, Raise, AskJoin, AskRole, Serve, Enec, Disec, Reset, SendList, OpenDaa, Round, EndDaa}
+use Rattle.i3c_step.specs.declared.events.Event.TheVariants.{Attach, DropOff, Raise, AskJoin, AskRole, Serve, Enec, Disec, Reset, SendList, OpenDaa, Round, EndDaa, HandOver}
 use Rattle.i3c_step.specs.declared.replies.Reply.{Reply}
 use Rattle.i3c_step.proofs.Drivers.{accepted_served}
 use Rattle.i3c_step.proofs.Slots.{records_rekinds}
@@ -130,6 +130,10 @@ acts_record old (DropOff t) reply new policy a acts e h = absurd (none-some poli
 acts_record old (Raise t byte) reply new policy a acts e h = absurd (none-some policy e)
 acts_record old (AskJoin t) reply new policy a acts e h = absurd (none-some policy e)
 acts_record old (Round cuts) reply new policy a acts e h = absurd (none-some policy e)
+acts_record old (HandOver to cuts) reply new policy a acts e h = elim acts [
+  | inl g ↦ frame_accepts old refuse_all cuts g.0 _ _ reply new a (λ lost mid done k. ap (λ (st : State). st.records) k.4) g.2 (ap served_of g.1) policy (same_Some refuse_all policy e) h
+  | inr g ↦ frame_accepts old refuse_all cuts g.0 _ _ reply new a (λ lost mid done k. ap (λ (st : State). st.records) k.1) g.4 (ap served_of g.2) policy (same_Some refuse_all policy e) h
+]
 acts_record old EndDaa reply new policy a acts e h = absurd (none-some policy e)
 
 -- an idle event serves nothing

@@ -15,15 +15,16 @@ use Rattle.i3c_base.specs.Cutting.{CutList, Lost, lost_by}
 use Rattle.i3c_base.specs.Numbers.{KindSet}
 use Rattle.i3c_base.specs.State.{Device, State, IsPresent, IsStart, attached, change, device_at, each, no_devices, raised_at, unaddressed}
 use Rattle.i3c_base.specs.Serve.{Frame, Serves, drives, each_driver, emptied, without_front, without_join, without_role}
-use Rattle.i3c_base.specs.Frames.{Rekinds, list, reaches, rekinded, reset, unaddressed_device}
+use Rattle.i3c_base.specs.Frames.{Rekinds, handed, list, reaches, rekinded, reset, unaddressed_device}
 use Rattle.i3c_base.specs.Round.{Rounds, assigned, hears, opened, unhearing, winner, wins}
 use Rattle.i3c_base.proofs.Lookups.{change_at, drop_off_at, each_at, emptied_at, length-no_devices, set_at, set_in}
 use Rattle.i3c_step.specs.declared.events.Event.{Event}
-use Rattle.i3c_step.specs.declared.events.Event.TheVariants.{Attach, DropOff, Raise, AskJoin, AskRole, Serve, Enec, Disec, Reset, SendList, OpenDaa, Round, EndDaa}
+use Rattle.i3c_step.specs.declared.events.Event.TheVariants.{Attach, DropOff, Raise, AskJoin, AskRole, Serve, Enec, Disec, Reset, SendList, OpenDaa, Round, EndDaa, HandOver}
 use Rattle.i3c_step.specs.declared.replies.Reply.{Reply}
 use Rattle.i3c_step.specs.Runs.{IsLegalRun}
+use Rattle.i3c_step.proofs.Handing.{declined, granted}
 use Rattle.i3c_step.proofs.Kept.{run_keeps}
-use Rattle.i3c_step.specs.Step.{Acts, Step, checks, first_refusal, target_checks}
+use Rattle.i3c_step.specs.Step.{Acts, Step, checks, first_refusal, hand_checks, target_checks}
 use Rattle.i3c_step.proofs.Steps.{active_left, no_test, step_cases}
 
 -- the active slot is occupied
@@ -31,15 +32,15 @@ abbrev pub HasActive : State → Type 0
 HasActive st = IsPresent st st.active
 
 -- so it is, and the frame doesn't lose it
-record IsSafe (lost : Lost) (st : State) : Type 0 where
-  present : HasActive st
-  left : lost st.active ≡ false
+pub record IsSafe (lost : Lost) (st : State) : Type 0 where
+  pub present : HasActive st
+  pub left : lost st.active ≡ false
 
 -- a present device stays, whatever changes in it
-Present-each : (f : ℕ → Device → Device) (st : State) (s : ℕ) → IsPresent st s → IsPresent (each f st) s
+pub Present-each : (f : ℕ → Device → Device) (st : State) (s : ℕ) → IsPresent st s → IsPresent (each f st) s
 Present-each f st s h = (f s h.0, each_at f st s ∙ ap (option_map (f s)) h.1)
 
-Present-change : (t : ℕ) (f : Device → Device) (st : State) (s : ℕ) → IsPresent st s → IsPresent (change t f st) s
+pub Present-change : (t : ℕ) (f : Device → Device) (st : State) (s : ℕ) → IsPresent st s → IsPresent (change t f st) s
 Present-change t f st s h = (_, change_at t f st s ∙ ap (option_map (λ d. if s == t then f d else d)) h.1)
 
 Present-driver : (r : Request) (f : Device → Device) (st : State) (s : ℕ) → IsPresent st s → IsPresent (each_driver r f st) s
@@ -58,16 +59,16 @@ Safe-driver : (lost : Lost) (r : Request) (f : Device → Device) (st : State) �
 Safe-driver lost r f st h = record { present = Present-driver r f st _ h.present; left = h.left }
 
 -- serving keeps each device
-Safe-serves : (st : State) (policy : Fixed) (lost : Lost) (served : Served) (new : State) → Serves st policy lost served new → IsSafe lost st → IsSafe lost new
-Safe-serves st policy lost Quiet new h p = Safe-same lost st new h.1 p
-Safe-serves st policy lost Refused new h p = Safe-same lost st new h.1 p
-Safe-serves st policy lost Joining new h p = Safe-same lost _ new h.2 (Safe-driver lost Request.Join without_join st p)
-Safe-serves st policy lost (WantsRole a) new h p = Safe-same lost _ new h.2 (Safe-driver lost (Request.Role a) without_role st p)
-Safe-serves st policy lost (Recorded place) new h p = subst (IsSafe lost) (sym h.left)
-    (let q = Safe-driver lost (Request.Interrupt h.at) without_front st p in record { present = q.present; left = q.left })
-Safe-serves st policy lost Torn new h p = Safe-same lost _ new h.left (Safe-driver lost (Request.Interrupt h.at) without_front st p)
+pub Safe-serves : (st : State) (policy : Fixed) (lost : Lost) (served : Served) (new : State) (gone : Lost) → Serves st policy lost served new → IsSafe gone st → IsSafe gone new
+Safe-serves st policy lost Quiet new gone h p = Safe-same gone st new h.1 p
+Safe-serves st policy lost Refused new gone h p = Safe-same gone st new h.1 p
+Safe-serves st policy lost Joining new gone h p = Safe-same gone _ new h.2 (Safe-driver gone Request.Join without_join st p)
+Safe-serves st policy lost (WantsRole a) new gone h p = Safe-same gone _ new h.2 (Safe-driver gone (Request.Role a) without_role st p)
+Safe-serves st policy lost (Recorded place) new gone h p = subst (IsSafe gone) (sym h.left)
+    (let q = Safe-driver gone (Request.Interrupt h.at) without_front st p in record { present = q.present; left = q.left })
+Safe-serves st policy lost Torn new gone h p = Safe-same gone _ new h.left (Safe-driver gone (Request.Interrupt h.at) without_front st p)
 
-Active-emptied : (lost : Lost) (st : State) → IsSafe lost st → HasActive (emptied lost st)
+pub Active-emptied : (lost : Lost) (st : State) → IsSafe lost st → HasActive (emptied lost st)
 Active-emptied lost st h = (h.present.0, emptied_at lost st st.active ∙ (cond-false (lost st.active) None (device_at st st.active) h.left ∙ h.present.1))
 
 -- a frame that doesn't cut the active controller keeps it present
@@ -75,17 +76,17 @@ Active-frame : (old : State) (policy : Fixed) (cuts : CutList) (served : Served)
     → ((lost : Lost) (mid done : State) → Own lost mid done → IsSafe lost mid → IsSafe lost done)
     → Frame old policy cuts served rest Own new → ((last : ℕ) → lost_by cuts last old.active ≡ false) → HasActive old → HasActive new
 Active-frame old policy cuts served rest Own new own frame uncut h =
-    let mid : IsSafe _ frame.mid = Safe-serves old policy _ served frame.mid frame.serves (record { present = h; left = uncut _ }) in
+    let mid : IsSafe _ frame.mid = Safe-serves old policy _ served frame.mid _ frame.serves (record { present = h; left = uncut _ }) in
     subst HasActive (sym frame.left) (Active-emptied _ frame.done (own _ frame.mid frame.done frame.own mid))
 
 Safe-rekinded : (to : Option ℕ) (f : KindSet → KindSet) (lost : Lost) (st : State) → IsSafe lost st → IsSafe lost (rekinded to f st)
 Safe-rekinded to f lost st h = record { present = Present-rekinded to f st _ h.present; left = h.left }
 
-Safe-rekinds : (to : Option ℕ) (f : KindSet → KindSet) (answer : Answer) (lost : Lost) (mid done : State) → Rekinds to f answer lost mid done → IsSafe lost mid → IsSafe lost done
-Safe-rekinds None f answer lost mid done h p = Safe-same lost _ done h.1 (Safe-rekinded None f lost mid p)
-Safe-rekinds (Some a) f answer lost mid done h p = elim h [
-  | inl e ↦ Safe-same lost _ done e.2 (Safe-rekinded (Some a) f lost mid p)
-  | inr e ↦ Safe-same lost mid done e.2 p
+pub Safe-rekinds : (to : Option ℕ) (f : KindSet → KindSet) (answer : Answer) (lost : Lost) (mid done : State) (gone : Lost) → Rekinds to f answer lost mid done → IsSafe gone mid → IsSafe gone done
+Safe-rekinds None f answer lost mid done gone h p = Safe-same gone _ done h.1 (Safe-rekinded None f gone mid p)
+Safe-rekinds (Some a) f answer lost mid done gone h p = elim h [
+  | inl e ↦ Safe-same gone _ done e.2 (Safe-rekinded (Some a) f gone mid p)
+  | inr e ↦ Safe-same gone mid done e.2 p
 ]
 
 Safe-opened : (lost : Lost) (mid done : State) → done ≡ opened mid → IsSafe lost mid → IsSafe lost done
@@ -98,7 +99,7 @@ Safe-reset lost mid done e h =
 Safe-list : (lost : Lost) (mid done : State) → done ≡ list mid → IsSafe lost mid → IsSafe lost done
 Safe-list lost mid done e h = subst (IsSafe lost) (sym e) (record { present = h.present; left = h.left })
 
-Active-round : (old : State) (cuts : CutList) (answer : RoundReply) (new : State) → Rounds old cuts answer new
+pub Active-round : (old : State) (cuts : CutList) (answer : RoundReply) (new : State) → Rounds old cuts answer new
     → ((last : ℕ) → lost_by cuts last old.active ≡ false) → HasActive old → HasActive new
 Active-round old cuts RoundReply.NoAddress new h uncut p = subst HasActive (sym h.1) p
 Active-round old cuts RoundReply.Done new h uncut p = subst HasActive (sym h.2) (Active-emptied (lost_by cuts 0) old (record { present = p; left = uncut 0 }))
@@ -117,14 +118,23 @@ Active-acts old (Raise s byte) reply new free h p = subst HasActive (sym h.1)
     (Present-change s (λ d. record d { waiting = d.waiting ++ record { number = suc (raised_at old s); byte = byte } ∷ [] }) old _ p)
 Active-acts old (Serve policy cuts) reply new free h p = Active-frame old policy cuts _ _ _ new Safe-same h.2 (λ last. active_left old cuts _ _ _ [] last free) p
 Active-acts old (Enec to kinds policy cuts) reply new free h p =
-    Active-frame old policy cuts _ _ _ new (Safe-rekinds to _ _) h.2 (λ last. active_left old cuts _ _ _ (target_checks old to) last free) p
+    Active-frame old policy cuts _ _ _ new (λ lost mid done. Safe-rekinds to _ _ lost mid done lost) h.2 (λ last. active_left old cuts _ _ _ (target_checks old to) last free) p
 Active-acts old (Disec to kinds policy cuts) reply new free h p =
-    Active-frame old policy cuts _ _ _ new (Safe-rekinds to _ _) h.2 (λ last. active_left old cuts _ _ _ (target_checks old to) last free) p
+    Active-frame old policy cuts _ _ _ new (λ lost mid done. Safe-rekinds to _ _ lost mid done lost) h.2 (λ last. active_left old cuts _ _ _ (target_checks old to) last free) p
 Active-acts old (AskRole s) reply new free h p = subst HasActive (sym h.1) (Present-change s (λ d. record d { role_wish = true }) old _ p)
 Active-acts old (Reset policy cuts) reply new free h p = Active-frame old policy cuts _ _ _ new Safe-reset h.2 (λ last. active_left old cuts _ _ _ [] last free) p
 Active-acts old (SendList policy cuts) reply new free h p = Active-frame old policy cuts _ _ _ new Safe-list h.2 (λ last. active_left old cuts _ _ _ [] last free) p
 Active-acts old (OpenDaa cuts) reply new free h p = Active-frame old _ cuts _ _ _ new Safe-opened h.2 (λ last. active_left old cuts _ _ _ [] last free) p
 Active-acts old (Round cuts) reply new free h p = Active-round old cuts h.0 new h.2 (λ last. active_left old cuts _ _ _ [] last free) p
+Active-acts old (HandOver to cuts) reply new free h p = elim h [
+  | inl g ↦
+      let x = granted old to cuts reply new g in
+      subst HasActive (sym x.after) (Active-emptied (lost_by cuts x.last) (handed x.slot old)
+      (record { present = Present-change x.slot without_role old x.slot (x.willing.0, x.willing.1.0); left = x.left }))
+  | inr g ↦
+      let x = declined old to cuts reply new g in
+      subst HasActive (sym x.1) (Active-emptied (lost_by cuts x.0) old (record { present = p; left = active_left old cuts _ _ _ (hand_checks old to) x.0 free }))
+]
 Active-acts old EndDaa reply new free h p = subst HasActive (sym h.1) (Present-each (λ s d. unhearing d) old _ p)
 
 -- each step keeps it

@@ -6,7 +6,7 @@ use Rattle.std.proofs.lemmas.Option.{none-some, same_Some}
 use Rattle.i3c_base.specs.declared.identity.Identity.{Identity}
 use Rattle.i3c_base.specs.Cutting.{CutList, Lost, lost_by}
 use Rattle.i3c_step.specs.declared.events.Event.{Event}
-use Rattle.i3c_step.specs.declared.events.Event.TheVariants.{Attach, DropOff, Raise, AskJoin, AskRole, Serve, Enec, Disec, Reset, SendList, OpenDaa, Round, EndDaa}
+use Rattle.i3c_step.specs.declared.events.Event.TheVariants.{Attach, DropOff, Raise, AskJoin, AskRole, Serve, Enec, Disec, Reset, SendList, OpenDaa, Round, EndDaa, HandOver}
 use Rattle.i3c_base.specs.declared.requests.Fixed.{Fixed}
 use Rattle.i3c_base.specs.declared.requests.Request.{Request}
 use Rattle.i3c_step.specs.declared.replies.Reply.{Reply}
@@ -19,15 +19,16 @@ use Rattle.i3c_base.specs.Numbers.{same_identity}
 use Rattle.i3c_base.specs.State.{Device, Entry, State, IsStart, addressed, attached, change, device_at, each, entry_at, has_address, in_slot, is_the, entry_of, kept_entry_of, kept_of, no_devices, no_entries, raised_at, legacy_target_at, unaddressed, unkept}
 use Rattle.i3c_base.specs.declared.range.TheConstants.{ADDRESSES}
 use Rattle.i3c_base.specs.Local.{attach, drop_off, raise}
-use Rattle.i3c_base.specs.Frames.{Rekinds, active_has, list, reaches, rekinded, reset, unaddressed_device}
+use Rattle.i3c_base.specs.Frames.{Rekinds, active_has, handed, list, reaches, rekinded, reset, unaddressed_device}
 use Rattle.i3c_base.specs.Numbers.{KindSet}
 use Rattle.i3c_base.specs.declared.answers.Answer.{Answer}
 use Rattle.i3c_base.specs.Serve.{Frame, Serves, drives, each_driver, emptied, without_front, without_join, without_role}
 use Rattle.i3c_base.specs.Round.{IsAddressFor, Rounds, assigned, ended, opened, winner, wins}
 use Rattle.i3c_step.specs.Step.{Acts, Becomes, Step}
 use Rattle.i3c_step.specs.Sound.{Addresses, IsFor}
+use Rattle.i3c_step.proofs.Handing.{declined, granted}
 use Rattle.i3c_step.proofs.Steps.{step_cases}
-use Rattle.i3c_base.proofs.Lookups.{attach_from, changed_at, length-changed, change_from, drop_off_from, each_from, emptied_from, length-no_entries, no_devices_at, no_entries_at, set_from, set_in}
+use Rattle.i3c_base.proofs.Lookups.{attach_from, changed_at, length-changed, change_from, drop_off_from, each_from, emptied_from, forgotten_at, length-no_entries, option_map_from, no_devices_at, no_entries_at, set_from, set_in}
 use Rattle.i3c_step.proofs.Maps.{cond_some_from, cond_kept_from, same_identity-true}
 
 -- device d had its identity and address in the same slot before
@@ -293,7 +294,7 @@ Addresses-round old cuts (RoundReply.Assigned a i) new h inv =
     subst Addresses (sym h.3) (Addresses-emptied (lost_by cuts 73) _ (Addresses-assigned (lost_by cuts 73) i a old h.2 inv))
 
 -- a reset leaves the active controller's address and its entry
-NoneNew-reset : (st : State) → NoneNew st (reset st)
+pub NoneNew-reset : (st : State) → NoneNew st (reset st)
 NoneNew-reset st = record {
   devices = λ s a d p q. let x = each_from f st s d p in was s a d x.0 x.1 q (s == st.active) refl x.2;
   entries = λ s a d e p q g. let x = each_from f st s d p in
@@ -337,8 +338,18 @@ NoneNew-reset st = record {
     from false o e g = absurd (none-some e g)
 
 -- a list changes nothing of it
-NoneNew-list : (st : State) → NoneNew st (list st)
+pub NoneNew-list : (st : State) → NoneNew st (list st)
 NoneNew-list st = NoneNew-from st (list st) (λ s a d p q. record { was = d; there = p; address = q; identity = refl }) refl (λ a l. l)
+
+-- a role that is handed over leaves the given addresses, kept for nobody
+pub NoneNew-handed : (s : ℕ) (st : State) → NoneNew st (handed s st)
+NoneNew-handed s st = record {
+  devices = (NoneNew-change s without_role st (λ d. record { identity = refl; address = λ a p. p })).devices;
+  entries = λ t a d e p q g. (unkept e, forgotten_at st a ∙ ap (option_map unkept) g, IsRest-unkept e);
+  given = λ a f g. let x = option_map_from unkept (entry_at st a) f (sym (forgotten_at st a) ∙ g) in (x.0, x.1);
+  legacy = λ a l. l;
+  long = length-changed (λ a place. option_map unkept place) st.given;
+}
 
 -- what a frame's own part leaves has no new address
 NoneNew-becomes : (f : State → State) → ((st : State) → NoneNew st (f st)) → (lost : Lost) (mid done : State) → Becomes f lost mid done → NoneNew mid done
@@ -361,6 +372,12 @@ Addresses-acts old (Reset policy cuts) reply new h inv = Addresses-frame old pol
 Addresses-acts old (SendList policy cuts) reply new h inv = Addresses-frame old policy cuts _ _ _ new (NoneNew-becomes list NoneNew-list) h.2 inv
 Addresses-acts old (OpenDaa cuts) reply new h inv = Addresses-frame old _ cuts _ _ _ new (NoneNew-becomes opened NoneNew-opened) h.2 inv
 Addresses-acts old (Round cuts) reply new h inv = Addresses-round old cuts h.0 new h.2 inv
+Addresses-acts old (HandOver to cuts) reply new h inv = elim h [
+  | inl g ↦
+      let x = granted old to cuts reply new g in
+      subst Addresses (sym x.after) (Addresses-emptied (lost_by cuts x.last) (handed x.slot old) (Addresses-none_new old (handed x.slot old) (NoneNew-handed x.slot old) inv))
+  | inr g ↦ let x = declined old to cuts reply new g in subst Addresses (sym x.1) (Addresses-emptied (lost_by cuts x.0) old inv)
+]
 Addresses-acts old EndDaa reply new h inv = subst Addresses (sym h.1) (Addresses-none_new old _ (NoneNew-ended old) inv)
 
 -- each step keeps it

@@ -21,15 +21,13 @@ use Rattle.i3c_step.specs.declared.replies.Reply.{Reply}
 use Rattle.i3c_step.specs.declared.replies.Refusal.{Refusal}
 use Rattle.i3c_step.specs.Runs.{IsLegalRun, IsRun}
 use Rattle.i3c_step.specs.Sessions.{IsLastRound, IsUncutRound}
+use Rattle.i3c_step.specs.Sound.{HasActive}
 use Rattle.i3c_step.specs.Step.{Acts, IsShort, Step, checks, cuts_active, first_refusal}
-use Rattle.i3c_step.proofs.Active.{Active-start, Active-step, HasActive}
-use Rattle.i3c_step.proofs.Addresses.{start_device}
-use Rattle.i3c_step.proofs.Follows.{Came-step, Follows-round, IsSettled}
+use Rattle.i3c_step.proofs.Follows.{Came-step, Follows-round}
+use Rattle.i3c_step.proofs.Holding.{AllDeaf, active_start, active_step, deaf_start, deaf_step}
 use Rattle.i3c_step.proofs.Kept.{run_keeps}
 use Rattle.i3c_step.proofs.Lost.{unlost}
 use Rattle.i3c_step.proofs.Recording.{Contains-first}
-use Rattle.i3c_step.proofs.SlotLaws.{slots_kept}
-use Rattle.i3c_step.proofs.StayLaws.{attached_free}
 
 -- whoever is in this slot hears the session
 abbrev hears_at : Option Device → Bool
@@ -127,27 +125,6 @@ winner_deaf lost i a old s d there hears left same =
     ∙ (ap (option_map (λ (y : Device). if wins lost i s y then winner a y else y)) there ∙ ap (λ (b : Bool). Some (if b then winner a d else d)) won))) in
     ap hears_at at
 
--- the active controller has an address and hears no session
-abbrev ActiveSettled : State → Type 0
-ActiveSettled st = HasActive st × ((d : Device) → device_at st st.active ≡ Some d → IsSettled d)
-
-settled_step : (old : State) (event : Event) (reply : Reply) (new : State) → Step old event reply new → ActiveSettled old → ActiveSettled new
-settled_step old event reply new h inv =
-    let active : new.active ≡ old.active = (slots_kept old event reply new h).active in (
-      Active-step old event reply new h inv.0,
-      λ d p. elim ((Came-step old event reply new h).0 old.active d (ap (device_at new) (sym active) ∙ p)) [
-        | inl a ↦ absurd (none-some inv.0.0 (sym (attached_free old event reply new old.active h a) ∙ inv.0.1))
-        | inr x ↦ x.2 refl (inv.1 x.0 x.1)
-      ],
-    )
-
-settled_start : (main : Setup) (legacy : List (Option LegacyTarget)) (start : State) → IsStart main legacy start → ActiveSettled start
-settled_start main legacy start h = (
-  Active-start main legacy start h,
-  λ d p. let e = start_device main legacy h.0 start.active d (subst (λ (st : State). device_at st start.active ≡ Some d) h.2 p) in
-      subst IsSettled (sym e.1) (record { addressed = refl; deaf = refl }),
-)
-
 -- there are as many places for devices as slots
 abbrev IsSlotted : State → Type 0
 IsSlotted st = length st.devices ≡ SLOTS
@@ -222,7 +199,8 @@ pub sessions_end : (main : Setup) (legacy : List (Option LegacyTarget)) (events 
     → (rounds : List Event) (answers : List Reply) (new : State) → All IsUncutRound rounds → length rounds ≡ SLOTS → IsRun mid rounds answers new
     → (answer : Reply) × Contains answers answer × IsLastRound answer
 sessions_end main legacy events replies mid legal busy rounds answers new all long run =
-    let settled : ActiveSettled mid = run_keeps ActiveSettled settled_step legal.0 events replies mid legal.2 (settled_start main legacy legal.0 legal.1) in
+    let active : HasActive mid = run_keeps HasActive active_step legal.0 events replies mid legal.2 (active_start main legacy legal.0 legal.1) in
+    let deaf : AllDeaf mid = run_keeps AllDeaf deaf_step legal.0 events replies mid legal.2 (deaf_start main legacy legal.0 legal.1) in
     let slots : length mid.devices ≡ SLOTS = run_keeps IsSlotted slotted_step legal.0 events replies mid legal.2 (slotted_start main legacy legal.0 legal.1) in
-    let less : hearers mid.devices < length mid.devices = not_all mid.devices mid.active settled.0.0 settled.0.1 (settled.1 settled.0.0 settled.0.1).deaf in
+    let less : hearers mid.devices < length mid.devices = not_all mid.devices mid.active active.0 active.2 (deaf mid.active active.0 active.2 (ap is_some active.3)) in
     ends mid rounds answers new all (omega (arith, less, slots, long)) busy run

@@ -11,7 +11,7 @@ use Rattle.i3c_base.specs.Cutting.{CutList, Lost, lost_by}
 use Rattle.i3c_base.specs.Serve.{Frame, Serves, given_for, refuse_all, verdict}
 use Rattle.i3c_base.specs.State.{State, entry_at}
 use Rattle.i3c_step.specs.declared.events.Event.{Event}
-use Rattle.i3c_step.specs.declared.events.Event.TheVariants.{Attach, DropOff, Raise, AskJoin, AskRole, Serve, Enec, Disec, Reset, SendList, OpenDaa, Round, EndDaa}
+use Rattle.i3c_step.specs.declared.events.Event.TheVariants.{Attach, DropOff, Raise, AskJoin, AskRole, Serve, Enec, Disec, Reset, SendList, OpenDaa, Round, EndDaa, HandOver}
 use Rattle.i3c_step.specs.declared.replies.Refusal.{Refusal}
 use Rattle.i3c_step.specs.declared.replies.Reply.{Reply}
 use Rattle.i3c_step.specs.Giving.{given_by, under}
@@ -105,4 +105,5 @@ step_given old (Raise s byte) reply new h = h
 step_given old (AskJoin s) reply new h = h
 step_given old (OpenDaa cuts) reply new h = h
 step_given old (Round cuts) reply new h = h
+step_given old (HandOver to cuts) reply new h = h
 step_given old EndDaa reply new h = h

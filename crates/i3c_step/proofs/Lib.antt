@@ -26,3 +26,5 @@ pub mod Ending
 pub mod SlotLaws
 pub mod Acting
 pub mod RunLaws
+pub mod Handing
+pub mod Holding

@@ -1,7 +1,7 @@
 -- Every bus is sound: waiting interrupts fit their devices, and each step keeps that.
-use Rattle.std.proofs.lemmas.Bool.{eqb-true, not-false}
+use Rattle.std.proofs.lemmas.Bool.{eq-eqb, eqb-true, not-false}
 use Rattle.std.proofs.lemmas.List.Elements.{All-append, All-cons, All-drop, All-nil}
-use Rattle.std.proofs.Common.{◌≡◌, ℕ, suc, Bool, true, false, not, List, [], ◌∷◌, ◌++◌, Option, Some, None, is_none, is_some, ◌==◌, if◌then◌else◌, inl, inr, sym, refl, ap, ◌∙◌, subst}
+use Rattle.std.proofs.Common.{◌≡◌, ℕ, suc, Bool, true, false, not, List, [], ◌∷◌, ◌++◌, Option, Some, None, is_none, is_some, option_map, ◌==◌, if◌then◌else◌, inl, inr, sym, refl, ap, ◌∙◌, subst}
 use Rattle.std.specs.List.{All}
 use Rattle.i3c_base.specs.declared.answers.Answer.{Answer}
 use Rattle.i3c_base.specs.declared.answers.RoundReply.{RoundReply}
@@ -15,20 +15,24 @@ use Rattle.i3c_base.specs.declared.requests.Request.{Request}
 use Rattle.i3c_base.specs.declared.requests.Served.{Served}
 use Rattle.i3c_base.specs.declared.requests.Served.TheVariants.{Quiet, Recorded, Refused, Torn, Joining, WantsRole}
 use Rattle.i3c_base.specs.Numbers.{KindSet, has_byte}
-use Rattle.i3c_base.specs.State.{Device, State, IsStart, device_at, each, in_slot, raised_at}
-use Rattle.i3c_base.specs.Cutting.{CutList, Lost, lost_by}
+use Rattle.i3c_base.specs.State.{Device, State, IsStart, change, device_at, each, in_slot, raised_at}
+use Rattle.i3c_base.specs.Cutting.{CutList, Lost, lost_by, nobody}
 use Rattle.i3c_base.specs.Local.{ask_join, ask_role, attach, drop_off, raise}
 use Rattle.i3c_base.specs.Serve.{Frame, Serves, drives, each_driver, emptied, tail, without_front, without_join, without_role}
-use Rattle.i3c_base.specs.Frames.{Rekinds, reaches, rekinded, reset, unaddressed_device}
+use Rattle.i3c_base.specs.Frames.{IsWillingAt, Rekinds, handed, list, reaches, rekinded, reset, unaddressed_device}
 use Rattle.i3c_base.specs.Round.{Rounds, assigned, ended, hears, opened, unhearing, winner, wins}
 use Rattle.i3c_base.specs.Numbers.{same_bool}
-use Rattle.i3c_base.proofs.Lookups.{attach_from, change_from, drop_off_from, each_from, emptied_from}
+use Rattle.i3c_base.proofs.Lookups.{attach_from, change_at, change_from, drop_off_from, each_from, emptied_from}
 use Rattle.i3c_step.specs.declared.events.Event.{Event}
-use Rattle.i3c_step.specs.declared.events.Event.TheVariants.{Attach, DropOff, Raise, AskJoin, AskRole, Serve, Enec, Disec, Reset, SendList, OpenDaa, Round, EndDaa}
+use Rattle.i3c_step.specs.declared.events.Event.TheVariants.{Attach, DropOff, Raise, AskJoin, AskRole, Serve, Enec, Disec, Reset, SendList, OpenDaa, Round, EndDaa, HandOver}
 use Rattle.i3c_step.specs.declared.replies.Reply.{Reply}
 use Rattle.i3c_step.specs.Step.{Acts, Step, checks, first_refusal}
 use Rattle.i3c_step.specs.Sound.{IsFitting, IsSound}
-use Rattle.i3c_step.proofs.Addresses.{Addresses-emptied, Addresses-none_new, Addresses-round, Addresses-start, Addresses-step, NoneNew-attach, NoneNew-change, NoneNew-drop_off, NoneNew-ended, NoneNew-opened, NoneNew-rekinds, NoneNew-serves, start_device}
+use Rattle.i3c_step.proofs.Active.{Active-emptied, Active-round, IsSafe, Present-change, Present-each, Safe-rekinds, Safe-serves}
+use Rattle.i3c_step.proofs.Addresses.{Addresses-emptied, Addresses-none_new, Addresses-round, Addresses-start, Addresses-step, IsSteady, NoneNew-change, NoneNew-ended, NoneNew-handed, NoneNew-list, NoneNew-opened, NoneNew-rekinds, NoneNew-reset, NoneNew-serves, start_device}
+use Rattle.i3c_step.proofs.Follows.{Follows-change, Follows-emptied, Follows-ended, Follows-opened, Follows-rekinds, Follows-reset, Follows-round, Follows-serves}
+use Rattle.i3c_step.proofs.Handing.{declined, granted}
+use Rattle.i3c_step.proofs.Holding.{active_follows, active_start, active_step}
 use Rattle.i3c_step.proofs.Steps.{no_test, step_cases}
 
 -- what waits in each device fits it
@@ -137,15 +141,15 @@ AllFit-frame old policy cuts served rest Own new own frame all =
 AllFit-drop_off : (s : ℕ) (st : State) → AllFit st → AllFit (drop_off s st)
 AllFit-drop_off s st all t d p = all t d (drop_off_from s st t d p).1
 
+AllFit-change : (s : ℕ) (f : Device → Device) (st : State) → ((d : Device) → IsFitting d → IsFitting (f d)) → AllFit st → AllFit (change s f st)
+AllFit-change s f st keeps all t d p =
+    let x = change_from s f st t d p in subst IsFitting x.2 (Fits-if (t == s) x.0 (f x.0) (keeps x.0 (all t x.0 x.1)) (all t x.0 x.1))
+
 AllFit-ask_join : (s : ℕ) (st : State) → AllFit st → AllFit (ask_join s st)
-AllFit-ask_join s st all t d p =
-    let x = change_from s (λ (y : Device). record y { join_wish = true }) st t d p in
-    subst IsFitting x.2 (Fits-if (t == s) x.0 (record x.0 { join_wish = true }) (all t x.0 x.1) (all t x.0 x.1))
+AllFit-ask_join s st = AllFit-change s (λ y. record y { join_wish = true }) st (λ d f. f)
 
 AllFit-ask_role : (s : ℕ) (st : State) → AllFit st → AllFit (ask_role s st)
-AllFit-ask_role s st all t d p =
-    let x = change_from s (λ (y : Device). record y { role_wish = true }) st t d p in
-    subst IsFitting x.2 (Fits-if (t == s) x.0 (record x.0 { role_wish = true }) (all t x.0 x.1) (all t x.0 x.1))
+AllFit-ask_role s st = AllFit-change s (λ y. record y { role_wish = true }) st (λ d f. f)
 
 AllFit-reset : (st : State) → AllFit st → AllFit (reset st)
 AllFit-reset st = AllFit-each (λ s d. if s == st.active then without_role d else unaddressed_device d) st
@@ -165,20 +169,32 @@ AllFit-acts old (SendList policy cuts) reply new free h all = AllFit-frame old p
 AllFit-acts old (OpenDaa cuts) reply new free h all =
     AllFit-frame old _ cuts _ _ _ new (λ lost mid done e fit. subst AllFit (sym e) (AllFit-opened mid fit)) h.2 all
 AllFit-acts old (Round cuts) reply new free h all = AllFit-round old cuts h.0 new h.2 all
+AllFit-acts old (HandOver to cuts) reply new free h all = elim h [
+  | inl g ↦
+      let x = granted old to cuts reply new g in
+      subst AllFit (sym x.after) (AllFit-emptied (lost_by cuts x.last) (handed x.slot old) (AllFit-change x.slot without_role old (λ d f. f) all))
+  | inr g ↦ let x = declined old to cuts reply new g in subst AllFit (sym x.1) (AllFit-emptied (lost_by cuts x.0) old all)
+]
 AllFit-acts old EndDaa reply new free h all = subst AllFit (sym h.1) (AllFit-each (λ s d. unhearing d) old (λ s d f. f) all)
 
 -- a start is sound: nothing waits there
 pub sound_start : (main : Setup) (legacy : List (Option LegacyTarget)) (st : State) → IsStart main legacy st → IsSound st
 sound_start main legacy st h = record {
   addresses = Addresses-start main legacy st h;
+  active = active_start main legacy st h;
   fitting = subst AllFit (sym h.2) (λ s d p.
       subst IsFitting (sym (start_device main legacy h.0 s d p).1) (All-nil (FitsBcr main.identity.bcr)));
 }
+
+-- the active controller is present, where nobody is lost
+all_safe : (st : State) → IsSound st → IsSafe nobody st
+all_safe st sound = record { present = (sound.active.0, sound.active.2); left = refl }
 
 -- serving keeps a bus sound, whatever the frame loses
 pub sound_serves : (st : State) (policy : Fixed) (lost : Lost) (served : Served) (new : State) → Serves st policy lost served new → IsSound st → IsSound new
 sound_serves st policy lost served new h sound = record {
   addresses = Addresses-none_new st new (NoneNew-serves st policy lost served new h) sound.addresses;
+  active = active_follows st new (Follows-serves st policy lost served new h) (Safe-serves st policy lost served new nobody h (all_safe st sound)).present sound.active;
   fitting = AllFit-serves st policy lost served new h sound.fitting;
 }
 
@@ -186,34 +202,31 @@ sound_serves st policy lost served new h sound = record {
 pub sound_rekinds : (to : Option ℕ) (f : KindSet → KindSet) (answer : Answer) (lost : Lost) (mid done : State) → Rekinds to f answer lost mid done → IsSound mid → IsSound done
 sound_rekinds to f answer lost mid done h sound = record {
   addresses = Addresses-none_new mid done (NoneNew-rekinds to f answer lost mid done h) sound.addresses;
+  active = active_follows mid done (Follows-rekinds to f answer lost mid done h) (Safe-rekinds to f answer lost mid done nobody h (all_safe mid sound)).present sound.active;
   fitting = AllFit-rekinds to f answer lost mid done h sound.fitting;
 }
 
--- so does a device that enters an empty slot
-pub sound_attached : (s : ℕ) (setup : Setup) (st : State) → IsSound st → IsSound (attach s setup st)
-sound_attached s setup st sound = record {
-  addresses = Addresses-none_new st (attach s setup st) (NoneNew-attach s setup st) sound.addresses;
-  fitting = AllFit-attach s setup st sound.fitting;
+-- so does a device that changes and keeps its identity and its address
+sound_changed : (s : ℕ) (f : Device → Device) (st : State) → ((d : Device) → IsSteady (f d) d) → ((d : Device) → ((f d).address ≡ d.address) × ((f d).hearing ≡ d.hearing))
+    → ((d : Device) → IsFitting d → IsFitting (f d)) → IsSound st → IsSound (change s f st)
+sound_changed s f st steady same keeps sound = record {
+  addresses = Addresses-none_new st (change s f st) (NoneNew-change s f st steady) sound.addresses;
+  active = active_follows st (change s f st) (Follows-change s f st same) (Present-change s f st st.active (sound.active.0, sound.active.2)) sound.active;
+  fitting = AllFit-change s f st keeps sound.fitting;
 }
 
--- one that drops off
-pub sound_dropped : (s : ℕ) (st : State) → IsSound st → IsSound (drop_off s st)
-sound_dropped s st sound = record {
-  addresses = Addresses-none_new st (drop_off s st) (NoneNew-drop_off s st) sound.addresses;
-  fitting = AllFit-drop_off s st sound.fitting;
-}
-
--- one that wishes to join
+-- such a one is one that wishes to join, and one that wishes for the role
 pub sound_wishes : (s : ℕ) (st : State) → IsSound st → IsSound (ask_join s st)
-sound_wishes s st sound = record {
-  addresses = Addresses-none_new st (ask_join s st) (NoneNew-change s (λ d. record d { join_wish = true }) st (λ d. record { identity = refl; address = λ a p. p })) sound.addresses;
-  fitting = AllFit-ask_join s st sound.fitting;
-}
+sound_wishes s st sound = sound_changed s (λ d. record d { join_wish = true }) st (λ d. record { identity = refl; address = λ a p. p }) (λ d. (refl, refl)) (λ d f. f) sound
 
--- devices that are gone
-pub sound_emptied : (lost : Lost) (st : State) → IsSound st → IsSound (emptied lost st)
-sound_emptied lost st sound = record {
+pub sound_role_wishes : (s : ℕ) (st : State) → IsSound st → IsSound (ask_role s st)
+sound_role_wishes s st sound = sound_changed s (λ d. record d { role_wish = true }) st (λ d. record { identity = refl; address = λ a p. p }) (λ d. (refl, refl)) (λ d f. f) sound
+
+-- devices that are gone, if the active controller isn't among them
+pub sound_emptied : (lost : Lost) (st : State) → lost st.active ≡ false → IsSound st → IsSound (emptied lost st)
+sound_emptied lost st left sound = record {
   addresses = Addresses-emptied lost st sound.addresses;
+  active = active_follows st (emptied lost st) (Follows-emptied lost st) (Active-emptied lost st (record { present = (sound.active.0, sound.active.2); left = left })) sound.active;
   fitting = AllFit-emptied lost st sound.fitting;
 }
 
@@ -221,6 +234,7 @@ sound_emptied lost st sound = record {
 pub sound_opened : (st : State) → IsSound st → IsSound (opened st)
 sound_opened st sound = record {
   addresses = Addresses-none_new st (opened st) (NoneNew-opened st) sound.addresses;
+  active = active_follows st (opened st) (Follows-opened st) (Present-each (λ s d. hears d) st st.active (sound.active.0, sound.active.2)) sound.active;
   fitting = AllFit-opened st sound.fitting;
 }
 
@@ -228,20 +242,52 @@ sound_opened st sound = record {
 pub sound_ended : (st : State) → IsSound st → IsSound (ended st)
 sound_ended st sound = record {
   addresses = Addresses-none_new st (ended st) (NoneNew-ended st) sound.addresses;
+  active = active_follows st (ended st) (Follows-ended st) (Present-each (λ s d. unhearing d) st st.active (sound.active.0, sound.active.2)) sound.active;
   fitting = AllFit-each (λ s d. unhearing d) st (λ s d f. f) sound.fitting;
 }
 
--- and a round
-pub sound_round : (old : State) (cuts : CutList) (answer : RoundReply) (new : State) → Rounds old cuts answer new → IsSound old → IsSound new
-sound_round old cuts answer new h sound = record {
+-- a round that doesn't lose the active controller
+pub sound_round : (old : State) (cuts : CutList) (answer : RoundReply) (new : State) → Rounds old cuts answer new → ((last : ℕ) → lost_by cuts last old.active ≡ false) → IsSound old → IsSound new
+sound_round old cuts answer new h left sound = record {
   addresses = Addresses-round old cuts answer new h sound.addresses;
+  active = active_follows old new (Follows-round old cuts answer new h) (Active-round old cuts answer new h left (sound.active.0, sound.active.2)) sound.active;
   fitting = AllFit-round old cuts answer new h sound.fitting;
+}
+
+-- a reset
+pub sound_reset : (st : State) → IsSound st → IsSound (reset st)
+sound_reset st sound = record {
+  addresses = Addresses-none_new st (reset st) (NoneNew-reset st) sound.addresses;
+  active = active_follows st (reset st) (Follows-reset st) (Present-each (λ s d. if s == st.active then without_role d else unaddressed_device d) st st.active (sound.active.0, sound.active.2)) sound.active;
+  fitting = AllFit-reset st sound.fitting;
+}
+
+-- a list
+pub sound_list : (st : State) → IsSound st → IsSound (list st)
+sound_list st sound = record {
+  addresses = Addresses-none_new st (list st) (NoneNew-list st) sound.addresses;
+  active = sound.active;
+  fitting = sound.fitting;
+}
+
+-- a role that is handed to a device with an address
+pub sound_handed : (s a : ℕ) (st : State) → IsWillingAt st a s → IsSound st → IsSound (handed s st)
+sound_handed s a st willing sound = record {
+  addresses = Addresses-none_new st (handed s st) (NoneNew-handed s st) sound.addresses;
+  active = (
+    if s == s then without_role willing.0 else willing.0,
+    a,
+    change_at s without_role st s ∙ ap (option_map (λ d. if s == s then without_role d else d)) willing.1.0,
+    ap (λ (c : Bool). (if c then without_role willing.0 else willing.0).address) (eq-eqb s s refl) ∙ willing.1.1,
+  );
+  fitting = AllFit-change s without_role st (λ d f. f) sound.fitting;
 }
 
 -- each step keeps it
 pub sound_step : (old : State) (event : Event) (reply : Reply) (new : State) → Step old event reply new → IsSound old → IsSound new
 sound_step old event reply new h sound = record {
   addresses = Addresses-step old event reply new h sound.addresses;
+  active = active_step old event reply new h sound.active;
   fitting = step_cases old event reply new h (λ idle e. subst AllFit (sym e) sound.fitting)
       (λ free acts. AllFit-acts old event reply new free acts sound.fitting);
 }

@@ -4,7 +4,7 @@ use Rattle.std.proofs.lemmas.Option.{none-some}
 use Rattle.std.proofs.Common.{◌≡◌, ℕ, Bool, true, false, ◌&&◌, [], ◌∷◌, ◌++◌, Option, Some, None, is_some, inl, inr, sym, refl, ap, ◌∙◌, subst}
 use Rattle.i3c_base.specs.State.{Device, State, device_at}
 use Rattle.i3c_step.specs.declared.events.Event.{Event}
-use Rattle.i3c_step.specs.declared.events.Event.TheVariants.{Attach, DropOff, Raise, AskJoin, AskRole, Serve, Enec, Disec, Reset, SendList, OpenDaa, Round, EndDaa}
+use Rattle.i3c_step.specs.declared.events.Event.TheVariants.{Attach, DropOff, Raise, AskJoin, AskRole, Serve, Enec, Disec, Reset, SendList, OpenDaa, Round, EndDaa, HandOver}
 use Rattle.i3c_step.specs.declared.replies.Reply.{Reply}
 use Rattle.i3c_step.specs.History.{History, IsLegal, Moment, reached}
 use Rattle.i3c_step.specs.Slots.{HasAttached}
@@ -39,6 +39,7 @@ is_attached-true (Reply.Served served) h = absurd (false≢true h)
 is_attached-true (Reply.Framed framed) h = absurd (false≢true h)
 is_attached-true (Reply.Opened served) h = absurd (false≢true h)
 is_attached-true (Reply.Round answer) h = absurd (false≢true h)
+is_attached-true (Reply.Handed served) h = absurd (false≢true h)
 is_attached-true Reply.Ended h = absurd (false≢true h)
 
 into-true : (event : Event) (reply : Reply) (s : ℕ) → reply ≡ Reply.Attached → is_into s event ≡ true → HasAttached event reply s
@@ -54,6 +55,7 @@ into-true (Reset policy cuts) reply s e h = absurd (false≢true h)
 into-true (SendList policy cuts) reply s e h = absurd (false≢true h)
 into-true (OpenDaa cuts) reply s e h = absurd (false≢true h)
 into-true (Round cuts) reply s e h = absurd (false≢true h)
+into-true (HandOver to cuts) reply s e h = absurd (false≢true h)
 into-true EndDaa reply s e h = absurd (false≢true h)
 
 abbrev begins_at : Moment → ℕ → Bool
@@ -74,9 +76,9 @@ pub stays_begin : (start : State) (h : History) → IsLegal start h → (s : ℕ
 stays_begin start [] legal s d p = refl
 stays_begin start (m ∷ earlier) legal s d p = elim ((Came-step before m.event m.reply m.after legal.0).0 s d p) [
   | inl a ↦
-      let gone : stays before m.after s ≡ false = neither (is_some (device_at before s)) (is_some (device_at m.after s)) (ap is_some (attached_free before m.event m.reply m.after s legal.0 a)) in
+      let gone : stays before m.after s ≡ false = neither (is_some (device_at before s)) (is_some (device_at m.after s)) (ap is_some (attached_free before m.event m.reply m.after s legal.0 a.0)) in
       cond-false (stays before m.after s) (accepted_in_stay start earlier s ++ accepted_at m s) [] gone
-      ∙ sym (cond-true (begins_at m s) [] (accepted_since_attachment earlier s ++ accepted_at m s) (begun m s a))
+      ∙ sym (cond-true (begins_at m s) [] (accepted_since_attachment earlier s ++ accepted_at m s) (begun m s a.0))
   | inr x ↦
       let stay : stays before m.after s ≡ true = both (is_some (device_at before s)) (is_some (device_at m.after s)) (ap is_some x.1) (ap is_some p) in
       cond-true (stays before m.after s) (accepted_in_stay start earlier s ++ accepted_at m s) [] stay

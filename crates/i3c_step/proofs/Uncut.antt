@@ -1,5 +1,5 @@
 -- Without cuts a step is a function of the state and the event.
-use Rattle.std.proofs.lemmas.Bool.{both_ways, false≢true}
+use Rattle.std.proofs.lemmas.Bool.{both_ways, cases_order, false≢true}
 use Rattle.std.proofs.Common.{◌≡◌, ◌≢◌, ℕ, ◌+◌, true, Option, Some, None, MatchOption, ◌⊎◌, inl, inr, sym, refl, ap, ◌∙◌, subst}
 use Rattle.i3c_base.specs.declared.requests.Fixed.{Fixed}
 use Rattle.i3c_base.specs.declared.identity.Identity.{Identity}
@@ -8,7 +8,7 @@ use Rattle.i3c_base.specs.declared.requests.Served.{Served}
 use Rattle.i3c_base.specs.State.{State}
 use Rattle.i3c_base.specs.declared.answers.Answer.{Answer}
 use Rattle.i3c_base.specs.Numbers.{KindSet}
-use Rattle.i3c_base.specs.Frames.{changed_kinds, AllLostAt, AnyAt, Rekinds}
+use Rattle.i3c_base.specs.Frames.{AllLostAt, AnyAt, Hands, KeepsRole, Rekinds, changed_kinds, handed}
 use Rattle.i3c_base.specs.Cutting.{CutList, Lost, IsUncut, lost_by}
 use Rattle.i3c_base.specs.Serve.{Frame, Serves, emptied}
 use Rattle.i3c_base.specs.Round.{Rounds, assigned}
@@ -17,7 +17,7 @@ use Rattle.i3c_base.specs.Serve.{refuse_all}
 use Rattle.i3c_base.specs.Round.{AllHearersLost, AnyHears, IsAddressFor, IsBeatenByLost, IsContender}
 use Rattle.i3c_base.specs.declared.kinds.Change.{Change}
 use Rattle.i3c_step.specs.declared.events.Event.{Event}
-use Rattle.i3c_step.specs.declared.events.Event.TheVariants.{Attach, DropOff, Raise, AskJoin, AskRole, Serve, Enec, Disec, Reset, SendList, OpenDaa, Round, EndDaa}
+use Rattle.i3c_step.specs.declared.events.Event.TheVariants.{Attach, DropOff, Raise, AskJoin, AskRole, Serve, Enec, Disec, Reset, SendList, OpenDaa, Round, EndDaa, HandOver}
 use Rattle.i3c_step.specs.declared.replies.Refusal.{Refusal}
 use Rattle.i3c_step.specs.declared.replies.Reply.{Reply}
 use Rattle.i3c_step.specs.Step.{Acts, IsShort, RekindsBy, Step, checks, cuts_in, first_refusal}
@@ -96,6 +96,31 @@ rounds_unique old cuts (RoundReply.Assigned a i) (RoundReply.Assigned b j) new n
       h.3 ∙ ((λ t. emptied (lost_by cuts 73) (assigned (lost_by cuts 73) (who t) (where_to t) old)) ∙ sym k.3),
     )
 
+-- without losses a handover has one outcome
+hands_unique : (a : ℕ) (mid done last : State) → Hands a nobody mid done → Hands a nobody mid last → ⊤ × (done ≡ last)
+hands_unique a mid done last h k = elim (cases_order h.0 k.0) [
+  | inl same ↦ (tt, h.4 ∙ (ap (λ s. handed s mid) same ∙ sym k.4))
+  | inr other ↦ elim other [ inl less ↦ absurd (false≢true (k.3 h.0 less h.1)) | inr more ↦ absurd (false≢true (h.3 k.0 more k.1)) ]
+]
+
+hands_or_keeps : {Q : Type 0} (a : ℕ) (mid done last : State) → Hands a nobody mid done → KeepsRole a nobody mid last → Q
+hands_or_keeps a mid done last h k = absurd (false≢true (k.0 h.0 h.1))
+
+handed_unique : (old : State) (a : ℕ) (cuts : CutList) (reply other : Reply) (new next : State) → IsUncut cuts
+    → Acts old (HandOver a cuts) reply new → Acts old (HandOver a cuts) other next → (reply ≡ other) × (new ≡ next)
+handed_unique old a cuts reply other new next u h k = elim h [
+  | inl x ↦ elim k [
+    | inl y ↦ let r = frames_agree old refuse_all cuts x.0 y.0 _ _ _ _ new next ⊤ u (hands_unique a) x.2 y.2 in (x.1 ∙ (ap Reply.Handed r.0 ∙ sym y.1), r.2)
+    | inr y ↦ absurd (frames_agree old refuse_all cuts x.0 y.0 _ _ _ _ new next ⊥ u (λ mid done last p q. hands_or_keeps a mid done last p q) x.2 y.4).1
+  ]
+  | inr x ↦ elim k [
+    | inl y ↦ absurd (frames_agree old refuse_all cuts x.0 y.0 _ _ _ _ new next ⊥ u (λ mid done last p q. hands_or_keeps a mid last done q p) x.4 y.2).1
+    | inr y ↦
+        let r = frames_agree old refuse_all cuts x.0 y.0 _ _ _ _ new next ⊤ u (λ mid done last p q. (tt, p.1 ∙ sym q.1)) x.4 y.4 in
+        (x.2 ∙ (ap (λ s. Reply.Framed (record { served = s; answer = Answer.NoAnswer a })) r.0 ∙ sym y.2), r.2)
+  ]
+]
+
 -- without cuts what an event does is a function
 acts_unique : (old : State) (event : Event) (reply other : Reply) (new next : State) → MatchOption (cuts_in event) ⊤ IsUncut
     → Acts old event reply new → Acts old event other next → (reply ≡ other) × (new ≡ next)
@@ -120,6 +145,7 @@ acts_unique old (OpenDaa cuts) reply other new next u h k =
     (h.1 ∙ (ap Reply.Opened r.0 ∙ sym k.1), r.2)
 acts_unique old (Round cuts) reply other new next u h k =
     let r = rounds_unique old cuts h.0 k.0 new next u h.2 k.2 in (h.1 ∙ (ap Reply.Round r.0 ∙ sym k.1), r.1)
+acts_unique old (HandOver to cuts) reply other new next u h k = handed_unique old to cuts reply other new next u h k
 acts_unique old EndDaa reply other new next u h k = (h.0 ∙ sym k.0, h.1 ∙ sym k.1)
 
 -- without cuts a step is a function, where there is memory

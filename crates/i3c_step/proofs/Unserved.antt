@@ -12,7 +12,7 @@ use Rattle.i3c_base.specs.Numbers.{KindSet}
 use Rattle.i3c_base.specs.State.{Device, State, attached, device_at, each}
 use Rattle.i3c_base.specs.Local.{ask_join, ask_role, attach, drop_off}
 use Rattle.i3c_base.specs.Serve.{drives, each_driver, emptied, without_role}
-use Rattle.i3c_base.specs.Frames.{Rekinds, list, reaches, rekinded, reset, unaddressed_device}
+use Rattle.i3c_base.specs.Frames.{Rekinds, handed, list, reaches, rekinded, reset, unaddressed_device}
 use Rattle.i3c_base.specs.Round.{Rounds, assigned, ended, hears, opened, unhearing, winner, wins}
 use Rattle.i3c_base.proofs.Lookups.{attach_from, change_from, drop_off_from, each_at, emptied_from, length-changed}
 
@@ -102,6 +102,16 @@ Unserved-reset st = Unserved-each (λ s d. if s == st.active then without_role d
     kept : (b : Bool) (d : Device) → (if b then without_role d else unaddressed_device d).waiting ≡ d.waiting
     kept true d = refl
     kept false d = refl
+
+pub Unserved-handed : (s : ℕ) (st : State) → Unserved st (handed s st)
+Unserved-handed s st = record {
+  waiting = λ t d p.
+      let x = change_from s without_role st t d p in
+      ap (λ (y : Device). y.waiting) (sym x.2) ∙ (waiting-if (t == s) (without_role x.0) x.0 refl ∙ sym (ap waiting_in x.1));
+  records = refl;
+  raised = refl;
+  long = length-set st.devices s _;
+}
 
 pub Unserved-list : (st : State) → Unserved st (list st)
 Unserved-list st = record { waiting = λ s d p. sym (ap waiting_in p); records = refl; raised = refl; long = refl }

@@ -61,8 +61,8 @@ abbrev pub UncutStepsAreDetermined : Type 0
 UncutStepsAreDetermined = (old : State) (event : Event) (reply other : Reply) (new next : State)
     → IsUncutEvent event → Step old event reply new → Step old event other next → reply ≢ Reply.OutOfMemory → other ≢ Reply.OutOfMemory → (reply ≡ other) × (new ≡ next)
 
--- A step moves the active controller never, opens and ends a session with those answers alone, and puts a device only into
--- the slot of an accepted attachment.
+-- A step moves the active controller by a granted handover alone, to a willing device, opens and ends a session with those
+-- answers alone, and puts a device only into the slot of an accepted attachment.
 abbrev pub SlotsAreKept : Type 0
 SlotsAreKept = (old : State) (event : Event) (reply : Reply) (new : State) → Step old event reply new → KeepsSlots old event reply new
 

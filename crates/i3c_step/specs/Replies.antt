@@ -4,6 +4,7 @@ use Rattle.i3c_base.specs.declared.answers.RoundReply.{RoundReply}
 use Rattle.i3c_base.specs.declared.requests.Served.{Served}
 use Rattle.i3c_base.specs.declared.refusals.JoinRefusal.{JoinRefusal}
 use Rattle.i3c_base.specs.declared.refusals.RaiseRefusal.{RaiseRefusal}
+use Rattle.i3c_base.specs.declared.refusals.RoleRefusal.{RoleRefusal}
 use Rattle.i3c_step.specs.declared.replies.ActiveStays.{ActiveStays}
 use Rattle.i3c_step.specs.declared.replies.DropRefusal.{DropRefusal}
 use Rattle.i3c_step.specs.declared.replies.Framed.{Framed}
@@ -48,6 +49,19 @@ join_refusal JoinRefusal.Masked = Refusal.Masked
 abbrev pub joins_reply : Result (Unit {0}) JoinRefusal → Reply
 joins_reply (Ok done) = Reply.Asked
 joins_reply (Err why) = Reply.Refused (join_refusal why)
+
+-- why a device doesn't wish for the role, among all refusals
+abbrev pub role_refusal : RoleRefusal → Refusal
+role_refusal RoleRefusal.NoDevice = Refusal.NoDevice
+role_refusal RoleRefusal.IsActive = Refusal.IsActive
+role_refusal RoleRefusal.NoAddress = Refusal.NoAddress
+role_refusal RoleRefusal.NotCapable = Refusal.NotCapable
+role_refusal RoleRefusal.Masked = Refusal.Masked
+
+-- of `ask_role`
+abbrev pub role_reply : Result (Unit {0}) RoleRefusal → Reply
+role_reply (Ok done) = Reply.Asked
+role_reply (Err why) = Reply.Refused (role_refusal why)
 
 -- of `raise`
 abbrev pub raised_reply : Result ℕ RaiseRefusal → Reply

@@ -11,6 +11,7 @@ abbrev pub served_of : Reply → Option Served
 served_of (Reply.Served served) = Some served
 served_of (Reply.Framed framed) = Some framed.served
 served_of (Reply.Opened served) = Some served
+served_of (Reply.Handed served) = Some served
 served_of _ = None
 
 -- the place, from 1, of the record that serving appended
@@ -22,7 +23,7 @@ place_of _ = None
 abbrev pub recorded_at : Reply → Option ℕ
 recorded_at reply = option_and_then place_of (served_of reply)
 
--- the policy that a frame has on its first request; an opening refuses each
+-- the policy that a frame has on its first request; an opening and a handover refuse each
 abbrev pub policy_of : Event → Option Fixed
 policy_of (Event.Serve policy cuts) = Some policy
 policy_of (Event.Enec to kinds policy cuts) = Some policy
@@ -30,4 +31,5 @@ policy_of (Event.Disec to kinds policy cuts) = Some policy
 policy_of (Event.Reset policy cuts) = Some policy
 policy_of (Event.SendList policy cuts) = Some policy
 policy_of (Event.OpenDaa cuts) = Some refuse_all
+policy_of (Event.HandOver to cuts) = Some refuse_all
 policy_of _ = None

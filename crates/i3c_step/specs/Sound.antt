@@ -26,9 +26,15 @@ pub record Addresses (st : State) : Type 0 where
 abbrev pub IsFitting : Device → Type 0
 IsFitting d = All (λ (w : Waiting). is_some w.byte ≡ has_byte d.identity.bcr) d.waiting
 
--- a bus whose addresses are those of its table, and whose waiting interrupts fit their devices
+-- the active controller's device is there, and has an address
+abbrev pub HasActive : State → Type 0
+HasActive st = (d : Device) × (a : ℕ) × (device_at st st.active ≡ Some d) × (d.address ≡ Some a)
+
+-- a bus whose addresses are those of its table, whose waiting interrupts fit their devices, and whose active controller has
+-- an address
 pub record IsSound (st : State) : Type 0 where
   pub addresses : Addresses st
+  pub active : HasActive st
   pub fitting : (s : ℕ) (d : Device) → device_at st s ≡ Some d → IsFitting d
 
 -- a sound bus whose active controller's table covers it

@@ -7,17 +7,17 @@ use Rattle.i3c_base.specs.declared.requests.Fixed.{Fixed}
 use Rattle.i3c_base.specs.declared.requests.Served.{Served}
 use Rattle.i3c_base.specs.declared.kinds.Change.{Change}
 use Rattle.i3c_base.specs.Numbers.{KindSet, can_interrupt, has_byte, is_capable, same_bool}
-use Rattle.i3c_base.specs.State.{State, device_at, entry_at, in_slot, raised_at}
+use Rattle.i3c_base.specs.State.{Entry, State, device_at, entry_at, in_slot, raised_at}
 use Rattle.i3c_base.specs.Cutting.{CutList, IsUncut, Lost, cut_of}
 use Rattle.i3c_base.specs.Local.{ask_join, ask_role, attach, drop_off, raise}
 use Rattle.i3c_base.specs.Serve.{Frame, header_bits, refuse_all}
-use Rattle.i3c_base.specs.Frames.{Rekinds, active_has, changed_kinds, kinds_bits, list, list_bits, reset}
+use Rattle.i3c_base.specs.Frames.{Hands, IsRefusedBits, KeepsRole, Rekinds, active_has, changed_kinds, kinds_bits, list, list_bits, reset}
 use Rattle.i3c_base.specs.Round.{Rounds, ended, opened}
 use Rattle.i3c_step.specs.declared.events.Event.{Event}
-use Rattle.i3c_step.specs.declared.events.Event.TheVariants.{Attach, DropOff, Raise, AskJoin, AskRole, Serve, Enec, Disec, Reset, SendList, OpenDaa, Round, EndDaa}
+use Rattle.i3c_step.specs.declared.events.Event.TheVariants.{Attach, DropOff, Raise, AskJoin, AskRole, Serve, Enec, Disec, Reset, SendList, OpenDaa, Round, EndDaa, HandOver}
 use Rattle.i3c_step.specs.declared.replies.Framed.{Framed}
 use Rattle.i3c_step.specs.declared.replies.Refusal.{Refusal}
-use Rattle.i3c_step.specs.declared.replies.Refusal.TheVariants.{SessionOpen, NoSession, ActiveStays, SlotTaken, NoDevice, IsActive, NoAddress, HasAddress, NotCapable, ByteMismatch, Masked, Full, NoAnswer}
+use Rattle.i3c_step.specs.declared.replies.Refusal.TheVariants.{SessionOpen, NoSession, ActiveStays, SlotTaken, NoDevice, IsActive, NoAddress, HasAddress, NotCapable, ByteMismatch, Masked, Full, ListStale, NoAnswer}
 use Rattle.i3c_step.specs.declared.replies.Reply.{Reply}
 
 -- tests with the refusal that each stands for, in order
@@ -46,6 +46,15 @@ abbrev pub target_checks : State → Option ℕ → Checks
 target_checks st None = []
 target_checks st (Some a) = (is_no_target st a, NoAnswer a) ∷ []
 
+-- no device that can be a controller got an address, as this entry has it
+abbrev pub is_no_controller : Option Entry → Bool
+is_no_controller None = true
+is_no_controller (Some entry) = not (is_capable entry.bcr)
+
+-- the refusals of a handover to an address: it is the active controller's own, no controller's, or the list isn't current
+abbrev pub hand_checks : State → ℕ → Checks
+hand_checks st a = (active_has st a, IsActive) ∷ (is_no_controller (entry_at st a), NotCapable) ∷ (not st.listed, ListStale) ∷ []
+
 -- the refusals of each event, in order
 abbrev pub checks : State → Event → Checks
 checks st (Attach s setup) = (is_some (device_at st s), SlotTaken) ∷ []
@@ -71,6 +80,7 @@ checks st (SendList policy cuts) = frame_checks st cuts
 checks st (Enec to kinds policy cuts) = frame_checks st cuts ++ target_checks st to
 checks st (Disec to kinds policy cuts) = frame_checks st cuts ++ target_checks st to
 checks st (OpenDaa cuts) = frame_checks st cuts
+checks st (HandOver to cuts) = frame_checks st cuts ++ hand_checks st to
 checks st (Round cuts) = (not st.in_session, NoSession) ∷ (cuts_active st cuts, ActiveStays) ∷ []
 checks st EndDaa = (not st.in_session, NoSession) ∷ []
 
@@ -87,6 +97,7 @@ may_want_memory (DropOff s) = false
 may_want_memory (Raise s byte) = false
 may_want_memory (AskJoin s) = false
 may_want_memory (OpenDaa cuts) = false
+may_want_memory (HandOver to cuts) = false
 may_want_memory (Round cuts) = false
 may_want_memory EndDaa = false
 
@@ -109,6 +120,16 @@ abbrev pub Announces : State → ℕ → (State → State) → Fixed → CutList
 Announces old bits f policy cuts reply new =
     (served : Served) × (reply ≡ Reply.Framed (record { served = served; answer = Answer.Done })) × Frame old policy cuts served (header_bits served + bits) (Becomes f) new
 
+-- a handover that is granted: the target's header, and its byte read whole
+abbrev pub IsGranted : State → ℕ → CutList → Reply → State → Type 0
+IsGranted old to cuts reply new = (served : Served) × (reply ≡ Reply.Handed served) × Frame old refuse_all cuts served (header_bits served + 27) (Hands to) new
+
+-- one that isn't
+abbrev pub IsDeclined : State → ℕ → CutList → Reply → State → Type 0
+IsDeclined old to cuts reply new =
+    (served : Served) × (bits : ℕ) × (reply ≡ Reply.Framed (record { served = served; answer = Answer.NoAnswer to })) × IsRefusedBits old to bits
+    × Frame old refuse_all cuts served (header_bits served + bits) (KeepsRole to) new
+
 -- what an event that isn't refused answers and leaves
 abbrev pub Acts : State → Event → Reply → State → Type 0
 Acts old (Attach s setup) reply new = (reply ≡ Reply.Attached) × (new ≡ attach s setup old)
@@ -123,6 +144,7 @@ Acts old (Enec to kinds policy cuts) reply new = RekindsBy old to (changed_kinds
 Acts old (Disec to kinds policy cuts) reply new = RekindsBy old to (changed_kinds Change.Disable kinds) policy cuts reply new
 Acts old (OpenDaa cuts) reply new =
     (served : Served) × (reply ≡ Reply.Opened served) × Frame old refuse_all cuts served (header_bits served + 9) (Becomes opened) new
+Acts old (HandOver to cuts) reply new = IsGranted old to cuts reply new ⊎ IsDeclined old to cuts reply new
 Acts old (Round cuts) reply new = (answer : RoundReply) × (reply ≡ Reply.Round answer) × Rounds old cuts answer new
 Acts old EndDaa reply new = (reply ≡ Reply.Ended) × (new ≡ ended old)
 
@@ -143,6 +165,7 @@ cuts_in (Reset policy cuts) = Some cuts
 cuts_in (SendList policy cuts) = Some cuts
 cuts_in (AskRole s) = None
 cuts_in (OpenDaa cuts) = Some cuts
+cuts_in (HandOver to cuts) = Some cuts
 cuts_in (Round cuts) = Some cuts
 cuts_in (Attach s setup) = None
 cuts_in (DropOff s) = None

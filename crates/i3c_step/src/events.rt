@@ -24,6 +24,8 @@ pub enum Event {
     Reset(Fixed, Cuts),
     /// Each device is told of all others (DEFTGTS, I3C Basic 5.1.9.3.7).
     SendList(Fixed, Cuts),
+    /// The active controller offers its role to a device at an address (GETACCCR, I3C Basic 5.1.9.3.16).
+    HandOver(Addr7, Cuts),
     /// The active controller opens a session of dynamic address assignment (ENTDAA, I3C Basic 5.1.4.2).
     OpenDaa(Cuts),
     /// One round of the open session.

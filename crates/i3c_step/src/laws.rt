@@ -39,8 +39,8 @@ pub fn uncut_steps_are_determined()
     ensures { UncutStepsAreDetermined }
 {}
 
-/// A step moves the active controller never, opens and ends a session with those answers alone, and puts a device only
-/// into the slot of an accepted attachment.
+/// A step moves the active controller by a granted handover alone, to a willing device, opens and ends a session with
+/// those answers alone, and puts a device only into the slot of an accepted attachment.
 pub fn slots_are_kept()
     ensures { SlotsAreKept }
 {}

@@ -1,4 +1,4 @@
-use i3c_base::{Addr7, Answer, JoinRefusal, RaiseRefusal, RoundReply, Served};
+use i3c_base::{Addr7, Answer, JoinRefusal, RaiseRefusal, RoleRefusal, RoundReply, Served};
 use thiserror::Error;
 
 /// Why an event is refused. It changes nothing then.
@@ -28,6 +28,8 @@ pub enum Refusal {
     Masked,
     /// No more interrupts of the slot may wait or be counted.
     Full,
+    /// The devices haven't got the list of the addresses as they are now.
+    ListStale,
     /// No device of the active controller's table has this address, or it is the active controller's own.
     NoAnswer(Addr7),
 }
@@ -56,6 +58,8 @@ pub enum Reply {
     Framed(Framed),
     /// A session is open; the frame served this.
     Opened(Served),
+    /// The role was handed over; the frame served this.
+    Handed(Served),
     Round(RoundReply),
     Ended,
 }
@@ -117,6 +121,23 @@ impl From<JoinRefusal> for Refusal {
 #[derive(Clone, Copy, Debug, PartialEq, Eq, Drop, Error)]
 #[error("the active controller stays")]
 pub struct ActiveStays;
+
+impl From<RoleRefusal> for Refusal {
+    ghost use Rattle.std.specs.Prelude.{◌≡◌};
+    ghost use Rattle.i3c_step.specs.Replies.{role_refusal};
+
+    ghost from_gives = { λ why refusal. refusal ≡ role_refusal why };
+
+    fn from(why: RoleRefusal) -> Refusal {
+        match why {
+            RoleRefusal::NoDevice => Refusal::NoDevice,
+            RoleRefusal::IsActive => Refusal::IsActive,
+            RoleRefusal::NoAddress => Refusal::NoAddress,
+            RoleRefusal::NotCapable => Refusal::NotCapable,
+            RoleRefusal::Masked => Refusal::Masked,
+        }
+    }
+}
 
 impl From<RaiseRefusal> for Refusal {
     ghost use Rattle.std.specs.Prelude.{◌≡◌};
