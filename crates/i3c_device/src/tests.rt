@@ -1,9 +1,7 @@
 ghost use Rattle.std.specs.Prelude.{◌≤◌};
 
 use crate::{Device, Devices};
-use i3c_base::{
-    Addr7, Bcr, Cuts, Dcr, Identity, Pid, RaiseRefusal, Request, Setup, Slot, Waiting,
-};
+use i3c_base::{Addr7, Bcr, Cuts, Dcr, Identity, Pid, RaiseRefusal, Request, Setup, Slot, Waiting};
 use i3c_ccc::Code;
 use i3c_word::write_word;
 use std::test::Fail;
@@ -57,7 +55,10 @@ fn the_first_fault_refuses(rt: HostRuntime) -> Result<(), Fail> {
     assert_eq!(rt; device.raise(0, None), Err(RaiseRefusal::NotCapable));
     let mut button = addressed(0x02, 0x09)?;
     button.hear(Code::Disec, &mask);
-    assert_eq!(rt; button.raise(0, Some(0x20)), Err(RaiseRefusal::ByteMismatch));
+    assert_eq!(rt;
+        button.raise(0, Some(0x20)),
+        Err(RaiseRefusal::ByteMismatch)
+    );
     assert_eq!(rt; button.raise(0, None), Err(RaiseRefusal::Masked));
     let mut thermometer = addressed(0x06, 0x0A)?;
     thermometer.hear(Code::Disec, &mask);
