@@ -138,3 +138,34 @@ pub found_here : (active : ℕ) (to : Option ℕ) (lost : Lost) (devices : List 
     → in_slot (reaches_at active to s) place ≡ true → lost s ≡ false → SomeReached active to lost devices
 found_here active to lost devices s None l at h f = absurd (both_ways _ refl h)
 found_here active to lost devices s (Some d) l at h f = (s, d, get_or_default devices s None (Some d) l ∙ sym at, h, f)
+
+-- whatever passes a test below a slot is lost
+abbrev pub PassersLost : (ℕ → Option Device → Bool) → Lost → List (Option Device) → ℕ → Type 0
+PassersLost test lost devices n = (s : ℕ) → s < n → test s (get_or devices s None) ≡ true → lost s ≡ true
+
+-- one slot more, where whatever passes it is lost
+pub passers_more : (test : ℕ → Option Device → Bool) (lost : Lost) (devices : List (Option Device)) (n : ℕ) (place : Option Device) → PassersLost test lost devices n → n < length devices → place ≡ get_or devices n place
+    → (test n place ≡ true → lost n ≡ true) → PassersLost test lost devices (n + 1)
+passers_more test lost devices n place h l at here s m d = elim (cases_eq s n) [
+  | inl e ↦
+      let found : place ≡ get_or devices s None = at ∙ (sym (get_or_default devices n None place l) ∙ ap (λ k. get_or devices k None) (sym e)) in
+      ap lost e ∙ here (ap (test n) found ∙ (ap (λ k. test k (get_or devices s None)) (sym e) ∙ d))
+  | inr ne ↦ h s (omega arith) d
+]
+
+-- at the end all of them are lost
+pub passers_all : (test : ℕ → Option Device → Bool) (lost : Lost) (devices : List (Option Device)) (n : ℕ) → PassersLost test lost devices n → length devices ≤ n → ((s : ℕ) → test s None ≡ false)
+    → (s : ℕ) → test s (get_or devices s None) ≡ true → lost s ≡ true
+passers_all test lost devices n h l empty s d = elim (cases_lt s n) [
+  | inl m ↦ h s m d
+  | inr m ↦ absurd (both_ways _ (ap (test s) (get_or_past devices s None (omega arith)) ∙ empty s) d)
+]
+
+-- the first that passes it and isn't lost
+pub lowest_passer : (test : ℕ → Option Device → Bool) (lost : Lost) (devices : List (Option Device)) (n s : ℕ) (place : Option Device) → PassersLost test lost devices n → n < length devices → place ≡ get_or devices n place
+    → test n place ≡ true → s ≡ n → lost s ≡ false → (test s (get_or devices s None) ≡ true) × (lost s ≡ false) × PassersLost test lost devices s
+lowest_passer test lost devices n s place h l at here e f = (
+  ap (λ k. test k (get_or devices k None)) e ∙ (ap (test n) (get_or_default devices n None place l ∙ sym at) ∙ here),
+  f,
+  subst (PassersLost test lost devices) (sym e) h,
+)

@@ -34,6 +34,10 @@ with_raise number byte d = record d { waiting = d.waiting ++ record { number = n
 abbrev pub wishing_join : Device → Device
 wishing_join d = record d { join_wish = true }
 
+-- a device that wishes for the controller role
+abbrev pub wishing_role : Device → Device
+wishing_role d = record d { role_wish = true }
+
 -- the byte of the interrupt that waits at the front
 abbrev pub front_byte : List Waiting → Option ℕ
 front_byte [] = None

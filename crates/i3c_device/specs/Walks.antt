@@ -24,6 +24,10 @@ abbrev pub reaches_at : ℕ → Option ℕ → ℕ → Device → Bool
 reaches_at active None s d = not (s == active)
 reaches_at active (Some a) s d = not (s == active) && has_address a d
 
+-- it is a willing device at this address, other than the active controller
+abbrev pub willing_at : ℕ → ℕ → ℕ → Option Device → Bool
+willing_at active a s place = in_slot (λ d. reaches_at active (Some a) s d && d.willing) place
+
 -- it after a command and its words
 abbrev pub heard_at : ℕ → Option ℕ → Code → List Word → ℕ → Option Device → Option Device
 heard_at active to code words s place = option_map (λ d. if reaches_at active to s d then heard code words d else d) place
@@ -59,3 +63,13 @@ IsLowest active r devices s =
 -- a command reaches a device of these that isn't lost
 abbrev pub SomeReached : ℕ → Option ℕ → Lost → List (Option Device) → Type 0
 SomeReached active to lost devices = (s : ℕ) × (d : Device) × (slice_index_or devices s None ≡ Some d) × (reaches_at active to s d ≡ true) × (lost s ≡ false)
+
+-- each willing device of these at an address is lost
+abbrev pub AreWillingLost : ℕ → ℕ → Lost → List (Option Device) → Type 0
+AreWillingLost active a lost devices = (s : ℕ) → willing_at active a s (slice_index_or devices s None) ≡ true → lost s ≡ true
+
+-- slot s is the lowest with a willing device at an address that isn't lost
+abbrev pub IsLowestWilling : ℕ → ℕ → Lost → List (Option Device) → ℕ → Type 0
+IsLowestWilling active a lost devices s =
+    (willing_at active a s (slice_index_or devices s None) ≡ true) × (lost s ≡ false)
+    × ((t : ℕ) → t < s → willing_at active a t (slice_index_or devices t None) ≡ true → lost t ≡ true)

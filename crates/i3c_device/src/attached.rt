@@ -96,6 +96,13 @@ impl Device {
         may_join(self.kinds)
     }
 
+    /// Whether its role requests are enabled.
+    pub fn may_ask_role(&self) -> bool
+        ensures { result ≡ self.now.kinds.role }
+    {
+        may_ask_role(self.kinds)
+    }
+
     /// How many of its interrupts wait.
     pub fn waiting(&self) -> usize
         ensures { result ≡ length self.now.waiting }

@@ -6,7 +6,7 @@ ghost use Rattle.i3c_base.specs.Places.{changed};
 ghost use Rattle.i3c_base.specs.Round.{hears, unhearing};
 ghost use Rattle.i3c_base.specs.State.{in_slot};
 ghost use Rattle.i3c_header.specs.Keys.{IsLawful};
-ghost use Rattle.i3c_device.specs.Walks.{accepted_at, assigned_at, drives_at, heard_at, left_at, reaches_at};
+ghost use Rattle.i3c_device.specs.Walks.{accepted_at, assigned_at, drives_at, heard_at, left_at, reaches_at, willing_at};
 
 use crate::attached::Device;
 use i3c_base::{Addr7, Cuts, Identity, Request, Slot};
@@ -74,6 +74,16 @@ pub(crate) fn reaches(
     match to {
         Some(at) => device.address() == Some(*at),
         None => true,
+    }
+}
+
+/// Whether whatever stands in this slot would take the role that is offered to this address.
+pub(crate) fn is_willing(place: &Option<Device>, index: usize, active: Slot, address: Addr7) -> bool
+    ensures { result ≡ willing_at active address index place.now }
+{
+    match place {
+        Some(device) => reaches(place, index, active, &Some(address)) && device.is_willing(),
+        None => false,
     }
 }
 

@@ -1,5 +1,7 @@
 use crate::attached::Device;
-use crate::places::{accept, assign, driven, drives, drop_lost, hear, open, reaches, silence};
+use crate::places::{
+    accept, assign, driven, drives, drop_lost, hear, is_willing, open, reaches, silence,
+};
 use arrayvec::ArrayVec;
 use i3c_base::{Addr7, Cuts, Identity, RaiseRefusal, Request, SLOTS, Slot};
 use i3c_ccc::Code;
@@ -30,11 +32,12 @@ impl Devices {
     ghost use Rattle.i3c_base.specs.declared.range.TheConstants.{SLOTS as SLOT_COUNT};
     ghost use Rattle.i3c_base.specs.Cutting.{lost_by};
     ghost use Rattle.i3c_base.specs.Places.{changed};
-    ghost use Rattle.i3c_device.specs.Walks.{accepted_at, assigned_at, drives_at, heard_at, left_at, AnyDrives, AreDriven, IsLowest, SomeDrives, SomeReached};
+    ghost use Rattle.i3c_device.specs.Walks.{accepted_at, assigned_at, drives_at, heard_at, left_at, AnyDrives, AreDriven, AreWillingLost, IsLowest, IsLowestWilling, SomeDrives, SomeReached};
     ghost use Rattle.std.specs.Prelude.{◌≡◌, ◌≤◌, ◌<◌, ◌↔◌, ℕ, length, IsTrue, suc, Some, None, option_map, slice_index_or, slice_set, MatchOption, MatchResult, OnOk, OnErr};
     ghost use Rattle.i3c_base.specs.Round.{hears, unhearing};
+    ghost use Rattle.i3c_base.specs.Serve.{without_role};
     ghost use Rattle.i3c_base.specs.State.{Device as DeviceState, no_devices};
-    ghost use Rattle.i3c_device.specs.Raising.{next_fault, with_raise, wishing_join};
+    ghost use Rattle.i3c_device.specs.Raising.{next_fault, with_raise, wishing_join, wishing_role};
 
     /// Empty slots.
     pub fn new() -> Devices
@@ -73,6 +76,24 @@ impl Devices {
     {
         if let Some(device) = &mut self.places[slot.index()] {
             device.wish_join();
+        }
+    }
+
+    /// The slot's device, if there is one, wishes for the controller role.
+    pub fn wish_role(&mut self, slot: Slot)
+        ensures { self.new ≡ slice_set self.old slot (option_map wishing_role (slice_index_or self.old slot None)) }
+    {
+        if let Some(device) = &mut self.places[slot.index()] {
+            device.wish_role();
+        }
+    }
+
+    /// The slot's device, if there is one, loses its wish for the role.
+    pub fn lose_role_wish(&mut self, slot: Slot)
+        ensures { self.new ≡ slice_set self.old slot (option_map without_role (slice_index_or self.old slot None)) }
+    {
+        if let Some(device) = &mut self.places[slot.index()] {
+            device.lose_role_wish();
         }
     }
 
@@ -157,6 +178,26 @@ impl Devices {
             }
         }
         false
+    }
+
+    /// The lowest slot with a device that would take the role that is offered to this address, of those that aren't lost
+    /// by this bit. The active controller is none of them.
+    pub fn lowest_willing(
+        &self,
+        active: Slot,
+        address: Addr7,
+        cuts: &Cuts,
+        last: u16,
+    ) -> Option<Slot>
+        ensures { MatchOption result (AreWillingLost active address (lost_by cuts.now last) self.now) (IsLowestWilling active address (lost_by cuts.now last) self.now) }
+    {
+        for (index, place) in self.places.iter().enumerate() {
+            let slot = Slot::from_index(index);
+            if is_willing(place, index, active, address) && !cuts.is_lost(slot, last) {
+                return Some(slot);
+            }
+        }
+        None
     }
 
     /// The devices that a command reaches, all but the active controller or those of them at one address, hear it and

@@ -358,3 +358,76 @@ fn the_last_slots_device_raises(rt: HostRuntime) -> Result<(), Fail> {
     assert_eq!(rt; waiting(&devices, last), Some(1));
     Ok(())
 }
+
+// A willing device at this address.
+fn willing(value: u8) -> Result<Device, Fail>
+    requires { 8 ≤ value }
+{
+    let mut device = Device::new(Setup {
+        identity: identity(0x46)?,
+        willing: true,
+    });
+    device.take_address(Addr7::new(value)?);
+    Ok(device)
+}
+
+// The wish comes before the interrupt that waits, and is held back by bit 1 of DISEC.
+#[test]
+fn a_role_wish_comes_and_goes(rt: HostRuntime) -> Result<(), Fail> {
+    let (empty, slot) = (Slot::new(2)?, Slot::new(3)?);
+    let at = Addr7::new(0x09)?;
+    let mut devices = Devices::new();
+    devices.put(slot, interrupting(0x09, 1)?);
+    for other in [empty, slot] {
+        devices.wish_role(other);
+    }
+    assert!(rt; devices.get(empty).is_none());
+    assert_eq!(rt; wanted(&devices, slot), Some(Request::Role(at)));
+    devices.lose_role_wish(empty);
+    devices.lose_role_wish(slot);
+    assert!(rt; devices.get(empty).is_none());
+    assert_eq!(rt; wanted(&devices, slot), Some(Request::Interrupt(at)));
+    let mut device = addressed(0x46, 0x09)?;
+    for (mask, enabled) in [(0x09, true), (0x02, false)] {
+        device.hear(Code::Disec, &[write_word(mask)]);
+        assert_eq!(rt; device.may_ask_role(), enabled);
+    }
+    Ok(())
+}
+
+// Of those who are willing at the address the lowest that is left; the active controller is none of them.
+#[test]
+fn the_lowest_willing_device_is_offered_the_role(rt: HostRuntime) -> Result<(), Fail> {
+    let (active, low, high) = (Slot::new(0)?, Slot::new(7)?, Slot::new(15)?);
+    let (at, other) = (Addr7::new(0x09)?, Addr7::new(0x0A)?);
+    let mut devices = Devices::new();
+    for slot in [active, low, high] {
+        devices.put(slot, willing(0x09)?);
+    }
+    devices.put(Slot::new(2)?, addressed(0x46, 0x09)?);
+    devices.put(Slot::new(5)?, willing(0x0A)?);
+    let mut cuts = Cuts::new();
+    cuts.add(low, 18);
+    cuts.add(high, 27);
+    for (last, lowest) in [
+        (17, Some(low)),
+        (18, Some(high)),
+        (26, Some(high)),
+        (27, None),
+    ] {
+        assert_eq!(rt; devices.lowest_willing(active, at, &cuts, last), lowest);
+    }
+    assert_eq!(rt;
+        devices.lowest_willing(low, at, &Cuts::new(), 0),
+        Some(active)
+    );
+    assert_eq!(rt;
+        devices.lowest_willing(active, other, &cuts, 27),
+        Some(Slot::new(5)?)
+    );
+    assert_eq!(rt;
+        devices.lowest_willing(active, Addr7::new(0x0B)?, &cuts, 0),
+        None
+    );
+    Ok(())
+}
