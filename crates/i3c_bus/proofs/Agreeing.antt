@@ -4,6 +4,7 @@ use Rattle.std.proofs.lemmas.Bool.{both_ways}
 use Rattle.i3c_base.specs.declared.requests.Fixed.{Fixed}
 use Rattle.i3c_base.specs.declared.requests.Request.{Request}
 use Rattle.i3c_base.specs.declared.requests.Request.TheVariants.{Join, Role, Interrupt}
+use Rattle.i3c_base.specs.declared.answers.Answer.{Answer}
 use Rattle.i3c_base.specs.declared.requests.Served.{Served}
 use Rattle.i3c_base.specs.declared.requests.Served.TheVariants.{Quiet, Recorded, Refused, Torn, Joining, WantsRole}
 use Rattle.i3c_base.specs.declared.requests.Verdict.{Verdict}
@@ -23,6 +24,7 @@ use Rattle.i3c_bus.specs.declared.tokens.Hand.{Hand}
 use Rattle.i3c_step.specs.Step.{Acts, IsShort, Step, checks, first_refusal}
 use Rattle.i3c_step.specs.declared.events.Event.{Event}
 use Rattle.i3c_step.specs.declared.replies.Refusal.{Refusal}
+use Rattle.i3c_step.specs.declared.replies.Framed.{Framed}
 use Rattle.i3c_step.specs.declared.replies.Reply.{Reply}
 use Rattle.i3c_step.proofs.Uniqueness.{first_unique}
 
@@ -113,6 +115,10 @@ acts_as old mine other reply new same short acts h = go (first_refusal (checks o
     go (Some why) k = k
     go None k = elim k [ inl s ↦ inl (short s) | inr a ↦ inr (acts a) ]
 
+-- a frame to all that is done
+abbrev done : Served → Framed
+done served = record { served = served; answer = Answer.Done }
+
 -- a command under a policy that was asked as what it gave
 step_asked : (command : Command) (old : State) (p q : Fixed) (cuts : CutList) (reply : Reply) (new : State) → Asks fixed_gives p q old reply
     → Step old (event_of command (given_by reply) cuts) reply new → Step old (event_of command p cuts) reply new
@@ -126,12 +132,21 @@ step_asked (Command.Disec to kinds) old p q cuts reply new asks h =
     acts_as old (Event.Disec to kinds (given_by reply) cuts) (Event.Disec to kinds p cuts) reply new refl (λ s. s)
     (λ acts. (acts.0, acts.1, frame_as old (given_by reply) p cuts acts.0.served _ _ new (asked_agree old p q reply (Reply.Framed acts.0) (given_for acts.0.served) acts.1 refl (λ d. d) asks) acts.2)) h
 
+step_asked Command.Reset old p q cuts reply new asks h =
+    acts_as old (Event.Reset (given_by reply) cuts) (Event.Reset p cuts) reply new refl (λ s. s)
+    (λ acts. (acts.0, acts.1, frame_as old (given_by reply) p cuts acts.0 _ _ new (asked_agree old p q reply (Reply.Framed (done acts.0)) (given_for acts.0) acts.1 refl (λ d. d) asks) acts.2)) h
+step_asked Command.SendList old p q cuts reply new asks h =
+    acts_as old (Event.SendList (given_by reply) cuts) (Event.SendList p cuts) reply new refl (λ s. s)
+    (λ acts. (acts.0, acts.1, frame_as old (given_by reply) p cuts acts.0 _ _ new (asked_agree old p q reply (Reply.Framed (done acts.0)) (given_for acts.0) acts.1 refl (λ d. d) asks) acts.2)) h
+
 -- its wire doesn't depend on the policy
 wire_asked : (command : Command) (f g : Fixed) (cuts : CutList) (old : State) (reply : Reply) (new : State) (Told : (List Symbol → Type 0) → Type 0)
     → Told (IsWire old (event_of command f cuts) reply new) → Told (IsWire old (event_of command g cuts) reply new)
 wire_asked Command.Serve f g cuts old reply new Told h = h
 wire_asked (Command.Enec to kinds) f g cuts old reply new Told h = h
 wire_asked (Command.Disec to kinds) f g cuts old reply new Told h = h
+wire_asked Command.Reset f g cuts old reply new Told h = h
+wire_asked Command.SendList f g cuts old reply new Told h = h
 
 -- a command carried out under what its policy gave is carried out under the policy
 pub carried_asked : (command : Command) (old new : Held) (p q : Fixed) (cuts : CutList) (reply : Reply) (hand : Hand) (Told : (List Symbol → Type 0) → Type 0) → Asks fixed_gives p q old.state reply

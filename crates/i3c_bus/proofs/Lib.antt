@@ -1,5 +1,5 @@
 pub mod Seen
-pub mod Joining
+pub mod Locally
 pub mod Framing
 pub mod Heard
 pub mod Beginning
@@ -7,3 +7,7 @@ pub mod RaiseSteps
 pub mod Agreeing
 pub mod Opening
 pub mod Starting
+pub mod Currency
+pub mod ToAll
+pub mod Listing
+pub mod Resetting

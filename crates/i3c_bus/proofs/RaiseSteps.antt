@@ -12,7 +12,9 @@ use Rattle.i3c_step.specs.declared.events.Event.{Event}
 use Rattle.i3c_step.specs.declared.replies.Refusal.TheVariants.{NoDevice, IsActive, NoAddress, NotCapable, ByteMismatch, Masked, Full}
 use Rattle.i3c_step.specs.declared.replies.Reply.{Reply}
 use Rattle.i3c_step.specs.Replies.{raise_refusal}
-use Rattle.i3c_step.specs.Sound.{IsSound, IsWhole}
+use Rattle.i3c_deftgts.specs.declared.entries.Entry.{Entry}
+use Rattle.i3c_step.specs.Sound.{IsSound}
+use Rattle.i3c_bus.specs.Whole.{IsWhole}
 use Rattle.i3c_step.specs.Step.{Checks, checks, first_refusal}
 use Rattle.i3c_step.proofs.Acting.{acting}
 use Rattle.i3c_step.proofs.Soundness.{sound_step}
@@ -59,16 +61,17 @@ given_there f None p e h = absurd (true≢false (sym h))
 given_there f (Some x) p e h = (f x, sym e)
 
 -- a bus after a raise is whole
-pub whole_raise : (st : State) (table : Table) (more : List (Option Device)) (s index number : ℕ) (byte : Option ℕ) (d : Device)
-    → IsWhole st table → index ≡ s → device_at st s ≡ Some d → (s == st.active) ≡ false
+pub whole_raise : (st : State) (table : Table) (list : Option (List Entry)) (more : List (Option Device)) (s index number : ℕ) (byte : Option ℕ) (d : Device)
+    → IsWhole st table list → index ≡ s → device_at st s ≡ Some d → (s == st.active) ≡ false
     → (number ≡ suc (slice_index st.raised index)) × (next_fault d byte (slice_index st.raised index) ≡ None)
     → more ≡ slice_set st.devices s (option_map (with_raise (suc (slice_index st.raised index)) byte) (device_at st s))
-    → IsWhole (record st { devices = more; raised = slice_set st.raised index number }) table
-whole_raise st table more s index number byte d whole same there other fault is = record {
+    → IsWhole (record st { devices = more; raised = slice_set st.raised index number }) table list
+whole_raise st table list more s index number byte d whole same there other fault is = record {
   sound = subst IsSound (sym after)
       (sound_step st (Event.Raise s byte) (Reply.Raised (suc (raised_at st s))) (raise s byte st)
       (acting st (Event.Raise s byte) _ (raise s byte st) (raise_free st s byte d there other none) (refl, refl)) whole.sound);
   covered = whole.covered;
+  copied = whole.copied;
 }
   where
     none : next_fault d byte (raised_at st s) ≡ None

@@ -6,3 +6,4 @@ pub mod Wire
 pub mod Calls
 pub mod Beginning
 pub mod Asking
+pub mod Whole

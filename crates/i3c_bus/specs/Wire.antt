@@ -1,5 +1,5 @@
 -- What an event puts on the wire, for whoever taps it. An ACK depends on who is left at its bit.
-use Rattle.std.specs.Prelude.{◌≡◌, ◌↔◌, ℕ, ◌+◌, Bool, true, false, List, [], ◌∷◌, ◌++◌, Option, Some, None, is_some, MatchOption, ⊤}
+use Rattle.std.specs.Prelude.{◌≡◌, ◌↔◌, ℕ, ◌+◌, Bool, true, false, List, [], ◌∷◌, ◌++◌, map, Option, Some, None, is_some, MatchOption, ⊤}
 use Rattle.i3c_base.specs.declared.answers.Answer.{Answer}
 use Rattle.i3c_base.specs.declared.answers.RoundReply.{RoundReply}
 use Rattle.i3c_base.specs.declared.kinds.Change.{Change}
@@ -11,8 +11,11 @@ use Rattle.i3c_base.specs.declared.requests.Served.{Served}
 use Rattle.i3c_base.specs.Cutting.{CutList, lost_by}
 use Rattle.i3c_base.specs.State.{State, entry_at}
 use Rattle.i3c_base.specs.Serve.{IsFirst, IsWordBits, byte_due, drives, header_bits}
-use Rattle.i3c_base.specs.Frames.{AnyLeft, SomeLeftAt}
+use Rattle.i3c_base.specs.Covered.{lvrs}
+use Rattle.i3c_base.specs.Frames.{AnyLeft, SomeLeftAt, active_has}
 use Rattle.i3c_word.specs.declared.Word.{Word}
+use Rattle.i3c_deftgts.specs.Entries.{entries_of}
+use Rattle.i3c_deftgts.specs.Layout.{Carry, list_bytes}
 use Rattle.i3c_entdaa.specs.declared.outcome.Round.{Round}
 use Rattle.i3c_entdaa.specs.Rounds.{IsAcknowledged, IsRead, reply_of}
 use Rattle.i3c_entdaa.specs.Telling.{IsRoundWire}
@@ -21,7 +24,7 @@ use Rattle.i3c_ibi.specs.Telling.{byte_word, request_header}
 use Rattle.i3c_frame.specs.declared.symbols.Symbol.{Symbol}
 use Rattle.i3c_frame.specs.declared.symbols.Symbol.TheVariants.{Start, Repeated, Stop, Header}
 use Rattle.i3c_step.specs.declared.events.Event.{Event}
-use Rattle.i3c_step.specs.declared.events.Event.TheVariants.{Enec, Disec}
+use Rattle.i3c_step.specs.declared.events.Event.TheVariants.{Enec, Disec, Reset, SendList}
 use Rattle.i3c_step.specs.declared.replies.Reply.{Reply}
 use Rattle.i3c_step.specs.Step.{cuts_in}
 
@@ -73,10 +76,29 @@ IsAnswered st cuts (Some a) begun answer = (answer ≡ Answer.Done) ↔ SomeLeft
 abbrev pub IsKindsPart : State → CutList → Change → Option ℕ → Kinds → Answer → ℕ → List Symbol → Type 0
 IsKindsPart old cuts change to kinds answer begun wire = IsKindsWire change to kinds answer wire × IsAnswered old cuts to begun answer
 
+-- RSTDAA: the code 06
+abbrev pub IsResetWire : List Symbol → Type 0
+IsResetWire wire = (code : Word) × IsWord 0x06 code × (wire ≡ Symbol.Word code ∷ Stop ∷ [])
+
+-- DEFTGTS: the code 08 and the words of a list
+abbrev pub IsListWire : List Word → List Symbol → Type 0
+IsListWire words wire = (code : Word) × IsWord 0x08 code × (wire ≡ Symbol.Word code ∷ map Symbol.Word words ++ Stop ∷ [])
+
+-- these words carry the list of the active controller's table, its own entry first
+abbrev pub IsListOf : State → List Word → Type 0
+IsListOf st words =
+    (own : ℕ) × (active_has st own ≡ true) × Carry (list_bytes (entries_of (record { given = st.given; legacy = lvrs st; listed = st.listed }) own)) words
+
+-- a list of this bus
+abbrev pub IsListPart : State → List Symbol → Type 0
+IsListPart st wire = (words : List Word) × IsListOf st words × IsListWire words wire
+
 -- the own part of a frame that is answered, by its event
 abbrev pub IsOwnWire : State → CutList → Event → Answer → ℕ → List Symbol → Type 0
 IsOwnWire old cuts (Enec to kinds policy others) answer begun wire = IsKindsPart old cuts Change.Enable to kinds answer begun wire
 IsOwnWire old cuts (Disec to kinds policy others) answer begun wire = IsKindsPart old cuts Change.Disable to kinds answer begun wire
+IsOwnWire old cuts (Reset policy others) answer begun wire = IsResetWire wire
+IsOwnWire old cuts (SendList policy others) answer begun wire = IsListPart old wire
 IsOwnWire old cuts _ answer begun wire = ⊥
 
 -- ENTDAA: the code 07. The session goes on with its rounds
@@ -109,4 +131,5 @@ IsWire old event (Reply.Served served) new wire = OfCuts event (λ cuts. IsServe
 IsWire old event (Reply.Framed framed) new wire = OfCuts event (λ cuts. IsFrameWire old cuts framed.served new (IsOwnWire old cuts event framed.answer) wire)
 IsWire old event (Reply.Opened served) new wire = OfCuts event (λ cuts. IsFrameWire old cuts served new (λ begun. IsOpenWire) wire)
 IsWire old event (Reply.Round answer) new wire = OfCuts event (λ cuts. IsRoundWireOf old cuts answer wire)
+IsWire old event (Reply.Handed served) new wire = ⊥
 IsWire old event Reply.Ended new wire = wire ≡ Stop ∷ []

@@ -41,6 +41,9 @@ impl Bus {
             Event::Disec(to, kinds, policy, cuts) => {
                 self.send(hand, Command::Disec(*to, *kinds), *policy, tap, cuts)
             }
+            Event::Reset(policy, cuts) => self.send(hand, Command::Reset, *policy, tap, cuts),
+            Event::SendList(policy, cuts) => self.send(hand, Command::SendList, *policy, tap, cuts),
+            Event::AskRole(_) | Event::HandOver(_, _) => unreachable!(),
             Event::OpenDaa(cuts) => self.step_open(hand, tap, cuts),
             Event::Round(cuts) => self.step_round(hand, tap, cuts),
             Event::EndDaa => self.step_end(hand, tap),

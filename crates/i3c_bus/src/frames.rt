@@ -133,6 +133,14 @@ impl Bus {
                 Ok(framed) => Reply::Framed(framed),
                 Err(fault) => Reply::from(fault),
             },
+            Command::Reset => match self.reset(role, policy, tap, cuts) {
+                Ok(framed) => Reply::Framed(framed),
+                Err(fault) => Reply::from(fault),
+            },
+            Command::SendList => match self.list(role, policy, tap, cuts) {
+                Ok(framed) => Reply::Framed(framed),
+                Err(fault) => Reply::from(fault),
+            },
             Command::Disec(to, kinds) => match self.disec(role, to, kinds, policy, tap, cuts) {
                 Ok(framed) => Reply::Framed(framed),
                 Err(fault) => Reply::from(fault),
@@ -183,7 +191,8 @@ impl Bus {
         cuts: &Cuts,
         begun: u16,
     ) -> Answer
-        requires { begun ≤ 18 }
+        requires few { begun ≤ 18 }
+        requires left { cuts_active self.old.state cuts.now ≡ false }
         ensures rekinds { LeavesBy cuts.now (begun + kinds_bits to result) (Rekinds to (changed_kinds change kinds) result) self.old.state self.new.state }
         ensures answered { IsAnswered self.old.state cuts.now to begun result }
         ensures told { Tells T.note_gives tap.old tap.new (IsKindsWire change to kinds result) }
@@ -213,6 +222,7 @@ impl Bus {
 
     /// The devices that a frame loses by this bit are gone.
     pub(crate) fn drop_lost(&mut self, cuts: &Cuts, last: u16)
+        requires { cuts_active self.old.state cuts.now ≡ false }
         ensures state { self.new.state ≡ emptied (lost_by cuts.now last) self.old.state }
         ensures room { self.new.room ≡ self.old.room }
     {
@@ -221,7 +231,7 @@ impl Bus {
 
     /// The beginning of a frame that goes on: there is room for a record, the first request is served, and after one
     /// a repeated START and the broadcast header are sent. It changes nothing where there is no memory.
-    fn begin_frame<P: Policy, T: Tap>(
+    pub(crate) fn begin_frame<P: Policy, T: Tap>(
         &mut self,
         policy: &mut P,
         tap: &mut T,

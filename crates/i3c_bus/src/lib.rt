@@ -4,6 +4,7 @@
 //! in `i3c_step` too.
 #![tactic(auto)]
 
+mod announcing;
 mod dispatch;
 mod frames;
 mod parts;

@@ -2,6 +2,7 @@ ghost use Rattle.std.specs.Prelude.{◌≡◌};
 
 use crate::tokens::Hand;
 use i3c_base::{Addr7, RaiseRefusal, Record, SLOTS, Setup, Slot};
+use i3c_deftgts::List;
 use i3c_device::{Device, Devices};
 use i3c_handoff::{Active, Role, retire};
 use i3c_hotjoin::{JoinRefusal, ask};
@@ -45,6 +46,8 @@ pub struct Bus {
     raised: [u64; SLOTS],
     pub(crate) active: Active,
     pub(crate) table: Table,
+    // what each device that keeps the list read of the last one
+    pub(crate) list: Option<List>,
     legacy: LegacyTargets,
     pub(crate) in_session: bool,
     pub(crate) records: Vec<Record>,
@@ -54,7 +57,7 @@ impl Model for Bus {
     ghost use Rattle.std.specs.Prelude.{nat_lt, vec_len, vec_capacity};
     ghost use Rattle.i3c_base.specs.State.{Held};
     ghost use Rattle.i3c_bus.specs.Parts.{state_of};
-    ghost use Rattle.i3c_step.specs.Sound.{IsWhole};
+    ghost use Rattle.i3c_bus.specs.Whole.{IsWhole};
 
     ghost Value = { Held };
 
@@ -63,7 +66,7 @@ impl Model for Bus {
       room = nat_lt (vec_len b.records) (vec_capacity b.records);
     } };
 
-    ghost invariant = { λ b. IsWhole (state_of b.devices b.raised b.active b.table b.legacy b.in_session b.records.items) b.table };
+    ghost invariant = { λ b. IsWhole (state_of b.devices b.raised b.active b.table b.legacy b.in_session b.records.items) b.table b.list };
 }
 
 impl Bus {
@@ -116,6 +119,7 @@ impl Bus {
             raised: [0; SLOTS],
             active,
             table,
+            list: None,
             legacy,
             in_session: false,
             records: Vec::new(alloc),
@@ -271,6 +275,7 @@ impl Bus {
             raised: _,
             active,
             table: _,
+            list: _,
             legacy: _,
             in_session: _,
             records,

@@ -19,6 +19,7 @@ impl Bus {
     ghost use Rattle.i3c_frame.specs.Taps.{Tells};
     ghost use Rattle.i3c_bus.specs.Calls.{Carries};
     ghost use Rattle.i3c_bus.specs.Hands.{HandFits, opened_hand};
+    ghost use Rattle.i3c_step.specs.Step.{cuts_active};
     ghost use Rattle.i3c_step.specs.Replies.{opened_reply};
     ghost use Rattle.i3c_step.specs.declared.events.Event.{Event};
     ghost use Rattle.i3c_bus.specs.declared.tokens.Hand.{Hand};
@@ -57,6 +58,7 @@ impl Bus {
 
     /// One round of the open session.
     fn round<T: Tap>(&mut self, tap: &mut T, cuts: &Cuts) -> Round
+        requires { cuts_active self.old.state cuts.now ≡ false }
         ensures rounds { Rounds self.old.state cuts.now (reply_of result) self.new.state }
         ensures read { IsRead self.old.state cuts.now result }
         ensures acknowledged { IsAcknowledged self.old.state cuts.now result }

@@ -1,4 +1,4 @@
-ghost use Rattle.std.specs.Prelude.{◌≡◌, ◌+◌, ◌≤◌, ◌++◌, List, ℕ, [], ◌∷◌, IsSome, length};
+ghost use Rattle.std.specs.Prelude.{◌≡◌, ◌+◌, ◌*◌, ◌≤◌, ◌++◌, List, ℕ, [], ◌∷◌, IsSome, count_by, is_some, length};
 ghost use Rattle.arrayvec.specs.ArrayVec.{array_vec_len};
 ghost use Rattle.i3c_base.specs.State.{entry_in};
 ghost use Rattle.i3c_word.specs.declared.Word.{Word as WordValue};
@@ -26,6 +26,7 @@ pub const WORDS: usize = 1 + 4 * WRITTEN;
 pub fn write_list(table: &Table, own: Addr7) -> ArrayVec<Word, WORDS>
     requires { IsSome (entry_in table.now.given own) }
     ensures words { Carry (list_bytes (entries_of table.now own)) result.items }
+    ensures long { length result.items ≡ 1 + 4 * (count_by is_some table.now.given + count_by is_some table.now.legacy) }
 
     // the words are read as these entries, which give the table, but for the identities that addresses are kept for
     ensures read { ReadAs result.items (entries_of table.now own) }
@@ -44,6 +45,7 @@ pub fn write_list(table: &Table, own: Addr7) -> ArrayVec<Word, WORDS>
 fn entries_of(table: &Table, own: Addr7) -> ArrayVec<Entry, WRITTEN>
     requires { IsSome (entry_in table.now.given own) }
     ensures items { result.items ≡ entries_of table.now own }
+    ensures long { length result.items ≡ count_by is_some table.now.given + count_by is_some table.now.legacy }
     ensures read { (words : List WordValue) → Carry (list_bytes result.items) words → ReadAs words result.items }
     ensures copied { table_of result.items ≡ copy_of table.now }
 {

@@ -29,14 +29,18 @@ pub refusal-none : (t : Bool) (why : Refusal) (rest : Checks) → first_refusal 
 refusal-none true why rest h = absurd (none-some why (sym h))
 refusal-none false why rest h = (refl, h)
 
--- a frame that isn't refused doesn't lose the active controller
-pub active_left : (st : State) (cuts : CutList) (t : Bool) (first second : Refusal) (rest : Checks) (last : ℕ)
-    → first_refusal ((t, first) ∷ (cuts_active st cuts, second) ∷ rest) ≡ None → lost_by cuts last st.active ≡ false
-active_left st cuts t first second rest last h = go (cut_of cuts st.active) (refusal-none (cuts_active st cuts) second rest (refusal-none t first ((cuts_active st cuts, second) ∷ rest) h).1).0
+-- where the active controller isn't cut, no frame loses it
+pub not_cut : (st : State) (cuts : CutList) (last : ℕ) → cuts_active st cuts ≡ false → lost_by cuts last st.active ≡ false
+not_cut st cuts last h = go (cut_of cuts st.active) h
   where
     go : (o : Option ℕ) → is_some o ≡ false → is_by last o ≡ false
     go None e = refl
     go (Some bit) e = absurd (both_ways _ e refl)
+
+-- a frame that isn't refused doesn't lose it
+pub active_left : (st : State) (cuts : CutList) (t : Bool) (first second : Refusal) (rest : Checks) (last : ℕ)
+    → first_refusal ((t, first) ∷ (cuts_active st cuts, second) ∷ rest) ≡ None → lost_by cuts last st.active ≡ false
+active_left st cuts t first second rest last h = not_cut st cuts last (refusal-none (cuts_active st cuts) second rest (refusal-none t first ((cuts_active st cuts, second) ∷ rest) h).1).0
 
 -- the nth test
 abbrev pub test_at : ℕ → Checks → Bool

@@ -89,6 +89,11 @@ abbrev pub framed_reply : Result Framed TargetFault → Reply
 framed_reply (Ok framed) = Reply.Framed framed
 framed_reply (Err why) = target_fault_reply why
 
+-- of `reset` and `list`
+abbrev pub announced_reply : Result Framed FrameFault → Reply
+announced_reply (Ok framed) = Reply.Framed framed
+announced_reply (Err why) = frame_fault_reply why
+
 -- of `open_daa`, which answers a session, or the role that comes back
 abbrev pub opened_reply : Result (ℕ × Served) (ℕ × ActiveStays) → Reply
 opened_reply (Ok opened) = Reply.Opened opened.1

@@ -4,7 +4,6 @@ use Rattle.std.specs.List.{All}
 use Rattle.i3c_base.specs.declared.range.TheConstants.{ADDRESSES}
 use Rattle.i3c_base.specs.declared.device.Waiting.{Waiting}
 use Rattle.i3c_base.specs.declared.identity.Identity.{Identity}
-use Rattle.i3c_base.specs.Covered.{IsTable, Table}
 use Rattle.i3c_base.specs.Numbers.{has_byte}
 use Rattle.i3c_base.specs.State.{Device, Entry, State, device_at, entry_at, legacy_target_at}
 
@@ -36,8 +35,3 @@ pub record IsSound (st : State) : Type 0 where
   pub addresses : Addresses st
   pub active : HasActive st
   pub fitting : (s : ℕ) (d : Device) → device_at st s ≡ Some d → IsFitting d
-
--- a sound bus whose active controller's table covers it
-pub record IsWhole (st : State) (table : Table) : Type 0 where
-  pub sound : IsSound st
-  pub covered : IsTable st table

@@ -33,7 +33,7 @@ impl Model for Table {
 }
 
 impl Table {
-    ghost use Rattle.std.specs.Prelude.{◌≡◌, ℕ, ◌≤◌, None, Some, false, count_by, is_some, length, map, option_map, slice_index_or, IfSome, MatchOption};
+    ghost use Rattle.std.specs.Prelude.{◌≡◌, ℕ, ◌≤◌, None, Some, true, false, count_by, is_some, length, map, option_map, slice_index_or, IfSome, MatchOption};
     ghost use Rattle.i3c_base.specs.declared.range.TheConstants.{ADDRESSES};
     ghost use Rattle.i3c_table.specs.declared.table.TheConstants.{ROWS};
     ghost use Rattle.i3c_base.specs.State.{entry_in, no_entries, IsFree, IsKeptIn, IsUnknownIn, IsUsable};
@@ -104,6 +104,13 @@ impl Table {
                 ..row
             });
         }
+    }
+
+    /// The list of this table was sent: it is current (DEFTGTS, I3C Basic 5.1.9.3.7).
+    pub fn mark_listed(&mut self)
+        ensures { self.new ≡ record self.old { listed = true } }
+    {
+        self.listed = true;
     }
 
     /// Whether the list that was last sent is current.

@@ -8,7 +8,7 @@ use Rattle.i3c_deftgts.specs.Copies.{table_of}
 use Rattle.i3c_deftgts.specs.Entries.{device_at, entries_of, legacy_at, own_entry, upwards}
 use Rattle.i3c_deftgts.proofs.CopyOfLaws.{copied_back}
 use Rattle.i3c_deftgts.proofs.WrittenLaws.{entries_read}
-use Rattle.i3c_deftgts.proofs.TableLaws.{first_room, second_room, two_parts}
+use Rattle.i3c_deftgts.proofs.TableLaws.{first_room, length-entries_of, second_room, two_parts}
 use Rattle.i3c_deftgts.proofs.writing.entries_of.Goals as goal
 
 pub push_devices-requires-2 : goal.push_devices-requires-2
@@ -59,6 +59,9 @@ long_legacy : (c : goal.After-push_legacies) → length c.args.table.now.legacy 
 long_legacy c =
     let same = ap length (c.by_address.ensures.same ∙ c.legacies.ensures) in
     omega (arith, same, c.by_address.type_inv)
+
+pub returns-clause-long : goal.returns-clause-long
+returns-clause-long c = ap length (whole c) ∙ length-entries_of c.args.table.now c.args.own
 
 pub returns-clause-items : goal.returns-clause-items
 returns-clause-items c = whole c

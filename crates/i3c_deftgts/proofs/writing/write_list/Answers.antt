@@ -1,6 +1,6 @@
 use Rattle.std.proofs.Common.{◌-◌, length, sym, arith}
 use Rattle.i3c_deftgts.specs.Layout.{list_bytes, Carry}
-use Rattle.i3c_deftgts.proofs.LayoutLaws.{carried_all, carried_next, carried_room}
+use Rattle.i3c_deftgts.proofs.LayoutLaws.{carried_all, carried_next, carried_room, length-carried, length-flat_bytes}
 use Rattle.i3c_deftgts.proofs.writing.write_list.Goals as goal
 
 pub push_entry-requires : goal.push_entry-requires
@@ -19,6 +19,11 @@ carried c = carried_all c.deref-entry-items.result.now c.entries_of-entries.resu
 
 pub returns-clause-words : goal.returns-clause-words
 returns-clause-words c = rw (sym c.entries_of-entries.ensures.items) (carried c)
+
+pub returns-clause-long : goal.returns-clause-long
+returns-clause-long c =
+    let all = length-carried (list_bytes c.entries_of-entries.result.items) c.loop-entry.words.items (carried c) in
+    omega (arith, all, length-flat_bytes c.entries_of-entries.result.items, c.entries_of-entries.ensures.long)
 
 pub returns-clause-read : goal.returns-clause-read
 returns-clause-read c = rw (sym c.entries_of-entries.ensures.items) (c.entries_of-entries.ensures.read c.loop-entry.words.items (carried c))

@@ -26,6 +26,7 @@ invariant_of-self g c =
     record {
       sound = sound_serves (seen c.self.inside) (given_for c.record_due-served.result) _ c.record_due-served.result _ (begins.serves 0) c.self.invariant.sound;
       covered = c.self.invariant.covered;
+      copied = c.self.invariant.copied;
     }
 
 pub returns-clause-begins : goal.returns-clause-begins

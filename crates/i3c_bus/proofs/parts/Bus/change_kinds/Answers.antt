@@ -16,6 +16,7 @@ use Rattle.i3c_bus.proofs.Framing.{fits_left, frame_by, kinds_step, kinds_told, 
 use Rattle.i3c_bus.specs.Wire.{IsAnswered, IsKindsPart}
 use Rattle.i3c_bus.proofs.Heard.{answered_before}
 use Rattle.i3c_step.proofs.Slots.{Stands-rekinds, records_rekinds}
+use Rattle.i3c_bus.proofs.ToAll.{begun_uncut}
 use Rattle.i3c_bus.proofs.parts.Bus.change_kinds.Goals as goal
 use Rattle.i3c_bus.proofs.parts.Bus.change_kinds.Goals.{in-Some+else-is_no_target, in_default}
 
@@ -60,3 +61,7 @@ returns-clause-carried g c =
         lasts = λ room none. c.command_kinds-answer.ensures.room ∙ c.in-Ok.ensures.room none;
       };
     }
+
+pub command_kinds-answer-requires-clause-left : goal.command_kinds-answer-requires-clause-left
+command_kinds-answer-requires-clause-left g c =
+    begun_uncut c.args.self.now.state c.begin_frame.new.self.state c.args.cuts.now c.in-Ok.begun.served c.in-Ok.ensures.begins.0 c.in-Ok.ensures.begins.1 (sym c.cuts_active.ensures ∙ c.if-cuts_active.false)

@@ -18,6 +18,7 @@ invariant_of-self g c =
       sound = sound_rekinds c.args.to (changed_kinds c.args.change c.args.kinds) (answer_of c.hear_kinds-heard.result) _ (seen c.self.inside) _ (c.hear_kinds-heard.ensures.rekinds (seen c.self.inside) same)
           c.self.invariant.sound;
       covered = c.self.invariant.covered;
+      copied = c.self.invariant.copied;
     }
 
 pub returns-clause-rekinds : goal.returns-clause-rekinds

@@ -11,4 +11,5 @@ invariant_of-self c = record {
   sound = subst (λ (devices : List (Option Device)). IsSound (state_of devices c.self.inside.raised c.self.inside.active c.self.inside.table c.self.inside.legacy false c.self.inside.records.items)) (sym c.silence.ensures)
       (sound_ended (state_of c.self.inside.devices c.self.inside.raised c.self.inside.active c.self.inside.table c.self.inside.legacy c.self.inside.in_session c.self.inside.records.items) c.self.invariant.sound);
   covered = c.self.invariant.covered;
+  copied = c.self.invariant.copied;
 }

@@ -34,6 +34,7 @@ invariant_of-bus c = record {
         ∙ (sym (lvrs_kept c.args.legacies) ∙ ap (λ (targets : List (Option LegacyTarget)). map (option_map (λ (t : LegacyTarget). t.lvr)) targets) (sym c.new-legacy.ensures)),
     refl,
   );
+  copied = λ listed. ?;
 }
 
 pub returns-clause-start : goal.returns-clause-start
