@@ -1,6 +1,5 @@
 -- Who hears the command, and what it leaves.
-use Rattle.std.proofs.Common.{◌≡◌, ◌≢◌, ℕ, Bool, true, false, ◌==◌, not, ◌&&◌, if◌then◌else◌, List, [], ◌∷◌, Option, Some, None, option_map, inl, inr, refl, sym, ap, ◌∙◌, subst}
-use Rattle.std.proofs.lemmas.Bool.{and_parts, eq-eqb, eqb-true, both_ways, ne_eqb}
+use Rattle.std.proofs.Common.{◌≡◌, ℕ, Bool, true, false, ◌==◌, not, ◌&&◌, if◌then◌else◌, List, [], ◌∷◌, Option, Some, None, option_map, inl, inr, refl, sym, ap, ◌∙◌, subst}
 use Rattle.i3c_base.specs.declared.answers.Answer.{Answer}
 use Rattle.i3c_base.specs.declared.kinds.Change.{Change}
 use Rattle.i3c_base.specs.declared.kinds.Change.TheVariants.{Enable, Disable}
@@ -8,40 +7,21 @@ use Rattle.i3c_base.specs.declared.kinds.Kinds.{Kinds}
 use Rattle.i3c_base.specs.Cutting.{Lost}
 use Rattle.i3c_base.specs.Numbers.{KindSet, kind_set}
 use Rattle.i3c_base.specs.Places.{changed}
-use Rattle.i3c_base.specs.State.{Device, HasDevices, State, has_address, is_the}
+use Rattle.i3c_base.specs.State.{Device, HasDevices, State, has_address}
 use Rattle.i3c_base.specs.Frames.{AllLostAt, AnyAt, IsHeard, Rekinds, SomeLeftAt, changed_kinds, reaches, rekinded, with_kinds, without_kinds}
 use Rattle.i3c_word.specs.declared.Word.{Word}
 use Rattle.i3c_ccc.specs.declared.codes.Code.{Code}
 use Rattle.i3c_device.specs.Hearing.{named_kinds}
 use Rattle.i3c_device.specs.Walks.{SomeReached, heard_at}
+use Rattle.i3c_device.proofs.Targets.{other_slot, reached_target, slot_other, target_reached}
 use Rattle.i3c_events.specs.Words.{command}
-
--- an address that is asked for
-pub address_is : (a : ℕ) (o : Option ℕ) → is_the a o ≡ true → o ≡ Some a
-address_is a None e = absurd (both_ways _ refl e)
-address_is a (Some b) e = ap Some (eqb-true b a e)
-
-pub is_address : (a : ℕ) (o : Option ℕ) → o ≡ Some a → is_the a o ≡ true
-is_address a o e = ap (is_the a) e ∙ eq-eqb a a refl
-
-and_join : (a b : Bool) → a ≡ true → b ≡ true → (a && b) ≡ true
-and_join a b p q = ap (λ x. x && b) p ∙ q
-
-other_slot : (s active : ℕ) → not (s == active) ≡ true → s ≢ active
-other_slot s active h e = both_ways _ (ap not (eq-eqb s active e)) h
-
-slot_other : (s active : ℕ) → s ≢ active → not (s == active) ≡ true
-slot_other s active n = ap not (ne_eqb s active n)
 
 -- whoever is reached at an address is a target there that is left, and the other way round
 left_at_own : (st : State) (a : ℕ) (lost : Lost) → SomeReached st.active (Some a) lost st.devices → SomeLeftAt st a lost
-left_at_own st a lost h =
-    let p = and_parts (not (h.0 == st.active)) (has_address a h.1) h.3 in
-    (h.0, h.1, (h.2, address_is a h.1.address p.1, other_slot h.0 st.active p.0), h.4)
+left_at_own st a lost h = (h.0, h.1, reached_target st a h.0 h.1 h.2 h.3, h.4)
 
 own_left_at : (st : State) (a : ℕ) (lost : Lost) → SomeLeftAt st a lost → SomeReached st.active (Some a) lost st.devices
-own_left_at st a lost h =
-    (h.0, h.1, h.2.0, and_join (not (h.0 == st.active)) (has_address a h.1) (slot_other h.0 st.active h.2.2) (is_address a h.1.address h.2.1), h.3)
+own_left_at st a lost h = (h.0, h.1, h.2.0, target_reached st a h.0 h.1 h.2, h.3)
 
 pub reached_left : (st : State) (a : ℕ) (lost : Lost) (devices : List (Option Device)) (active : ℕ) → HasDevices st devices active → SomeReached active (Some a) lost devices → SomeLeftAt st a lost
 reached_left st a lost devices active has h =

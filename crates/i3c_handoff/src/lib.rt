@@ -1,100 +1,20 @@
-//! The role of active controller, which one holder has at a time, and the slot that a bus keeps beside it.
+//! The role of active controller: who holds it, who may wish for it, and what becomes of it where it is offered.
 //!
-//! A role comes only from `Active::new`, moves only by `give` and ends only by `retire`.
+//! One holder has the role at a time. It comes only from `Active::new`, moves only by `give` and ends only by `retire`.
 #![tactic(auto)]
 
-ghost use Rattle.std.specs.Prelude.{◌≡◌};
+mod offers;
+mod outcome;
+mod roles;
+mod telling;
+mod wishes;
 
-use i3c_base::Slot;
-use std::marker::Model;
-
-/// The role of active controller. It is seen as the slot that holds it, has no clone, and must be handed on or retired.
-pub struct Role {
-    holder: Slot,
-}
-
-impl Model for Role {
-    ghost use Rattle.std.specs.Prelude.{ℕ};
-
-    ghost Value = { ℕ };
-
-    ghost view = { λ r. r.holder };
-}
-
-/// The slot of the active controller, as a bus keeps it. It must be retired with the role.
-pub struct Active {
-    slot: Slot,
-}
-
-impl Model for Active {
-    ghost use Rattle.std.specs.Prelude.{ℕ};
-
-    ghost Value = { ℕ };
-
-    ghost view = { λ a. a.slot };
-}
-
-impl Role {
-    /// The slot that holds it.
-    pub fn holder(&self) -> Slot
-        ensures { result ≡ self.now }
-    {
-        self.holder
-    }
-}
-
-impl Active {
-    /// The first active controller, in this slot, and its role.
-    pub fn new(slot: Slot) -> (Active, Role)
-        ensures kept { result.0 ≡ slot }
-        ensures held { result.1 ≡ slot }
-    {
-        (Active { slot }, Role { holder: slot })
-    }
-
-    /// The active controller's slot.
-    pub fn slot(&self) -> Slot
-        ensures { result ≡ self.now }
-    {
-        self.slot
-    }
-}
-
-/// The role passes to this slot (GETACCCR, I3C Basic 5.1.9.3.16).
-pub fn give(active: &mut Active, role: Role, to: Slot) -> Role
-    requires own { role ≡ active.old }
-    ensures kept { active.new ≡ to }
-    ensures held { result ≡ to }
-{
-    let Role { holder: _ } = role;
-    active.slot = to;
-    Role { holder: to }
-}
-
-/// The role ends, with the bus that it is of.
-pub fn retire(active: Active, role: Role)
-    requires own { role ≡ active }
-{
-    let Active { slot: _ } = active;
-    let Role { holder: _ } = role;
-}
+pub use i3c_base::RoleRefusal;
+pub use offers::{offer, offer_bits};
+pub use outcome::Offer;
+pub use roles::{Active, Role, give, retire};
+pub use telling::tell_offer;
+pub use wishes::ask;
 
 #[cfg(test)]
-mod tests {
-    use super::{Active, give, retire};
-    use i3c_base::Slot;
-    use std::test::Fail;
-
-    #[test]
-    fn a_role_passes_on(rt: HostRuntime) -> Result<(), Fail> {
-        let (main, sensor) = (Slot::new(0)?, Slot::new(3)?);
-        let (mut active, role) = Active::new(main);
-        let held = role.holder() == main && active.slot() == main;
-        let role = give(&mut active, role, sensor);
-        let passed = role.holder() == sensor && active.slot() == sensor;
-        retire(active, role);
-        assert!(rt; held);
-        assert!(rt; passed);
-        Ok(())
-    }
-}
+mod tests;

@@ -1,0 +1,59 @@
+ghost use Rattle.std.specs.Prelude.{◌≡◌, ◌+◌, ◌≤◌, ◌↔◌, ℕ, true};
+ghost use Rattle.i3c_base.specs.Cutting.{lost_by};
+ghost use Rattle.i3c_base.specs.State.{HasDevices, State};
+ghost use Rattle.i3c_handoff.specs.Offers.{IsOffered, IsReadAs, IsTornByte, SomeTakes, is_acknowledged, offer_bits};
+
+use crate::outcome::Offer;
+use i3c_base::{Addr7, Cuts, Slot};
+use i3c_device::Devices;
+use i3c_word::address_byte;
+
+/// How many bits a handover has up to its target's acknowledgement: a word and a header.
+const ACK_BITS: u16 = 18;
+
+/// The bits of the target's byte, and its T.
+const WORD_BITS: u16 = 9;
+
+/// The byte as it is read where those who send it are cut: ones from the bit on at which the last of them is gone. Its
+/// first bit comes after so many bits of the frame.
+fn torn_byte(devices: &Devices, active: Slot, to: Addr7, cuts: &Cuts, sent: u16) -> u8
+    requires { sent ≤ 36 }
+    ensures { (st : State) → HasDevices st devices.now active → IsTornByte st to cuts.now (sent + 1) result }
+{
+    let own = address_byte(to);
+    for bit in 0..8 {
+        let Some(_driver) = devices.lowest_willing(active, to, cuts, sent + 1 + bit) else {
+            return own | (u8::MAX >> bit);
+        };
+    }
+    own
+}
+
+/// The role is offered to an address, after so many bits of its frame in which these devices are cut (GETACCCR, I3C Basic
+/// 5.1.9.3.16): the code, the target's header, and where somebody who would take the role acknowledges it, that target's
+/// byte. The lowest slot takes the role whose device is willing and is left at the byte's T.
+pub fn offer(devices: &Devices, active: Slot, to: Addr7, cuts: &Cuts, begun: u16) -> Offer
+    requires { begun ≤ 18 }
+    ensures offered { (st : State) → HasDevices st devices.now active → IsOffered st to (lost_by cuts.now (begun + offer_bits result)) result }
+    ensures acknowledged { (st : State) → HasDevices st devices.now active → is_acknowledged result ≡ true ↔ SomeTakes st to (lost_by cuts.now (begun + 18)) }
+    ensures read { (st : State) → HasDevices st devices.now active → IsReadAs st to cuts.now (begun + 19) result }
+{
+    let ack = begun + ACK_BITS;
+    if devices.lowest_willing(active, to, cuts, ack).is_none() {
+        return Offer::Nobody;
+    }
+    match devices.lowest_willing(active, to, cuts, ack + WORD_BITS) {
+        Some(slot) => Offer::Taken(slot),
+        None => Offer::Torn(torn_byte(devices, active, to, cuts, ack)),
+    }
+}
+
+/// The bits of a handover: the code and the target's header, and after its ACK the byte (I3C Basic 5.1.9.3.16).
+pub fn offer_bits(offer: &Offer) -> u16
+    ensures { result ≡ offer_bits offer.now }
+{
+    match offer {
+        Offer::Nobody => ACK_BITS,
+        Offer::Torn(_) | Offer::Taken(_) => ACK_BITS + WORD_BITS,
+    }
+}

@@ -1,0 +1,32 @@
+ghost use Rattle.std.specs.Prelude.{◌≡◌, None, Some, option_map, slice_index_or, slice_set, MatchResult, OnErr, OnOk};
+ghost use Rattle.i3c_device.specs.Raising.{wishing_role};
+ghost use Rattle.i3c_handoff.specs.Wishes.{refusal_of};
+
+use i3c_base::{RoleRefusal, Slot};
+use i3c_device::Devices;
+
+/// The slot's device wishes for the controller role (I3C Basic 5.1.7.1). The first refusal that holds is answered, and
+/// changes nothing.
+pub fn ask(devices: &mut Devices, active: Slot, slot: Slot) -> Result<(), RoleRefusal>
+    ensures refusal { MatchResult result (λ _. refusal_of active slot (slice_index_or devices.old slot None) ≡ None) (λ why. refusal_of active slot (slice_index_or devices.old slot None) ≡ Some why) }
+    ensures wishes { OnOk result (devices.new ≡ slice_set devices.old slot (option_map wishing_role (slice_index_or devices.old slot None))) }
+    ensures unchanged { OnErr result (devices.new ≡ devices.old) }
+{
+    let Some(device) = devices.get(slot) else {
+        return Err(RoleRefusal::NoDevice);
+    };
+    if slot == active {
+        return Err(RoleRefusal::IsActive);
+    }
+    if device.address().is_none() {
+        return Err(RoleRefusal::NoAddress);
+    }
+    if !device.identity().bcr.capable() {
+        return Err(RoleRefusal::NotCapable);
+    }
+    if !device.may_ask_role() {
+        return Err(RoleRefusal::Masked);
+    }
+    devices.wish_role(slot);
+    Ok(())
+}
