@@ -1,13 +1,17 @@
 -- While the list is current, what was read of it is a copy of the table.
-use Rattle.std.proofs.Common.{◌≡◌, true, false, List, Option, Some, None, ap, sym, ◌∙◌, subst}
+use Rattle.std.proofs.Common.{◌≡◌, ℕ, suc, true, false, List, [], ◌∷◌, map, set, Option, Some, None, option_map, ap, refl, sym, ◌∙◌, subst}
 use Rattle.std.proofs.lemmas.Bool.{both_ways}
 use Rattle.i3c_base.specs.declared.answers.RoundReply.{RoundReply}
-use Rattle.i3c_base.specs.Covered.{IsCopy}
+use Rattle.i3c_base.specs.Covered.{IsCopy, Table}
 use Rattle.i3c_base.specs.Cutting.{CutList, Lost, lost_by}
+use Rattle.i3c_base.specs.Frames.{handed}
+use Rattle.i3c_base.specs.Places.{changed_from}
 use Rattle.i3c_base.specs.Round.{Rounds, assigned}
-use Rattle.i3c_base.specs.Serve.{emptied}
-use Rattle.i3c_base.specs.State.{State}
+use Rattle.i3c_base.specs.Serve.{emptied, without_role}
+use Rattle.i3c_base.specs.State.{Device, State, device_at, unkept}
 use Rattle.i3c_deftgts.specs.declared.entries.Entry.{Entry}
+use Rattle.i3c_deftgts.specs.Copies.{table_of}
+use Rattle.i3c_bus.specs.Parts.{state_of}
 use Rattle.i3c_bus.specs.Whole.{IsCurrent}
 
 -- the same list of a state with the same table
@@ -25,3 +29,15 @@ current_round old cuts RoundReply.NoAddress new (Some entries) h listed copied =
 current_round old cuts RoundReply.Done new list h listed copied = emptied_current old new (lost_by cuts 0) list h.2 copied listed
 current_round old cuts RoundReply.Nobody new list h listed copied = emptied_current old new (lost_by cuts 73) list h.3 copied listed
 current_round old cuts (RoundReply.Assigned a i) new list h listed copied = absurd (both_ways _ (ap (λ (s : State). s.listed) h.3) listed)
+
+-- a map is a change that doesn't look at places
+map_from : {A : Type 0} (f : A → A) (n : ℕ) (xs : List A) → map f xs ≡ changed_from n (λ k x. f x) xs
+map_from f n [] = refl
+map_from f n (x ∷ xs) = ap (λ ys. f x ∷ ys) (map_from f (suc n) xs)
+
+-- the state whose active controller's table is a copy, as the role that was handed over leaves it
+pub handed_by : (st : State) (slot active : ℕ) (list : List Entry) (table : Table) (devices : List (Option Device)) → IsCopy st (table_of list) → devices ≡ set st.devices slot (option_map without_role (device_at st slot))
+    → active ≡ slot → table ≡ table_of list → state_of devices st.raised active table st.legacy st.in_session st.records ≡ handed slot st
+handed_by st slot active list table devices copy lost moved copied =
+    (λ t. state_of (lost t) st.raised (moved t) (copied t) st.legacy st.in_session st.records)
+    ∙ ap (λ given. record (handed slot st) { given = given }) (copy.0 ∙ map_from (option_map unkept) 0 st.given)

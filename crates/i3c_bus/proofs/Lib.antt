@@ -11,3 +11,4 @@ pub mod Currency
 pub mod ToAll
 pub mod Listing
 pub mod Resetting
+pub mod Handovers

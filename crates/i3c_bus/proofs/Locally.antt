@@ -1,18 +1,29 @@
 -- What devices do by themselves leaves a sound bus.
 use Rattle.std.proofs.Common.{◌≡◌, ℕ, Bool, true, false, [], ◌∷◌, List, Option, Some, None, Result, Ok, Err, OnOk, OnErr, option_map, is_none, is_some, ◌==◌, sym, refl, ap, ◌∙◌, subst}
 use Rattle.std.specs.Prelude.{slice_set}
+use Rattle.std.proofs.lemmas.Bool.{true≢false}
 use Rattle.i3c_base.specs.declared.device.Setup.{Setup}
 use Rattle.i3c_base.specs.declared.refusals.JoinRefusal.{JoinRefusal}
+use Rattle.i3c_base.specs.declared.refusals.RoleRefusal.{RoleRefusal}
 use Rattle.i3c_base.specs.Local.{attach, drop_off}
 use Rattle.i3c_base.specs.State.{Device, State, device_at}
-use Rattle.i3c_device.specs.Raising.{wishing_join}
+use Rattle.i3c_device.specs.Raising.{wishing_join, wishing_role}
 use Rattle.i3c_step.specs.declared.events.Event.{Event}
 use Rattle.i3c_step.specs.declared.replies.Refusal.{Refusal}
 use Rattle.i3c_step.specs.declared.replies.Reply.{Reply}
 use Rattle.i3c_step.specs.Sound.{IsSound}
 use Rattle.i3c_step.specs.Step.{first_refusal}
 use Rattle.i3c_step.proofs.Acting.{acting}
-use Rattle.i3c_step.proofs.Soundness.{sound_step, sound_wishes}
+use Rattle.i3c_step.proofs.Soundness.{sound_role_wishes, sound_step, sound_wishes}
+
+-- what a lookup gave is what stands there
+pub none_there : {A B : Type 0} (f : A → B) (o : Option A) (p : Option B) → option_map f o ≡ p → is_some o ≡ false → p ≡ None
+none_there f None p e h = sym e
+none_there f (Some x) p e h = absurd (true≢false h)
+
+pub some_there : {A B : Type 0} (f : A → B) (o : Option A) (p : Option B) → option_map f o ≡ p → is_none o ≡ false → is_none p ≡ false
+some_there f None p e h = absurd (true≢false h)
+some_there f (Some x) p e h = ap is_none (sym e)
 
 -- a device that enters an empty slot
 pub sound_attached : (s : ℕ) (setup : Setup) (st : State) → device_at st s ≡ None → IsSound st → IsSound (attach s setup st)
@@ -32,3 +43,9 @@ pub sound_asked : (result : Result (Unit {0}) JoinRefusal) (s : ℕ) (devices : 
     → OnOk result (devices ≡ slice_set st.devices s (option_map wishing_join (device_at st s))) → OnErr result (devices ≡ st.devices) → IsSound st → IsSound (record st { devices = devices })
 sound_asked (Ok done) s devices st wishes same sound = subst (λ (ds : List (Option Device)). IsSound (record st { devices = ds })) (sym wishes) (sound_wishes s st sound)
 sound_asked (Err why) s devices st wishes same sound = subst (λ (ds : List (Option Device)). IsSound (record st { devices = ds })) (sym same) sound
+
+-- one that wishes for the role, or mayn't
+pub sound_role_asked : (result : Result (Unit {0}) RoleRefusal) (s : ℕ) (devices : List (Option Device)) (st : State)
+    → OnOk result (devices ≡ slice_set st.devices s (option_map wishing_role (device_at st s))) → OnErr result (devices ≡ st.devices) → IsSound st → IsSound (record st { devices = devices })
+sound_role_asked (Ok done) s devices st wishes same sound = subst (λ (ds : List (Option Device)). IsSound (record st { devices = ds })) (sym wishes) (sound_role_wishes s st sound)
+sound_role_asked (Err why) s devices st wishes same sound = subst (λ (ds : List (Option Device)). IsSound (record st { devices = ds })) (sym same) sound

@@ -21,7 +21,7 @@ use Rattle.i3c_step.proofs.Acting.{acting}
 use Rattle.i3c_bus.proofs.Framing.{frame_free}
 
 -- what told the beginning of a frame that recorded nothing doesn't depend on the state after it
-begun_anyway : (served : Served) (old : State) (cuts : CutList) (mid new : State) (wire : List Symbol) → place_of served ≡ None → IsBegun old cuts served mid wire → IsBegun old cuts served new wire
+pub begun_anyway : (served : Served) (old : State) (cuts : CutList) (mid new : State) (wire : List Symbol) → place_of served ≡ None → IsBegun old cuts served mid wire → IsBegun old cuts served new wire
 begun_anyway Quiet old cuts mid new wire none h = h
 begun_anyway Refused old cuts mid new wire none h = h
 begun_anyway Joining old cuts mid new wire none h = h
@@ -30,9 +30,9 @@ begun_anyway (Recorded place) old cuts mid new wire none h = cc
 begun_anyway Torn old cuts mid new wire none h = h
 
 -- a frame told part by part
-tells_parts : {T : Type 0} (gives : T → Symbol → T → Type 0) (tap first second new : T) (old : State) (cuts : CutList) (served : Served) (word : ℕ) (after : State) (IsOwn : List Symbol → Type 0)
-    → IsWordBits old served word → Tells gives tap first (IsBegun old cuts served after) → Tells gives first second (IsOn old cuts served word) → Tells gives second new IsOwn
-    → Tells gives tap new (IsFrameWire old cuts served after (λ begun. IsOwn))
+pub tells_parts : {T : Type 0} (gives : T → Symbol → T → Type 0) (tap first second new : T) (old : State) (cuts : CutList) (served : Served) (word : ℕ) (after : State) (IsOwn : ℕ → List Symbol → Type 0)
+    → IsWordBits old served word → Tells gives tap first (IsBegun old cuts served after) → Tells gives first second (IsOn old cuts served word) → Tells gives second new (IsOwn (word + header_bits served))
+    → Tells gives tap new (IsFrameWire old cuts served after IsOwn)
 tells_parts gives tap first second new old cuts served word after IsOwn sent begun on own = (
   begun.0 ++ on.0 ++ own.0,
   NotesAll-append gives tap (begun.0 ++ on.0) second own.0 new (NotesAll-append gives tap begun.0 first on.0 second begun.1 on.1) own.1,
@@ -64,7 +64,7 @@ opening_carried gives tap first second last old mid new cuts served word bits ho
           left = is;
         },
       );
-      told = tells_parts gives tap first second last old.state cuts served word new.state IsOpenWire sent
+      told = tells_parts gives tap first second last old.state cuts served word new.state (λ b. IsOpenWire) sent
           (begun.0, begun.1, begun_anyway served old.state cuts old.state new.state begun.0 unrecorded begun.2) on own;
       fits = (fits.0 ∙ sym (ap (λ (st : State). st.active) is), ap (λ (st : State). st.in_session) is);
       room = record { enough = λ full e. cc; lasts = λ full none. same ∙ (kept ∙ full) };

@@ -20,11 +20,14 @@ use Rattle.i3c_entdaa.specs.declared.outcome.Round.{Round}
 use Rattle.i3c_entdaa.specs.Rounds.{IsAcknowledged, IsRead, reply_of}
 use Rattle.i3c_entdaa.specs.Telling.{IsRoundWire}
 use Rattle.i3c_events.specs.Telling.{IsKindsWire, IsWord}
+use Rattle.i3c_handoff.specs.declared.outcome.Offer.{Offer}
+use Rattle.i3c_handoff.specs.Offers.{IsReadAs, SomeTakes, is_acknowledged}
+use Rattle.i3c_handoff.specs.Telling.{IsOfferWire}
 use Rattle.i3c_ibi.specs.Telling.{byte_word, request_header}
 use Rattle.i3c_frame.specs.declared.symbols.Symbol.{Symbol}
 use Rattle.i3c_frame.specs.declared.symbols.Symbol.TheVariants.{Start, Repeated, Stop, Header}
 use Rattle.i3c_step.specs.declared.events.Event.{Event}
-use Rattle.i3c_step.specs.declared.events.Event.TheVariants.{Enec, Disec, Reset, SendList}
+use Rattle.i3c_step.specs.declared.events.Event.TheVariants.{Enec, Disec, Reset, SendList, HandOver}
 use Rattle.i3c_step.specs.declared.replies.Reply.{Reply}
 use Rattle.i3c_step.specs.Step.{cuts_in}
 
@@ -93,12 +96,30 @@ IsListOf st words =
 abbrev pub IsListPart : State → List Symbol → Type 0
 IsListPart st wire = (words : List Word) × IsListOf st words × IsListWire words wire
 
+-- nobody took the role
+abbrev pub IsUntaken : Offer → Type 0
+IsUntaken Offer.Nobody = ⊤
+IsUntaken (Offer.Torn byte) = ⊤
+IsUntaken (Offer.Taken s) = ⊥
+
+-- an offer that nobody took, after so many bits: acknowledged where a willing device is left at its header's ninth bit, and
+-- its byte as it is read then
+abbrev pub IsDeclinedPart : State → CutList → ℕ → ℕ → List Symbol → Type 0
+IsDeclinedPart old cuts to begun wire =
+    (offer : Offer) × IsUntaken offer × ((is_acknowledged offer ≡ true) ↔ SomeTakes old to (lost_by cuts (begun + 18))) × IsReadAs old to cuts (begun + 19) offer × IsOfferWire to offer wire
+
+-- one that the new active controller took
+abbrev pub IsHandedWire : State → Event → List Symbol → Type 0
+IsHandedWire new (HandOver to cuts) wire = IsOfferWire to (Offer.Taken new.active) wire
+IsHandedWire new _ wire = ⊥
+
 -- the own part of a frame that is answered, by its event
 abbrev pub IsOwnWire : State → CutList → Event → Answer → ℕ → List Symbol → Type 0
 IsOwnWire old cuts (Enec to kinds policy others) answer begun wire = IsKindsPart old cuts Change.Enable to kinds answer begun wire
 IsOwnWire old cuts (Disec to kinds policy others) answer begun wire = IsKindsPart old cuts Change.Disable to kinds answer begun wire
 IsOwnWire old cuts (Reset policy others) answer begun wire = IsResetWire wire
 IsOwnWire old cuts (SendList policy others) answer begun wire = IsListPart old wire
+IsOwnWire old cuts (HandOver to others) answer begun wire = IsDeclinedPart old cuts to begun wire
 IsOwnWire old cuts _ answer begun wire = ⊥
 
 -- ENTDAA: the code 07. The session goes on with its rounds
@@ -131,5 +152,5 @@ IsWire old event (Reply.Served served) new wire = OfCuts event (λ cuts. IsServe
 IsWire old event (Reply.Framed framed) new wire = OfCuts event (λ cuts. IsFrameWire old cuts framed.served new (IsOwnWire old cuts event framed.answer) wire)
 IsWire old event (Reply.Opened served) new wire = OfCuts event (λ cuts. IsFrameWire old cuts served new (λ begun. IsOpenWire) wire)
 IsWire old event (Reply.Round answer) new wire = OfCuts event (λ cuts. IsRoundWireOf old cuts answer wire)
-IsWire old event (Reply.Handed served) new wire = ⊥
+IsWire old event (Reply.Handed served) new wire = OfCuts event (λ cuts. IsFrameWire old cuts served new (λ begun. IsHandedWire new event) wire)
 IsWire old event Reply.Ended new wire = wire ≡ Stop ∷ []

@@ -1,8 +1,12 @@
+ghost use Rattle.std.specs.Prelude.{◌≡◌};
+ghost use Rattle.i3c_bus.specs.Hands.{unhanded};
+
 use crate::parts::Bus;
 use crate::tokens::Hand;
-use i3c_base::{Cuts, Fixed};
+use i3c_base::{Addr7, Answer, Cuts, Fixed, Served};
 use i3c_frame::Tap;
-use i3c_step::{ActiveStays, Command, Event, Refusal, Reply, SlotTaken};
+use i3c_handoff::HandFault;
+use i3c_step::{ActiveStays, Command, Event, Framed, Refusal, Reply, SlotTaken};
 
 impl Bus {
     ghost use Rattle.i3c_frame.specs.Taps.{Tells};
@@ -34,6 +38,10 @@ impl Bus {
                 Ok(()) => (hand, Reply::Asked),
                 Err(why) => (hand, Reply::Refused(Refusal::from(why))),
             },
+            Event::AskRole(slot) => match self.ask_role(*slot) {
+                Ok(()) => (hand, Reply::Asked),
+                Err(why) => (hand, Reply::Refused(Refusal::from(why))),
+            },
             Event::Serve(policy, cuts) => self.send(hand, Command::Serve, *policy, tap, cuts),
             Event::Enec(to, kinds, policy, cuts) => {
                 self.send(hand, Command::Enec(*to, *kinds), *policy, tap, cuts)
@@ -43,7 +51,7 @@ impl Bus {
             }
             Event::Reset(policy, cuts) => self.send(hand, Command::Reset, *policy, tap, cuts),
             Event::SendList(policy, cuts) => self.send(hand, Command::SendList, *policy, tap, cuts),
-            Event::AskRole(_) | Event::HandOver(_, _) => unreachable!(),
+            Event::HandOver(to, cuts) => self.step_hand(hand, *to, tap, cuts),
             Event::OpenDaa(cuts) => self.step_open(hand, tap, cuts),
             Event::Round(cuts) => self.step_round(hand, tap, cuts),
             Event::EndDaa => self.step_end(hand, tap),
@@ -87,6 +95,29 @@ impl Bus {
         }
     }
 
+    /// A handover, as an event.
+    fn step_hand<T: Tap>(
+        &mut self,
+        hand: Hand,
+        to: Addr7,
+        tap: &mut T,
+        cuts: &Cuts,
+    ) -> (Hand, Reply)
+        requires fits { HandFits hand self.old.state }
+        ensures carried { Carries self.old self.new (Event.HandOver to cuts.now) result.1 result.0 (Tells T.note_gives tap.old tap.new) }
+    {
+        match hand {
+            Hand::Role(role) => match self.hand_over(role, to, tap, cuts) {
+                Ok((role, served)) => (Hand::Role(role), Reply::Handed(served)),
+                Err((role, served, fault)) => (Hand::Role(role), unhanded(served, fault)),
+            },
+            Hand::Session(session) => (
+                Hand::Session(session),
+                Reply::Refused(Refusal::SessionOpen),
+            ),
+        }
+    }
+
     /// A round, as an event.
     fn step_round<T: Tap>(&mut self, hand: Hand, tap: &mut T, cuts: &Cuts) -> (Hand, Reply)
         requires fits { HandFits hand self.old.state }
@@ -113,5 +144,21 @@ impl Bus {
             Hand::Role(role) => (Hand::Role(role), Reply::Refused(Refusal::NoSession)),
             Hand::Session(session) => (Hand::Role(session.end(self, tap)), Reply::Ended),
         }
+    }
+}
+
+/// The reply to a handover that isn't granted, and has served this.
+fn unhanded(served: Served, fault: HandFault) -> Reply
+    ensures { result ≡ unhanded served fault }
+{
+    match fault {
+        HandFault::ActiveStays => Reply::Refused(Refusal::ActiveStays),
+        HandFault::IsActive => Reply::Refused(Refusal::IsActive),
+        HandFault::NotCapable => Reply::Refused(Refusal::NotCapable),
+        HandFault::ListStale => Reply::Refused(Refusal::ListStale),
+        HandFault::NoAnswer(to) => Reply::Framed(Framed {
+            served,
+            answer: Answer::NoAnswer(to),
+        }),
     }
 }

@@ -222,7 +222,7 @@ impl Bus {
 
     /// The devices that a frame loses by this bit are gone.
     pub(crate) fn drop_lost(&mut self, cuts: &Cuts, last: u16)
-        requires { cuts_active self.old.state cuts.now ≡ false }
+        requires { lost_by cuts.now last self.old.state.active ≡ false }
         ensures state { self.new.state ≡ emptied (lost_by cuts.now last) self.old.state }
         ensures room { self.new.room ≡ self.old.room }
     {

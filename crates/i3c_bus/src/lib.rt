@@ -7,6 +7,7 @@
 mod announcing;
 mod dispatch;
 mod frames;
+mod handing;
 mod parts;
 mod runs;
 mod sessions;

@@ -1,7 +1,7 @@
 ghost use Rattle.std.specs.Prelude.{◌≡◌};
 
 use crate::tokens::Hand;
-use i3c_base::{Addr7, RaiseRefusal, Record, SLOTS, Setup, Slot};
+use i3c_base::{Addr7, RaiseRefusal, Record, RoleRefusal, SLOTS, Setup, Slot};
 use i3c_deftgts::List;
 use i3c_device::{Device, Devices};
 use i3c_handoff::{Active, Role, retire};
@@ -70,15 +70,16 @@ impl Model for Bus {
 }
 
 impl Bus {
-    ghost use Rattle.std.specs.Prelude.{◌↔◌, true, false, is_some, IfOk, IsOk, OnOk, OnErr};
+    ghost use Rattle.std.specs.Prelude.{◌↔◌, true, false, is_some, IfOk, IsOk, MatchOption, OnOk, OnErr};
     ghost use Rattle.i3c_base.specs.Numbers.{is_capable};
-    ghost use Rattle.i3c_base.specs.Covered.{IsTable};
+    ghost use Rattle.i3c_base.specs.Covered.{IsCopy, IsTable};
+    ghost use Rattle.i3c_deftgts.specs.Copies.{table_of};
     ghost use Rattle.i3c_base.specs.State.{device_at, IsStart, legacy_targets_of};
     ghost use Rattle.i3c_step.specs.Step.{Step};
     ghost use Rattle.i3c_bus.specs.Hands.{HandFits};
-    ghost use Rattle.i3c_bus.specs.Readings.{address_of, waiting_of};
+    ghost use Rattle.i3c_bus.specs.Readings.{address_of, keeps_copy, waiting_of};
     ghost use Rattle.i3c_bus.specs.Room.{StaysAround};
-    ghost use Rattle.i3c_step.specs.Replies.{attached_reply, dropped_reply, joins_reply, raised_reply};
+    ghost use Rattle.i3c_step.specs.Replies.{attached_reply, dropped_reply, joins_reply, raised_reply, role_reply};
     ghost use Rattle.i3c_step.specs.declared.events.Event.{Event};
     ghost use Rattle.i3c_bus.specs.declared.tokens.Hand.{Hand};
 
@@ -263,6 +264,30 @@ impl Bus {
         ensures around { StaysAround self.old self.new }
     {
         ask(&mut self.devices, slot)
+    }
+
+    /// The slot's device wishes for the controller role (I3C Basic 5.1.7.1).
+    pub fn ask_role(&mut self, slot: Slot) -> Result<(), RoleRefusal>
+        ensures step { Step self.old.state (Event.AskRole slot) (role_reply result) self.new.state }
+        ensures around { StaysAround self.old self.new }
+    {
+        let active = self.active();
+        i3c_handoff::ask(&mut self.devices, active, slot)
+    }
+
+    /// What a slot's device keeps of the list that was sent last, while that is current: one that has an address and can
+    /// be a controller, and isn't the active one (I3C Basic 5.1.9.3.7). It is what its table is made of where it takes the
+    /// role.
+    pub fn copy(&self, slot: Slot) -> Option<&List>
+        ensures { MatchOption result (keeps_copy self.now.state slot ≡ false) (λ list. (keeps_copy self.now.state slot ≡ true) × IsCopy self.now.state (table_of list.now)) }
+    {
+        let device = self.devices.get(slot)?;
+        let keeps = device.address().is_some() && device.identity().bcr.capable();
+        if self.listed() && slot != self.active() && keeps {
+            self.list.as_ref()
+        } else {
+            None
+        }
     }
 
     /// Takes the bus apart, and gives its records.

@@ -3,12 +3,14 @@
 //! One holder has the role at a time. It comes only from `Active::new`, moves only by `give` and ends only by `retire`.
 #![tactic(auto)]
 
+mod faults;
 mod offers;
 mod outcome;
 mod roles;
 mod telling;
 mod wishes;
 
+pub use faults::HandFault;
 pub use i3c_base::RoleRefusal;
 pub use offers::{offer, offer_bits};
 pub use outcome::Offer;

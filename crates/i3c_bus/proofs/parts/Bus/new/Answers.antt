@@ -1,5 +1,6 @@
 -- Few legacy targets leave an address free, and what is made at the pick is a start.
 use Rattle.std.proofs.Common.{◌∙◌, List, Option, sym, ap, arith, subst, set, map, option_map, replicate, refl, Some, false}
+use Rattle.std.proofs.lemmas.Bool.{both_ways}
 use Rattle.i3c_base.specs.Covered.{Table}
 use Rattle.i3c_base.specs.declared.device.LegacyTarget.{LegacyTarget}
 use Rattle.i3c_base.specs.declared.range.TheConstants.{SLOTS}
@@ -34,7 +35,7 @@ invariant_of-bus c = record {
         ∙ (sym (lvrs_kept c.args.legacies) ∙ ap (λ (targets : List (Option LegacyTarget)). map (option_map (λ (t : LegacyTarget). t.lvr)) targets) (sym c.new-legacy.ensures)),
     refl,
   );
-  copied = λ listed. ?;
+  copied = λ listed. absurd (both_ways _ (ap (λ (t : Table). t.listed) c.put.ensures) listed);
 }
 
 pub returns-clause-start : goal.returns-clause-start

@@ -1,19 +1,19 @@
 -- A reset is a frame to all.
-use Rattle.std.proofs.Common.{◌∙◌, ap, refl, sym}
-use Rattle.i3c_base.specs.Cutting.{cut_of}
+use Rattle.std.proofs.Common.{◌∙◌, ◌+◌, ap, refl, sym}
+use Rattle.i3c_base.specs.Cutting.{lost_by}
 use Rattle.i3c_base.specs.Frames.{reset}
 use Rattle.i3c_base.specs.Serve.{given_for}
 use Rattle.i3c_base.specs.State.{State}
 use Rattle.i3c_step.specs.declared.events.Event.{Event}
-use Rattle.i3c_step.specs.Step.{cuts_active}
+use Rattle.i3c_step.proofs.Steps.{not_cut}
 use Rattle.i3c_bus.specs.Wire.{IsResetWire}
 use Rattle.i3c_bus.proofs.ToAll.{announced, begun_uncut}
 use Rattle.i3c_bus.proofs.parts.Bus.reset.Goals as goal
 
 pub drop_lost-requires : goal.drop_lost-requires
-drop_lost-requires g c =
-    ap (λ (st : State). cuts_active st c.args.cuts.now) c.clear.ensures.state
-    ∙ begun_uncut c.args.self.now.state c.begin_frame.new.self.state c.args.cuts.now c.in-Ok.begun.served c.in-Ok.ensures.begins.0 c.in-Ok.ensures.begins.1 (sym c.cuts_active.ensures ∙ c.if-cuts_active.false)
+drop_lost-requires g c = ap (λ (st : State). lost_by c.args.cuts.now (c.in-Ok.begun.bits + 9) st.active) c.clear.ensures.state
+    ∙ not_cut c.begin_frame.new.self.state c.args.cuts.now (c.in-Ok.begun.bits + 9)
+    (begun_uncut c.args.self.now.state c.begin_frame.new.self.state c.args.cuts.now c.in-Ok.begun.served c.in-Ok.ensures.begins.0 c.in-Ok.ensures.begins.1 (sym c.cuts_active.ensures ∙ c.if-cuts_active.false))
 
 pub returns-clause-carried : goal.returns-clause-carried
 returns-clause-carried g c =

@@ -12,6 +12,7 @@ use Rattle.i3c_frame.specs.Taps.{Tells}
 use Rattle.i3c_bus.specs.Wire.{IsBegun}
 use Rattle.i3c_step.proofs.Acting.{acting}
 use Rattle.i3c_bus.proofs.Framing.{fits_left, frame_by, frame_free, stands_still, tells_serve}
+use Rattle.i3c_step.proofs.Steps.{not_cut}
 use Rattle.i3c_bus.proofs.ToAll.{begun_uncut}
 use Rattle.i3c_bus.proofs.parts.Bus.serve.Goals as goal
 
@@ -41,4 +42,5 @@ pub drop_lost-requires : goal.drop_lost-requires
 drop_lost-requires g c =
     let begins : Begins c.args.self.now.state c.args.cuts.now c.begin-begun.result.served c.begin-begun.result.bits c.begin-begun.new.self.state =
     subst (λ (st : State). Begins st c.args.cuts.now c.begin-begun.result.served c.begin-begun.result.bits c.begin-begun.new.self.state) c.make_room.ensures.state c.begin-begun.ensures.begins in
-    begun_uncut c.args.self.now.state c.begin-begun.new.self.state c.args.cuts.now c.begin-begun.result.served c.begin-begun.result.bits begins (sym c.cuts_active.ensures ∙ c.if-cuts_active.false)
+    not_cut c.begin-begun.new.self.state c.args.cuts.now c.begin-begun.result.bits
+    (begun_uncut c.args.self.now.state c.begin-begun.new.self.state c.args.cuts.now c.begin-begun.result.served c.begin-begun.result.bits begins (sym c.cuts_active.ensures ∙ c.if-cuts_active.false))
