@@ -1,7 +1,7 @@
 -- What is found among a map's entries, and what is in its slots: drivers, targets and hearers.
-use Rattle.std.proofs.Common.{◌≡◌, ◌≢◌, ◌↔◌, ℕ, zero, suc, ◌<◌, Bool, true, false, not, ◌==◌, ◌&&◌, ◌||◌, List, [], ◌∷◌, length, get_or, Option, Some, None, Contains, ◌⊎◌, inl, inr, sym, refl, ap, ◌∙◌, subst, arith, nat_cmp}
+use Rattle.std.proofs.Common.{◌≡◌, ◌≢◌, ◌↔◌, ℕ, zero, suc, ◌<◌, Bool, true, false, not, ◌==◌, ◌&&◌, ◌||◌, List, [], ◌∷◌, length, get_or, Option, Some, None, Contains, ◌⊎◌, inl, inr, sym, refl, ap, ◌∙◌, arith, nat_cmp}
 use Rattle.std.specs.List.{list_any}
-use Rattle.std.specs.BTreeMap.{IsOrdered, get}
+use Rattle.std.specs.BTreeMap.{IsOrdered}
 use Rattle.std.proofs.Math.Bool.{beq}
 use Rattle.std.proofs.lemmas.Bool.{and_parts, eq-eqb, eqb-false, eqb-true, false≢true, ne_eqb, not-true}
 use Rattle.std.proofs.lemmas.Cmp.{nat_cmp_total}

@@ -1,5 +1,5 @@
 -- The bits of a frame, and the frame of its parts.
-use Rattle.std.proofs.Common.{◌≡◌, ℕ, ◌+◌, [], ◌∷◌, ◌++◌, length, length-append, Bool, true, false, not, ◌==◌, ◌&&◌, Option, Some, None, if◌then◌else◌, is_some, MatchOption, option_map, ◌⊎◌, inl, inr, sym, refl, ap, ◌∙◌, subst, arith}
+use Rattle.std.proofs.Common.{◌≡◌, ℕ, ◌+◌, [], ◌∷◌, ◌++◌, length, length-append, Bool, true, false, not, ◌==◌, ◌&&◌, Option, Some, None, if◌then◌else◌, option_map, ◌⊎◌, inl, inr, sym, refl, ap, ◌∙◌, subst, arith}
 use Rattle.std.proofs.lemmas.Bool.{both_ways}
 use Rattle.i3c_base.specs.declared.answers.Answer.{Answer}
 use Rattle.i3c_base.specs.declared.device.Waiting.{Waiting}
@@ -11,13 +11,11 @@ use Rattle.i3c_base.specs.declared.requests.Served.{Served}
 use Rattle.i3c_base.specs.declared.requests.Served.TheVariants.{Quiet, Recorded, Refused, Torn, Joining, WantsRole}
 use Rattle.i3c_base.specs.declared.requests.Verdict.TheVariants.{Accept, Refuse}
 use Rattle.i3c_base.specs.Cutting.{CutList, Lost, lost_by}
-use Rattle.i3c_base.specs.Frames.{AllLostAt, AnyAt, Rekinds, kinds_bits, reaches, rekinded}
+use Rattle.i3c_base.specs.Frames.{Rekinds, kinds_bits, reaches, rekinded}
 use Rattle.i3c_base.specs.Numbers.{KindSet}
-use Rattle.i3c_base.specs.Round.{opened}
-use Rattle.i3c_base.specs.Serve.{Frame, IsFirst, IsFirstRequest, IsFront, IsLowestDriver, IsRead, IsRecorded, IsWordBits, NoneAsks, Serves, byte_due, drives, each_driver, emptied, header_bits, recorded, refuse_all, verdict, without, without_front}
-use Rattle.i3c_base.specs.State.{Device, IsTargetAt, State, device_at, entry_at, has_address}
+use Rattle.i3c_base.specs.Serve.{Frame, IsFirst, IsFront, IsLowestDriver, IsRead, IsRecorded, IsWordBits, NoneAsks, Serves, byte_due, drives, each_driver, emptied, header_bits, recorded, refuse_all, verdict, without, without_front}
+use Rattle.i3c_base.specs.State.{Device, IsTargetAt, State, entry_at, has_address}
 use Rattle.i3c_base.proofs.Lookups.{each_at, each_from}
-use Rattle.i3c_step.specs.Step.{Becomes}
 use Rattle.i3c_step.proofs.Uniqueness.{accept≢refuse, first_unique}
 use Rattle.i3c_model.specs.Meaning.{MayAnswer, is_meant}
 use Rattle.i3c_model.specs.Storing.{IsRecordDue}
@@ -140,20 +138,11 @@ is_reached st None active s d e = go (not (s == active)) ∙ ap (λ k. not (s ==
     go false = refl
 is_reached st (Some a) active s d e = ap (λ k. not (s == k) && has_address a d) e
 
--- an opening refuses the first request, if there is one
-same : (b : Bool) → (if b then Refuse else Refuse) ≡ Refuse
-same true = refl
-same false = refl
-
-pub refuses : (st : State) (r : Request) → verdict st refuse_all r ≡ Refuse
-refuses st Join = refl
-refuses st (Role a) = same (is_some (entry_at st a))
-refuses st (Interrupt a) = same (is_some (entry_at st a))
-
-pub open_frame : (st : State) (cuts : CutList) (served : Served) (header : ℕ) (new : State) → IsWordBits st served 0 → Serves st refuse_all (lost_by cuts (header + 9)) served st → header ≡ header_bits served
-    → new ≡ emptied (lost_by cuts (header + 9)) (opened st) → Frame st refuse_all cuts served (header_bits served + 9) (Becomes opened) new
-open_frame st cuts served header new sent serves e left =
-    frame_of st refuse_all cuts served (header_bits served + 9) 0 (header + 9) (Becomes opened) st (opened st) new (let same : header ≡ header_bits served = e in omega arith) sent serves refl left
+-- a frame that refuses the first request, if there is one
+pub refused_frame : (st : State) (cuts : CutList) (served : Served) (header bits : ℕ) (Own : Lost → State → State → Type 0) (done new : State) → IsWordBits st served 0 → Serves st refuse_all (lost_by cuts (header + bits)) served st → header ≡ header_bits served
+    → Own (lost_by cuts (header + bits)) st done → new ≡ emptied (lost_by cuts (header + bits)) done → Frame st refuse_all cuts served (header_bits served + bits) Own new
+refused_frame st cuts served header bits Own done new sent serves e own left =
+    frame_of st refuse_all cuts served (header_bits served + bits) 0 (header + bits) Own st done new (let same : header ≡ header_bits served = e in omega arith) sent serves own left
 
 -- a record is appended, and then the interrupt is answered
 pub recorded_served : (st : State) (a slot : ℕ) (front : Waiting) (byte : Option ℕ) (mid new : State) (place : ℕ) → IsFirst st (Interrupt a) → IsLowestDriver st (Interrupt a) slot × IsFront st slot front

@@ -1,5 +1,5 @@
 -- The least identity of those who hear and are lost, or are left.
-use Rattle.std.proofs.Common.{◌≡◌, ◌↔◌, ℕ, zero, suc, ◌<◌, Bool, true, false, cond, List, [], ◌∷◌, map, filter, fold, length, get_or, Option, Some, None, option_map, MatchOption, Contains, ◌⊎◌, inl, inr, sym, refl, ap, ◌∙◌, subst, arith, Ordering, Less, Equal, Greater, is_lt, nat_cmp}
+use Rattle.std.proofs.Common.{◌≡◌, ◌↔◌, ℕ, zero, suc, ◌<◌, Bool, true, false, cond, List, [], ◌∷◌, map, filter, fold, length, get_or, Option, Some, None, MatchOption, Contains, ◌⊎◌, inl, inr, sym, refl, ap, ◌∙◌, subst, arith, Ordering, Less, Equal, Greater, is_lt, nat_cmp}
 use Rattle.std.specs.Ordering.{min_by_ordering, ordering_reverse, ordering_then}
 use Rattle.std.specs.Cmp.{IsStrictWeakOrder, IsTotalOrder, nat_cmp_is}
 use Rattle.std.specs.List.{reduce}

@@ -1,5 +1,5 @@
 -- The least address that is kept for an identity.
-use Rattle.std.proofs.Common.{◌≡◌, ℕ, ◌<◌, length, get_or, Option, Some, None, option_map, MatchOption, HoldsAt, IsSomeAnd, inl, inr, sym, refl, ap, ◌∙◌, subst, arith, nat_cmp}
+use Rattle.std.proofs.Common.{◌≡◌, ℕ, ◌<◌, length, get_or, Option, Some, None, MatchOption, HoldsAt, IsSomeAnd, inl, inr, sym, refl, ap, ◌∙◌, subst, arith, nat_cmp}
 use Rattle.std.specs.BTreeMap.{IsOrdered, get, keys}
 use Rattle.std.specs.List.{AllWithin}
 use Rattle.std.proofs.lemmas.Bool.{cases_eq, cases_lt}

@@ -10,3 +10,7 @@ pub mod Readings
 pub mod Framing
 pub mod Stepping
 pub mod Taking
+pub mod Clearing
+pub mod Counting
+pub mod Announcements
+pub mod Offering

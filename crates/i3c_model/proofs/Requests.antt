@@ -1,11 +1,10 @@
 -- The first request: the scan over the slots.
-use Rattle.std.proofs.lemmas.Bool.{both_ways, cases_eq, cases_lt, eq-eqb, eqb-true, ne_eqb}
+use Rattle.std.proofs.lemmas.Bool.{both_ways, cases_eq, cases_lt, ne_eqb}
 use Rattle.std.proofs.lemmas.List.{get_or_past}
-use Rattle.std.proofs.lemmas.Option.{none-some, same_Some}
 use Rattle.std.specs.Prelude.{⊤}
-use Rattle.std.proofs.Common.{◌≡◌, ◌↔◌, ℕ, ◌+◌, ◌<◌, ◌≤◌, Bool, true, false, not, ◌&&◌, ◌==◌, length, IfSome, IsTrue, Option, Some, None, MatchOption, ◌⊎◌, inl, inr, refl, sym, ap, subst, arith, ◌∙◌}
+use Rattle.std.proofs.Common.{◌≡◌, ℕ, ◌+◌, ◌<◌, ◌≤◌, Bool, true, false, not, ◌&&◌, ◌==◌, length, IfSome, Option, Some, None, MatchOption, ◌⊎◌, inl, inr, refl, sym, ap, subst, arith, ◌∙◌}
 use Rattle.i3c_base.specs.declared.requests.Request.{Request}
-use Rattle.i3c_base.specs.State.{Device, IsTargetAt, State, device_at, has_address, in_slot, is_the}
+use Rattle.i3c_base.specs.State.{Device, State, device_at, in_slot}
 use Rattle.i3c_base.specs.Serve.{IsFirstRequest, asks, drives, rank}
 
 -- no slot below n drives a request

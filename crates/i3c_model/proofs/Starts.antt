@@ -15,7 +15,7 @@ use Rattle.i3c_base.specs.declared.range.TheConstants.{ADDRESSES, SLOTS}
 use Rattle.i3c_base.specs.declared.requests.Record.{Record}
 use Rattle.i3c_base.specs.State.{Device, Entry, IsPickIn, IsPickableIn, IsStart, IsUsable, attached, entry_of, no_devices, no_entries, no_raises, legacy_target_of, legacy_targets_of}
 use Rattle.i3c_base.proofs.Lookups.{no_entries_at}
-use Rattle.i3c_model.specs.Views.{AreTargets, IsKeyedBelow, places_of}
+use Rattle.i3c_model.specs.Views.{AreTargets, places_of}
 use Rattle.i3c_model.proofs.PlaceLaws.{apart, places_are, places_none, places_put}
 
 -- the test of a usable address
@@ -35,7 +35,7 @@ usable_if a h =
     let t = and_parts (not (a == 0x6E)) (not (a == 0x76)) s.1 in
     (leb-true 0x08 a p.0, leb-true a 0x77 q.0, eqb-false a 0x3E (not_true (a == 0x3E) r.0), eqb-false a 0x5E (not_true (a == 0x5E) s.0), eqb-false a 0x6E (not_true (a == 0x6E) t.0), eqb-false a 0x76 (not_true (a == 0x76) t.1))
 
-count_cons : {A : Type 0} (p : A → Bool) (x : A) (xs : List A) → count_by p (x ∷ xs) ≡ cond (p x) 1 0 + count_by p xs
+pub count_cons : {A : Type 0} (p : A → Bool) (x : A) (xs : List A) → count_by p (x ∷ xs) ≡ cond (p x) 1 0 + count_by p xs
 count_cons p x xs = sum_by-cons (λ y. cond (p y) 1 0) x xs
 
 counted_if : {A : Type 0} (p : A → Bool) (q : ℕ → Bool) (x : A) (n : ℕ) → (q n ≡ true → p x ≡ true) → cond (q n) 1 0 ≤ cond (p x) 1 0

@@ -1,23 +1,22 @@
 -- The abstract bus that the maps are seen as: what stands in it, and how it changes.
-use Rattle.std.proofs.Common.{◌≡◌, Bor, ℕ, suc, ◌<◌, Bool, true, false, not, ◌&&◌, ◌==◌, List, [], ◌∷◌, ◌++◌, map, get_or, set, Option, Some, None, Result, Ok, Err, OnErr, Global, Vec, option_map, is_some, ◌↔◌, if◌then◌else◌, sym, refl, ap, ◌∙◌, subst}
+use Rattle.std.proofs.Common.{◌≡◌, IsSome, Bor, ℕ, suc, ◌<◌, true, not, ◌&&◌, ◌==◌, List, [], ◌∷◌, ◌++◌, map, get_or, set, Option, Some, None, Result, Ok, Err, OnErr, Global, Vec, option_map, is_some, ◌↔◌, if◌then◌else◌, sym, refl, ap, ◌∙◌, subst}
 use Rattle.std.specs.List.{filter}
 use Rattle.std.specs.Option.{option_copied}
 use Rattle.std.specs.Ordering.{nat_cmp}
 use Rattle.std.specs.BTreeMap.{BTreeMap, Updates, get}
 use Rattle.std.proofs.lemmas.Bool.{false≢true}
 use Rattle.std.proofs.lemmas.Option.{none-some}
-use Rattle.i3c_base.specs.declared.device.LegacyTarget.{LegacyTarget}
 use Rattle.i3c_base.specs.declared.requests.Request.{Request}
 use Rattle.i3c_base.specs.declared.range.TheConstants.{ADDRESSES, SLOTS}
 use Rattle.i3c_base.specs.Cutting.{Lost}
 use Rattle.i3c_base.specs.declared.requests.Record.{Record}
-use Rattle.i3c_base.specs.Local.{ask_join, raise}
+use Rattle.i3c_base.specs.Local.{raise}
 use Rattle.i3c_base.specs.Places.{changed}
 use Rattle.i3c_base.specs.Serve.{asks, drives, emptied, recorded}
-use Rattle.i3c_base.specs.State.{Device, Entry, State, device_at, each, entry_at, in_slot, legacy_target_at, raised_at}
+use Rattle.i3c_base.specs.State.{change, Device, Entry, State, device_at, each, entry_at, in_slot, legacy_target_at, raised_at}
 use Rattle.i3c_model.specs.declared.plain.Plain.TheInside.{Inside}
-use Rattle.i3c_model.specs.Views.{IsWithinPlaces, places_of, state_of}
-use Rattle.i3c_model.proofs.PlaceLaws.{places_at, places_changed, places_left, places_put, places_same}
+use Rattle.i3c_model.specs.Views.{IsKeyedBelow, IsWithinPlaces, places_of, state_of}
+use Rattle.i3c_model.proofs.PlaceLaws.{below_put, places_at, places_changed, places_left, places_put, places_same}
 
 -- what is lent is what is there
 pub lent_seen : {A : Type 0} (r : Option (Bor A)) → option_copied r ≡ option_map (λ d. d.now) r
@@ -33,6 +32,19 @@ after_error (Err e) h = h
 pub is_there : {A : Type 0} (o p : Option A) → p ≡ o → is_some o ≡ true ↔ ((y : A) × (p ≡ Some y))
 is_there None p e = (λ h. absurd (false≢true h), λ h. absurd (none-some h.0 (sym e ∙ h.1)))
 is_there (Some x) p e = (λ h. (x, e), λ h. refl)
+
+-- no key is new
+pub within_fewer : (p q : Inside) → q.legacy ≡ p.legacy → ((k : ℕ) → IsSome (get nat_cmp q.devices k) → IsSome (get nat_cmp p.devices k)) → ((k : ℕ) → IsSome (get nat_cmp q.given k) → IsSome (get nat_cmp p.given k)) → IsWithinPlaces p → IsWithinPlaces q
+within_fewer p q same devices given within =
+    record { slots = λ k h. within.slots k (devices k h); statics = subst (IsKeyedBelow ADDRESSES) (sym same) within.statics; addresses = λ k h. within.addresses k (given k h) }
+
+-- a device is put into a slot
+pub within_put : (p q : Inside) (s : ℕ) (d : Device) → q.legacy ≡ p.legacy → q.given ≡ p.given → s < SLOTS → Updates nat_cmp p.devices q.devices s (Some d) → IsWithinPlaces p → IsWithinPlaces q
+within_put p q s d legacy given l put within = record {
+  slots = below_put SLOTS p.devices q.devices s d within.slots l put;
+  statics = subst (IsKeyedBelow ADDRESSES) (sym legacy) within.statics;
+  addresses = subst (IsKeyedBelow ADDRESSES) (sym given) within.addresses;
+}
 
 -- p is a machine's inside, which is seen as the abstract bus st
 module _ (p : Inside) (st : State) (seen : state_of p ≡ st) (within : IsWithinPlaces p) where
@@ -71,6 +83,10 @@ module _ (p : Inside) (st : State) (seen : state_of p ≡ st) (within : IsWithin
   pub devices_there : (new : BTreeMap ℕ Device) (places : List (Option Device)) → places_of SLOTS new ≡ places → state_of (record p { devices = new }) ≡ record st { devices = places }
   devices_there new places e = λ t. record (seen t) { devices = e t }
 
+  pub retained_there : (new : BTreeMap ℕ Device) (g h : ℕ → Device → Device) → ((s : ℕ) (d : Device) → get nat_cmp p.devices s ≡ Some d → g s d ≡ h s d) → new.entries ≡ map (λ e. (e.0, g e.0 e.1)) p.devices.entries
+      → state_of (record p { devices = new }) ≡ each h st
+  retained_there new g h same e = devices_there new (each h st).devices (each_there new g h same e)
+
   -- lost devices gone
   pub emptied_there : (new : BTreeMap ℕ Device) (lost : Lost) → new.entries ≡ filter (λ e. not (lost e.0)) p.devices.entries → state_of (record p { devices = new }) ≡ emptied lost st
   emptied_there new lost e =
@@ -88,12 +104,9 @@ module _ (p : Inside) (st : State) (seen : state_of p ≡ st) (within : IsWithin
       ∙ (ap (λ n. set st.devices s (Some (more n d))) count ∙ ap (λ o. set st.devices s (option_map (more (suc (raised_at st s))) o)) (sym there)) in
       λ t. record (seen t) { devices = devices_are t; raised = set (seen t).raised s (count t) }
 
-  -- a wish to join
-  pub joining_there : (new : BTreeMap ℕ Device) (s : ℕ) (d : Device) → s < SLOTS → Some d ≡ get nat_cmp p.devices s → Updates nat_cmp p.devices new s (Some (record d { join_wish = true }))
-      → state_of (record p { devices = new }) ≡ ask_join s st
-  joining_there new s d l at put =
-      let wishing : Device → Device = λ x. record x { join_wish = true } in
-      devices_there new _ (placed_there new s (Some (wishing d)) l put ∙ ap (λ o. set st.devices s (option_map wishing o)) (at ∙ sym (device_there s)))
+  -- one device changed
+  pub changed_there : (new : BTreeMap ℕ Device) (s : ℕ) (d : Device) (f : Device → Device) → s < SLOTS → Some d ≡ get nat_cmp p.devices s → Updates nat_cmp p.devices new s (Some (f d)) → state_of (record p { devices = new }) ≡ change s f st
+  changed_there new s d f l at put = devices_there new _ (placed_there new s (Some (f d)) l put ∙ ap (λ o. set st.devices s (option_map f o)) (at ∙ sym (device_there s)))
 
   -- a record appended
   pub recorded_there : (records : Vec Record Global) (r : Record) → records.items ≡ p.records.items ++ r ∷ [] → state_of (record p { records = records }) ≡ recorded r st

@@ -9,7 +9,7 @@ use Rattle.i3c_base.specs.Cutting.{Lost as LostDevices}
 use Rattle.i3c_base.specs.Round.{AllHearersLost, AnyHears, IsAddressFor, IsHearer}
 use Rattle.i3c_base.specs.State.{Device, State, IsKept, IsPick, IsPickable, IsUnknown, IsUsable, device_at, entry_at, legacy_target_at}
 use Rattle.i3c_step.specs.declared.events.Event.{Event}
-use Rattle.i3c_step.specs.declared.events.Event.TheVariants.{Attach, AskJoin, Disec, DropOff, EndDaa, Enec, OpenDaa, Raise, Round, Serve}
+use Rattle.i3c_step.specs.declared.events.Event.TheVariants.{Attach, AskJoin, AskRole, Disec, DropOff, EndDaa, Enec, HandOver, OpenDaa, Raise, Reset, Round, SendList, Serve}
 use Rattle.i3c_step.specs.declared.replies.Refusal.{Refusal}
 use Rattle.i3c_step.specs.declared.replies.Refusal.TheVariants.{NoDevice}
 use Rattle.i3c_step.specs.declared.replies.Reply.{Reply}
@@ -32,6 +32,13 @@ acts_own old (Attach s setup) reply new h e = let x : Reply.Attached ≡ Reply.O
 acts_own old (DropOff s) reply new h e = let x : Reply.Dropped ≡ Reply.OutOfMemory = sym h.0 ∙ e in cc
 acts_own old (Raise s byte) reply new h e = let x : Reply.Raised _ ≡ Reply.OutOfMemory = sym h.0 ∙ e in cc
 acts_own old (AskJoin s) reply new h e = let x : Reply.Asked ≡ Reply.OutOfMemory = sym h.0 ∙ e in cc
+acts_own old (AskRole s) reply new h e = let x : Reply.Asked ≡ Reply.OutOfMemory = sym h.0 ∙ e in cc
+acts_own old (Reset policy cuts) reply new h e = let x : Reply.Framed _ ≡ Reply.OutOfMemory = sym h.1 ∙ e in cc
+acts_own old (SendList policy cuts) reply new h e = let x : Reply.Framed _ ≡ Reply.OutOfMemory = sym h.1 ∙ e in cc
+acts_own old (HandOver to cuts) reply new h e = elim h [
+  | inl g ↦ let x : Reply.Handed g.0 ≡ Reply.OutOfMemory = sym g.1 ∙ e in cc
+  | inr d ↦ let x : Reply.Framed _ ≡ Reply.OutOfMemory = sym d.2 ∙ e in cc
+]
 acts_own old (Serve policy cuts) reply new h e = let x : Reply.Served h.0 ≡ Reply.OutOfMemory = sym h.1 ∙ e in cc
 acts_own old (Enec to kinds policy cuts) reply new h e = let x : Reply.Framed h.0 ≡ Reply.OutOfMemory = sym h.1 ∙ e in cc
 acts_own old (Disec to kinds policy cuts) reply new h e = let x : Reply.Framed h.0 ≡ Reply.OutOfMemory = sym h.1 ∙ e in cc
@@ -66,9 +73,12 @@ and_false : (b : Bool) → (b && false) ≡ false
 and_false true = refl
 and_false false = refl
 
--- so is a wish to join
+-- so is a wish to join, or for the role
 pub join_there : (old : State) (s : ℕ) → first_refusal (checks old (AskJoin s)) ≡ None → device_at old s ≡ None → ⊥
 join_there old s none absent = none-some NoDevice (sym none ∙ cond-true (is_none (device_at old s)) (Some NoDevice) _ (ap is_none absent))
+
+pub role_there : (old : State) (s : ℕ) → first_refusal (checks old (AskRole s)) ≡ None → device_at old s ≡ None → ⊥
+role_there old s none absent = none-some NoDevice (sym none ∙ cond-true (is_none (device_at old s)) (Some NoDevice) _ (ap is_none absent))
 
 -- a round is over where each hearer is lost, as far as that is chosen
 pub over_is : (st : State) (lost : LostDevices) (may found : Bool) → (found ≡ true) ↔ ((s : ℕ) × (d : Device) × (device_at st s ≡ Some d) × ((d.hearing && not (may && lost s)) ≡ true))

@@ -1,5 +1,5 @@
 -- A reply stands for the choice that is taken.
-use Rattle.std.proofs.Common.{◌≡◌, ℕ, ◌+◌, ◌≤◌, Bool, true, false, Option, Some, None, Result, Ok, Err, IfOk, MatchOption, if◌then◌else◌, ◌⊎◌, inl, inr, sym, refl, ap, ◌∙◌, subst, arith}
+use Rattle.std.proofs.Common.{◌≡◌, ℕ, ◌+◌, ◌≤◌, true, Option, Some, None, Result, Ok, Err, IfOk, MatchOption, if◌then◌else◌, ◌⊎◌, inl, inr, sym, refl, ap, ◌∙◌, subst, arith}
 use Rattle.std.specs.Prelude.{⊤, nat_le}
 use Rattle.std.proofs.lemmas.Bool.{false≢true, leb-true}
 use Rattle.std.proofs.lemmas.Option.{none-some}
@@ -7,7 +7,6 @@ use Rattle.i3c_base.specs.declared.answers.Answer.{Answer}
 use Rattle.i3c_base.specs.declared.answers.RoundReply.{RoundReply}
 use Rattle.i3c_base.specs.declared.identity.Identity.{Identity}
 use Rattle.i3c_base.specs.declared.requests.Fixed.{Fixed}
-use Rattle.i3c_base.specs.declared.requests.Request.{Request}
 use Rattle.i3c_base.specs.declared.requests.Request.TheVariants.{Interrupt}
 use Rattle.i3c_base.specs.declared.requests.Served.{Served}
 use Rattle.i3c_base.specs.Cutting.{CutList, Lost as LostDevices, cut_of, is_by, lost_by}
@@ -15,7 +14,7 @@ use Rattle.i3c_base.specs.Frames.{AllLostAt, AnyAt, Rekinds, kinds_bits}
 use Rattle.i3c_base.specs.Numbers.{KindSet}
 use Rattle.i3c_base.specs.Round.{AllHearersLost, AnyHears, IsBeatenByLost, Rounds}
 use Rattle.i3c_base.specs.Serve.{Frame, IsWordBits, Serves, byte_due, header_bits}
-use Rattle.i3c_base.specs.State.{Device, IsTargetAt, State, entry_at}
+use Rattle.i3c_base.specs.State.{State, entry_at}
 use Rattle.i3c_step.specs.declared.events.Event.{Event}
 use Rattle.i3c_step.specs.declared.replies.Framed.{Framed}
 use Rattle.i3c_step.specs.declared.replies.Reply.{Reply}
@@ -27,17 +26,17 @@ use Rattle.i3c_model.specs.Choosing.{AnswersAsChosen, Follows, IsTaken, MayStand
 use Rattle.i3c_model.proofs.Framing.{KeepsTargets, serves_keeps}
 use Rattle.i3c_model.proofs.Stepping.{acts_there}
 
-heard≢lost : Heard ≡ Lost → ⊥
+pub heard≢lost : Heard ≡ Lost → ⊥
 heard≢lost e = cc
 
-heard≢silent : Heard ≡ Silent → ⊥
+pub heard≢silent : Heard ≡ Silent → ⊥
 heard≢silent e = cc
 
-lost≢silent : Lost ≡ Silent → ⊥
+pub lost≢silent : Lost ≡ Silent → ⊥
 lost≢silent e = cc
 
 -- each of the three is taken
-taken_heard : (L : Choice → Type 0) (choice : Choice) → (choice ≡ Lost → ¬ L Lost) → (choice ≡ Silent → ¬ L Silent) → IsTaken L choice Heard
+pub taken_heard : (L : Choice → Type 0) (choice : Choice) → (choice ≡ Lost → ¬ L Lost) → (choice ≡ Silent → ¬ L Silent) → IsTaken L choice Heard
 taken_heard L Heard no_lost no_silent = record { chosen = λ h. refl; first = λ h other k. omega arith }
 taken_heard L Lost no_lost no_silent = record { chosen = λ h. absurd (no_lost refl h); first = λ h other k. omega arith }
 taken_heard L Silent no_lost no_silent = record { chosen = λ h. absurd (no_silent refl h); first = λ h other k. omega arith }
@@ -52,14 +51,14 @@ after_both L Heard unlawful none h = absurd (unlawful h)
 after_both L Lost unlawful none h = absurd (none h)
 after_both L Silent unlawful none h = omega arith
 
-taken_lost : (L : Choice → Type 0) (choice : Choice) → L Lost → (¬ (choice ≡ Lost) → ¬ L Heard) → (choice ≡ Silent → ¬ L Silent) → IsTaken L choice Lost
+pub taken_lost : (L : Choice → Type 0) (choice : Choice) → L Lost → (¬ (choice ≡ Lost) → ¬ L Heard) → (choice ≡ Silent → ¬ L Silent) → IsTaken L choice Lost
 taken_lost L Heard own no_heard no_silent = record { chosen = λ h. absurd (no_heard heard≢lost h); first = λ h other k. after_heard L other (no_heard heard≢lost) k }
 taken_lost L Lost own no_heard no_silent = record { chosen = λ h. refl; first = λ h. absurd (h own) }
 taken_lost L Silent own no_heard no_silent =
     let other_choice : ¬ (Silent ≡ Lost) = λ e. lost≢silent (sym e) in
     record { chosen = λ h. absurd (no_silent refl h); first = λ h other k. after_heard L other (no_heard other_choice) k }
 
-taken_silent : (L : Choice → Type 0) (choice : Choice) → L Silent → (¬ (choice ≡ Silent) → (¬ L Heard) × (¬ L Lost)) → IsTaken L choice Silent
+pub taken_silent : (L : Choice → Type 0) (choice : Choice) → L Silent → (¬ (choice ≡ Silent) → (¬ L Heard) × (¬ L Lost)) → IsTaken L choice Silent
 taken_silent L Heard own none = let no = none heard≢silent in record { chosen = λ h. absurd (no.0 h); first = λ h other k. after_both L other no.0 no.1 k }
 taken_silent L Lost own none = let no = none lost≢silent in record { chosen = λ h. absurd (no.1 h); first = λ h other k. after_both L other no.0 no.1 k }
 taken_silent L Silent own none = record { chosen = λ h. refl; first = λ h. absurd (h own) }
@@ -105,7 +104,7 @@ follows_step old event choice (Ok reply) allowed h = follows_acts old event choi
 follows_step old event choice (Err e) allowed h = h
 
 -- who stands for what
-torn_from : (served : Served) → of_served served ≡ Some Lost → served ≡ Served.Torn
+pub torn_from : (served : Served) → of_served served ≡ Some Lost → served ≡ Served.Torn
 torn_from Served.Torn e = refl
 torn_from (Served.Recorded place) e = cc
 torn_from Served.Quiet e = absurd (none-some Lost e)
@@ -113,7 +112,7 @@ torn_from Served.Refused e = absurd (none-some Lost e)
 torn_from Served.Joining e = absurd (none-some Lost e)
 torn_from (Served.WantsRole a) e = absurd (none-some Lost e)
 
-never_silent : (served : Served) → of_served served ≡ Some Silent → ⊥
+pub never_silent : (served : Served) → of_served served ≡ Some Silent → ⊥
 never_silent Served.Torn e = cc
 never_silent (Served.Recorded place) e = cc
 never_silent Served.Quiet e = none-some Silent e
@@ -122,7 +121,7 @@ never_silent Served.Joining e = none-some Silent e
 never_silent (Served.WantsRole a) e = none-some Silent e
 
 -- the request's part
-request_taken : (L : Choice → Type 0) (old : State) (policy : Fixed) (lost : LostDevices) (choice : Choice) (served : Served) → ServesAsChosen old policy lost choice served
+pub request_taken : (L : Choice → Type 0) (old : State) (policy : Fixed) (lost : LostDevices) (choice : Choice) (served : Served) → ServesAsChosen old policy lost choice served
     → ((c : Choice) → of_served served ≡ Some c → L c) → ((place : ℕ) → served ≡ Served.Recorded place → choice ≡ Lost → L Lost → (mid : State) × Serves old policy lost Served.Torn mid) → ¬ L Silent
     → MatchOption (of_served served) ⊤ (IsTaken L choice)
 request_taken L old policy lost choice Served.Quiet given own tear never = tt
@@ -139,7 +138,7 @@ same_word old policy lost place word torn mid h k t =
     let same : h.0 ≡ t.at = cc in
     h.2 ∙ (ap (λ a. if byte_due (entry_at old a) then 9 else 0) same ∙ (ap (λ b. if b then 9 else 0) t.due ∙ sym k))
 
-later_by : (m n : ℕ) (o : Option ℕ) → m ≤ n → is_by m o ≡ true → is_by n o ≡ true
+pub later_by : (m n : ℕ) (o : Option ℕ) → m ≤ n → is_by m o ≡ true → is_by n o ≡ true
 later_by m n None l h = h
 later_by m n (Some bit) l h = let b : bit ≤ m = leb-true bit m h in true-leb bit n (omega arith)
   where
@@ -156,6 +155,15 @@ torn_later old policy cuts m n mid l t = record {
   gone = λ s d. later_by m n (cut_of cuts s) l (t.gone s d);
   left = t.left;
 }
+
+-- where a byte may be torn in a frame that sends no more bits, it may be torn in this one
+pub torn_in : (old : State) (policy : Fixed) (cuts : CutList) (place word header bits other : ℕ) (lost : LostDevices) (served : Served) (mid : State) (Own : LostDevices → State → State → Type 0) (next : State)
+    → ((by : LostDevices) (s : Served) (m : State) → Serves old policy by s m → IsWordBits old s word) → ((by : LostDevices) (s : Served) (m : State) → Serves old policy by s m → header ≡ header_bits s)
+    → Serves old policy lost served mid → served ≡ Served.Recorded place → Frame old policy cuts Served.Torn (9 + other) Own next → other ≤ bits → (m : State) × Serves old policy (lost_by cuts (word + header + bits)) Served.Torn m
+torn_in old policy cuts place word header bits other lost served mid Own next word_sent header_sent serves is ends few =
+    let words : word ≡ ends.word = same_word old policy (lost_by cuts (ends.word + (9 + other))) place word ends.word ends.mid (subst (λ x. IsWordBits old x word) is (word_sent lost served mid serves)) ends.sent ends.serves in
+    let headers : header ≡ 9 = header_sent lost served mid serves ∙ ap header_bits is in
+    (ends.mid, torn_later old policy cuts (ends.word + (9 + other)) (word + header + bits) ends.mid (omega (arith, words, headers, few)) ends.serves)
 
 -- serving alone follows the choice
 pub serve_follows : (old : State) (policy : Fixed) (cuts : CutList) (choice : Choice) (served : Served) (last : ℕ) (new : State) → ServesAsChosen old policy (lost_by cuts last) choice served → IsWordBits old served last
@@ -239,12 +247,9 @@ module _ (old : State) (to : Option ℕ) (f : KindSet → KindSet) (policy : Fix
       let other : Answer = l.2.0.answer in
       let torn : l.2.0.served ≡ Served.Torn = torn_from l.2.0.served (sym (ap (stands_for of_request) l.2.1) ∙ l.3) in
       let ends : Frame old policy cuts Served.Torn (9 + kinds_bits to other) (Rekinds to f other) l.1 = subst (λ x. Frame old policy cuts x (header_bits x + kinds_bits to other) (Rekinds to f other) l.1) torn l.2.2 in
-      let own_word = word_sent (lost_by cuts (frame.word + (header_bits served + kinds_bits to answer))) served frame.mid frame.serves in
-      let words : word ≡ ends.word = same_word old policy (lost_by cuts (ends.word + (9 + kinds_bits to other))) place word ends.word ends.mid (subst (λ x. IsWordBits old x word) is own_word) ends.sent ends.serves in
-      let headers : header ≡ 9 = header_sent (lost_by cuts (frame.word + (header_bits served + kinds_bits to answer))) served frame.mid frame.serves ∙ ap header_bits is in
       let bits = bits_most old ends.mid ends.done to f choice answer other (lost_by cuts (word + header + 18)) (lost_by cuts (ends.word + (9 + kinds_bits to other))) (λ s. lost≢silent (sym e ∙ s)) answered_as
       (serves_keeps old policy (lost_by cuts (ends.word + (9 + kinds_bits to other))) Served.Torn ends.mid ends.serves) ends.own in
-      (ends.mid, torn_later old policy cuts (ends.word + (9 + kinds_bits to other)) (word + header + kinds_bits to answer) ends.mid (omega (arith, words, headers, bits)) ends.serves)
+      torn_in old policy cuts place word header (kinds_bits to answer) (kinds_bits to other) (lost_by cuts (frame.word + (header_bits served + kinds_bits to answer))) served frame.mid (Rekinds to f other) l.1 word_sent header_sent frame.serves is ends bits
 
   silent_all : (a : ℕ) → to ≡ Some a → MayStandFor Comes of_own_part Silent → AllLostAt old a (lost_by cuts (word + header + 18))
   silent_all a is l =

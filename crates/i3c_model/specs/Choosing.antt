@@ -1,14 +1,15 @@
 -- What a choice decides where drop-offs leave open what comes of an event.
-use Rattle.std.specs.Prelude.{◌≡◌, ℕ, ◌≤◌, Option, Some, None, MatchOption, option_and_then, ⊤}
+use Rattle.std.specs.Prelude.{◌≡◌, ℕ, ◌+◌, ◌≤◌, Option, Some, None, MatchOption, option_and_then, ⊤}
 use Rattle.i3c_base.specs.declared.answers.Answer.{Answer}
 use Rattle.i3c_base.specs.declared.answers.RoundReply.{RoundReply}
 use Rattle.i3c_base.specs.declared.requests.Fixed.{Fixed}
 use Rattle.i3c_base.specs.declared.requests.Served.{Served}
-use Rattle.i3c_base.specs.Cutting.{Lost as LostDevices}
-use Rattle.i3c_base.specs.Frames.{AllLostAt, AnyAt}
-use Rattle.i3c_base.specs.Round.{AllHearersLost, IsBeatenByLost}
-use Rattle.i3c_base.specs.Serve.{Serves}
+use Rattle.i3c_base.specs.Cutting.{CutList, Lost as LostDevices}
+use Rattle.i3c_base.specs.Frames.{AllLostAt, AnyAt, Hands, IsWillingAt, KeepsRole}
+use Rattle.i3c_base.specs.Serve.{Frame, Serves, header_bits, refuse_all}
 use Rattle.i3c_base.specs.State.{State}
+use Rattle.i3c_step.specs.declared.events.Event.{Event}
+use Rattle.i3c_step.specs.declared.events.Event.TheVariants.{HandOver}
 use Rattle.i3c_step.specs.declared.replies.Reply.{Reply}
 use Rattle.i3c_step.specs.Serving.{served_of}
 use Rattle.i3c_model.specs.declared.plain.Choice.{Choice}
@@ -38,6 +39,7 @@ of_round RoundReply.NoAddress = None
 
 abbrev pub own_choice : Reply → Option Choice
 own_choice (Reply.Framed framed) = of_answer framed.answer
+own_choice (Reply.Handed served) = Some Heard
 own_choice (Reply.Round answer) = of_round answer
 own_choice _ = None
 
@@ -75,3 +77,22 @@ abbrev pub AnswersAsChosen : State → Option ℕ → LostDevices → Choice →
 AnswersAsChosen st None lost choice answer = ⊤
 AnswersAsChosen st (Some a) lost choice Answer.Done = choice ≡ Silent → ¬ AllLostAt st a lost
 AnswersAsChosen st (Some a) lost choice _ = ¬ (choice ≡ Silent) → ¬ AnyAt st a
+
+-- what a handover may leave by each choice: it is granted, or breaks off with the target's byte, or ends with its header
+abbrev pub HandsBy : State → ℕ → CutList → Choice → State → Type 0
+HandsBy old to cuts Heard new = (served : Served) × Frame old refuse_all cuts served (header_bits served + 27) (Hands to) new
+HandsBy old to cuts Lost new = (served : Served) × ((s : ℕ) × IsWillingAt old to s) × Frame old refuse_all cuts served (header_bits served + 27) (KeepsRole to) new
+HandsBy old to cuts Silent new = (served : Served) × Frame old refuse_all cuts served (header_bits served + 18) (KeepsRole to) new
+
+-- a choice may be made in a handover
+abbrev pub MayHandBy : State → ℕ → CutList → Choice → Type 0
+MayHandBy old to cuts choice = (new : State) × HandsBy old to cuts choice new
+
+-- a handover leaves what it leaves by the choice that is taken
+abbrev pub HandsAsChosen : State → ℕ → CutList → Choice → State → Type 0
+HandsAsChosen old to cuts choice new = (taken : Choice) × HandsBy old to cuts taken new × IsTaken (MayHandBy old to cuts) choice taken
+
+-- a reply doesn't say where a handover ended, but what it leaves does
+abbrev pub EndsAsChosen : State → Event → Choice → State → Type 0
+EndsAsChosen old (HandOver to cuts) choice new = HandsAsChosen old to cuts choice new
+EndsAsChosen old event choice new = ⊤

@@ -1,12 +1,14 @@
--- Whom a command means, what it may be answered, and who contends in a round.
-use Rattle.std.specs.Prelude.{◌≡◌, ℕ, Bool, true, ◌⊎◌, Option, Some, None}
+-- Whom a command means, what it may be answered, who contends in a round, and who takes the role.
+use Rattle.std.specs.Prelude.{◌≡◌, ℕ, ◌<◌, Bool, true, false, ◌⊎◌, Option, Some, None}
 use Rattle.i3c_base.specs.declared.answers.Answer.{Answer}
 use Rattle.i3c_base.specs.declared.identity.Identity.{Identity}
 use Rattle.i3c_base.specs.Cutting.{Lost}
-use Rattle.i3c_base.specs.Frames.{AllLostAt, AnyAt}
+use Rattle.i3c_base.specs.Frames.{AllLostAt, AnyAt, IsWillingAt}
 use Rattle.i3c_base.specs.Numbers.{IsBelow}
 use Rattle.i3c_base.specs.Round.{IsHearer}
 use Rattle.i3c_base.specs.State.{Device, State, has_address}
+use Rattle.i3c_model.specs.declared.plain.Choice.{Choice}
+use Rattle.i3c_model.specs.declared.plain.Choice.TheVariants.{Silent}
 
 -- a command means the device: it has the address, if one is named
 abbrev pub is_meant : Option ℕ → Device → Bool
@@ -17,6 +19,20 @@ is_meant (Some a) d = has_address a d
 abbrev pub MayAnswer : State → Option ℕ → Lost → Answer → Type 0
 MayAnswer st None lost answer = answer ≡ Answer.Done
 MayAnswer st (Some a) lost answer = ((answer ≡ Answer.Done) × AnyAt st a) ⊎ ((answer ≡ Answer.NoAnswer a) × AllLostAt st a lost)
+
+-- each willing device at the address is lost (also where there is none)
+abbrev pub NoHeir : State → ℕ → Lost → Type 0
+NoHeir st a lost = (s : ℕ) → IsWillingAt st a s → lost s ≡ true
+
+-- s is the lowest slot with a willing device at the address that isn't lost
+abbrev pub IsHeir : State → ℕ → Lost → ℕ → Type 0
+IsHeir st a lost s = IsWillingAt st a s × (lost s ≡ false) × ((t : ℕ) → t < s → IsWillingAt st a t → lost t ≡ true)
+
+-- the bits of a handover that nobody takes, where `lost` are those who are lost by the end of its header to the address
+abbrev pub MayDecline : State → ℕ → Lost → Choice → ℕ → Type 0
+MayDecline st a lost choice bits =
+    ((bits ≡ 18) × NoHeir st a lost × (¬ (choice ≡ Silent) → (s : ℕ) → ¬ IsWillingAt st a s))
+    ⊎ ((bits ≡ 27) × ((s : ℕ) × IsWillingAt st a s) × (choice ≡ Silent → ¬ NoHeir st a lost))
 
 -- no hearer is lost, or none is left
 abbrev pub NoHearer : State → Lost → Bool → Type 0

@@ -9,7 +9,7 @@ use Rattle.i3c_base.specs.Round.{AnyPickable, IsWinner}
 use Rattle.i3c_base.specs.Serve.{IsFirst, verdict}
 use Rattle.i3c_base.specs.State.{State}
 use Rattle.i3c_step.specs.declared.events.Event.{Event}
-use Rattle.i3c_step.specs.declared.events.Event.TheVariants.{Attach, DropOff, Raise, AskJoin, Serve, Enec, Disec, OpenDaa, Round, EndDaa}
+use Rattle.i3c_step.specs.declared.events.Event.TheVariants.{Attach, DropOff, Raise, AskJoin, AskRole, Serve, Enec, Disec, Reset, SendList, OpenDaa, Round, EndDaa, HandOver}
 use Rattle.i3c_step.specs.Step.{checks, first_refusal}
 
 -- an interrupt comes first and is accepted, so a record may be due
@@ -27,9 +27,13 @@ Stores st (Raise s byte) = ⊤
 Stores st (Serve policy cuts) = IsRecordDue st policy
 Stores st (Enec to kinds policy cuts) = IsRecordDue st policy
 Stores st (Disec to kinds policy cuts) = IsRecordDue st policy
+Stores st (Reset policy cuts) = IsRecordDue st policy
+Stores st (SendList policy cuts) = IsRecordDue st policy
 Stores st (Round cuts) = MayAssign st cuts
 Stores st (DropOff s) = ⊥
 Stores st (AskJoin s) = ⊥
+Stores st (AskRole s) = ⊥
+Stores st (HandOver to cuts) = ⊥
 Stores st (OpenDaa cuts) = ⊥
 Stores st EndDaa = ⊥
 

@@ -22,10 +22,7 @@ impl Plain {
     pub(crate) fn open_daa(&mut self, cuts: &Cuts) -> Served
         ensures { Frame self.old refuse_all cuts.now result (header_bits result + 9) (Becomes opened) self.new }
     {
-        let served = match self.first_request() {
-            Some(_) => Served::Refused,
-            None => Served::Quiet,
-        };
+        let served = self.refuse_first();
         let last = self.header_bits() + 9;
         self.in_session = true;
         // every device stays

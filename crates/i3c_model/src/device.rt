@@ -1,7 +1,7 @@
 ghost use Rattle.std.specs.Prelude.{◌≡◌, ◌↔◌, ◌++◌, ◌∷◌, [], false, true, length, slice_get, IfSome, IsTrue, MatchOption, OnErr, OnOk, Some};
-ghost use Rattle.i3c_base.specs.Frames.{changed_kinds};
+ghost use Rattle.i3c_base.specs.Frames.{changed_kinds, unaddressed_device};
 ghost use Rattle.i3c_base.specs.Round.{hears, unhearing, winner};
-ghost use Rattle.i3c_base.specs.Serve.{asks, without};
+ghost use Rattle.i3c_base.specs.Serve.{asks, without, without_role};
 ghost use Rattle.i3c_base.specs.State.{attached, has_address};
 ghost use Rattle.i3c_base.specs.declared.requests.Request.{Request as RequestValue};
 ghost use Rattle.i3c_model.specs.Meaning.{is_meant};
@@ -106,6 +106,20 @@ impl PlainDevice {
         self.kinds.join
     }
 
+    // Whether its role requests are enabled.
+    pub(crate) fn may_ask_role(&self) -> bool
+        ensures { result ≡ self.now.kinds.role }
+    {
+        self.kinds.role
+    }
+
+    // Whether it takes the controller role when it is offered.
+    pub(crate) fn is_willing(&self) -> bool
+        ensures { result ≡ self.now.willing }
+    {
+        self.willing
+    }
+
     // Whether it hears the open session.
     pub(crate) fn is_hearing(&self) -> bool
         ensures { result ≡ self.now.hearing }
@@ -173,7 +187,7 @@ impl PlainDevice {
     {
         match request {
             Request::Join => self.join_wish = false,
-            Request::Role(_) => self.role_wish = false,
+            Request::Role(_) => self.lose_role_wish(),
             Request::Interrupt(_) => {
                 if !self.waiting.is_empty() {
                     self.waiting.remove(0);
@@ -196,6 +210,28 @@ impl PlainDevice {
         ensures { self.new ≡ record self.old { join_wish = true } }
     {
         self.join_wish = true;
+    }
+
+    // It wishes for the role.
+    pub(crate) fn wish_role(&mut self)
+        ensures { self.new ≡ record self.old { role_wish = true } }
+    {
+        self.role_wish = true;
+    }
+
+    // It doesn't wish for the role any more.
+    pub(crate) fn lose_role_wish(&mut self)
+        ensures { self.new ≡ without_role self.old }
+    {
+        self.role_wish = false;
+    }
+
+    // Its address was cleared, and its wish for the role with it.
+    pub(crate) fn lose_address(&mut self)
+        ensures { self.new ≡ unaddressed_device self.old }
+    {
+        self.address = None;
+        self.role_wish = false;
     }
 
     // More of its kinds are enabled, or some are disabled.
@@ -253,8 +289,8 @@ impl Model for PlainEntry {
 }
 
 impl PlainEntry {
-    ghost use Rattle.i3c_base.specs.Numbers.{has_byte};
-    ghost use Rattle.i3c_base.specs.State.{entry_of, kept_entry_of};
+    ghost use Rattle.i3c_base.specs.Numbers.{has_byte, is_capable};
+    ghost use Rattle.i3c_base.specs.State.{entry_of, kept_entry_of, unkept};
 
     // The entry for an identity, which isn't kept for it.
     pub(crate) fn new(identity: &Identity) -> PlainEntry
@@ -283,6 +319,20 @@ impl PlainEntry {
         ensures { IsTrue result ↔ (self.now.kept ≡ Some identity.now) }
     {
         self.kept == Some(*identity)
+    }
+
+    // The address is kept for nobody any more.
+    pub(crate) fn forget(&mut self)
+        ensures { self.new ≡ unkept self.old }
+    {
+        self.kept = None;
+    }
+
+    // Whether who got the address can be a controller.
+    pub(crate) fn is_capable(&self) -> bool
+        ensures { result ≡ is_capable self.now.bcr }
+    {
+        self.bcr.capable()
     }
 
     // Whether interrupts at the address have a mandatory byte.

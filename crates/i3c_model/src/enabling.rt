@@ -4,15 +4,13 @@ ghost use Rattle.i3c_base.specs.Frames.{kinds_bits};
 use crate::faults::OutOfMemory;
 use crate::plain::{Choice, Plain};
 use i3c_base::{Addr7, Answer, Change, Cuts, Fixed, Kinds};
-use i3c_bus::Framed;
+use i3c_step::{Framed, Reply};
 
 impl Plain {
     ghost use Rattle.std.specs.Prelude.{◌≡◌, ◌+◌, ◌↔◌, IsTrue, IfOk, OnErr};
     ghost use Rattle.i3c_base.specs.Cutting.{lost_by};
-    ghost use Rattle.i3c_base.specs.Frames.{AnyAt, Rekinds, SomeLeftAt, changed_kinds, kinds_bits, rekinded};
-    ghost use Rattle.i3c_base.specs.Serve.{Frame, header_bits};
+    ghost use Rattle.i3c_base.specs.Frames.{AnyAt, SomeLeftAt, changed_kinds, kinds_bits, rekinded};
     ghost use Rattle.i3c_step.specs.Step.{RekindsBy};
-    ghost use Rattle.i3c_step.specs.declared.replies.Reply.{Reply};
     ghost use Rattle.i3c_model.specs.Choosing.{AnswersAsChosen, Follows};
     ghost use Rattle.i3c_model.specs.Meaning.{MayAnswer};
     ghost use Rattle.i3c_model.specs.Storing.{IsRecordDue};
@@ -78,11 +76,11 @@ impl Plain {
         policy: &Fixed,
         cuts: &Cuts,
         choice: Choice,
-    ) -> Result<Framed, OutOfMemory>
-        ensures frame { IfOk result (λ framed. Frame self.old policy.now cuts.now framed.served (header_bits framed.served + kinds_bits to.now framed.answer) (Rekinds to.now (changed_kinds change kinds) framed.answer) self.new) }
+    ) -> Result<Reply, OutOfMemory>
+        ensures rekinds { IfOk result (λ reply. RekindsBy self.old to.now (changed_kinds change kinds) policy.now cuts.now reply self.new) }
         ensures unchanged { OnErr result (self.new ≡ self.old) }
         ensures memory { OnErr result (IsRecordDue self.old policy.now) }
-        ensures chosen { IfOk result (λ framed. Follows (RekindsBy self.old to.now (changed_kinds change kinds) policy.now cuts.now) choice (Reply.Framed framed)) }
+        ensures chosen { IfOk result (Follows (RekindsBy self.old to.now (changed_kinds change kinds) policy.now cuts.now) choice) }
     {
         let begin = self.word_bits(policy) + self.header_bits();
         let answer = self.answer_of(to, cuts, begin + 18, choice);
@@ -92,7 +90,7 @@ impl Plain {
             self.change_kinds(to, change, kinds);
         }
         self.empty(cuts, last);
-        Ok(Framed { served, answer })
+        Ok(Reply::Framed(Framed { served, answer }))
     }
 }
 

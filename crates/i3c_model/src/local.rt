@@ -5,7 +5,7 @@ use i3c_base::{SLOTS, Setup, Slot, Waiting};
 
 impl Plain {
     ghost use Rattle.std.specs.Prelude.{◌≡◌, suc, IfOk, None, OnErr, OnOk};
-    ghost use Rattle.i3c_base.specs.Local.{ask_join, attach, drop_off, raise};
+    ghost use Rattle.i3c_base.specs.Local.{ask_join, ask_role, attach, drop_off, raise};
     ghost use Rattle.i3c_base.specs.State.{raised_at};
     ghost use Rattle.i3c_step.specs.Step.{checks, first_refusal};
     ghost use Rattle.i3c_step.specs.declared.events.Event.{Event};
@@ -56,5 +56,17 @@ impl Plain {
             unreachable!();
         };
         device.wish_join();
+    }
+
+    // The slot's device wishes for the role.
+    pub(crate) fn ask_role(&mut self, slot: Slot)
+        requires allowed { first_refusal (checks self.old (Event.AskRole slot)) ≡ None }
+        ensures { self.new ≡ ask_role slot self.old }
+    {
+        prove!(slot.index() < SLOTS);
+        let Some(device) = self.devices.get_mut(&slot) else {
+            unreachable!();
+        };
+        device.wish_role();
     }
 }

@@ -1,7 +1,7 @@
 use crate::device::{PlainDevice, PlainEntry};
 use crate::faults::OutOfMemory;
 use i3c_base::{Addr7, Change, LegacyTarget, Record, SLOTS, Slot};
-use i3c_bus::{Event, Reply};
+use i3c_step::{Event, Reply};
 use std::alloc::Global;
 use std::collections::BTreeMap;
 use std::marker::Model;
@@ -13,9 +13,11 @@ pub enum Choice {
     /// What a lost device sent last was heard: an interrupt is recorded, an identity gets its address, a command to one
     /// address is done.
     Heard,
-    /// It was lost on the way: a mandatory byte is torn, an address that is assigned reaches nobody.
+    /// It was lost on the way: a mandatory byte is torn, an address that is assigned reaches nobody, the byte that takes
+    /// the role breaks off.
     Lost,
-    /// It sent nothing: the header of a round, or of a command to one address, isn't acknowledged.
+    /// It sent nothing: the header of a round, of a command to one address, or of the offer of the role isn't
+    /// acknowledged.
     Silent,
 }
 
@@ -56,7 +58,7 @@ impl Plain {
     ghost use Rattle.i3c_base.specs.State.{device_at, entry_at, IsPresent};
     ghost use Rattle.i3c_step.specs.Step.{Acts, Step, checks, first_refusal};
     ghost use Rattle.i3c_step.specs.declared.replies.Reply.{Reply};
-    ghost use Rattle.i3c_model.specs.Choosing.{Follows};
+    ghost use Rattle.i3c_model.specs.Choosing.{EndsAsChosen, Follows};
     ghost use Rattle.i3c_model.specs.Storing.{MayStore, Stores};
 
     /// The active controller's slot.
@@ -91,6 +93,7 @@ impl Plain {
         ensures unchanged { OnErr result (self.new ≡ self.old) }
         ensures memory { OnErr result (MayStore self.old event.now) }
         ensures chosen { IfOk result (Follows (Step self.old event.now) choice) }
+        ensures handed { first_refusal (checks self.old event.now) ≡ None → IfOk result (λ _. EndsAsChosen self.old event.now choice self.new) }
     {
         match self.refusal(event) {
             Some(why) => Ok(Reply::Refused(why)),
@@ -105,6 +108,7 @@ impl Plain {
         ensures unchanged { OnErr result (self.new ≡ self.old) }
         ensures memory { OnErr result (Stores self.old event.now) }
         ensures chosen { IfOk result (Follows (Acts self.old event.now) choice) }
+        ensures handed { IfOk result (λ _. EndsAsChosen self.old event.now choice self.new) }
     {
         match event {
             Event::Attach(slot, setup) => {
@@ -120,15 +124,20 @@ impl Plain {
                 self.ask_join(*slot);
                 Ok(Reply::Asked)
             }
+            Event::AskRole(slot) => {
+                self.ask_role(*slot);
+                Ok(Reply::Asked)
+            }
             Event::Serve(policy, cuts) => Ok(Reply::Served(self.serve(policy, cuts, choice)?)),
             Event::Enec(to, kinds, policy, cuts) => {
-                let framed = self.rekind(to, Change::Enable, *kinds, policy, cuts, choice)?;
-                Ok(Reply::Framed(framed))
+                self.rekind(to, Change::Enable, *kinds, policy, cuts, choice)
             }
             Event::Disec(to, kinds, policy, cuts) => {
-                let framed = self.rekind(to, Change::Disable, *kinds, policy, cuts, choice)?;
-                Ok(Reply::Framed(framed))
+                self.rekind(to, Change::Disable, *kinds, policy, cuts, choice)
             }
+            Event::Reset(policy, cuts) => self.reset(policy, cuts, choice),
+            Event::SendList(policy, cuts) => self.send_list(policy, cuts, choice),
+            Event::HandOver(to, cuts) => Ok(self.hand_over(*to, cuts, choice)),
             Event::OpenDaa(cuts) => Ok(Reply::Opened(self.open_daa(cuts))),
             Event::Round(cuts) => Ok(Reply::Round(self.round(cuts, choice)?)),
             Event::EndDaa => {
@@ -152,6 +161,13 @@ impl Plain {
         ensures { option_map (λ d. d.now) result ≡ device_at self.now slot }
     {
         self.devices.get(&slot)
+    }
+
+    // What the table keeps of an address, if it was given.
+    pub(crate) fn entry(&self, address: Addr7) -> Option<&PlainEntry>
+        ensures { option_map (λ e. e.now) result ≡ entry_at self.now address }
+    {
+        self.given.get(&address)
     }
 
     // Whether an address was given.

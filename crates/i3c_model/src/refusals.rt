@@ -1,11 +1,13 @@
 use crate::plain::Plain;
 use i3c_base::{Addr7, Cuts, Slot, WAITING};
-use i3c_bus::{Event, Refusal};
+use i3c_step::{Event, Refusal};
 
 impl Plain {
     ghost use Rattle.std.specs.Prelude.{◌≡◌, ◌++◌};
     ghost use Rattle.i3c_base.specs.declared.device.Setup.{Setup};
-    ghost use Rattle.i3c_step.specs.Step.{checks, first_refusal, frame_checks, is_no_target, target_checks};
+    ghost use Rattle.i3c_base.specs.Frames.{active_has};
+    ghost use Rattle.i3c_base.specs.State.{entry_at};
+    ghost use Rattle.i3c_step.specs.Step.{checks, first_refusal, frame_checks, is_no_controller, is_no_target, target_checks};
     ghost use Rattle.i3c_step.specs.declared.events.Event.{Event as EventValue};
 
     // Why an event is refused, if it is.
@@ -17,9 +19,13 @@ impl Plain {
             Event::DropOff(slot) => self.drop_refusal(*slot),
             Event::Raise(slot, byte) => self.raise_refusal(*slot, *byte),
             Event::AskJoin(slot) => self.join_refusal(*slot),
+            Event::AskRole(slot) => self.role_refusal(*slot),
             Event::Serve(_, cuts) => self.frame_refusal(cuts),
             Event::Enec(to, _, _, cuts) => self.command_refusal(to, cuts),
             Event::Disec(to, _, _, cuts) => self.command_refusal(to, cuts),
+            Event::Reset(_, cuts) => self.frame_refusal(cuts),
+            Event::SendList(_, cuts) => self.frame_refusal(cuts),
+            Event::HandOver(to, cuts) => self.hand_refusal(*to, cuts),
             Event::OpenDaa(cuts) => self.frame_refusal(cuts),
             Event::Round(cuts) => self.round_refusal(cuts),
             Event::EndDaa => self.end_refusal(),
@@ -94,6 +100,28 @@ impl Plain {
         None
     }
 
+    // Why a slot's device doesn't wish for the role.
+    fn role_refusal(&self, slot: Slot) -> Option<Refusal>
+        ensures { result ≡ first_refusal (checks self.now (EventValue.AskRole slot)) }
+    {
+        let Some(device) = self.device(slot) else {
+            return Some(Refusal::NoDevice);
+        };
+        if slot == self.active {
+            return Some(Refusal::IsActive);
+        }
+        if device.address().is_none() {
+            return Some(Refusal::NoAddress);
+        }
+        if !device.identity().bcr.capable() {
+            return Some(Refusal::NotCapable);
+        }
+        if !device.may_ask_role() {
+            return Some(Refusal::Masked);
+        }
+        None
+    }
+
     // Why a frame isn't sent.
     fn frame_refusal(&self, cuts: &Cuts) -> Option<Refusal>
         ensures { result ≡ first_refusal (frame_checks self.now cuts.now) }
@@ -130,7 +158,43 @@ impl Plain {
     fn is_no_target(&self, address: Addr7) -> bool
         ensures { result ≡ is_no_target self.now address }
     {
-        !self.is_given(address) || self.address(self.active) == Some(address)
+        !self.is_given(address) || self.is_own(address)
+    }
+
+    // Whether an address is the active controller's own.
+    fn is_own(&self, address: Addr7) -> bool
+        ensures { result ≡ active_has self.now address }
+    {
+        self.address(self.active) == Some(address)
+    }
+
+    // Why the role isn't offered to an address.
+    fn hand_refusal(&self, to: Addr7, cuts: &Cuts) -> Option<Refusal>
+        ensures { result ≡ first_refusal (checks self.now (EventValue.HandOver to cuts.now)) }
+    {
+        if let Some(refusal) = self.frame_refusal(cuts) {
+            return Some(refusal);
+        }
+        if self.is_own(to) {
+            return Some(Refusal::IsActive);
+        }
+        if self.is_no_controllers(to) {
+            return Some(Refusal::NotCapable);
+        }
+        if !self.listed {
+            return Some(Refusal::ListStale);
+        }
+        None
+    }
+
+    // Whether no device that can be a controller got an address, as the table has it.
+    fn is_no_controllers(&self, address: Addr7) -> bool
+        ensures { result ≡ is_no_controller (entry_at self.now address) }
+    {
+        match self.entry(address) {
+            Some(entry) => !entry.is_capable(),
+            None => true,
+        }
     }
 
     // Why no round is sent.

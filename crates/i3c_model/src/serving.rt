@@ -9,7 +9,7 @@ impl Plain {
     ghost use Rattle.i3c_base.specs.declared.requests.Served.{Served as ServedValue};
     ghost use Rattle.i3c_base.specs.declared.requests.Verdict.{Verdict as VerdictValue};
     ghost use Rattle.i3c_base.specs.Cutting.{Lost, lost_by};
-    ghost use Rattle.i3c_base.specs.Serve.{Frame, IsFirst, IsWordBits, Serves, byte_due, each_driver, emptied, header_bits, recorded, verdict, without};
+    ghost use Rattle.i3c_base.specs.Serve.{Frame, IsFirst, IsWordBits, Serves, byte_due, each_driver, emptied, header_bits, recorded, refuse_all, verdict, without};
     ghost use Rattle.i3c_base.specs.State.{State, entry_at};
     ghost use Rattle.i3c_step.specs.Step.{Acts, Nothing};
     ghost use Rattle.i3c_step.specs.declared.events.Event.{Event};
@@ -21,7 +21,7 @@ impl Plain {
     fn is_byte_due(&self, at: Addr7) -> bool
         ensures { result ≡ byte_due (entry_at self.now at) }
     {
-        match self.given.get(&at) {
+        match self.entry(at) {
             Some(entry) => entry.has_byte(),
             None => false,
         }
@@ -169,6 +169,17 @@ impl Plain {
         match self.verdict(policy, &request) {
             Verdict::Accept => self.accept(&request, cuts, last, choice),
             Verdict::Refuse => Ok(Served::Refused),
+        }
+    }
+
+    // What becomes of the first request of a frame that refuses each.
+    pub(crate) fn refuse_first(&self) -> Served
+        ensures serves { (lost : Lost) → Serves self.now refuse_all lost result self.now }
+        ensures sent { IsWordBits self.now result 0 }
+    {
+        match self.first_request() {
+            Some(_) => Served::Refused,
+            None => Served::Quiet,
         }
     }
 

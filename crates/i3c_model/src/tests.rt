@@ -6,8 +6,9 @@ use i3c_base::{
     Addr7, Answer, Bcr, Cuts, Dcr, Fixed, Identity, Kinds, Lvr, Pid, Record, RoundReply, Served,
     Setup, Slot, Verdict,
 };
-use i3c_bus::{Event, Framed, Outcome, Refusal, Reply, run_events};
+use i3c_bus::{Outcome, run_events};
 use i3c_legacy::Legacies;
+use i3c_step::{Event, Framed, Refusal, Reply};
 use std::alloc::Global;
 use std::process::Abort;
 use std::test::Fail;
@@ -133,6 +134,8 @@ fn is_uncut(event: &Event) -> bool {
     match event {
         Event::Serve(_, cuts) | Event::OpenDaa(cuts) | Event::Round(cuts) => cuts.is_empty(),
         Event::Enec(_, _, _, cuts) | Event::Disec(_, _, _, cuts) => cuts.is_empty(),
+        Event::Reset(_, cuts) | Event::SendList(_, cuts) => cuts.is_empty(),
+        Event::HandOver(_, cuts) => cuts.is_empty(),
         _ => true,
     }
 }

@@ -3,11 +3,23 @@ use Rattle.i3c_model.proofs.plain.Plain.act.Goals as goal
 pub returns-in_ok-serve-in-Serve-clause-chosen : goal.returns-in_ok-serve-in-Serve-clause-chosen
 returns-in_ok-serve-in-Serve-clause-chosen c = rw c.in-Serve.is c.in_ok-serve-in-Serve.ensures.chosen
 
-pub returns-in_ok-framed-in-Enec-clause-chosen : goal.returns-in_ok-framed-in-Enec-clause-chosen
-returns-in_ok-framed-in-Enec-clause-chosen c = rw c.in-Enec.is c.in_ok-framed-in-Enec.ensures.chosen
-
-pub returns-in_ok-framed-in-Disec-clause-chosen : goal.returns-in_ok-framed-in-Disec-clause-chosen
-returns-in_ok-framed-in-Disec-clause-chosen c = rw c.in-Disec.is c.in_ok-framed-in-Disec.ensures.chosen
-
 pub returns-in_ok-round-in-Round-clause-chosen : goal.returns-in_ok-round-in-Round-clause-chosen
 returns-in_ok-round-in-Round-clause-chosen c = rw c.in-Round.is c.in_ok-round-in-Round.ensures.chosen
+
+pub returns-in-Enec-clause-chosen : goal.returns-in-Enec-clause-chosen
+returns-in-Enec-clause-chosen c = rw c.in-Enec.is c.rekind.ensures.chosen
+
+pub returns-in-Disec-clause-chosen : goal.returns-in-Disec-clause-chosen
+returns-in-Disec-clause-chosen c = rw c.in-Disec.is c.rekind-in-Disec.ensures.chosen
+
+pub returns-in-Reset-clause-chosen : goal.returns-in-Reset-clause-chosen
+returns-in-Reset-clause-chosen c = rw c.in-Reset.is c.reset.ensures.chosen
+
+pub returns-in-SendList-clause-chosen : goal.returns-in-SendList-clause-chosen
+returns-in-SendList-clause-chosen c = rw c.in-SendList.is c.send_list.ensures.chosen
+
+pub returns-in-HandOver-clause-acts : goal.returns-in-HandOver-clause-acts
+returns-in-HandOver-clause-acts c = rw c.in-HandOver.is c.hand_over.ensures.acts
+
+pub returns-in-HandOver-clause-chosen : goal.returns-in-HandOver-clause-chosen
+returns-in-HandOver-clause-chosen c = rw c.in-HandOver.is c.hand_over.ensures.chosen

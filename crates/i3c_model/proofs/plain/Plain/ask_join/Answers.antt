@@ -1,10 +1,9 @@
-use Rattle.std.proofs.Common.{sym, ◌∙◌, Some, subst}
+use Rattle.std.proofs.Common.{refl, sym, ◌∙◌, Some, subst, true}
 use Rattle.std.specs.BTreeMap.{Updates}
 use Rattle.std.specs.Ordering.{nat_cmp}
 use Rattle.i3c_base.specs.State.{Device}
-use Rattle.i3c_base.specs.declared.range.TheConstants.{SLOTS}
-use Rattle.i3c_model.proofs.PlaceLaws.{below_put, written_puts}
-use Rattle.i3c_model.proofs.States.{device_there, joining_there}
+use Rattle.i3c_model.proofs.PlaceLaws.{written_puts}
+use Rattle.i3c_model.proofs.States.{changed_there, device_there, within_put}
 use Rattle.i3c_model.proofs.Stepping.{join_there}
 use Rattle.i3c_model.proofs.plain.Plain.ask_join.Goals as goal
 
@@ -14,14 +13,10 @@ unreachable-requires c = join_there c.args.self.now c.args.slot c.requires.allow
 pub invariant_of-self : goal.invariant_of-self
 invariant_of-self c =
     let put = written_puts c.self.inside.devices (c.get_mut.follows.lender c.wish_join.new.self) c.args.slot c.in-Some.device.now c.wish_join.new.self (c.get_mut.follows.holds c.wish_join.new.self) c.in-Some.ensures.value in
-    record {
-      slots = below_put SLOTS c.self.inside.devices (c.get_mut.follows.lender c.wish_join.new.self) c.args.slot _ c.self.invariant.slots c.index.ensures.in_range put;
-      statics = c.self.invariant.statics;
-      addresses = c.self.invariant.addresses;
-    }
+    within_put c.self.inside _ c.args.slot _ refl refl c.index.ensures.in_range put c.self.invariant
 
 pub returns : goal.returns
 returns c =
     let put = written_puts c.self.inside.devices (c.get_mut.follows.lender c.wish_join.new.self) c.args.slot c.in-Some.device.now c.wish_join.new.self (c.get_mut.follows.holds c.wish_join.new.self) c.in-Some.ensures.value in
-    joining_there c.self.inside c.args.self.now c.self.view_is c.self.invariant (c.get_mut.follows.lender c.wish_join.new.self) c.args.slot c.in-Some.device.now c.index.ensures.in_range c.in-Some.ensures.value
+    changed_there c.self.inside c.args.self.now c.self.view_is c.self.invariant (c.get_mut.follows.lender c.wish_join.new.self) c.args.slot c.in-Some.device.now (λ d. record d { join_wish = true }) c.index.ensures.in_range c.in-Some.ensures.value
     (subst (λ (x : Device). Updates nat_cmp c.self.inside.devices (c.get_mut.follows.lender c.wish_join.new.self) c.args.slot (Some x)) c.wish_join.ensures put)

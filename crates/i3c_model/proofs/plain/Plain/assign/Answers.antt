@@ -1,5 +1,5 @@
 use borrow.Author.Tests.{tests}
-use Rattle.std.proofs.Common.{false, set, ℕ, rules, not, ◌&&◌, if◌then◌else◌, refl, ap, sym, ◌∙◌, Some}
+use Rattle.std.proofs.Common.{false, set, ℕ, rules, if◌then◌else◌, refl, ap, ◌∙◌, Some}
 use Rattle.i3c_base.specs.declared.range.TheConstants.{ADDRESSES}
 use Rattle.i3c_base.specs.declared.identity.Identity.{Identity}
 use Rattle.i3c_base.specs.Cutting.{Lost, lost_by}

@@ -1,4 +1,3 @@
-use Rattle.std.proofs.Common.{Some, ap, ◌∙◌}
 use Rattle.i3c_base.specs.declared.range.TheConstants.{SLOTS}
 use Rattle.i3c_model.proofs.PlaceLaws.{below_put}
 use Rattle.i3c_model.proofs.States.{after_error, devices_there, placed_there, same_devices}

@@ -1,4 +1,4 @@
-use Rattle.std.proofs.Common.{refl, ◌∙◌, sym}
+use Rattle.std.proofs.Common.{refl}
 use Rattle.std.proofs.lemmas.Option.{none-some}
 use Rattle.i3c_model.proofs.Readings.{and_more, and_none, and_skip}
 use Rattle.i3c_model.proofs.plain.Plain.bytes_together.Goals.{in-Some, in_default}

@@ -1,16 +1,12 @@
-use Rattle.std.proofs.Common.{ℕ, Bool, not, rules}
+use Rattle.std.proofs.Common.{ℕ, not, rules, refl}
 use Rattle.std.proofs.lemmas.Map.Made.{filter_same_pairs}
 use Rattle.i3c_base.specs.Cutting.{lost_by}
 use Rattle.i3c_base.specs.State.{Device}
-use Rattle.i3c_model.proofs.States.{emptied_there}
+use Rattle.i3c_model.proofs.States.{emptied_there, within_fewer}
 use Rattle.i3c_model.proofs.plain.Plain.empty.Goals as goal
 
 pub invariant_of-self : goal.invariant_of-self
-invariant_of-self c = record {
-  slots = λ k h. c.self.invariant.slots k (c.retain.ensures.no_new_key k h);
-  statics = c.self.invariant.statics;
-  addresses = c.self.invariant.addresses;
-}
+invariant_of-self c = within_fewer c.self.inside _ refl c.retain.ensures.no_new_key (λ k h. h) c.self.invariant
 
 pub returns : goal.returns
 returns c =

@@ -1,5 +1,5 @@
 use borrow.Author.Tests.{tests}
-use Rattle.std.proofs.Common.{ℕ, Bool, not, ◌&&◌, ◌==◌, ap, rules}
+use Rattle.std.proofs.Common.{ℕ, Bool, not, ◌&&◌, rules}
 use Rattle.std.proofs.lemmas.Iterator.Consumers.{YieldsList-from_rest}
 use Rattle.std.proofs.lemmas.Iterator.Search.{any_from_yields_List}
 use Rattle.i3c_base.specs.Cutting.{lost_by}

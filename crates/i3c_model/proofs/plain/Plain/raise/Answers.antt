@@ -1,4 +1,4 @@
-use Rattle.std.proofs.Common.{◌+◌, ℕ, suc, Some, ap, arith, get_or, set, subst, sym, ◌∙◌, ◌≡◌}
+use Rattle.std.proofs.Common.{◌+◌, ℕ, suc, Some, arith, get_or, set, subst, sym, ◌∙◌, ◌≡◌}
 use Rattle.std.specs.BTreeMap.{Updates}
 use Rattle.std.specs.Ordering.{nat_cmp}
 use Rattle.i3c_base.specs.Local.{raise}

@@ -1,4 +1,4 @@
-use Rattle.std.proofs.Common.{◌≡◌, ◌+◌, ℕ, ap, sym, refl, ◌∙◌, subst, arith}
+use Rattle.std.proofs.Common.{◌≡◌, ◌+◌, sym, refl, ◌∙◌, subst, arith}
 use Rattle.i3c_base.specs.declared.answers.Answer.{Answer}
 use Rattle.i3c_base.specs.Cutting.{lost_by}
 use Rattle.i3c_base.specs.Frames.{Rekinds, changed_kinds, kinds_bits, rekinded}
@@ -38,7 +38,7 @@ returns c =
     (omega (arith, header, bits)) (c.word_bits.ensures.sent (lost_by c.args.cuts.now last) served mid serves) serves
     (subst (λ n. Rekinds to f answer (lost_by c.args.cuts.now (begin + n)) mid done) (sym bits) own) c.empty.ensures in
     record {
-      frame = frame;
+      rekinds = (record { served = served; answer = answer }, refl, frame);
       unchanged = tt;
       memory = tt;
       chosen = rekind_follows old to f c.args.policy.now c.args.cuts.now c.args.choice served answer c.word_bits.result c.header_bits.result c.empty.new.self
