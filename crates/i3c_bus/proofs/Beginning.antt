@@ -5,14 +5,12 @@ use Rattle.std.proofs.lemmas.List.Elements.{All-head}
 use Rattle.i3c_base.specs.declared.device.Waiting.{Waiting}
 use Rattle.i3c_base.specs.declared.requests.Fixed.{Fixed}
 use Rattle.i3c_base.specs.declared.requests.Record.{Record}
-use Rattle.i3c_base.specs.declared.requests.Request.{Request}
-use Rattle.i3c_base.specs.declared.requests.Request.TheVariants.{Join, Role, Interrupt}
+use Rattle.i3c_base.specs.declared.requests.Request.TheVariants.{Interrupt}
 use Rattle.i3c_base.specs.declared.requests.Served.{Served}
-use Rattle.i3c_base.specs.declared.requests.Verdict.TheVariants.{Refuse}
 use Rattle.i3c_base.specs.Numbers.{has_byte}
 use Rattle.i3c_base.specs.Cutting.{CutList, Lost}
 use Rattle.i3c_base.specs.State.{Device, State, entry_at}
-use Rattle.i3c_base.specs.Serve.{IsFirst, IsTorn, IsWordBits, byte_due, drives, refuse_all, verdict}
+use Rattle.i3c_base.specs.Serve.{IsFirst, IsTorn, IsWordBits, byte_due, drives}
 use Rattle.i3c_ibi.specs.declared.serving.Reading.{Reading}
 use Rattle.i3c_ibi.specs.declared.serving.Reading.TheVariants.{Quiet, Refused, Joined, WantsRole, Due, Torn}
 use Rattle.i3c_ibi.specs.Serving.{FitsTable, IsServing, kept, served_as, word_bits}

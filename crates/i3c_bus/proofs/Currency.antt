@@ -1,12 +1,12 @@
 -- While the list is current, what was read of it is a copy of the table.
-use Rattle.std.proofs.Common.{◌≡◌, ℕ, suc, true, false, List, [], ◌∷◌, map, set, Option, Some, None, option_map, ap, refl, sym, ◌∙◌, subst}
+use Rattle.std.proofs.Common.{◌≡◌, ℕ, suc, true, List, [], ◌∷◌, map, set, Option, Some, None, option_map, ap, refl, sym, ◌∙◌, subst}
 use Rattle.std.proofs.lemmas.Bool.{both_ways}
 use Rattle.i3c_base.specs.declared.answers.RoundReply.{RoundReply}
 use Rattle.i3c_base.specs.Covered.{IsCopy, Table}
 use Rattle.i3c_base.specs.Cutting.{CutList, Lost, lost_by}
 use Rattle.i3c_base.specs.Frames.{handed}
 use Rattle.i3c_base.specs.Places.{changed_from}
-use Rattle.i3c_base.specs.Round.{Rounds, assigned}
+use Rattle.i3c_base.specs.Round.{Rounds}
 use Rattle.i3c_base.specs.Serve.{emptied, without_role}
 use Rattle.i3c_base.specs.State.{Device, State, device_at, unkept}
 use Rattle.i3c_deftgts.specs.declared.entries.Entry.{Entry}

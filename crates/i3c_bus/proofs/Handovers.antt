@@ -1,5 +1,5 @@
 -- A role that is offered, and handed over or not.
-use Rattle.std.proofs.Common.{◌≡◌, ◌≢◌, ℕ, ◌+◌, Bool, true, false, List, [], ◌∷◌, Option, None, Some, arith, ap, ◌∙◌, refl, sym, subst, ◌↔◌, inl, inr}
+use Rattle.std.proofs.Common.{◌≡◌, ℕ, ◌+◌, true, false, ◌∷◌, None, Some, arith, ap, ◌∙◌, refl, sym, subst, ◌↔◌, inl, inr}
 use Rattle.i3c_base.specs.declared.answers.Answer.{Answer}
 use Rattle.i3c_base.specs.declared.requests.Served.{Served}
 use Rattle.i3c_base.specs.Cutting.{CutList, Lost, lost_by}
@@ -21,7 +21,7 @@ use Rattle.i3c_step.proofs.Acting.{acting}
 use Rattle.i3c_bus.specs.declared.tokens.Hand.{Hand}
 use Rattle.i3c_bus.specs.Calls.{Carries}
 use Rattle.i3c_bus.specs.Hands.{HandFits}
-use Rattle.i3c_bus.specs.Wire.{IsBegun, IsDeclinedPart, IsFrameWire, IsHandedWire, IsOn, IsUntaken, IsWire}
+use Rattle.i3c_bus.specs.Wire.{IsBegun, IsDeclinedPart, IsHandedWire, IsOn, IsUntaken}
 use Rattle.i3c_bus.proofs.Opening.{begun_anyway, tells_parts}
 
 -- how a frame began that refuses each request

@@ -6,7 +6,7 @@ use Rattle.i3c_base.specs.declared.requests.Request.{Request}
 use Rattle.i3c_base.specs.declared.requests.Request.TheVariants.{Join, Role, Interrupt}
 use Rattle.i3c_base.specs.declared.requests.Served.{Served}
 use Rattle.i3c_base.specs.declared.requests.Served.TheVariants.{Quiet, Recorded, Refused, Torn, Joining, WantsRole}
-use Rattle.i3c_base.specs.Covered.{IsCopy, IsTable, Table, lvrs}
+use Rattle.i3c_base.specs.Covered.{IsCopy, IsTable, Table}
 use Rattle.i3c_base.specs.Cutting.{Lost}
 use Rattle.i3c_base.specs.Frames.{active_has, list_bits}
 use Rattle.i3c_base.specs.Serve.{Serves, drives, each_driver, without_front, without_join, without_role}

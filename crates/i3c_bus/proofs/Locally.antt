@@ -1,5 +1,5 @@
 -- What devices do by themselves leaves a sound bus.
-use Rattle.std.proofs.Common.{◌≡◌, ℕ, Bool, true, false, [], ◌∷◌, List, Option, Some, None, Result, Ok, Err, OnOk, OnErr, option_map, is_none, is_some, ◌==◌, sym, refl, ap, ◌∙◌, subst}
+use Rattle.std.proofs.Common.{◌≡◌, ℕ, false, [], ◌∷◌, List, Option, Some, None, Result, Ok, Err, OnOk, OnErr, option_map, is_none, is_some, ◌==◌, sym, refl, ap, ◌∙◌, subst}
 use Rattle.std.specs.Prelude.{slice_set}
 use Rattle.std.proofs.lemmas.Bool.{true≢false}
 use Rattle.i3c_base.specs.declared.device.Setup.{Setup}

@@ -1,5 +1,5 @@
 -- A reset over the parts of a bus.
-use Rattle.std.proofs.Common.{◌≡◌, ℕ, Bool, true, false, not, List, [], Option, Some, None, get_or, length, set, option_map, ◌==◌, if◌then◌else◌, refl, sym, ap, ◌∙◌, subst}
+use Rattle.std.proofs.Common.{◌≡◌, ℕ, Bool, true, false, not, List, [], Option, Some, None, get_or, set, option_map, ◌==◌, if◌then◌else◌, refl, sym, ap, ◌∙◌}
 use Rattle.std.proofs.lemmas.Bool.{cond-false, cond-true, eq-eqb, eqb-false, eqb-true, ne_eqb}
 use Rattle.std.proofs.lemmas.List.{ext_get_or, get_or_past, length-set}
 use Rattle.i3c_base.specs.Frames.{active_has, unaddressed_device}

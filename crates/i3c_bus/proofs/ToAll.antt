@@ -1,5 +1,5 @@
 -- A frame to all that was carried out.
-use Rattle.std.proofs.Common.{◌≡◌, ℕ, ◌+◌, true, false, None, is_some, List, arith, ap, ◌∙◌, refl, sym}
+use Rattle.std.proofs.Common.{◌≡◌, ℕ, ◌+◌, true, false, None, is_some, List, arith, ap, ◌∙◌, refl}
 use Rattle.i3c_base.specs.declared.answers.Answer.{Answer}
 use Rattle.i3c_base.specs.declared.requests.Served.{Served}
 use Rattle.i3c_base.specs.Cutting.{CutList, cut_of, lost_by}
@@ -8,7 +8,6 @@ use Rattle.i3c_base.specs.State.{Held, State}
 use Rattle.i3c_frame.specs.declared.symbols.Symbol.{Symbol}
 use Rattle.i3c_frame.specs.Taps.{Tells}
 use Rattle.i3c_step.specs.declared.events.Event.{Event}
-use Rattle.i3c_step.specs.declared.replies.Framed.{Framed}
 use Rattle.i3c_step.specs.declared.replies.Reply.{Reply}
 use Rattle.i3c_step.specs.Serving.{place_of}
 use Rattle.i3c_step.specs.Step.{Acts, Announces, Becomes, checks, cuts_active, first_refusal, frame_checks}

@@ -1,5 +1,5 @@
 -- The code, each word of the list, and STOP.
-use Rattle.std.proofs.Common.{List, [], ◌∷◌, ◌++◌, map, take, refl, sym, ap, subst, ◌∙◌}
+use Rattle.std.proofs.Common.{List, [], ◌∷◌, ◌++◌, map, take, refl, sym, subst, ◌∙◌}
 use Rattle.std.proofs.lemmas.List.{map_more, take_all}
 use Rattle.i3c_frame.proofs.TapLaws.{NotesAll-push}
 use Rattle.i3c_frame.specs.Taps.{NotesAll}

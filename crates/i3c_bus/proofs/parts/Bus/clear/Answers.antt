@@ -1,11 +1,11 @@
 -- Each device hears the reset, and the table keeps the active controller's own entry.
-use Rattle.std.proofs.Common.{◌≡◌, ◌∙◌, ℕ, Option, Some, None, ap, get_or, option_map, refl, set, subst, sym}
+use Rattle.std.proofs.Common.{◌≡◌, ◌∙◌, ℕ, Some, None, ap, get_or, option_map, refl, set, subst, sym}
 use Rattle.std.proofs.lemmas.Bool.{both_ways}
 use Rattle.i3c_base.specs.Covered.{Table}
 use Rattle.i3c_base.specs.Frames.{reset}
 use Rattle.i3c_base.specs.Places.{changed}
 use Rattle.i3c_base.specs.Serve.{without_role}
-use Rattle.i3c_base.specs.State.{Device, Held, State, device_at}
+use Rattle.i3c_base.specs.State.{Held, device_at}
 use Rattle.i3c_bus.specs.Parts.{state_of}
 use Rattle.i3c_bus.specs.Readings.{address_of}
 use Rattle.i3c_bus.proofs.Resetting.{reset_at, reset_devices, reset_given}

@@ -1,5 +1,5 @@
 -- The table is the copy of the device that takes the role.
-use Rattle.std.proofs.Common.{◌≡◌, ◌∙◌, ℕ, true, false, ap, refl, subst, sym}
+use Rattle.std.proofs.Common.{◌≡◌, ◌∙◌, ℕ, true, ap, refl, subst, sym}
 use Rattle.std.proofs.lemmas.Bool.{both_ways}
 use Rattle.i3c_base.specs.Covered.{IsCopy, Table}
 use Rattle.i3c_base.specs.Frames.{IsWillingAt, handed}

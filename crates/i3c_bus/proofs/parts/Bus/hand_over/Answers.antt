@@ -1,14 +1,12 @@
 -- The role is offered: a willing device takes it, or nobody does.
-use Rattle.std.proofs.Common.{◌≡◌, ◌∙◌, ◌+◌, ℕ, true, false, ap, inl, inr, refl, subst, sym}
+use Rattle.std.proofs.Common.{◌≡◌, ◌∙◌, ◌+◌, ℕ, ap, inl, inr, refl, subst, sym}
 use Rattle.i3c_base.specs.declared.answers.Answer.{Answer}
 use Rattle.i3c_base.specs.declared.requests.Served.{Served}
 use Rattle.i3c_base.specs.Cutting.{lost_by}
-use Rattle.i3c_base.specs.Frames.{IsWillingAt}
 use Rattle.i3c_base.specs.Serve.{emptied}
 use Rattle.i3c_base.specs.State.{HasDevices, Held, State}
 use Rattle.i3c_frame.specs.Taps.{Tells}
-use Rattle.i3c_handoff.specs.declared.outcome.Offer.{Offer}
-use Rattle.i3c_handoff.specs.declared.outcome.Offer.TheVariants.{Nobody, Torn, Taken}
+use Rattle.i3c_handoff.specs.declared.outcome.Offer.TheVariants.{Taken}
 use Rattle.i3c_handoff.specs.Offers.{IsOffered, offer_bits}
 use Rattle.i3c_handoff.specs.Telling.{IsOfferWire}
 use Rattle.i3c_step.specs.declared.events.Event.{Event}
@@ -16,7 +14,7 @@ use Rattle.i3c_step.specs.declared.replies.Reply.{Reply}
 use Rattle.i3c_bus.specs.declared.tokens.Hand.{Hand}
 use Rattle.i3c_bus.specs.Calls.{Carries}
 use Rattle.i3c_bus.specs.Wire.{IsUntaken}
-use Rattle.i3c_bus.proofs.Handovers.{IsWayTo, declined_carried, handed_carried, taken_by}
+use Rattle.i3c_bus.proofs.Handovers.{declined_carried, handed_carried, taken_by}
 use Rattle.i3c_bus.proofs.parts.Bus.hand_over.Goals as goal
 
 -- the devices that the role is offered to are the bus's

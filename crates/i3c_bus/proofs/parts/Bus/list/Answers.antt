@@ -1,11 +1,10 @@
 -- A list is a frame to all.
-use Rattle.std.proofs.Common.{◌≡◌, ℕ, ◌+◌, ◌*◌, ◌∙◌, List, ap, arith, length, refl, subst, sym}
+use Rattle.std.proofs.Common.{◌≡◌, ℕ, ◌+◌, ◌*◌, ◌∙◌, ap, arith, length, refl, subst, sym}
 use Rattle.i3c_base.specs.Cutting.{lost_by}
 use Rattle.i3c_base.specs.Frames.{list, list_bits}
 use Rattle.i3c_base.specs.Serve.{emptied, given_for}
 use Rattle.i3c_base.specs.State.{State}
 use Rattle.i3c_frame.specs.Taps.{Tells}
-use Rattle.i3c_word.specs.declared.Word.{Word}
 use Rattle.i3c_step.specs.declared.events.Event.{Event}
 use Rattle.i3c_step.proofs.Steps.{not_cut}
 use Rattle.i3c_bus.specs.Wire.{IsListPart, IsListWire}

@@ -1,8 +1,7 @@
 -- The list of the table is written, and what is read of it is a copy.
 use Rattle.std.proofs.Common.{◌≡◌, ◌∙◌, ℕ, Some, ap, is_some, map, option_map, refl, subst, sym}
 use Rattle.i3c_base.specs.Covered.{IsCopy, Table}
-use Rattle.i3c_base.specs.Frames.{list}
-use Rattle.i3c_base.specs.State.{Held, State, device_at, unkept}
+use Rattle.i3c_base.specs.State.{Held, device_at, unkept}
 use Rattle.i3c_deftgts.specs.Copies.{table_of}
 use Rattle.i3c_deftgts.specs.Entries.{entries_of}
 use Rattle.i3c_deftgts.specs.Reading.{ReadAs}
