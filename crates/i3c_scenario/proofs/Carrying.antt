@@ -6,10 +6,10 @@ use Rattle.i3c_base.specs.State.{State}
 use Rattle.i3c_bus.specs.declared.events.Event.{Event}
 use Rattle.i3c_bus.specs.declared.replies.Reply.{Reply}
 use Rattle.i3c_bus.specs.Step.{Step}
-use Rattle.i3c_scenario.specs.declared.command.Wish.{Wish}
-use Rattle.i3c_scenario.specs.declared.faults.Refusal.{Refusal}
+use Rattle.i3c_lines.specs.declared.command.Wish.{Wish}
+use Rattle.i3c_lines.specs.declared.refusals.Refusal.{Refusal}
 use Rattle.i3c_scenario.specs.declared.faults.Stop.{Stop}
-use Rattle.i3c_scenario.specs.declared.names.Names.{Names}
+use Rattle.i3c_lines.specs.declared.names.Names.{Names}
 use Rattle.i3c_scenario.specs.Asking.{Asked, AsksForNone, Carries, CarriesOrNot, Ran, Rounds}
 
 -- a line that is refused asks for no event

@@ -8,13 +8,13 @@ use Rattle.i3c_base.specs.State.{State, IsPresent, device_at}
 use Rattle.i3c_bus.specs.declared.events.Event.{Event}
 use Rattle.i3c_bus.specs.declared.replies.Reply.{Reply}
 use Rattle.i3c_bus.specs.Step.{Step}
-use Rattle.i3c_scenario.specs.declared.command.Command.{Command}
-use Rattle.i3c_scenario.specs.declared.command.Wish.{Wish}
-use Rattle.i3c_scenario.specs.declared.faults.Refusal.{Refusal}
+use Rattle.i3c_lines.specs.declared.command.Command.{Command}
+use Rattle.i3c_lines.specs.declared.command.Wish.{Wish}
+use Rattle.i3c_lines.specs.declared.refusals.Refusal.{Refusal}
 use Rattle.i3c_scenario.specs.declared.faults.Stop.{Stop}
-use Rattle.i3c_scenario.specs.declared.names.Names.{Names}
-use Rattle.i3c_scenario.specs.declared.names.Place.{Place}
-use Rattle.i3c_scenario.specs.Naming.{place_named, slot_named}
+use Rattle.i3c_lines.specs.declared.names.Names.{Names}
+use Rattle.i3c_lines.specs.declared.names.Place.{Place}
+use Rattle.i3c_lines.specs.Naming.{place_named, slot_named}
 use Rattle.i3c_scenario.specs.Slots.{AllPresentBelow}
 
 -- a script with a bus: the bus's state, which requests its frames accept, and the cuts that wait for the next frame

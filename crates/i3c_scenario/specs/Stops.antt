@@ -4,7 +4,7 @@ use Rattle.i3c_base.specs.declared.answers.Answer.{Answer}
 use Rattle.i3c_base.specs.declared.answers.RoundReply.{RoundReply}
 use Rattle.i3c_bus.specs.declared.replies.Refusal.{Refusal as BusRefusal}
 use Rattle.i3c_bus.specs.declared.replies.Reply.{Reply}
-use Rattle.i3c_scenario.specs.declared.faults.Refusal.{Refusal}
+use Rattle.i3c_lines.specs.declared.refusals.Refusal.{Refusal}
 use Rattle.i3c_scenario.specs.declared.faults.ScriptFault.{ScriptFault}
 use Rattle.i3c_scenario.specs.declared.faults.Stop.{Stop}
 

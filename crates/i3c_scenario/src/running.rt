@@ -1,14 +1,12 @@
 use crate::asking::{event_of, slot_of_device};
-use crate::command::{Command, Wish};
-use crate::faults::{Refusal, Stop};
-use crate::names::{Name, Names};
-use crate::policies::ACCEPT_ALL;
+use crate::faults::Stop;
 use crate::show::show;
 use crate::telling::{Origin, tell};
 use crate::wires::Wires;
 use i3c_base::{Cuts, Fixed, RoundReply, SLOTS, Setup};
 use i3c_bus::{Bus, Event, Hand, Reply};
 use i3c_legacy::Legacies;
+use i3c_lines::{ACCEPT_ALL, Command, Name, Names, Refusal, Wish};
 use std::alloc::Global;
 use std::io::Write;
 use std::marker::Model;
@@ -48,8 +46,8 @@ impl Running {
     ghost use Rattle.i3c_bus.specs.Step.{Step};
     ghost use Rattle.i3c_scenario.specs.Asking.{AsksForNone, Asked, Assigns, Carries, CarriesOrNot, Moves, Rounds, comes_to, cut_named, cuts_after, cuts_left, device_named};
     ghost use Rattle.i3c_bus.specs.declared.replies.Reply.{Reply as ReplyValue};
-    ghost use Rattle.i3c_scenario.specs.Naming.{place_named};
-    ghost use Rattle.i3c_scenario.specs.Policies.{each_kind};
+    ghost use Rattle.i3c_lines.specs.Naming.{place_named};
+    ghost use Rattle.i3c_lines.specs.Policies.{each_kind};
 
     /// A bus with this main controller, whose frames accept each request.
     pub fn new(alloc: Global, main: Setup, legacies: Legacies, wires: Wires) -> Running

@@ -4,9 +4,8 @@ ghost use Rattle.i3c_scenario.specs.Printed.{end_text};
 ghost use Rattle.i3c_scenario.specs.Stops.{EndsLine, IsLineFault, refusals};
 
 use crate::faults::{ScriptFault, Stop};
-use crate::line::Line;
-use crate::names::Names;
 use crate::stage::Stage;
+use i3c_lines::{Line, Names};
 use std::alloc::Global;
 use std::io::{Read, Write};
 use std::mem;

@@ -1,6 +1,6 @@
-use crate::names::Names;
 use i3c_base::{ADDRESSES, Addr7, Record, SLOTS, Slot};
 use i3c_bus::Bus;
+use i3c_lines::Names;
 use std::io::Write;
 use std::{fmt, io};
 

@@ -1,14 +1,13 @@
 ghost use Rattle.std.specs.Prelude.{◌≡◌, true, OnOk};
 ghost use Rattle.i3c_base.specs.Numbers.{is_capable};
 
-use crate::command::Command;
-use crate::faults::{Refusal, Stop};
-use crate::names::{Name, Names};
+use crate::faults::Stop;
 use crate::running::Running;
 use crate::show::ShownAddress;
 use crate::wires::Wires;
 use i3c_base::{Addr7, Bcr, Lvr, Setup, Slot};
 use i3c_legacy::Legacies;
+use i3c_lines::{Command, Name, Names, Refusal};
 use std::alloc::Global;
 use std::io::Write;
 use std::mem;

@@ -5,9 +5,9 @@ ghost use Rattle.i3c_scenario.specs.Stops.{reply_stop};
 ghost use Rattle.i3c_scenario.specs.declared.faults.Stop.TheVariants.{Write};
 
 use crate::faults::Stop;
-use crate::names::Names;
 use i3c_base::{Addr7, Answer, Identity, RoundReply, Served};
 use i3c_bus::{Event, Framed, Reply};
+use i3c_lines::Names;
 use std::io;
 use std::io::Write;
 

@@ -1,10 +1,10 @@
-use crate::faults::{Refusal, Stop};
-use crate::names::{Name, Names};
+use crate::faults::Stop;
 use crate::telling::{Origin, tell};
 use crate::{ScriptFault, Tally, run_script};
 use i3c_base::{Addr7, Answer, RoundReply, Served, Slot};
 use i3c_bus::{Event, Framed, Reply};
 use i3c_frame::read_trace;
+use i3c_lines::{Name, Names, Refusal};
 use std::alloc::Global;
 use std::io::{ErrorKind, Read, Write};
 use std::process::Abort;
@@ -509,35 +509,6 @@ fn names_and_devices(rt: HostRuntime) {
     prints(&rt, rt.alloc(), script, wanted, 9);
 }
 
-// A name stays known where another device takes its slot, and may be given again. A slot knows its name.
-#[test]
-fn names_of_devices_that_are_gone(rt: HostRuntime) -> Result<(), Fail> {
-    let first = Name::parse("t").ok_or("a name")?;
-    let second = Name::parse("u").ok_or("a name")?;
-    let (one, two) = (Slot::new(1)?, Slot::new(2)?);
-    let mut names = Names::new(rt.alloc());
-    assert!(rt; names.slot_of(&first) == Err(Refusal::NoName));
-    assert!(rt; names.in_slot(one).is_none());
-    names.give_slot(&first, one)?;
-    names.give_slot(&first, one)?;
-    assert!(rt; names.slot_of(&first) == Ok(one));
-    names.give_slot(&second, one)?;
-    assert!(rt; names.slot_of(&first) == Err(Refusal::NoDevice));
-    assert!(rt; names.slot_of(&second) == Ok(one));
-    assert!(rt; names.in_slot(one) == Some(&second));
-    names.give_slot(&first, two)?;
-    assert!(rt; names.slot_of(&first) == Ok(two));
-    assert!(rt; names.slot_of(&second) == Ok(one));
-    // a name that was given to another slot stands there, though its old slot is taken by a new name
-    names.give_slot(&second, two)?;
-    names.give_slot(&first, one)?;
-    assert!(rt; names.slot_of(&first) == Ok(one));
-    assert!(rt; names.slot_of(&second) == Ok(two));
-    assert!(rt; names.in_slot(one) == Some(&first));
-    assert!(rt; names.in_slot(two) == Some(&second));
-    Ok(())
-}
-
 // Its form comes first: a line without one is told so before there is a bus, and after.
 #[test]
 fn skipped_lines(rt: HostRuntime) {
@@ -846,20 +817,6 @@ fn symbols_are_a_trace(rt: HostRuntime) -> Result<(), Fail> {
     let wire = text.lines().last().ok_or("a line")?;
     let symbols = read_trace(alloc, wire)?;
     assert_eq!(rt; symbols.len(), 252);
-    Ok(())
-}
-
-// Refusals that no line comes to today, or at another address.
-#[test]
-fn words_of_refusals(rt: HostRuntime) -> Result<(), Fail> {
-    let cases = [
-        (Refusal::NoEnd, "NoEnd"),
-        (Refusal::NoAnswer(Addr7::new(0x7E)?), "NoAnswer 7E"),
-    ];
-    for (refusal, wanted) in cases {
-        let word = format!(in rt.alloc(); "{refusal}")?;
-        assert_eq!(rt; word.as_str(), wanted);
-    }
     Ok(())
 }
 

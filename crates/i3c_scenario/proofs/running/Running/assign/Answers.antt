@@ -1,5 +1,5 @@
 use Rattle.std.proofs.Common.{inl, inr, refl}
-use Rattle.i3c_scenario.specs.declared.command.Wish.{Wish}
+use Rattle.i3c_lines.specs.declared.command.Wish.{Wish}
 use Rattle.i3c_scenario.proofs.Carrying.{ends, in_either, opens}
 use Rattle.i3c_scenario.proofs.running.Running.assign.Goals as goal
 

@@ -1,6 +1,6 @@
 use Rattle.std.proofs.Common.{◌∙◌, List, subst, sym}
 use Rattle.i3c_bus.specs.declared.replies.Reply.{Reply}
-use Rattle.i3c_scenario.specs.declared.command.Wish.{Wish}
+use Rattle.i3c_lines.specs.declared.command.Wish.{Wish}
 use Rattle.i3c_scenario.specs.Asking.{Ran, Rounds}
 use Rattle.i3c_scenario.proofs.Carrying.{in_either, one_more}
 use Rattle.i3c_scenario.proofs.running.Running.rounds.Goals as goal

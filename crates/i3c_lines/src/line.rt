@@ -1,7 +1,7 @@
 ghost use Rattle.std.specs.Prelude.{◌≡◌, ◌+◌, ◌<◌, ◌≤◌, [], ◌++◌, true, false, length, slice_get};
 
 use crate::command::Command;
-use crate::faults::Refusal;
+use crate::refusals::Refusal;
 use arrayvec::ArrayVec;
 use std::str;
 
@@ -13,17 +13,19 @@ const COMMENT: u8 = b'#';
 
 /// A line as it is read, byte after byte.
 #[derive(Drop)]
-pub(crate) struct Line {
+pub struct Line {
     bytes: ArrayVec<u8, LINE_LENGTH>,
     // more bytes came than a line may have
     is_long: bool,
 }
 
 impl Line {
+    ghost use Rattle.i3c_lines.specs.Gathering.{gathered, is_too_long};
+
     /// A line of which nothing was read.
     pub fn new() -> Line
-        ensures empty { result.bytes.items ≡ [] }
-        ensures short { result.is_long ≡ false }
+        ensures empty { gathered result ≡ [] }
+        ensures short { is_too_long result ≡ false }
     {
         Line {
             bytes: ArrayVec::new(),
@@ -33,9 +35,9 @@ impl Line {
 
     /// The line's next bytes.
     pub fn extend(&mut self, more: &[u8])
-        ensures kept { length self.old.bytes.items + length more.now ≤ LINE_LENGTH → self.new.bytes.items ≡ self.old.bytes.items ++ more.now }
-        ensures short { length self.old.bytes.items + length more.now ≤ LINE_LENGTH → self.new.is_long ≡ self.old.is_long }
-        ensures long { LINE_LENGTH < length self.old.bytes.items + length more.now → self.new.is_long ≡ true }
+        ensures kept { length (gathered self.old) + length more.now ≤ LINE_LENGTH → gathered self.new ≡ gathered self.old ++ more.now }
+        ensures short { length (gathered self.old) + length more.now ≤ LINE_LENGTH → is_too_long self.new ≡ is_too_long self.old }
+        ensures long { LINE_LENGTH < length (gathered self.old) + length more.now → is_too_long self.new ≡ true }
     {
         if self.bytes.try_extend_from_slice(more).is_err() {
             self.is_long = true;
@@ -44,8 +46,8 @@ impl Line {
 
     /// The next line begins.
     pub fn clear(&mut self)
-        ensures empty { self.new.bytes.items ≡ [] }
-        ensures short { self.new.is_long ≡ false }
+        ensures empty { gathered self.new ≡ [] }
+        ensures short { is_too_long self.new ≡ false }
     {
         self.bytes.clear();
         self.is_long = false;
@@ -54,9 +56,9 @@ impl Line {
     /// The command of the line, if it isn't one that is skipped: an empty one or a comment, whatever bytes follow its
     /// `#`. A line that is too long has no form, even if it begins as a comment does.
     pub fn command(&self) -> Result<Option<Command>, Refusal>
-        ensures long { self.now.is_long ≡ true → result ≡ Err Refusal.BadLine }
-        ensures empty { self.now.is_long ≡ false → self.now.bytes.items ≡ [] → result ≡ Ok None }
-        ensures comment { self.now.is_long ≡ false → slice_get self.now.bytes.items 0 ≡ Some COMMENT → result ≡ Ok None }
+        ensures long { is_too_long self.now ≡ true → result ≡ Err Refusal.BadLine }
+        ensures empty { is_too_long self.now ≡ false → gathered self.now ≡ [] → result ≡ Ok None }
+        ensures comment { is_too_long self.now ≡ false → slice_get (gathered self.now) 0 ≡ Some COMMENT → result ≡ Ok None }
     {
         if self.is_long {
             return Err(Refusal::BadLine);

@@ -2,9 +2,9 @@ use Rattle.std.proofs.Common.{◌≡◌, ◌<◌, ◌^◌, ◌∙◌, Some, refl
 use Rattle.std.specs.Option.{IsSome, IfSome}
 use Rattle.std.specs.Result.{result_ok}
 use Rattle.std.specs.Str.Parse.{digits_value}
-use Rattle.i3c_scenario.specs.Words.{IsHex}
-use Rattle.i3c_scenario.proofs.HexLaws.{hex_parses, hex_bound}
-use Rattle.i3c_scenario.proofs.words.number.Goals as goal
+use Rattle.i3c_lines.specs.Words.{IsHex}
+use Rattle.i3c_lines.proofs.HexLaws.{hex_parses, hex_bound}
+use Rattle.i3c_lines.proofs.words.number.Goals as goal
 
 given : (c : goal.After-ok) → IsHex c.args.digits c.args.word.now
 given c = (c.if-word-digits.false, c.is_hex.ensures.0 (search rules))

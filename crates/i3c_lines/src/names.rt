@@ -1,7 +1,7 @@
 ghost use Rattle.std.specs.Prelude.{◌≡◌, ◌<◌, ◌↔◌, All, IsTrue, IsSome, IfSome};
-ghost use Rattle.i3c_scenario.specs.Words.{IsName, IsNameLetter};
+ghost use Rattle.i3c_lines.specs.Words.{IsNameLetter};
 
-use crate::faults::Refusal;
+use crate::refusals::Refusal;
 use arrayvec::ArrayString;
 use i3c_base::{ADDRESSES, Addr7, SLOTS, Slot};
 use indexmap::IndexMap;
@@ -13,7 +13,7 @@ const NAME_LENGTH: usize = 16;
 
 /// The name of a device or a legacy target: 1 to 16 of `a` to `z` and `0` to `9`.
 #[derive(Clone, Copy, PartialEq, Eq, Hash)]
-pub(crate) struct Name {
+pub struct Name {
     text: ArrayString<NAME_LENGTH>,
 }
 
@@ -27,10 +27,13 @@ fn is_of_letters(word: &str) -> bool
 }
 
 impl Name {
+    ghost use Rattle.i3c_lines.specs.Naming.{letters};
+    ghost use Rattle.i3c_lines.specs.Words.{IsName};
+
     /// The name that a word is, if it has a name's form.
     pub fn parse(word: &str) -> Option<Name>
         ensures form { IsSome result ↔ IsName NAME_LENGTH word.now }
-        ensures same { IfSome result (λ name. name.text.bytes ≡ word.now) }
+        ensures same { IfSome result (λ name. letters name ≡ word.now) }
     {
         if word.is_empty() || !is_of_letters(word) {
             return None;
@@ -48,7 +51,7 @@ impl fmt::Display for Name {
 
 /// What a name stands for.
 #[derive(Clone, Copy, PartialEq, Eq)]
-pub(crate) enum Place {
+pub enum Place {
     /// The device of a slot.
     Slot(Slot),
     /// The legacy target at a static address.
@@ -60,7 +63,7 @@ pub(crate) enum Place {
 /// The names that were given, in the order in which they first were, and what each stands for. A slot and a static
 /// address know the name that was last given to them.
 #[derive(Drop)]
-pub(crate) struct Names {
+pub struct Names {
     places: IndexMap<Name, Place>,
     slots: [Option<Name>; SLOTS],
     legacies: [Option<Name>; ADDRESSES],
@@ -68,8 +71,8 @@ pub(crate) struct Names {
 
 impl Names {
     ghost use Rattle.std.specs.Prelude.{OnOk, Some, option_copied, slice_index_or, slice_set};
-    ghost use Rattle.i3c_scenario.specs.Naming.{place_named, slot_named};
-    ghost use Rattle.i3c_scenario.specs.declared.names.Name.{Name};
+    ghost use Rattle.i3c_lines.specs.Naming.{legacy_names, place_named, slot_named, slot_names};
+    ghost use Rattle.i3c_lines.specs.declared.names.Name.{Name};
 
     /// No names.
     pub fn new(alloc: Global) -> Names {
@@ -103,14 +106,14 @@ impl Names {
 
     /// The name that was last given to a slot.
     pub fn in_slot(&self, slot: Slot) -> Option<&Name>
-        ensures { option_copied result ≡ slice_index_or self.now.slots slot None }
+        ensures { option_copied result ≡ slice_index_or (slot_names self.now) slot None }
     {
         self.slots[slot.index()].as_ref()
     }
 
     /// The name of the legacy target at a static address.
     pub fn at_address(&self, address: Addr7) -> Option<&Name>
-        ensures { option_copied result ≡ slice_index_or self.now.legacies address None }
+        ensures { option_copied result ≡ slice_index_or (legacy_names self.now) address None }
     {
         self.legacies[address.get() as usize].as_ref()
     }
@@ -119,8 +122,8 @@ impl Names {
     pub fn give_address(&mut self, name: &Name, address: Addr7) -> Result<(), AllocError>
         ensures given { OnOk result (place_named self.new name.now ≡ Some (Place.Legacy address)) }
         ensures known { (other : Name) → IsSome (place_named self.old other) → IsSome (place_named self.new other) }
-        ensures told { OnOk result (self.new.legacies ≡ slice_set self.old.legacies address (Some name.now)) }
-        ensures slots { self.new.slots ≡ self.old.slots }
+        ensures told { OnOk result (legacy_names self.new ≡ slice_set (legacy_names self.old) address (Some name.now)) }
+        ensures slots { slot_names self.new ≡ slot_names self.old }
     {
         let index = address.get() as usize;
         let told = Some(*name);
@@ -134,8 +137,8 @@ impl Names {
     pub fn give_slot(&mut self, name: &Name, slot: Slot) -> Result<(), AllocError>
         ensures given { OnOk result (place_named self.new name.now ≡ Some (Place.Slot slot)) }
         ensures known { (other : Name) → IsSome (place_named self.old other) → IsSome (place_named self.new other) }
-        ensures told { OnOk result (self.new.slots ≡ slice_set self.old.slots slot (Some name.now)) }
-        ensures legacies { self.new.legacies ≡ self.old.legacies }
+        ensures told { OnOk result (slot_names self.new ≡ slice_set (slot_names self.old) slot (Some name.now)) }
+        ensures legacies { legacy_names self.new ≡ legacy_names self.old }
     {
         let index = slot.index();
         let told = Some(*name);
@@ -150,8 +153,8 @@ impl Names {
     fn empty(&mut self, number: usize, place: &Place) -> Result<(), AllocError>
         requires { number < SLOTS }
         ensures known { (other : Name) → IsSome (place_named self.old other) → IsSome (place_named self.new other) }
-        ensures slots { self.new.slots ≡ self.old.slots }
-        ensures legacies { self.new.legacies ≡ self.old.legacies }
+        ensures slots { slot_names self.new ≡ slot_names self.old }
+        ensures legacies { legacy_names self.new ≡ legacy_names self.old }
     {
         let Some(name) = self.slots[number] else {
             return Ok(());

@@ -2,9 +2,9 @@ use Rattle.std.proofs.Common.{◌<◌, ◌^◌, sym, subst, rules, arith}
 use Rattle.std.proofs.lemmas.Grind.{common_steps}
 use Rattle.std.specs.Option.{IsSome}
 use Rattle.std.specs.Str.Parse.{digits_value}
-use Rattle.i3c_scenario.specs.Words.{IsDecimal}
-use Rattle.i3c_scenario.proofs.DecimalLaws.{Writes, decimal_parses, short_is_some, some_is_short}
-use Rattle.i3c_scenario.proofs.words.bit.Goals as goal
+use Rattle.i3c_lines.specs.Words.{IsDecimal}
+use Rattle.i3c_lines.proofs.DecimalLaws.{Writes, decimal_parses, short_is_some, some_is_short}
+use Rattle.i3c_lines.proofs.words.bit.Goals as goal
 
 given : (c : goal.After-ok) → IsDecimal c.args.word.now
 given c = (grind (arith, common_steps), c.is_decimal.ensures.0 (search rules))

@@ -1,11 +1,11 @@
 ghost use Rattle.std.specs.Prelude.{◌≡◌, Some, codes, IsSome};
 ghost use Rattle.i3c_base.specs.declared.requests.Verdict.TheVariants.{Accept, Refuse};
-ghost use Rattle.i3c_scenario.specs.Policies.{IsPolicyWord, each_kind, interrupts_alone, joins_alone, roles_alone};
+ghost use Rattle.i3c_lines.specs.Policies.{IsPolicyWord, each_kind, interrupts_alone, joins_alone, roles_alone};
 
 use i3c_base::{Fixed, Verdict};
 
 /// Each request is accepted, as at the start of a script.
-pub(crate) const ACCEPT_ALL: Fixed = Fixed {
+pub const ACCEPT_ALL: Fixed = Fixed {
     join: Verdict::Accept,
     role: Verdict::Accept,
     interrupt: Verdict::Accept,

@@ -7,7 +7,7 @@ use Rattle.std.proofs.lemmas.Str.Parse.{without_leading_plus_none}
 use Rattle.std.specs.Char.{digit_value}
 use Rattle.std.specs.Str.Parse.{AllDigits, ParsesUnsigned, IsNumeral, digits_value}
 use Rattle.std.specs.Result.{OkIff}
-use Rattle.i3c_scenario.specs.Words.{IsHexDigit, IsHex}
+use Rattle.i3c_lines.specs.Words.{IsHexDigit, IsHex}
 
 hex_value : (byte : ℕ) → IsHexDigit byte → digit_value byte < 16
 hex_value byte h = grind arith

@@ -9,14 +9,14 @@ const DECLINE: &str = "decline";
 
 /// Kinds of events, and the address of the devices that are meant. Without one all are but the active controller.
 #[derive(Clone, Copy)]
-pub(crate) struct Choice {
+pub struct Choice {
     pub kinds: Kinds,
     pub to: Option<Addr7>,
 }
 
 /// A line that is one event of the bus, with the names as they stand there.
 #[derive(Clone, Copy)]
-pub(crate) enum Wish {
+pub enum Wish {
     /// `attach NAME PID BCR DCR [decline]`: a device enters the lowest free slot.
     Attach { name: Name, setup: Setup },
     /// `drop NAME`: a device loses power, and is gone.
@@ -41,7 +41,7 @@ pub(crate) enum Wish {
 
 /// What a line asks for.
 #[derive(Drop)]
-pub(crate) enum Command {
+pub enum Command {
     /// `legacy NAME ADDR LVR`: a legacy target stands at a static address.
     Legacy {
         name: Name,

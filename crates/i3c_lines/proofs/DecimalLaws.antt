@@ -5,7 +5,7 @@ use Rattle.std.specs.Char.{digit_value}
 use Rattle.std.specs.Option.{IsSome}
 use Rattle.std.specs.Result.{OkIff, result_ok}
 use Rattle.std.specs.Str.Parse.{AllDigits, ParsesUnsigned, IsNumeral, digits_value}
-use Rattle.i3c_scenario.specs.Words.{IsDecimal, IsDecimalDigit}
+use Rattle.i3c_lines.specs.Words.{IsDecimal, IsDecimalDigit}
 
 decimal_value : (byte : ℕ) → IsDecimalDigit byte → digit_value byte < 10
 decimal_value byte h = grind arith

@@ -1,7 +1,7 @@
 ghost use Rattle.std.specs.Prelude.{◌≡◌, ◌<◌, ◌^◌, ◌≤◌, ◌↔◌, All, IsTrue, IsSome, IfSome};
 ghost use Rattle.std.specs.Str.Parse.{digits_value};
 ghost use Rattle.i3c_base.specs.Numbers.{kind_set};
-ghost use Rattle.i3c_scenario.specs.Words.{IsDecimal, IsDecimalDigit, IsHex, IsHexDigit};
+ghost use Rattle.i3c_lines.specs.Words.{IsDecimal, IsDecimalDigit, IsHex, IsHexDigit};
 
 use bitflags::Flags;
 use i3c_base::{Addr7, Kinds, Pid};
