@@ -1,4 +1,4 @@
-ghost use Rattle.std.specs.Prelude.{◌≡◌, ◌+◌, ◌<◌, ◌≤◌, [], ◌++◌, true, false, length, slice_get};
+ghost use Rattle.std.specs.Prelude.{◌≡◌, ◌<◌, ◌≤◌, [], length, slice_get};
 
 use crate::command::Command;
 use crate::refusals::Refusal;
@@ -8,72 +8,76 @@ use std::str;
 /// How many bytes a line may have, without its line feed.
 const LINE_LENGTH: usize = 256;
 
+/// How many of a line's first bytes tell what it is: one more than a line may have, since a longer one has no form.
+pub const TELLING_LENGTH: usize = LINE_LENGTH + 1;
+
 /// A comment begins with this.
 const COMMENT: u8 = b'#';
 
-/// A line as it is read, byte after byte.
+/// The command of a line, if it isn't one that is skipped: an empty one or a comment, whatever bytes follow its `#`. A
+/// line that is too long has no form, even if it begins as a comment does.
+pub fn read_line(line: &[u8]) -> Result<Option<Command>, Refusal>
+    ensures long { LINE_LENGTH < length line.now → result ≡ Err Refusal.BadLine }
+    ensures empty { line.now ≡ [] → result ≡ Ok None }
+    ensures comment { length line.now ≤ LINE_LENGTH → slice_get line.now 0 ≡ Some COMMENT → result ≡ Ok None }
+{
+    if line.len() > LINE_LENGTH {
+        return Err(Refusal::BadLine);
+    }
+    match line.first() {
+        None | Some(&COMMENT) => return Ok(None),
+        Some(_) => {}
+    }
+    // No word has a byte that isn't ASCII, so it suffices that the line is text.
+    let Ok(text) = str::from_utf8(line) else {
+        return Err(Refusal::BadLine);
+    };
+    match Command::parse(text) {
+        Some(command) => Ok(Some(command)),
+        None => Err(Refusal::BadLine),
+    }
+}
+
+/// A line that is read in pieces: its first bytes, as many as tell what it is.
 #[derive(Drop)]
 pub struct Line {
-    bytes: ArrayVec<u8, LINE_LENGTH>,
-    // more bytes came than a line may have
-    is_long: bool,
+    bytes: ArrayVec<u8, TELLING_LENGTH>,
 }
 
 impl Line {
-    ghost use Rattle.i3c_lines.specs.Gathering.{gathered, is_too_long};
+    ghost use Rattle.std.specs.Prelude.{◌≡◌, [], ◌++◌, take};
+    ghost use Rattle.i3c_lines.specs.Gathering.{gathered};
+    ghost use Rattle.i3c_lines.specs.declared.line.TheConstants.{TELLING_LENGTH};
 
     /// A line of which nothing was read.
     pub fn new() -> Line
-        ensures empty { gathered result ≡ [] }
-        ensures short { is_too_long result ≡ false }
+        ensures { gathered result ≡ [] }
     {
         Line {
             bytes: ArrayVec::new(),
-            is_long: false,
         }
     }
 
     /// The line's next bytes.
     pub fn extend(&mut self, more: &[u8])
-        ensures kept { length (gathered self.old) + length more.now ≤ LINE_LENGTH → gathered self.new ≡ gathered self.old ++ more.now }
-        ensures short { length (gathered self.old) + length more.now ≤ LINE_LENGTH → is_too_long self.new ≡ is_too_long self.old }
-        ensures long { LINE_LENGTH < length (gathered self.old) + length more.now → is_too_long self.new ≡ true }
+        ensures { gathered self.new ≡ take TELLING_LENGTH (gathered self.old ++ more.now) }
     {
-        if self.bytes.try_extend_from_slice(more).is_err() {
-            self.is_long = true;
-        }
-    }
-
-    /// The next line begins.
-    pub fn clear(&mut self)
-        ensures empty { gathered self.new ≡ [] }
-        ensures short { is_too_long self.new ≡ false }
-    {
-        self.bytes.clear();
-        self.is_long = false;
-    }
-
-    /// The command of the line, if it isn't one that is skipped: an empty one or a comment, whatever bytes follow its
-    /// `#`. A line that is too long has no form, even if it begins as a comment does.
-    pub fn command(&self) -> Result<Option<Command>, Refusal>
-        ensures long { is_too_long self.now ≡ true → result ≡ Err Refusal.BadLine }
-        ensures empty { is_too_long self.now ≡ false → gathered self.now ≡ [] → result ≡ Ok None }
-        ensures comment { is_too_long self.now ≡ false → slice_get (gathered self.now) 0 ≡ Some COMMENT → result ≡ Ok None }
-    {
-        if self.is_long {
-            return Err(Refusal::BadLine);
-        }
-        match self.bytes.first() {
-            None | Some(&COMMENT) => return Ok(None),
-            Some(_) => {}
-        }
-        // No word has a byte that isn't ASCII, so it suffices that the line is text.
-        let Ok(text) = str::from_utf8(&self.bytes) else {
-            return Err(Refusal::BadLine);
+        let room = TELLING_LENGTH - self.bytes.len();
+        let told = if more.len() <= room {
+            more
+        } else {
+            &more[..room]
         };
-        match Command::parse(text) {
-            Some(command) => Ok(Some(command)),
-            None => Err(Refusal::BadLine),
+        match self.bytes.try_extend_from_slice(told) {
+            Ok(()) => {}
+            Err(_) => unreachable!(),
         }
+    }
+
+    /// What was read of it.
+    pub fn as_slice(&self) -> &[u8]
+        ensures { result.now ≡ gathered self.now }
+    {
+        self.bytes.as_slice()
     }
 }

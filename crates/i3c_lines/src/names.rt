@@ -6,7 +6,6 @@ use arrayvec::ArrayString;
 use i3c_base::{ADDRESSES, Addr7, SLOTS, Slot};
 use indexmap::IndexMap;
 use std::alloc::{AllocError, Global};
-use std::fmt;
 
 /// The longest name.
 const NAME_LENGTH: usize = 16;
@@ -41,11 +40,12 @@ impl Name {
         let text = ArrayString::from(word).ok()?;
         Some(Name { text })
     }
-}
 
-impl fmt::Display for Name {
-    fn fmt<W: fmt::Write>(&self, f: &mut fmt::Formatter<W>) -> fmt::Result {
-        f.write_str(self.text.as_str())
+    /// Its letters.
+    pub fn as_bytes(&self) -> &[u8]
+        ensures { result.now ≡ letters self.now }
+    {
+        self.text.as_bytes()
     }
 }
 
@@ -71,7 +71,7 @@ pub struct Names {
 
 impl Names {
     ghost use Rattle.std.specs.Prelude.{OnOk, Some, option_copied, slice_index_or, slice_set};
-    ghost use Rattle.i3c_lines.specs.Naming.{legacy_names, place_named, slot_named, slot_names};
+    ghost use Rattle.i3c_lines.specs.Naming.{Empties, GivesAlone, GivesSlot, legacy_names, place_named, slot_named, slot_names};
     ghost use Rattle.i3c_lines.specs.declared.names.Name.{Name};
 
     /// No names.
@@ -120,7 +120,7 @@ impl Names {
 
     /// Gives a name to the legacy target at a static address.
     pub fn give_address(&mut self, name: &Name, address: Addr7) -> Result<(), AllocError>
-        ensures given { OnOk result (place_named self.new name.now ≡ Some (Place.Legacy address)) }
+        ensures given { OnOk result (GivesAlone self.old self.new name.now (Place.Legacy address)) }
         ensures known { (other : Name) → IsSome (place_named self.old other) → IsSome (place_named self.new other) }
         ensures told { OnOk result (legacy_names self.new ≡ slice_set (legacy_names self.old) address (Some name.now)) }
         ensures slots { slot_names self.new ≡ slot_names self.old }
@@ -133,9 +133,10 @@ impl Names {
         Ok(())
     }
 
-    /// Gives a name to a slot. The name that the slot had before stays known, as one that is gone.
+    /// Gives a name to a slot. The name that the slot had before stays known, as one that is gone, unless it was given to
+    /// another place since.
     pub fn give_slot(&mut self, name: &Name, slot: Slot) -> Result<(), AllocError>
-        ensures given { OnOk result (place_named self.new name.now ≡ Some (Place.Slot slot)) }
+        ensures given { OnOk result (GivesSlot self.old self.new name.now slot) }
         ensures known { (other : Name) → IsSome (place_named self.old other) → IsSome (place_named self.new other) }
         ensures told { OnOk result (slot_names self.new ≡ slice_set (slot_names self.old) slot (Some name.now)) }
         ensures legacies { legacy_names self.new ≡ legacy_names self.old }
@@ -152,6 +153,7 @@ impl Names {
     /// Whoever stands in the slot of this number is gone, unless the name stands elsewhere now.
     fn empty(&mut self, number: usize, place: &Place) -> Result<(), AllocError>
         requires { number < SLOTS }
+        ensures emptied { OnOk result (Empties self.old self.new number place.now) }
         ensures known { (other : Name) → IsSome (place_named self.old other) → IsSome (place_named self.new other) }
         ensures slots { slot_names self.new ≡ slot_names self.old }
         ensures legacies { legacy_names self.new ≡ legacy_names self.old }

@@ -1,10 +1,9 @@
-ghost use Rattle.std.specs.Prelude.{◌≡◌, ◌<◌, true, [], ◌∷◌};
-ghost use Rattle.std.specs.Fmt.{WritesOnOk, digit_glyph};
-ghost use Rattle.i3c_lines.specs.Hex.{byte_text};
+ghost use Rattle.std.specs.Prelude.{◌≡◌, ◌++◌, OnOk};
 
+use crate::text::Text;
 use i3c_base::Addr7;
 use i3c_legacy::LegacyFault;
-use std::fmt;
+use std::alloc::AllocError;
 
 /// Why a line was refused. A refused line changes nothing but the cuts that wait, which a frame's line takes. It is
 /// printed by this name.
@@ -44,7 +43,7 @@ pub enum Refusal {
 }
 
 impl Refusal {
-    ghost use Rattle.i3c_lines.specs.Refusing.{refusal_word};
+    ghost use Rattle.i3c_lines.specs.Refusing.{refusal_text, refusal_word};
 
     /// Its name, as it is printed.
     fn word(&self) -> &'static str
@@ -75,45 +74,20 @@ impl Refusal {
             Refusal::NoEnd => "NoEnd",
         }
     }
-}
 
-impl fmt::Display for Refusal {
-    ghost use Rattle.std.specs.Prelude.{Some};
-    ghost use Rattle.i3c_lines.specs.Refusing.{refusal_text};
-
-    ghost output = { λ refusal. Some (refusal_text refusal) };
-
-    fn fmt<W: fmt::Write>(&self, f: &mut fmt::Formatter<W>) -> fmt::Result {
-        f.write_str(self.word())?;
+    /// Appends it to a text: its name, and the address that it is about.
+    pub fn push(&self, text: &mut Text) -> Result<(), AllocError>
+        ensures { OnOk result (text.new ≡ text.old ++ refusal_text self.now) }
+    {
+        text.push(self.word().as_bytes())?;
         match self {
             Refusal::NoAnswer(address) => {
-                f.write_str(" ")?;
-                write_byte(f, address.get())
+                text.push(b" ")?;
+                text.push_byte(address.get())
             }
-            _ => f.write_str(""),
+            _ => Ok(()),
         }
     }
-}
-
-/// Writes a byte as two digits.
-fn write_byte<W: fmt::Write>(f: &mut fmt::Formatter<W>, byte: u8) -> fmt::Result
-    ensures { WritesOnOk W.write_str_gives f.old result (byte_text byte) f.new }
-{
-    write_digit(f, byte / 16)?;
-    write_digit(f, byte % 16)
-}
-
-/// Writes a digit, in upper case.
-fn write_digit<W: fmt::Write>(f: &mut fmt::Formatter<W>, value: u8) -> fmt::Result
-    requires { value < 16 }
-    ensures { WritesOnOk W.write_str_gives f.old result (digit_glyph true value ∷ []) f.new }
-{
-    let digit = if value < 10 {
-        b'0' + value
-    } else {
-        b'A' + (value - 10)
-    };
-    f.write_char(char::from(digit))
 }
 
 impl From<LegacyFault> for Refusal {

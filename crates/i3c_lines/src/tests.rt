@@ -1,4 +1,4 @@
-use crate::{Name, Names, Refusal};
+use crate::{Name, Names, Refusal, Text};
 use i3c_base::{Addr7, Slot};
 use std::test::Fail;
 
@@ -39,8 +39,23 @@ fn words_of_refusals(rt: HostRuntime) -> Result<(), Fail> {
         (Refusal::NoAnswer(Addr7::new(0x7E)?), "NoAnswer 7E"),
     ];
     for (refusal, wanted) in cases {
-        let word = format!(in rt.alloc(); "{refusal}")?;
-        assert_eq!(rt; word.as_str(), wanted);
+        let mut text = Text::new(rt.alloc());
+        refusal.push(&mut text)?;
+        assert_eq!(rt; text.as_bytes(), wanted.as_bytes());
     }
+    Ok(())
+}
+
+// Numbers as they are printed.
+#[test]
+fn numerals(rt: HostRuntime) -> Result<(), Fail> {
+    let mut text = Text::new(rt.alloc());
+    text.push_decimal(0)?;
+    text.push_decimal(u64::MAX)?;
+    text.push_byte(0xA5)?;
+    text.push_bytes(&[0x00, 0xFF])?;
+    text.push_hex(0x0204_0000_00BE, 12)?;
+    let wanted = b"018446744073709551615A500FF0204000000BE";
+    assert_eq!(rt; text.as_bytes(), wanted.as_slice());
     Ok(())
 }

@@ -3,3 +3,4 @@ pub mod Slots
 pub mod Stops
 pub mod Asking
 pub mod Printed
+pub mod Outcomes

@@ -1,12 +1,12 @@
 ghost use Rattle.std.specs.Prelude.{◌≡◌};
 ghost use Rattle.i3c_scenario.specs.Stops.{bus_refusal};
-ghost use Rattle.i3c_scenario.specs.declared.faults.Stop.TheVariants.{Refused, Memory, Write};
+ghost use Rattle.i3c_scenario.specs.declared.faults.Stop.TheVariants.{Refused, Memory};
 
 use i3c_base::{Answer, RoundReply};
 use i3c_bus::Reply;
 use i3c_lines::Refusal;
 use std::alloc::AllocError;
-use std::io;
+use std::fmt;
 use thiserror::Error;
 
 /// Why a script's run ended early. The lines before it were run, and what they print was written.
@@ -33,8 +33,6 @@ pub(crate) enum Stop {
     Refused(Refusal),
     /// There was no memory for it, and the run ends.
     Memory,
-    /// What it prints could not be written, and the run ends.
-    Write,
 }
 
 impl From<Refusal> for Stop {
@@ -53,12 +51,12 @@ impl From<AllocError> for Stop {
     }
 }
 
-// The errors of IO that reach a line are those of its writes.
-impl From<io::Error> for Stop {
-    ghost from_gives = { λ _ stop. stop ≡ Write };
+// The errors of formatting are those of a line's text.
+impl From<fmt::Error> for Stop {
+    ghost from_gives = { λ _ stop. stop ≡ Memory };
 
-    fn from(_error: io::Error) -> Stop {
-        Stop::Write
+    fn from(_error: fmt::Error) -> Stop {
+        Stop::Memory
     }
 }
 

@@ -2,11 +2,12 @@
 //!
 //! A line of one event takes one path: `asking` reads it to an event, `running` has the bus answer, `telling` prints the
 //! reply; `daa` takes it for each event of a whole session. `stage` is where a script stands, before its bus and with it;
-//! `script` reads the bytes, parts them into lines and counts the refusals.
+//! `script` reads the bytes, parts them into lines and counts the refusals, `output` writes what a line printed.
 #![tactic(auto)]
 
 mod asking;
 mod faults;
+mod output;
 mod running;
 mod script;
 mod show;

@@ -1,10 +1,10 @@
 use crate::faults::Stop;
 use crate::telling::{Origin, tell};
 use crate::{ScriptFault, Tally, run_script};
-use i3c_base::{Addr7, Answer, RoundReply, Served, Slot};
+use i3c_base::{Addr7, Answer, RoundReply, Served};
 use i3c_bus::{Event, Framed, Reply};
 use i3c_frame::read_trace;
-use i3c_lines::{Name, Names, Refusal};
+use i3c_lines::{Names, Refusal, Text};
 use std::alloc::Global;
 use std::io::{ErrorKind, Read, Write};
 use std::process::Abort;
@@ -828,6 +828,10 @@ fn texts_of_replies(rt: HostRuntime) -> Result<(), Fail> {
         served: Served::Torn,
         answer: Answer::NoEnd,
     };
+    let read = Framed {
+        served: Served::Quiet,
+        answer: Answer::Bytes([0, 1, 2, 3, 4, 5, 6, 7, 8, 9, 10, 11, 12, 13, 14, 255]),
+    };
     let silent = Stop::Refused(Refusal::NoEnd);
     let none_left = Stop::Refused(Refusal::NoAddress);
     let (line, daa) = (Origin::Line, Origin::Daa);
@@ -855,6 +859,12 @@ fn texts_of_replies(rt: HostRuntime) -> Result<(), Fail> {
             None,
         ),
         (line, Reply::Framed(unanswered), "torn\n", Some(silent)),
+        (
+            line,
+            Reply::Framed(read),
+            "bytes 000102030405060708090A0B0C0D0EFF\n",
+            None,
+        ),
         (line, Reply::Round(RoundReply::Nobody), "nobody\n", None),
         (
             daa,
@@ -868,9 +878,9 @@ fn texts_of_replies(rt: HostRuntime) -> Result<(), Fail> {
     ];
     let names = Names::new(rt.alloc());
     for (origin, reply, wanted, stop) in cases {
-        let mut printed = Vec::new(rt.alloc());
+        let mut printed = Text::new(rt.alloc());
         let told = tell(&names, origin, &Event::EndDaa, &reply, &mut printed);
-        assert_eq!(rt; printed.as_slice(), wanted.as_bytes());
+        assert_eq!(rt; printed.as_bytes(), wanted.as_bytes());
         assert_eq!(rt; told.err(), stop);
     }
     Ok(())
