@@ -1,32 +1,38 @@
--- What two writes in a row append.
-use Rattle.std.proofs.Common.{◌≡◌, ◌⊎◌, ℕ, List, [], ◌∷◌, ◌++◌, codes, Option, Some, None, Result, Ok, Err, ◌∙◌, ap, inl, inr, refl}
-use Rattle.std.proofs.lemmas.List.{append_assoc}
-use Rattle.std.specs.Option.{IfSome}
+-- What several writes in a row append.
+use Rattle.std.proofs.Common.{◌≡◌, ◌∙◌, ℕ, zero, suc, ◌+◌, List, [], ◌∷◌, ◌++◌, arith, take, drop, Option, Some, None, Result, Ok, Err, ap, subst, sym}
+use Rattle.std.proofs.lemmas.List.{append_assoc, take_all}
 use Rattle.std.specs.Result.{OnOk}
-use Rattle.std.specs.Fmt.{option_append}
-use Rattle.std.specs.Io.KnownBytes.{Appends}
-use Rattle.i3c_base.specs.declared.answers.Answer.{Answer}
-use Rattle.i3c_scenario.specs.Printed.{answer_text}
+use Rattle.std.specs.Io.KnownBytes.{Appends, Keeps}
 
-appends_both : (a b c : Option (List ℕ)) (first last : List ℕ) → Appends a b first → Appends b c last → Appends a c (first ++ last)
+pub appends_both : (a b c : Option (List ℕ)) (first last : List ℕ) → Appends a b first → Appends b c last → Appends a c (first ++ last)
 appends_both None b c first last one two = tt
 appends_both (Some xs) None c first last one two = absurd one
 appends_both (Some xs) (Some ys) None first last one two = absurd two
 appends_both (Some xs) (Some ys) (Some zs) first last one two = two ∙ ap (λ bytes. bytes ++ last) one ∙ append_assoc xs first last
 
--- some text, where it is known, and then a text that is
-pub appends_more : (a b c : Option (List ℕ)) (text : Option (List ℕ)) (last : List ℕ) → IfSome text (Appends a b) → Appends b c last → IfSome (option_append text (Some last)) (Appends a c)
-appends_more a b c None last one two = tt
-appends_more a b c (Some first) last one two = appends_both a b c first last one two
+take_more : (n m : ℕ) (text : List ℕ) → take n text ++ take m (drop n text) ≡ take (n + m) text
+take_more zero m text = let e : m ≡ zero + m = omega arith in ap (λ k. take k text) e
+take_more (suc n) m [] = take_all m [] (omega arith) ∙ sym (take_all (suc n + m) [] (omega arith))
+take_more (suc n) m (x ∷ text) = let e : suc (n + m) ≡ suc n + m = omega arith in ap (λ xs. x ∷ xs) (take_more n m text) ∙ ap (λ k. take k (x ∷ text)) e
+
+-- a text is written in pieces
+pub more_written : (a b c : Option (List ℕ)) (text : List ℕ) (n m : ℕ) → Appends a b (take n text) → Appends b c (take m (drop n text)) → Appends a c (take (n + m) text)
+more_written a b c text n m one two = subst (Appends a c) (take_more n m text) (appends_both a b c (take n text) (take m (drop n text)) one two)
+
+-- a writer that fails takes nothing
+pub still_written : (a b c : Option (List ℕ)) (text : List ℕ) → Appends a b text → Keeps b c → Appends a c text
+still_written None b c text one kept = tt
+still_written (Some xs) None c text one kept = absurd one
+still_written (Some xs) (Some ys) None text one kept = absurd kept
+still_written (Some xs) (Some ys) (Some zs) text one kept = kept ∙ one
 
 -- what follows from a fact of success
 pub on_ok : {E : Type 0} → {P : Type 0} → {Q : Type 0} → (r : Result (Unit {0}) E) → (P → Q) → OnOk r P → OnOk r Q
 on_ok (Ok done) f h = f h
 on_ok (Err e) f h = tt
 
--- an own part that was carried out
-pub done_text : (answer : Answer) → (answer ≡ Answer.Done) ⊎ ((bytes : List ℕ) × (answer ≡ Answer.Bytes bytes)) → codes "done" ++ 10 ∷ [] ≡ answer_text answer
-done_text Answer.Done h = refl
-done_text (Answer.Bytes bytes) h = refl
-done_text (Answer.NoAnswer a) h = absurd (elim h [ inl e ↦ cc | inr (bytes, e) ↦ cc ])
-done_text Answer.NoEnd h = absurd (elim h [ inl e ↦ cc | inr (bytes, e) ↦ cc ])
+-- four texts, one behind the other
+pub four : (t a b c d x1 x2 x3 x4 : List ℕ) → x1 ≡ t ++ a → x2 ≡ x1 ++ b → x3 ≡ x2 ++ c → x4 ≡ x3 ++ d → x4 ≡ t ++ (a ++ (b ++ (c ++ d)))
+four t a b c d x1 x2 x3 x4 e1 e2 e3 e4 =
+    e4 ∙ ap (λ x. x ++ d) (e3 ∙ ap (λ x. x ++ c) (e2 ∙ ap (λ x. x ++ b) e1))
+    ∙ append_assoc ((t ++ a) ++ b) c d ∙ append_assoc (t ++ a) b (c ++ d) ∙ append_assoc t a (b ++ (c ++ d))

@@ -1,5 +1,6 @@
--- The event that a line asks for, and the cuts that it takes or leaves.
-use Rattle.std.specs.Prelude.{◌≡◌, ◌⊎◌, ℕ, List, [], ◌∷◌, Option, Some, None, Result, Ok, Err, if◌then◌else◌, is_some, slice_set}
+-- The event that a line asks for, what the line comes to, and the cuts that it takes or leaves.
+use Rattle.std.specs.Prelude.{◌≡◌, ◌⊎◌, ℕ, Bool, true, false, List, [], ◌∷◌, length, Option, Some, None, Result, Ok, Err, IfErr, if◌then◌else◌, is_some, slice_set}
+use Rattle.i3c_base.specs.declared.answers.RoundReply.{RoundReply}
 use Rattle.i3c_base.specs.declared.device.Setup.{Setup}
 use Rattle.i3c_base.specs.declared.range.TheConstants.{SLOTS}
 use Rattle.i3c_base.specs.declared.requests.Fixed.{Fixed}
@@ -8,14 +9,15 @@ use Rattle.i3c_base.specs.State.{State, IsPresent, device_at}
 use Rattle.i3c_step.specs.declared.events.Event.{Event}
 use Rattle.i3c_step.specs.declared.replies.Reply.{Reply}
 use Rattle.i3c_step.specs.Step.{Step}
-use Rattle.i3c_scenario.specs.declared.command.Command.{Command}
-use Rattle.i3c_scenario.specs.declared.command.Wish.{Wish}
-use Rattle.i3c_scenario.specs.declared.faults.Refusal.{Refusal}
+use Rattle.i3c_lines.specs.declared.command.Command.{Command}
+use Rattle.i3c_lines.specs.declared.command.Wish.{Wish}
+use Rattle.i3c_lines.specs.declared.refusals.Refusal.{Refusal}
 use Rattle.i3c_scenario.specs.declared.faults.Stop.{Stop}
-use Rattle.i3c_scenario.specs.declared.names.Names.{Names}
-use Rattle.i3c_scenario.specs.declared.names.Place.{Place}
-use Rattle.i3c_scenario.specs.Naming.{place_named, slot_named}
+use Rattle.i3c_lines.specs.declared.names.Names.{Names}
+use Rattle.i3c_lines.specs.declared.names.Place.{Place}
+use Rattle.i3c_lines.specs.Naming.{place_named, slot_named}
 use Rattle.i3c_scenario.specs.Slots.{AllPresentBelow}
+use Rattle.i3c_scenario.specs.Stops.{reply_stop}
 
 -- a script with a bus: the bus's state, which requests its frames accept, and the cuts that wait for the next frame
 pub record Ran : Type 0 where
@@ -69,33 +71,94 @@ abbrev pub AsksForNone : Ran → Names → Wish → Stop → Type 0
 AsksForNone ran names (Wish.Attach name setup) stop = IsRefused ran names (Wish.Attach name setup) stop ⊎ (stop ≡ Stop.Memory)
 AsksForNone ran names wish stop = IsRefused ran names wish stop
 
--- the event that a line asks for is carried out, or there is none and nothing changes
-abbrev pub CarriesOrNot : Ran → Names → Wish → State → Type 0
-CarriesOrNot ran names wish new = ((new ≡ ran.state) × ((stop : Stop) × AsksForNone ran names wish stop)) ⊎ ((reply : Reply) × Carries ran names wish reply new)
+-- the slot of the present device that a name at this place stands for
+abbrev pub device_in : State → Result ℕ Refusal → Result ℕ Refusal
+device_in st (Ok slot) = if is_some (device_at st slot) then Ok slot else Err Refusal.NoDevice
+device_in st (Err why) = Err why
 
--- rounds without cuts, with these replies, the newest first
+abbrev pub device_named : State → Option Place → Result ℕ Refusal
+device_named st place = device_in st (slot_named place)
+
+-- what a line comes to that names a device and does no more
+abbrev pub comes_to : Result ℕ Refusal → Result (Unit {0}) Stop
+comes_to (Ok slot) = Ok (tt {0})
+comes_to (Err why) = Err (Stop.Refused why)
+
+-- the line stops so: it asks for no event and nothing changes, or its event is carried out, and its reply is that, or memory is short for what it prints
+abbrev pub StopsAt : Ran → Names → Wish → Stop → State → Type 0
+StopsAt ran names wish stop new = ((new ≡ ran.state) × AsksForNone ran names wish stop)
+    ⊎ ((reply : Reply) × Carries ran names wish reply new × ((stop ≡ Stop.Memory) ⊎ (reply_stop reply ≡ Some stop)))
+
+-- what a line that is one event comes to
+abbrev pub Does : Ran → Names → Wish → Result (Unit {0}) Stop → State → Type 0
+Does ran names wish (Ok done) new = (reply : Reply) × Carries ran names wish reply new × (reply_stop reply ≡ None)
+Does ran names wish (Err stop) new = StopsAt ran names wish stop new
+
+-- a round's reply after which there is another: an address was given, or its acknowledgment was missing
+abbrev pub goes_on : Reply → Bool
+goes_on (Reply.Round (RoundReply.Assigned a identity)) = true
+goes_on (Reply.Round RoundReply.Nobody) = true
+goes_on (Reply.Round RoundReply.Done) = false
+goes_on (Reply.Round RoundReply.NoAddress) = false
+goes_on (Reply.Refused why) = false
+goes_on Reply.OutOfMemory = false
+goes_on Reply.Attached = false
+goes_on Reply.Dropped = false
+goes_on (Reply.Raised number) = false
+goes_on Reply.Asked = false
+goes_on (Reply.Served served) = false
+goes_on (Reply.Framed framed) = false
+goes_on (Reply.Opened served) = false
+goes_on Reply.Ended = false
+
+-- after each of these rounds there is another
+abbrev pub GoOn : List Reply → Type 0
+GoOn [] = Unit {0}
+GoOn (reply ∷ earlier) = (goes_on reply ≡ true) × GoOn earlier
+
+-- rounds without cuts, with these replies, the newest first, of which each but the newest goes on
 abbrev pub Rounds : List Reply → State → State → Type 0
 Rounds [] old new = new ≡ old
-Rounds (reply ∷ earlier) old new = (mid : State) × Rounds earlier old mid × Step mid (Event.Round no_cuts) reply new
+Rounds (reply ∷ earlier) old new = (mid : State) × Rounds earlier old mid × GoOn earlier × Step mid (Event.Round no_cuts) reply new
 
--- rounds without cuts, and then the end of their session
-abbrev pub RoundsAndEnd : State → State → Type 0
-RoundsAndEnd old new = (last : State) × ((replies : List Reply) × Rounds replies old last) × ((ended : Reply) × Step last Event.EndDaa ended new)
+-- the newest of these rounds is the last, or there were as many as slots
+abbrev pub AreOver : List Reply → Type 0
+AreOver [] = ⊥
+AreOver (reply ∷ earlier) = (goes_on reply ≡ false) ⊎ (length (reply ∷ earlier) ≡ SLOTS)
 
--- `daa`: an opening with these cuts, and, unless the line stops there, rounds without cuts and an end
-abbrev pub Assigns : State → CutList → State → Type 0
-Assigns old cuts new = (opened : State) × ((reply : Reply) × Step old (Event.OpenDaa cuts) reply opened) × ((new ≡ opened) ⊎ RoundsAndEnd opened new)
+-- why a line has no further round: they are over, or memory is short for what it prints
+abbrev pub EndsRounds : Result (Unit {0}) Stop → List Reply → Type 0
+EndsRounds (Ok done) replies = AreOver replies
+EndsRounds (Err Stop.Memory) replies = Unit {0}
+EndsRounds (Err (Stop.Refused why)) replies = AreOver replies
 
--- what a line does to the bus, be it refused or not
-abbrev pub Moves : Ran → Names → Command → State → Type 0
-Moves ran names (Command.Event wish) new = CarriesOrNot ran names wish new
-Moves ran names Command.Daa new = Assigns ran.state ran.cuts new
-Moves ran names (Command.Cut name bit) new = new ≡ ran.state
-Moves ran names (Command.Legacy name address lvr) new = new ≡ ran.state
-Moves ran names (Command.Main name setup) new = new ≡ ran.state
-Moves ran names (Command.Policy policy) new = new ≡ ran.state
-Moves ran names Command.Show new = new ≡ ran.state
-Moves ran names Command.Symbols new = new ≡ ran.state
+-- rounds without cuts, up to the last
+abbrev pub RoundsUp : Result (Unit {0}) Stop → State → State → Type 0
+RoundsUp result old new = (replies : List Reply) × Rounds replies old new × EndsRounds result replies
+
+-- the same, and then the end of their session
+abbrev pub RoundsAndEnd : Result (Unit {0}) Stop → State → State → Type 0
+RoundsAndEnd result old new = (last : State) × RoundsUp result old last × ((ended : Reply) × Step last Event.EndDaa ended new)
+
+-- what follows an opening: nothing where it is refused, or where memory is short for what it prints, and else its session
+abbrev pub Follows : Reply → Result (Unit {0}) Stop → State → State → Type 0
+Follows reply result opened new = ((new ≡ opened) × ((result ≡ Err Stop.Memory) ⊎ ((stop : Stop) × (reply_stop reply ≡ Some stop) × (result ≡ Err stop))))
+    ⊎ ((reply_stop reply ≡ None) × RoundsAndEnd result opened new)
+
+-- `daa`: an opening with these cuts, and what follows it
+abbrev pub Assigns : State → CutList → Result (Unit {0}) Stop → State → Type 0
+Assigns old cuts result new = (opened : State) × (reply : Reply) × Step old (Event.OpenDaa cuts) reply opened × Follows reply result opened new
+
+-- what a line comes to and does to the bus
+abbrev pub Moves : Ran → Names → Command → Result (Unit {0}) Stop → State → Type 0
+Moves ran names (Command.Event wish) result new = Does ran names wish result new
+Moves ran names Command.Daa result new = Assigns ran.state ran.cuts result new
+Moves ran names (Command.Cut name bit) result new = (new ≡ ran.state) × (result ≡ comes_to (device_named ran.state (place_named names name)))
+Moves ran names (Command.Legacy name address lvr) result new = (new ≡ ran.state) × (result ≡ Err (Stop.Refused Refusal.BusMade))
+Moves ran names (Command.Main name setup) result new = (new ≡ ran.state) × (result ≡ Err (Stop.Refused Refusal.BusMade))
+Moves ran names (Command.Policy policy) result new = (new ≡ ran.state) × (result ≡ Ok (tt {0}))
+Moves ran names Command.Show result new = (new ≡ ran.state) × IfErr result (λ stop. stop ≡ Stop.Memory)
+Moves ran names Command.Symbols result new = (new ≡ ran.state) × IfErr result (λ stop. stop ≡ Stop.Memory)
 
 -- the cuts that wait after an event's line: a frame uses them up
 abbrev pub cuts_left : Wish → CutList → CutList
@@ -110,23 +173,10 @@ cuts_left Wish.Open cuts = no_cuts
 cuts_left Wish.Round cuts = no_cuts
 cuts_left Wish.End cuts = cuts
 
--- the slot of the present device that a name at this place stands for
-abbrev pub device_in : State → Result ℕ Refusal → Result ℕ Refusal
-device_in st (Ok slot) = if is_some (device_at st slot) then Ok slot else Err Refusal.NoDevice
-device_in st (Err why) = Err why
-
-abbrev pub device_named : State → Option Place → Result ℕ Refusal
-device_named st place = device_in st (slot_named place)
-
 -- the same cuts, and one more, if the name stands for a device
 abbrev pub cut_named : Result ℕ Refusal → ℕ → CutList → CutList
 cut_named (Ok slot) bit cuts = slice_set cuts slot (Some (earlier (cut_of cuts slot) bit))
 cut_named (Err why) bit cuts = cuts
-
--- what a line comes to that names a device and does no more
-abbrev pub comes_to : Result ℕ Refusal → Result (Unit {0}) Stop
-comes_to (Ok slot) = Ok (tt {0})
-comes_to (Err why) = Err (Stop.Refused why)
 
 -- the cuts that wait after a line, be it refused or not
 abbrev pub cuts_after : Ran → Names → Command → CutList

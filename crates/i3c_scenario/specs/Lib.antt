@@ -1,9 +1,6 @@
-pub mod Words
-pub mod Naming
-pub mod Policies
 pub mod Reading
 pub mod Slots
 pub mod Stops
 pub mod Asking
-pub mod Hex
 pub mod Printed
+pub mod Outcomes

@@ -4,7 +4,7 @@ use Rattle.i3c_base.specs.declared.answers.Answer.{Answer}
 use Rattle.i3c_base.specs.declared.answers.RoundReply.{RoundReply}
 use Rattle.i3c_step.specs.declared.replies.Refusal.{Refusal as BusRefusal}
 use Rattle.i3c_step.specs.declared.replies.Reply.{Reply}
-use Rattle.i3c_scenario.specs.declared.faults.Refusal.{Refusal}
+use Rattle.i3c_lines.specs.declared.refusals.Refusal.{Refusal}
 use Rattle.i3c_scenario.specs.declared.faults.ScriptFault.{ScriptFault}
 use Rattle.i3c_scenario.specs.declared.faults.Stop.{Stop}
 
@@ -56,17 +56,8 @@ reply_stop Reply.Ended = None
 abbrev pub IsLineFault : ScriptFault → Type 0
 IsLineFault fault = (fault ≡ ScriptFault.Memory) ⊎ (fault ≡ ScriptFault.Write)
 
--- what the run comes to after a line: on with the next, or its fault; a refusal that can't be printed is one
-abbrev pub EndsLine : Result (Unit {0}) Stop → Result (Unit {0}) ScriptFault → Type 0
-EndsLine (Ok done) ended = ended ≡ Ok done
-EndsLine (Err Stop.Memory) ended = ended ≡ Err ScriptFault.Memory
-EndsLine (Err Stop.Write) ended = ended ≡ Err ScriptFault.Write
-EndsLine (Err (Stop.Refused why)) (Ok done) = Unit {0}
-EndsLine (Err (Stop.Refused why)) (Err fault) = fault ≡ ScriptFault.Write
-
 -- how many refusals a line came to
 abbrev pub refusals : Result (Unit {0}) Stop → ℕ
 refusals (Ok done) = 0
 refusals (Err Stop.Memory) = 0
-refusals (Err Stop.Write) = 0
 refusals (Err (Stop.Refused why)) = 1

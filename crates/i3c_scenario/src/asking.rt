@@ -2,14 +2,12 @@ ghost use Rattle.std.specs.Prelude.{◌≡◌, ◌↔◌, IsTrue, MatchOption};
 ghost use Rattle.i3c_base.specs.Cutting.{no_cuts};
 ghost use Rattle.i3c_base.specs.State.{IsPresent};
 ghost use Rattle.i3c_scenario.specs.Asking.{Asked, Attaches, IsTaken, cuts_left, device_named};
-ghost use Rattle.i3c_scenario.specs.Naming.{place_named};
+ghost use Rattle.i3c_lines.specs.Naming.{place_named};
 ghost use Rattle.i3c_scenario.specs.Slots.{AllPresentBelow};
 
-use crate::command::{Choice, Wish};
-use crate::faults::Refusal;
-use crate::names::{Name, Names, Place};
 use i3c_base::{Cuts, Fixed, SLOTS, Setup, Slot};
 use i3c_bus::{Bus, Event};
+use i3c_lines::{Choice, Name, Names, Place, Refusal, Wish};
 use std::mem;
 
 /// The event that a line asks for, with its names as slots, or why it asks for none. A frame takes the cuts that wait

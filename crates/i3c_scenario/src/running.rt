@@ -1,16 +1,16 @@
+ghost use Rattle.std.specs.Prelude.{◌≡◌};
+ghost use Rattle.i3c_scenario.specs.Asking.{goes_on};
+
 use crate::asking::{event_of, slot_of_device};
-use crate::command::{Command, Wish};
-use crate::faults::{Refusal, Stop};
-use crate::names::{Name, Names};
-use crate::policies::ACCEPT_ALL;
+use crate::faults::Stop;
 use crate::show::show;
 use crate::telling::{Origin, tell};
 use crate::wires::Wires;
 use i3c_base::{Cuts, Fixed, RoundReply, SLOTS, Setup};
 use i3c_bus::{Bus, Event, Hand, Reply};
 use i3c_legacy::Legacies;
+use i3c_lines::{ACCEPT_ALL, Command, Name, Names, Refusal, Text, Wish};
 use std::alloc::Global;
-use std::io::Write;
 use std::marker::Model;
 use std::mem;
 
@@ -40,16 +40,16 @@ impl Model for Running {
 }
 
 impl Running {
-    ghost use Rattle.std.specs.Prelude.{◌≡◌, true, List, Ok, MatchResult};
+    ghost use Rattle.std.specs.Prelude.{◌≡◌, true, None, Ok, MatchResult};
     ghost use Rattle.i3c_base.specs.Numbers.{is_capable};
     ghost use Rattle.i3c_base.specs.Cutting.{no_cuts};
     ghost use Rattle.i3c_base.specs.State.{IsStart, legacy_targets_of};
     ghost use Rattle.i3c_base.specs.declared.requests.Verdict.TheVariants.{Accept};
     ghost use Rattle.i3c_step.specs.Step.{Step};
-    ghost use Rattle.i3c_scenario.specs.Asking.{AsksForNone, Asked, Assigns, Carries, CarriesOrNot, Moves, Rounds, comes_to, cut_named, cuts_after, cuts_left, device_named};
-    ghost use Rattle.i3c_step.specs.declared.replies.Reply.{Reply as ReplyValue};
-    ghost use Rattle.i3c_scenario.specs.Naming.{place_named};
-    ghost use Rattle.i3c_scenario.specs.Policies.{each_kind};
+    ghost use Rattle.i3c_scenario.specs.Asking.{AsksForNone, Asked, Assigns, Carries, Moves, RoundsAndEnd, RoundsUp, StopsAt, comes_to, cut_named, cuts_after, cuts_left, device_named};
+    ghost use Rattle.i3c_lines.specs.Naming.{place_named};
+    ghost use Rattle.i3c_lines.specs.Policies.{each_kind};
+    ghost use Rattle.i3c_scenario.specs.Stops.{reply_stop};
 
     /// A bus with this main controller, whose frames accept each request.
     pub fn new(alloc: Global, main: Setup, legacies: Legacies, wires: Wires) -> Running
@@ -78,30 +78,32 @@ impl Running {
     }
 
     /// Obeys a line, and prints what came of it.
-    pub fn obey<W: Write>(
+    pub fn obey(
         &mut self,
         names: &mut Names,
         command: &Command,
-        out: &mut W,
+        text: &mut Text,
     ) -> Result<(), Stop>
-        // each refused or not
-        ensures moves { Moves self.old names.old command.now self.new.state }
+        ensures moves { Moves self.old names.old command.now result self.new.state }
+        // refused or not
         ensures cuts { self.new.cuts ≡ cuts_after self.old names.old command.now }
     {
         match command {
             Command::Legacy { .. } | Command::Main { .. } => Err(Refusal::BusMade.into()),
             Command::Event(wish) => {
-                self.carry_out(names, Origin::Line, wish, out)?;
-                Ok(())
+                match self.carry_out(names, Origin::Line, wish, text) {
+                    Ok(_) => Ok(()),
+                    Err(stop) => Err(stop),
+                }
             }
             Command::Policy(named) => {
                 self.policy = *named;
                 Ok(())
             }
             Command::Cut { name, bit } => self.cut(names, name, *bit),
-            Command::Daa => self.assign(names, out),
-            Command::Show => show(&self.bus, names, out).map_err(Stop::from),
-            Command::Symbols => self.wires.show(out).map_err(Stop::from),
+            Command::Daa => self.assign(names, text),
+            Command::Show => show(&self.bus, names, text).map_err(Stop::from),
+            Command::Symbols => self.wires.show(text).map_err(Stop::from),
         }
     }
 
@@ -119,21 +121,21 @@ impl Running {
 
     /// One event, by a line of its own or as a part of `daa`: the wish is read to the event, the bus answers, and the
     /// reply is printed.
-    fn carry_out<W: Write>(
+    fn carry_out(
         &mut self,
         names: &mut Names,
         origin: Origin,
         wish: &Wish,
-        out: &mut W,
+        text: &mut Text,
     ) -> Result<Reply, Stop>
         ensures policy { self.new.policy ≡ self.old.policy }
         ensures cuts { self.new.cuts ≡ cuts_left wish.now self.old.cuts }
         ensures carried { MatchResult result
-            (λ reply. Carries self.old names.old wish.now reply self.new.state)
-            (λ _. CarriesOrNot self.old names.old wish.now self.new.state) }
+            (λ reply. Carries self.old names.old wish.now reply self.new.state × (reply_stop reply ≡ None))
+            (λ stop. StopsAt self.old names.old wish.now stop self.new.state) }
     {
         let (event, reply) = self.answer(names, wish)?;
-        tell(names, origin, &event, &reply, out)?;
+        tell(names, origin, &event, &reply, text)?;
         Ok(reply)
     }
 
@@ -176,29 +178,48 @@ impl Running {
 
     /// `daa`: opens a session, runs its rounds and ends it. Whoever asks while it is opened is turned down. The cuts that
     /// wait are its opening's.
-    fn assign<W: Write>(&mut self, names: &mut Names, out: &mut W) -> Result<(), Stop>
-        ensures assigns { Assigns self.old.state self.old.cuts self.new.state }
+    fn assign(&mut self, names: &mut Names, text: &mut Text) -> Result<(), Stop>
+        ensures assigns { Assigns self.old.state self.old.cuts result self.new.state }
         ensures policy { self.new.policy ≡ self.old.policy }
         ensures cuts { self.new.cuts ≡ no_cuts }
     {
-        self.carry_out(names, Origin::Daa, &Wish::Open, out)?;
-        let outcome = self.rounds(names, out);
-        self.carry_out(names, Origin::Daa, &Wish::End, out)?;
-        outcome
+        match self.carry_out(names, Origin::Daa, &Wish::Open, text) {
+            Ok(_) => self.finish(names, text),
+            Err(stop) => Err(stop),
+        }
+    }
+
+    /// Runs the rounds of a session and ends it, whatever they came to.
+    fn finish(&mut self, names: &mut Names, text: &mut Text) -> Result<(), Stop>
+        requires uncut { self.old.cuts ≡ no_cuts }
+        ensures session { RoundsAndEnd result self.old.state self.new.state }
+        ensures policy { self.new.policy ≡ self.old.policy }
+        ensures cuts { self.new.cuts ≡ no_cuts }
+    {
+        let outcome = self.rounds(names, text);
+        let ended = self.carry_out(names, Origin::Daa, &Wish::End, text);
+        match outcome {
+            Err(stop) => Err(stop),
+            Ok(()) => match ended {
+                Ok(_) => Ok(()),
+                Err(stop) => Err(stop),
+            },
+        }
     }
 
     /// Runs the rounds of a session, and prints each, until nobody hears it any more or no address is left.
-    fn rounds<W: Write>(&mut self, names: &mut Names, out: &mut W) -> Result<(), Stop>
+    fn rounds(&mut self, names: &mut Names, text: &mut Text) -> Result<(), Stop>
         requires uncut { self.old.cuts ≡ no_cuts }
-        ensures rounds { (replies : List ReplyValue) × Rounds replies self.old.state self.new.state }
+        ensures rounds { RoundsUp result self.old.state self.new.state }
         ensures policy { self.new.policy ≡ self.old.policy }
         ensures cuts { self.new.cuts ≡ no_cuts }
     {
         // of so many rounds one is the last, by the law `sessions_end` of the bus
         for _ in 0..SLOTS {
-            let reply = self.carry_out(names, Origin::Daa, &Wish::Round, out)?;
-            if reply == Reply::Round(RoundReply::Done) {
-                break;
+            match self.carry_out(names, Origin::Daa, &Wish::Round, text) {
+                Ok(reply) if goes_on(&reply) => {}
+                Ok(_) => break,
+                Err(stop) => return Err(stop),
             }
         }
         Ok(())
@@ -220,4 +241,14 @@ impl Running {
             None => unreachable!(),
         }
     }
+}
+
+/// Whether there is another round after one with this reply: an address was given, or its acknowledgment was missing.
+fn goes_on(reply: &Reply) -> bool
+    ensures { result ≡ goes_on reply.now }
+{
+    matches!(
+        reply,
+        Reply::Round(RoundReply::Assigned(..) | RoundReply::Nobody)
+    )
 }

@@ -1,12 +1,12 @@
-ghost use Rattle.std.specs.Prelude.{◌≡◌, ◌+◌, ◌<◌, ◌≤◌, length, min, IfErr, IfSome, OnOk};
-ghost use Rattle.std.specs.Io.KnownBytes.{Appends, IsAtEnd};
+ghost use Rattle.std.specs.Prelude.{◌≡◌, ◌+◌, ◌<◌, ◌≤◌, ◌++◌, length, min, IfErr, IfSome, OnOk};
+ghost use Rattle.std.specs.Io.KnownBytes.{IsAtEnd};
 ghost use Rattle.i3c_scenario.specs.Printed.{end_text};
-ghost use Rattle.i3c_scenario.specs.Stops.{EndsLine, IsLineFault, refusals};
+ghost use Rattle.i3c_scenario.specs.Stops.{IsLineFault, refusals};
 
 use crate::faults::{ScriptFault, Stop};
-use crate::line::Line;
-use crate::names::Names;
+use crate::output::{position_of_feed, show_refusal, write_out};
 use crate::stage::Stage;
+use i3c_lines::{Line, Names, Text, read_line};
 use std::alloc::Global;
 use std::io::{Read, Write};
 use std::mem;
@@ -16,9 +16,6 @@ const SCRIPT_LENGTH: usize = 1 << 20;
 
 /// How many bytes are read at once.
 const CHUNK: usize = 8192;
-
-/// What ends a line.
-const LINE_FEED: u8 = b'\n';
 
 /// What is known of a script that was run to its end.
 #[derive(Clone, Copy, Debug, PartialEq, Eq)]
@@ -54,12 +51,13 @@ pub fn run_script<R: Read, W: Write>(
     }
 }
 
-/// A script that runs: what its lines led to, and the line that is read.
+/// A script that runs: what its lines led to, the line that is read, and what the line that is run prints.
 struct Script {
     alloc: Global,
     stage: Stage,
     names: Names,
     line: Line,
+    text: Text,
     refused: u64,
 }
 
@@ -71,6 +69,7 @@ impl Script {
             stage: Stage::new(),
             names: Names::new(alloc),
             line: Line::new(),
+            text: Text::new(alloc),
             refused: 0,
         }
     }
@@ -94,7 +93,7 @@ impl Script {
             };
             if count == 0 {
                 // the last line may lack its line feed
-                return self.run_line(out);
+                return self.end_held_line(&[], out);
             }
             let taken = count.min(left);
             self.take(&chunk[..taken], out)?;
@@ -106,58 +105,84 @@ impl Script {
         unreachable!()
     }
 
-    /// Takes bytes as they were read, and runs each line that they end.
+    /// Takes bytes as they were read, and runs each line that they end. The first of them may have begun before.
     fn take<W: Write>(&mut self, bytes: &[u8], out: &mut W) -> Result<(), ScriptFault>
         ensures { IfErr result IsLineFault }
     {
+        match position_of_feed(bytes) {
+            None => {
+                self.line.extend(bytes);
+                Ok(())
+            }
+            Some(end) => {
+                self.end_held_line(&bytes[..end], out)?;
+                self.run_lines(&bytes[end + 1..], out)
+            }
+        }
+    }
+
+    /// Runs the line that was begun, whose last bytes these are.
+    fn end_held_line<W: Write>(&mut self, bytes: &[u8], out: &mut W) -> Result<(), ScriptFault>
+        ensures { IfErr result IsLineFault }
+    {
+        let mut line = mem::replace(&mut self.line, Line::new());
+        line.extend(bytes);
+        self.run_line(line.as_slice(), out)
+    }
+
+    /// Runs the lines that end in these bytes, and begins the one that doesn't.
+    fn run_lines<W: Write>(&mut self, bytes: &[u8], out: &mut W) -> Result<(), ScriptFault>
+        ensures { IfErr result IsLineFault }
+    {
         let mut rest = bytes;
-        while let Some(end) = rest.iter().position(|byte| *byte == LINE_FEED) {
-            self.line.extend(&rest[..end]);
-            self.run_line(out)?;
-            rest = &rest[end + 1..];
+        while let Some(end) = position_of_feed(rest) {
+            let (line, after) = rest.split_at(end);
+            self.run_line(line, out)?;
+            // after its line feed
+            rest = &after[1..];
         }
         self.line.extend(rest);
         Ok(())
     }
 
-    /// Runs the line that was read, and begins the next.
-    fn run_line<W: Write>(&mut self, out: &mut W) -> Result<(), ScriptFault>
+    /// Runs a line, and writes what it prints.
+    fn run_line<W: Write>(&mut self, line: &[u8], out: &mut W) -> Result<(), ScriptFault>
         ensures { IfErr result IsLineFault }
     {
-        let outcome = self.obey(out);
-        self.line.clear();
-        self.end_line(outcome, out)
+        self.text.clear();
+        let outcome = self.obey(line);
+        self.settle(outcome)?;
+        write_out(self.text.as_bytes(), out)
     }
 
-    /// Obeys the line that was read, if it has a command.
-    fn obey<W: Write>(&mut self, out: &mut W) -> Result<(), Stop> {
-        match self.line.command()? {
-            Some(command) => self.stage.obey(self.alloc, &mut self.names, &command, out),
-            None => Ok(()),
+    /// Obeys a line, if it has a command.
+    fn obey(&mut self, line: &[u8]) -> Result<(), Stop> {
+        match read_line(line) {
+            Ok(Some(command)) => {
+                self.stage
+                    .obey(self.alloc, &mut self.names, &command, &mut self.text)
+            }
+            Ok(None) => Ok(()),
+            Err(refusal) => Err(Stop::Refused(refusal)),
         }
     }
 
-    /// What a line comes to: a refusal is printed and counted; want of memory, or output that can't be written, ends
-    /// the run.
-    fn end_line<W: Write>(
-        &mut self,
-        outcome: Result<(), Stop>,
-        out: &mut W,
-    ) -> Result<(), ScriptFault>
-        ensures ended { EndsLine outcome result }
-        ensures told { OnOk result (Appends (W.contents out.old) (W.contents out.new) (end_text outcome)) }
+    /// What a line comes to: a refusal is printed and counted, and want of memory ends the run.
+    fn settle(&mut self, outcome: Result<(), Stop>) -> Result<(), ScriptFault>
+        ensures fault { IfErr result (λ fault. fault ≡ ScriptFault.Memory) }
+        ensures memory { outcome ≡ Err Stop.Memory → result ≡ Err ScriptFault.Memory }
+        ensures told { OnOk result (self.new.text ≡ self.old.text ++ end_text outcome) }
         ensures counted { self.new.refused ≡ min (self.old.refused + refusals outcome) u64.MAX }
     {
         let refused = self.refused;
         match outcome {
             Ok(()) => Ok(()),
             Err(Stop::Memory) => Err(ScriptFault::Memory),
-            Err(Stop::Write) => Err(ScriptFault::Write),
             Err(Stop::Refused(refusal)) => {
                 self.refused = refused.saturating_add(1);
-                match writeln!(out, "refused {refusal}") {
+                match show_refusal(refusal, &mut self.text) {
                     Ok(()) => Ok(()),
-                    Err(_) => Err(ScriptFault::Write),
+                    Err(_) => Err(ScriptFault::Memory),
                 }
             }
         }
@@ -170,6 +195,7 @@ impl Script {
             stage,
             names: _,
             line: _,
+            text: _,
             refused,
         } = self;
         stage.retire();

@@ -1,16 +1,14 @@
 ghost use Rattle.std.specs.Prelude.{◌≡◌, true, OnOk};
 ghost use Rattle.i3c_base.specs.Numbers.{is_capable};
 
-use crate::command::Command;
-use crate::faults::{Refusal, Stop};
-use crate::names::{Name, Names};
+use crate::faults::Stop;
 use crate::running::Running;
-use crate::show::ShownAddress;
+use crate::show::show_address;
 use crate::wires::Wires;
 use i3c_base::{Addr7, Bcr, Lvr, Setup, Slot};
 use i3c_legacy::Legacies;
+use i3c_lines::{Command, Name, Names, Refusal, Text};
 use std::alloc::Global;
-use std::io::Write;
 use std::mem;
 
 /// Where a script stands. It holds the bus, so lines are run on a stage that is lent, and it is retired at the
@@ -29,20 +27,20 @@ impl Stage {
     }
 
     /// Obeys a line, and prints what came of it.
-    pub fn obey<W: Write>(
+    pub fn obey(
         &mut self,
         alloc: Global,
         names: &mut Names,
         command: &Command,
-        out: &mut W,
+        text: &mut Text,
     ) -> Result<(), Stop> {
         match self {
-            Stage::Running(running) => running.obey(names, command, out),
+            Stage::Running(running) => running.obey(names, command, text),
             Stage::Before(legacies) => match command {
                 Command::Legacy { name, address, lvr } => {
-                    declare(legacies, names, name, *address, *lvr, out)
+                    declare(legacies, names, name, *address, *lvr, text)
                 }
-                Command::Main { name, setup } => self.begin(alloc, names, name, *setup, out),
+                Command::Main { name, setup } => self.begin(alloc, names, name, *setup, text),
                 Command::Event(_)
                 | Command::Policy(_)
                 | Command::Cut { .. }
@@ -57,22 +55,27 @@ impl Stage {
     // kept apart, so that no other line pays for the room that a bus takes on the stack
     #[cold]
     #[inline(never)]
-    fn begin<W: Write>(
+    fn begin(
         &mut self,
         alloc: Global,
         names: &mut Names,
         name: &Name,
         setup: Setup,
-        out: &mut W,
+        text: &mut Text,
     ) -> Result<(), Stop> {
         let Stage::Before(legacies) = self else {
             return Err(Refusal::BusMade.into());
         };
         let running = start(alloc, legacies, names, name, setup)?;
         let slot = running.bus().active();
-        let address = ShownAddress(running.bus().address(slot));
+        let address = running.bus().address(slot);
         mem::replace(self, Stage::Running(running)).retire();
-        writeln!(out, "{name} slot {} at {address}", slot.index())?;
+        text.push(name.as_bytes())?;
+        text.push(b" slot ")?;
+        text.push_decimal(slot.index() as u64)?;
+        text.push(b" at ")?;
+        show_address(address, text)?;
+        text.end()?;
         Ok(())
     }
 
@@ -86,20 +89,23 @@ impl Stage {
 }
 
 /// `legacy`: declares a legacy target.
-fn declare<W: Write>(
+fn declare(
     legacies: &mut Legacies,
     names: &mut Names,
     name: &Name,
     address: Addr7,
     lvr: Lvr,
-    out: &mut W,
+    text: &mut Text,
 ) -> Result<(), Stop> {
     if names.place_of(name).is_some() {
         return Err(Refusal::NameTaken.into());
     }
     legacies.add(address, lvr).map_err(Refusal::from)?;
     names.give_address(name, address)?;
-    writeln!(out, "{name} legacy at {:02X}", address.get())?;
+    text.push(name.as_bytes())?;
+    text.push(b" legacy at ")?;
+    text.push_byte(address.get())?;
+    text.end()?;
     Ok(())
 }
 

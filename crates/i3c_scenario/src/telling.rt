@@ -1,15 +1,17 @@
-ghost use Rattle.std.specs.Prelude.{◌≡◌, ◌⊎◌, None, Some, IfSome, MatchResult, OnOk};
-ghost use Rattle.std.specs.Io.KnownBytes.{Appends};
-ghost use Rattle.i3c_scenario.specs.Printed.{ended_text, framed_text, opened_text, reply_text, request_text, round_text, served_text};
+ghost use Rattle.std.specs.Prelude.{◌≡◌, ◌⊎◌, [], ◌∷◌, ◌++◌, None, Some, MatchResult, OnOk};
+ghost use Rattle.std.specs.Fmt.{decimal};
+ghost use Rattle.i3c_scenario.specs.Printed.{assigned_text, attached_text, ended_text, field_text, framed_text, identity_text, opened_text, reply_text, request_text, round_text, served_text};
 ghost use Rattle.i3c_scenario.specs.Stops.{reply_stop};
-ghost use Rattle.i3c_scenario.specs.declared.faults.Stop.TheVariants.{Write};
+ghost use Rattle.i3c_scenario.specs.declared.faults.Stop.TheVariants.{Memory};
 
 use crate::faults::Stop;
-use crate::names::Names;
 use i3c_base::{Addr7, Answer, Identity, RoundReply, Served};
 use i3c_bus::{Event, Framed, Reply};
-use std::io;
-use std::io::Write;
+use i3c_lines::{Names, Text};
+use std::alloc::AllocError;
+
+/// How many hex digits a provisioned ID has.
+const PID_DIGITS: usize = 12;
 
 /// What an event is carried out for, by which some replies print less.
 #[derive(Clone, Copy)]
@@ -21,17 +23,17 @@ pub(crate) enum Origin {
 }
 
 /// Prints the bus's reply to an event. What the line is refused or stopped by is answered, and not printed here.
-pub(crate) fn tell<W: Write>(
+pub(crate) fn tell(
     names: &Names,
     origin: Origin,
     event: &Event,
     reply: &Reply,
-    out: &mut W,
+    text: &mut Text,
 ) -> Result<(), Stop>
-    ensures stop { MatchResult result (λ _. reply_stop reply.now ≡ None) (λ stop. (stop ≡ Stop.Write) ⊎ (reply_stop reply.now ≡ Some stop)) }
-    ensures told { OnOk result (IfSome (reply_text origin reply.now) (Appends (W.contents out.old) (W.contents out.new))) }
+    ensures stop { MatchResult result (λ _. reply_stop reply.now ≡ None) (λ stop. (stop ≡ Stop.Memory) ⊎ (reply_stop reply.now ≡ Some stop)) }
+    ensures told { OnOk result (text.new ≡ text.old ++ reply_text names.now origin event.now reply.now) }
 {
-    show_reply(names, origin, event, reply, out)?;
+    show_reply(names, origin, event, reply, text)?;
     match Stop::of_reply(reply) {
         Some(stop) => Err(stop),
         None => Ok(()),
@@ -39,114 +41,155 @@ pub(crate) fn tell<W: Write>(
 }
 
 /// Prints what a reply has to say, but for refusals.
-fn show_reply<W: Write>(
+fn show_reply(
     names: &Names,
     origin: Origin,
     event: &Event,
     reply: &Reply,
-    out: &mut W,
-) -> io::Result<()>
-    ensures { OnOk result (IfSome (reply_text origin reply.now) (Appends (W.contents out.old) (W.contents out.new))) }
+    text: &mut Text,
+) -> Result<(), AllocError>
+    ensures { OnOk result (text.new ≡ text.old ++ reply_text names.now origin event.now reply.now) }
 {
     match reply {
         Reply::Refused(_) | Reply::OutOfMemory => Ok(()),
-        Reply::Attached => show_attached(names, event, out),
-        Reply::Dropped => out.write_all(b"dropped\n"),
-        Reply::Raised(number) => writeln!(out, "raised {number}"),
-        Reply::Asked => out.write_all(b"asked\n"),
-        Reply::Served(served) => show_served(served, out),
-        Reply::Framed(framed) => show_framed(framed, out),
-        Reply::Opened(served) => show_opened(origin, served, out),
-        Reply::Round(answer) => show_round(answer, out),
-        Reply::Ended => show_ended(origin, out),
+        Reply::Attached => show_attached(names, event, text),
+        Reply::Dropped => text.push(b"dropped\n"),
+        Reply::Raised(number) => show_number(b"raised ", *number, text),
+        Reply::Asked => text.push(b"asked\n"),
+        Reply::Served(served) => show_served(served, text),
+        Reply::Framed(framed) => show_framed(framed, text),
+        Reply::Opened(served) => show_opened(origin, served, text),
+        Reply::Round(answer) => show_round(answer, text),
+        Reply::Ended => show_ended(origin, text),
     }
 }
 
+/// Prints a line of some words and a number.
+fn show_number(words: &[u8], number: u64, text: &mut Text) -> Result<(), AllocError>
+    ensures { OnOk result (text.new ≡ text.old ++ (words.now ++ (decimal number ++ 10 ∷ []))) }
+{
+    text.push(words)?;
+    text.push_decimal(number)?;
+    text.end()
+}
+
 /// Prints the name and the slot of a device that was attached.
-fn show_attached<W: Write>(names: &Names, event: &Event, out: &mut W) -> io::Result<()> {
+fn show_attached(names: &Names, event: &Event, text: &mut Text) -> Result<(), AllocError>
+    ensures { OnOk result (text.new ≡ text.old ++ attached_text names.now event.now) }
+{
     let Event::Attach(slot, _) = event else {
         return Ok(());
     };
     match names.in_slot(*slot) {
-        Some(name) => writeln!(out, "{name} slot {}", slot.index()),
+        Some(name) => {
+            text.push(name.as_bytes())?;
+            show_number(b" slot ", slot.index() as u64, text)
+        }
         None => Ok(()),
     }
 }
 
 /// Prints what became of the request in a frame's first header.
-fn show_served<W: Write>(served: &Served, out: &mut W) -> io::Result<()>
-    ensures { OnOk result (IfSome (served_text served.now) (Appends (W.contents out.old) (W.contents out.new))) }
+fn show_served(served: &Served, text: &mut Text) -> Result<(), AllocError>
+    ensures { OnOk result (text.new ≡ text.old ++ served_text served.now) }
 {
     match served {
-        Served::Quiet => out.write_all(b"quiet\n"),
-        Served::Recorded(place) => writeln!(out, "recorded {place}"),
-        Served::Refused => out.write_all(b"turned down\n"),
-        Served::Torn => out.write_all(b"torn\n"),
-        Served::Joining => out.write_all(b"joining\n"),
-        Served::WantsRole(address) => writeln!(out, "wants role {:02X}", address.get()),
+        Served::Quiet => text.push(b"quiet\n"),
+        Served::Recorded(place) => show_number(b"recorded ", *place as u64, text),
+        Served::Refused => text.push(b"turned down\n"),
+        Served::Torn => text.push(b"torn\n"),
+        Served::Joining => text.push(b"joining\n"),
+        Served::WantsRole(address) => {
+            text.push(b"wants role ")?;
+            text.push_byte(address.get())?;
+            text.end()
+        }
     }
 }
 
 /// Prints what a frame served before its own part, unless nobody asked.
-fn show_request<W: Write>(served: &Served, out: &mut W) -> io::Result<()>
-    ensures { OnOk result (IfSome (request_text served.now) (Appends (W.contents out.old) (W.contents out.new))) }
+fn show_request(served: &Served, text: &mut Text) -> Result<(), AllocError>
+    ensures { OnOk result (text.new ≡ text.old ++ request_text served.now) }
 {
     match served {
         Served::Quiet => Ok(()),
-        _ => show_served(served, out),
+        _ => show_served(served, text),
     }
 }
 
-/// Prints what a frame served, and that its own part was carried out, if it was.
-fn show_framed<W: Write>(framed: &Framed, out: &mut W) -> io::Result<()>
-    ensures { OnOk result (IfSome (framed_text framed.now) (Appends (W.contents out.old) (W.contents out.new))) }
+/// Prints what a frame served, and what its own part came to, if it was carried out.
+fn show_framed(framed: &Framed, text: &mut Text) -> Result<(), AllocError>
+    ensures { OnOk result (text.new ≡ text.old ++ framed_text framed.now) }
 {
-    show_request(&framed.served, out)?;
-    match framed.answer {
-        Answer::Done | Answer::Bytes(_) => out.write_all(b"done\n"),
+    show_request(&framed.served, text)?;
+    match &framed.answer {
+        Answer::Done => text.push(b"done\n"),
+        Answer::Bytes(bytes) => {
+            text.push(b"bytes ")?;
+            text.push_bytes(bytes)?;
+            text.end()
+        }
         Answer::NoAnswer(_) | Answer::NoEnd => Ok(()),
     }
 }
 
 /// Prints what was served while a session was opened, and that it is open, if the line is that.
-fn show_opened<W: Write>(origin: Origin, served: &Served, out: &mut W) -> io::Result<()>
-    ensures { OnOk result (IfSome (opened_text origin served.now) (Appends (W.contents out.old) (W.contents out.new))) }
+fn show_opened(origin: Origin, served: &Served, text: &mut Text) -> Result<(), AllocError>
+    ensures { OnOk result (text.new ≡ text.old ++ opened_text origin served.now) }
 {
-    show_request(served, out)?;
+    show_request(served, text)?;
     match origin {
-        Origin::Line => out.write_all(b"open\n"),
+        Origin::Line => text.push(b"open\n"),
         Origin::Daa => Ok(()),
     }
 }
 
 /// Prints that a session is ended, if the line is that.
-fn show_ended<W: Write>(origin: Origin, out: &mut W) -> io::Result<()>
-    ensures { OnOk result (Appends (W.contents out.old) (W.contents out.new) (ended_text origin)) }
+fn show_ended(origin: Origin, text: &mut Text) -> Result<(), AllocError>
+    ensures { OnOk result (text.new ≡ text.old ++ ended_text origin) }
 {
     match origin {
-        Origin::Line => out.write_all(b"ended\n"),
+        Origin::Line => text.push(b"ended\n"),
         Origin::Daa => Ok(()),
     }
 }
 
 /// Prints a round.
-fn show_round<W: Write>(answer: &RoundReply, out: &mut W) -> io::Result<()>
-    ensures { OnOk result (IfSome (round_text answer.now) (Appends (W.contents out.old) (W.contents out.new))) }
+fn show_round(answer: &RoundReply, text: &mut Text) -> Result<(), AllocError>
+    ensures { OnOk result (text.new ≡ text.old ++ round_text answer.now) }
 {
     match answer {
-        RoundReply::Assigned(address, identity) => show_assigned(*address, identity, out),
-        RoundReply::Nobody => out.write_all(b"nobody\n"),
-        RoundReply::Done => out.write_all(b"done\n"),
+        RoundReply::Assigned(address, identity) => show_assigned(*address, identity, text),
+        RoundReply::Nobody => text.push(b"nobody\n"),
+        RoundReply::Done => text.push(b"done\n"),
         RoundReply::NoAddress => Ok(()),
     }
 }
 
 /// Prints an address and the identity that got it.
-fn show_assigned<W: Write>(address: Addr7, identity: &Identity, out: &mut W) -> io::Result<()> {
-    let (pid, bcr, dcr) = (identity.pid.get(), identity.bcr.0, identity.dcr.0);
-    writeln!(
-        out,
-        "assigned {:02X} {pid:012X} {bcr:02X} {dcr:02X}",
-        address.get()
-    )
+fn show_assigned(address: Addr7, identity: &Identity, text: &mut Text) -> Result<(), AllocError>
+    ensures { OnOk result (text.new ≡ text.old ++ assigned_text address identity.now) }
+{
+    text.push(b"assigned ")?;
+    text.push_byte(address.get())?;
+    text.push(b" ")?;
+    show_identity(identity, text)
+}
+
+/// Prints an identity, and ends the line.
+fn show_identity(identity: &Identity, text: &mut Text) -> Result<(), AllocError>
+    ensures { OnOk result (text.new ≡ text.old ++ identity_text identity.now) }
+{
+    text.push_hex(identity.pid.get(), PID_DIGITS)?;
+    show_field(identity.bcr.0, text)?;
+    show_field(identity.dcr.0, text)?;
+    text.end()
+}
+
+/// Prints a register of an identity, after a space.
+fn show_field(byte: u8, text: &mut Text) -> Result<(), AllocError>
+    ensures { OnOk result (text.new ≡ text.old ++ field_text byte) }
+{
+    text.push(b" ")?;
+    text.push_byte(byte)
 }

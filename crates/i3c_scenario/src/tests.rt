@@ -1,10 +1,10 @@
-use crate::faults::{Refusal, Stop};
-use crate::names::{Name, Names};
+use crate::faults::Stop;
 use crate::telling::{Origin, tell};
 use crate::{ScriptFault, Tally, run_script};
-use i3c_base::{Addr7, Answer, RoundReply, Served, Slot};
+use i3c_base::{Addr7, Answer, RoundReply, Served};
 use i3c_bus::{Event, Framed, Reply};
 use i3c_frame::read_trace;
+use i3c_lines::{Names, Refusal, Text};
 use std::alloc::Global;
 use std::io::{ErrorKind, Read, Write};
 use std::process::Abort;
@@ -509,35 +509,6 @@ fn names_and_devices(rt: HostRuntime) {
     prints(&rt, rt.alloc(), script, wanted, 9);
 }
 
-// A name stays known where another device takes its slot, and may be given again. A slot knows its name.
-#[test]
-fn names_of_devices_that_are_gone(rt: HostRuntime) -> Result<(), Fail> {
-    let first = Name::parse("t").ok_or("a name")?;
-    let second = Name::parse("u").ok_or("a name")?;
-    let (one, two) = (Slot::new(1)?, Slot::new(2)?);
-    let mut names = Names::new(rt.alloc());
-    assert!(rt; names.slot_of(&first) == Err(Refusal::NoName));
-    assert!(rt; names.in_slot(one).is_none());
-    names.give_slot(&first, one)?;
-    names.give_slot(&first, one)?;
-    assert!(rt; names.slot_of(&first) == Ok(one));
-    names.give_slot(&second, one)?;
-    assert!(rt; names.slot_of(&first) == Err(Refusal::NoDevice));
-    assert!(rt; names.slot_of(&second) == Ok(one));
-    assert!(rt; names.in_slot(one) == Some(&second));
-    names.give_slot(&first, two)?;
-    assert!(rt; names.slot_of(&first) == Ok(two));
-    assert!(rt; names.slot_of(&second) == Ok(one));
-    // a name that was given to another slot stands there, though its old slot is taken by a new name
-    names.give_slot(&second, two)?;
-    names.give_slot(&first, one)?;
-    assert!(rt; names.slot_of(&first) == Ok(one));
-    assert!(rt; names.slot_of(&second) == Ok(two));
-    assert!(rt; names.in_slot(one) == Some(&first));
-    assert!(rt; names.in_slot(two) == Some(&second));
-    Ok(())
-}
-
 // Its form comes first: a line without one is told so before there is a bus, and after.
 #[test]
 fn skipped_lines(rt: HostRuntime) {
@@ -849,20 +820,6 @@ fn symbols_are_a_trace(rt: HostRuntime) -> Result<(), Fail> {
     Ok(())
 }
 
-// Refusals that no line comes to today, or at another address.
-#[test]
-fn words_of_refusals(rt: HostRuntime) -> Result<(), Fail> {
-    let cases = [
-        (Refusal::NoEnd, "NoEnd"),
-        (Refusal::NoAnswer(Addr7::new(0x7E)?), "NoAnswer 7E"),
-    ];
-    for (refusal, wanted) in cases {
-        let word = format!(in rt.alloc(); "{refusal}")?;
-        assert_eq!(rt; word.as_str(), wanted);
-    }
-    Ok(())
-}
-
 // What is printed for replies that hardly a line gets today, and what stops their lines.
 #[test]
 fn texts_of_replies(rt: HostRuntime) -> Result<(), Fail> {
@@ -870,6 +827,10 @@ fn texts_of_replies(rt: HostRuntime) -> Result<(), Fail> {
     let unanswered = Framed {
         served: Served::Torn,
         answer: Answer::NoEnd,
+    };
+    let read = Framed {
+        served: Served::Quiet,
+        answer: Answer::Bytes([0, 1, 2, 3, 4, 5, 6, 7, 8, 9, 10, 11, 12, 13, 14, 255]),
     };
     let silent = Stop::Refused(Refusal::NoEnd);
     let none_left = Stop::Refused(Refusal::NoAddress);
@@ -898,6 +859,12 @@ fn texts_of_replies(rt: HostRuntime) -> Result<(), Fail> {
             None,
         ),
         (line, Reply::Framed(unanswered), "torn\n", Some(silent)),
+        (
+            line,
+            Reply::Framed(read),
+            "bytes 000102030405060708090A0B0C0D0EFF\n",
+            None,
+        ),
         (line, Reply::Round(RoundReply::Nobody), "nobody\n", None),
         (
             daa,
@@ -911,9 +878,9 @@ fn texts_of_replies(rt: HostRuntime) -> Result<(), Fail> {
     ];
     let names = Names::new(rt.alloc());
     for (origin, reply, wanted, stop) in cases {
-        let mut printed = Vec::new(rt.alloc());
+        let mut printed = Text::new(rt.alloc());
         let told = tell(&names, origin, &Event::EndDaa, &reply, &mut printed);
-        assert_eq!(rt; printed.as_slice(), wanted.as_bytes());
+        assert_eq!(rt; printed.as_bytes(), wanted.as_bytes());
         assert_eq!(rt; told.err(), stop);
     }
     Ok(())

@@ -4,9 +4,10 @@ ghost use Rattle.i3c_scenario.specs.declared.wires.TheConstants.{SYMBOLS};
 
 use circular_buffer::HeapCircularBuffer;
 use i3c_frame::{Symbol, Tap};
+use i3c_lines::Text;
 use std::alloc::{AllocError, Global};
-use std::io;
-use std::io::Write;
+use std::fmt;
+use std::fmt::Write;
 
 /// How many symbols are kept.
 const SYMBOLS: usize = 256;
@@ -28,14 +29,14 @@ impl Wires {
     }
 
     /// Prints the symbols that were kept, the oldest first, on one line.
-    pub fn show<W: Write>(&self, out: &mut W) -> io::Result<()> {
+    pub fn show(&self, text: &mut Text) -> fmt::Result {
         for (index, symbol) in self.symbols.iter().enumerate() {
             if index > 0 {
-                write!(out, " ")?;
+                write!(text, " ")?;
             }
-            write!(out, "{symbol}")?;
+            write!(text, "{symbol}")?;
         }
-        writeln!(out)
+        writeln!(text)
     }
 }
 

@@ -1,0 +1,5 @@
+pub mod DecimalLaws
+pub mod HexLaws
+pub mod NameLaws
+pub mod PieceLaws
+pub mod HexTexts

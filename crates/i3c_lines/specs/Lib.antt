@@ -1,0 +1,6 @@
+pub mod Words
+pub mod Naming
+pub mod Policies
+pub mod Hex
+pub mod Refusing
+pub mod Gathering

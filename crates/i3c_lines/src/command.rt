@@ -1,0 +1,180 @@
+use crate::names::Name;
+use crate::policies::policy;
+use crate::words;
+use i3c_base::{Addr7, Bcr, Dcr, Fixed, Identity, Kinds, Lvr, Setup};
+use std::str::Split;
+
+/// The last word of a device that doesn't take the controller role.
+const DECLINE: &str = "decline";
+
+/// Kinds of events, and the address of the devices that are meant. Without one all are but the active controller.
+#[derive(Clone, Copy)]
+pub struct Choice {
+    pub kinds: Kinds,
+    pub to: Option<Addr7>,
+}
+
+/// A line that is one event of the bus, with the names as they stand there.
+#[derive(Clone, Copy)]
+pub enum Wish {
+    /// `attach NAME PID BCR DCR [decline]`: a device enters the lowest free slot.
+    Attach { name: Name, setup: Setup },
+    /// `drop NAME`: a device loses power, and is gone.
+    DropOff { name: Name },
+    /// `raise NAME [BYTE]`: a device raises an interrupt, with its mandatory byte where one is due.
+    Raise { name: Name, byte: Option<u8> },
+    /// `ask-join NAME`: a device wishes to join.
+    AskJoin { name: Name },
+    /// `serve`: the first request is served.
+    Serve,
+    /// `enec BYTE [ADDR]`: kinds of events are enabled.
+    Enec(Choice),
+    /// `disec BYTE [ADDR]`: kinds of events are disabled.
+    Disec(Choice),
+    /// `open`: a session of dynamic address assignment is opened, and stays open.
+    Open,
+    /// `round`: one round of the open session.
+    Round,
+    /// `end`: the open session ends.
+    End,
+}
+
+/// What a line asks for.
+#[derive(Drop)]
+pub enum Command {
+    /// `legacy NAME ADDR LVR`: a legacy target stands at a static address.
+    Legacy {
+        name: Name,
+        address: Addr7,
+        lvr: Lvr,
+    },
+    /// `main NAME PID BCR DCR [decline]`: the bus starts, with its main controller in slot 0.
+    Main {
+        name: Name,
+        setup: Setup,
+    },
+    /// A line that is one event.
+    Event(Wish),
+    /// `policy all|none|joins|roles|interrupts`: which requests the frames from now on accept.
+    Policy(Fixed),
+    /// `cut NAME BIT`: a device loses power at a bit of the next frame.
+    Cut {
+        name: Name,
+        bit: u16,
+    },
+    /// `daa`: a whole session of dynamic address assignment.
+    Daa,
+    /// `show`: the bus as it is.
+    Show,
+    /// `symbols`: the last symbols of the wire.
+    Symbols,
+}
+
+impl Command {
+    /// The command of a line, if the line has a form. Its words are parted by exactly one space.
+    pub fn parse(line: &str) -> Option<Command> {
+        let mut words = line.split(' ');
+        let command = match words.next()? {
+            // the lines of which scripts have most come first
+            "raise" => Command::Event(parse_raise(&mut words)?),
+            "serve" => Command::Event(Wish::Serve),
+            "daa" => Command::Daa,
+            "enec" => Command::Event(Wish::Enec(parse_choice(&mut words)?)),
+            "disec" => Command::Event(Wish::Disec(parse_choice(&mut words)?)),
+            "policy" => Command::Policy(policy(words.next()?)?),
+            "cut" => parse_cut(&mut words)?,
+            "open" => Command::Event(Wish::Open),
+            "round" => Command::Event(Wish::Round),
+            "end" => Command::Event(Wish::End),
+            "attach" => Command::Event(parse_attach(&mut words)?),
+            "drop" => Command::Event(parse_drop(&mut words)?),
+            "ask-join" => Command::Event(parse_ask_join(&mut words)?),
+            "main" => parse_main(&mut words)?,
+            "legacy" => parse_legacy(&mut words)?,
+            "show" => Command::Show,
+            "symbols" => Command::Symbols,
+            _ => return None,
+        };
+        match words.next() {
+            Some(_) => None,
+            None => Some(command),
+        }
+    }
+}
+
+/// The words of a line, after those that were read.
+type Words<'a> = Split<'a, char>;
+
+/// The words of `legacy`.
+fn parse_legacy(words: &mut Words<'_>) -> Option<Command> {
+    let name = Name::parse(words.next()?)?;
+    let address = words::address(words.next()?)?;
+    let lvr = Lvr(words::byte(words.next()?)?);
+    Some(Command::Legacy { name, address, lvr })
+}
+
+/// The words of `main`.
+fn parse_main(words: &mut Words<'_>) -> Option<Command> {
+    let (name, setup) = parse_device(words)?;
+    Some(Command::Main { name, setup })
+}
+
+/// The words of `attach`.
+fn parse_attach(words: &mut Words<'_>) -> Option<Wish> {
+    let (name, setup) = parse_device(words)?;
+    Some(Wish::Attach { name, setup })
+}
+
+/// The words of a device: its name and its identity, and `decline` if it doesn't take the controller role.
+fn parse_device(words: &mut Words<'_>) -> Option<(Name, Setup)> {
+    let name = Name::parse(words.next()?)?;
+    let pid = words::pid(words.next()?)?;
+    let bcr = Bcr(words::byte(words.next()?)?);
+    let dcr = Dcr(words::byte(words.next()?)?);
+    let identity = Identity { pid, bcr, dcr };
+    let willing = match words.next() {
+        None => true,
+        Some(DECLINE) => false,
+        Some(_) => return None,
+    };
+    Some((name, Setup { identity, willing }))
+}
+
+/// The word of `drop`: a name.
+fn parse_drop(words: &mut Words<'_>) -> Option<Wish> {
+    let name = Name::parse(words.next()?)?;
+    Some(Wish::DropOff { name })
+}
+
+/// The word of `ask-join`: a name.
+fn parse_ask_join(words: &mut Words<'_>) -> Option<Wish> {
+    let name = Name::parse(words.next()?)?;
+    Some(Wish::AskJoin { name })
+}
+
+/// The words of `cut`: a name and a bit.
+fn parse_cut(words: &mut Words<'_>) -> Option<Command> {
+    let name = Name::parse(words.next()?)?;
+    let bit = words::bit(words.next()?)?;
+    Some(Command::Cut { name, bit })
+}
+
+/// The words of `raise`: a name, and a byte if one is given.
+fn parse_raise(words: &mut Words<'_>) -> Option<Wish> {
+    let name = Name::parse(words.next()?)?;
+    let byte = match words.next() {
+        None => None,
+        Some(word) => Some(words::byte(word)?),
+    };
+    Some(Wish::Raise { name, byte })
+}
+
+/// The words of `enec` and `disec`: a byte, and an address if one is given.
+fn parse_choice(words: &mut Words<'_>) -> Option<Choice> {
+    let kinds = words::kinds(words.next()?)?;
+    let to = match words.next() {
+        None => None,
+        Some(word) => Some(words::address(word)?),
+    };
+    Some(Choice { kinds, to })
+}

@@ -1,0 +1,25 @@
+//! What a script's line says by itself: its words, its command, the names that it gives, and why it is refused.
+//!
+//! `words` reads one word, `command` a line of text, `line` a line of bytes, which may come in pieces. `names` keeps what the names of a script
+//! stand for. `policies` are the words that name a policy.
+//! `text` is what a line prints, and `numerals` prints numbers.
+#![tactic(auto)]
+
+mod command;
+mod line;
+mod names;
+mod numerals;
+mod policies;
+mod refusals;
+mod text;
+mod words;
+
+pub use command::{Choice, Command, Wish};
+pub use line::{Line, read_line};
+pub use names::{Name, Names, Place};
+pub use policies::ACCEPT_ALL;
+pub use refusals::Refusal;
+pub use text::Text;
+
+#[cfg(test)]
+mod tests;

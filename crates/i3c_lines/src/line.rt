@@ -1,0 +1,83 @@
+ghost use Rattle.std.specs.Prelude.{◌≡◌, ◌<◌, ◌≤◌, [], length, slice_get};
+
+use crate::command::Command;
+use crate::refusals::Refusal;
+use arrayvec::ArrayVec;
+use std::str;
+
+/// How many bytes a line may have, without its line feed.
+const LINE_LENGTH: usize = 256;
+
+/// How many of a line's first bytes tell what it is: one more than a line may have, since a longer one has no form.
+pub const TELLING_LENGTH: usize = LINE_LENGTH + 1;
+
+/// A comment begins with this.
+const COMMENT: u8 = b'#';
+
+/// The command of a line, if it isn't one that is skipped: an empty one or a comment, whatever bytes follow its `#`. A
+/// line that is too long has no form, even if it begins as a comment does.
+pub fn read_line(line: &[u8]) -> Result<Option<Command>, Refusal>
+    ensures long { LINE_LENGTH < length line.now → result ≡ Err Refusal.BadLine }
+    ensures empty { line.now ≡ [] → result ≡ Ok None }
+    ensures comment { length line.now ≤ LINE_LENGTH → slice_get line.now 0 ≡ Some COMMENT → result ≡ Ok None }
+{
+    if line.len() > LINE_LENGTH {
+        return Err(Refusal::BadLine);
+    }
+    match line.first() {
+        None | Some(&COMMENT) => return Ok(None),
+        Some(_) => {}
+    }
+    // No word has a byte that isn't ASCII, so it suffices that the line is text.
+    let Ok(text) = str::from_utf8(line) else {
+        return Err(Refusal::BadLine);
+    };
+    match Command::parse(text) {
+        Some(command) => Ok(Some(command)),
+        None => Err(Refusal::BadLine),
+    }
+}
+
+/// A line that is read in pieces: its first bytes, as many as tell what it is.
+#[derive(Drop)]
+pub struct Line {
+    bytes: ArrayVec<u8, TELLING_LENGTH>,
+}
+
+impl Line {
+    ghost use Rattle.std.specs.Prelude.{◌≡◌, [], ◌++◌, take};
+    ghost use Rattle.i3c_lines.specs.Gathering.{gathered};
+    ghost use Rattle.i3c_lines.specs.declared.line.TheConstants.{TELLING_LENGTH};
+
+    /// A line of which nothing was read.
+    pub fn new() -> Line
+        ensures { gathered result ≡ [] }
+    {
+        Line {
+            bytes: ArrayVec::new(),
+        }
+    }
+
+    /// The line's next bytes.
+    pub fn extend(&mut self, more: &[u8])
+        ensures { gathered self.new ≡ take TELLING_LENGTH (gathered self.old ++ more.now) }
+    {
+        let room = TELLING_LENGTH - self.bytes.len();
+        let told = if more.len() <= room {
+            more
+        } else {
+            &more[..room]
+        };
+        match self.bytes.try_extend_from_slice(told) {
+            Ok(()) => {}
+            Err(_) => unreachable!(),
+        }
+    }
+
+    /// What was read of it.
+    pub fn as_slice(&self) -> &[u8]
+        ensures { result.now ≡ gathered self.now }
+    {
+        self.bytes.as_slice()
+    }
+}

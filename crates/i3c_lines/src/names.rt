@@ -1,0 +1,172 @@
+ghost use Rattle.std.specs.Prelude.{◌≡◌, ◌<◌, ◌↔◌, All, IsTrue, IsSome, IfSome};
+ghost use Rattle.i3c_lines.specs.Words.{IsNameLetter};
+
+use crate::refusals::Refusal;
+use arrayvec::ArrayString;
+use i3c_base::{ADDRESSES, Addr7, SLOTS, Slot};
+use indexmap::IndexMap;
+use std::alloc::{AllocError, Global};
+
+/// The longest name.
+const NAME_LENGTH: usize = 16;
+
+/// The name of a device or a legacy target: 1 to 16 of `a` to `z` and `0` to `9`.
+#[derive(Clone, Copy, PartialEq, Eq, Hash)]
+pub struct Name {
+    text: ArrayString<NAME_LENGTH>,
+}
+
+/// Whether a word is of a name's letters alone.
+fn is_of_letters(word: &str) -> bool
+    ensures { IsTrue result ↔ All IsNameLetter word.now }
+{
+    word.as_bytes()
+        .iter()
+        .all(|byte| matches!(*byte, b'a'..=b'z' | b'0'..=b'9'))
+}
+
+impl Name {
+    ghost use Rattle.i3c_lines.specs.Naming.{letters};
+    ghost use Rattle.i3c_lines.specs.Words.{IsName};
+
+    /// The name that a word is, if it has a name's form.
+    pub fn parse(word: &str) -> Option<Name>
+        ensures form { IsSome result ↔ IsName NAME_LENGTH word.now }
+        ensures same { IfSome result (λ name. letters name ≡ word.now) }
+    {
+        if word.is_empty() || !is_of_letters(word) {
+            return None;
+        }
+        let text = ArrayString::from(word).ok()?;
+        Some(Name { text })
+    }
+
+    /// Its letters.
+    pub fn as_bytes(&self) -> &[u8]
+        ensures { result.now ≡ letters self.now }
+    {
+        self.text.as_bytes()
+    }
+}
+
+/// What a name stands for.
+#[derive(Clone, Copy, PartialEq, Eq)]
+pub enum Place {
+    /// The device of a slot.
+    Slot(Slot),
+    /// The legacy target at a static address.
+    Legacy(Addr7),
+    /// A device that is gone, whose slot another device has taken since.
+    Gone,
+}
+
+/// The names that were given, in the order in which they first were, and what each stands for. A slot and a static
+/// address know the name that was last given to them.
+#[derive(Drop)]
+pub struct Names {
+    places: IndexMap<Name, Place>,
+    slots: [Option<Name>; SLOTS],
+    legacies: [Option<Name>; ADDRESSES],
+}
+
+impl Names {
+    ghost use Rattle.std.specs.Prelude.{OnOk, Some, option_copied, slice_index_or, slice_set};
+    ghost use Rattle.i3c_lines.specs.Naming.{Empties, GivesAlone, GivesSlot, legacy_names, place_named, slot_named, slot_names};
+    ghost use Rattle.i3c_lines.specs.declared.names.Name.{Name};
+
+    /// No names.
+    pub fn new(alloc: Global) -> Names {
+        Names {
+            places: IndexMap::new(alloc),
+            slots: [None; SLOTS],
+            legacies: [None; ADDRESSES],
+        }
+    }
+
+    /// What a name stands for, if it was given.
+    pub fn place_of(&self, name: &Name) -> Option<Place>
+        ensures { result ≡ place_named self.now name.now }
+    {
+        self.places.get(name).copied()
+    }
+
+    /// The slot that a name stands for. Its device may be gone. It answers `NoName` where the name was not given, and
+    /// `NoDevice` where it is a legacy target's, or another device has taken the slot since.
+    pub fn slot_of(&self, name: &Name) -> Result<Slot, Refusal>
+        ensures { result ≡ slot_named (place_named self.now name.now) }
+    {
+        let Some(place) = self.place_of(name) else {
+            return Err(Refusal::NoName);
+        };
+        match place {
+            Place::Slot(slot) => Ok(slot),
+            Place::Legacy(_) | Place::Gone => Err(Refusal::NoDevice),
+        }
+    }
+
+    /// The name that was last given to a slot.
+    pub fn in_slot(&self, slot: Slot) -> Option<&Name>
+        ensures { option_copied result ≡ slice_index_or (slot_names self.now) slot None }
+    {
+        self.slots[slot.index()].as_ref()
+    }
+
+    /// The name of the legacy target at a static address.
+    pub fn at_address(&self, address: Addr7) -> Option<&Name>
+        ensures { option_copied result ≡ slice_index_or (legacy_names self.now) address None }
+    {
+        self.legacies[address.get() as usize].as_ref()
+    }
+
+    /// Gives a name to the legacy target at a static address.
+    pub fn give_address(&mut self, name: &Name, address: Addr7) -> Result<(), AllocError>
+        ensures given { OnOk result (GivesAlone self.old self.new name.now (Place.Legacy address)) }
+        ensures known { (other : Name) → IsSome (place_named self.old other) → IsSome (place_named self.new other) }
+        ensures told { OnOk result (legacy_names self.new ≡ slice_set (legacy_names self.old) address (Some name.now)) }
+        ensures slots { slot_names self.new ≡ slot_names self.old }
+    {
+        let index = address.get() as usize;
+        let told = Some(*name);
+        let place = Place::Legacy(address);
+        self.places.insert(*name, place)?;
+        self.legacies[index] = told;
+        Ok(())
+    }
+
+    /// Gives a name to a slot. The name that the slot had before stays known, as one that is gone, unless it was given to
+    /// another place since.
+    pub fn give_slot(&mut self, name: &Name, slot: Slot) -> Result<(), AllocError>
+        ensures given { OnOk result (GivesSlot self.old self.new name.now slot) }
+        ensures known { (other : Name) → IsSome (place_named self.old other) → IsSome (place_named self.new other) }
+        ensures told { OnOk result (slot_names self.new ≡ slice_set (slot_names self.old) slot (Some name.now)) }
+        ensures legacies { legacy_names self.new ≡ legacy_names self.old }
+    {
+        let index = slot.index();
+        let told = Some(*name);
+        let place = Place::Slot(slot);
+        self.empty(index, &place)?;
+        self.places.insert(*name, place)?;
+        self.slots[index] = told;
+        Ok(())
+    }
+
+    /// Whoever stands in the slot of this number is gone, unless the name stands elsewhere now.
+    fn empty(&mut self, number: usize, place: &Place) -> Result<(), AllocError>
+        requires { number < SLOTS }
+        ensures emptied { OnOk result (Empties self.old self.new number place.now) }
+        ensures known { (other : Name) → IsSome (place_named self.old other) → IsSome (place_named self.new other) }
+        ensures slots { slot_names self.new ≡ slot_names self.old }
+        ensures legacies { legacy_names self.new ≡ legacy_names self.old }
+    {
+        let Some(name) = self.slots[number] else {
+            return Ok(());
+        };
+        match self.place_of(&name) {
+            Some(had) if had == *place => {
+                self.places.insert(name, Place::Gone)?;
+                Ok(())
+            }
+            _ => Ok(()),
+        }
+    }
+}

@@ -1,0 +1,99 @@
+use crate::numerals::{push_byte, push_bytes, push_decimal, push_hex};
+use std::alloc::{AllocError, Global};
+use std::fmt;
+use std::marker::Model;
+
+/// What a line prints. Clauses see its bytes.
+#[derive(Drop)]
+pub struct Text {
+    bytes: Vec<u8>,
+}
+
+impl Model for Text {
+    ghost use Rattle.std.specs.Prelude.{ℕ, List};
+
+    ghost Value = { List ℕ };
+
+    ghost view = { λ text. text.bytes.items };
+}
+
+impl Text {
+    ghost use Rattle.std.specs.Prelude.{◌≡◌, [], ◌∷◌, ◌++◌, OnOk};
+    ghost use Rattle.std.specs.Fmt.{decimal};
+    ghost use Rattle.i3c_lines.specs.Hex.{byte_text, bytes_text, hex_text};
+
+    /// Nothing yet.
+    pub fn new(alloc: Global) -> Text
+        ensures { result ≡ [] }
+    {
+        Text {
+            bytes: Vec::new(alloc),
+        }
+    }
+
+    /// Nothing again.
+    pub fn clear(&mut self)
+        ensures { self.new ≡ [] }
+    {
+        self.bytes.clear();
+    }
+
+    /// Its bytes.
+    pub fn as_bytes(&self) -> &[u8]
+        ensures { result.now ≡ self.now }
+    {
+        self.bytes.as_slice()
+    }
+
+    /// Appends some words.
+    pub fn push(&mut self, words: &[u8]) -> Result<(), AllocError>
+        ensures { OnOk result (self.new ≡ self.old ++ words.now) }
+    {
+        self.bytes.extend_from_slice(words)
+    }
+
+    /// Appends a number, in decimal digits.
+    pub fn push_decimal(&mut self, number: u64) -> Result<(), AllocError>
+        ensures { OnOk result (self.new ≡ self.old ++ decimal number) }
+    {
+        push_decimal(&mut self.bytes, number)
+    }
+
+    /// Appends a byte, in two hex digits.
+    pub fn push_byte(&mut self, byte: u8) -> Result<(), AllocError>
+        ensures { OnOk result (self.new ≡ self.old ++ byte_text byte) }
+    {
+        push_byte(&mut self.bytes, byte)
+    }
+
+    /// Appends bytes, each in two hex digits.
+    pub fn push_bytes(&mut self, bytes: &[u8]) -> Result<(), AllocError>
+        ensures { OnOk result (self.new ≡ self.old ++ bytes_text bytes.now) }
+    {
+        push_bytes(&mut self.bytes, bytes)
+    }
+
+    /// Appends the last hex digits of a number, so many.
+    pub fn push_hex(&mut self, number: u64, count: usize) -> Result<(), AllocError>
+        ensures { OnOk result (self.new ≡ self.old ++ hex_text count number) }
+    {
+        push_hex(&mut self.bytes, number, count)
+    }
+
+    /// Ends the line.
+    pub fn end(&mut self) -> Result<(), AllocError>
+        ensures { OnOk result (self.new ≡ self.old ++ 10 ∷ []) }
+    {
+        self.bytes.extend_from_slice(b"\n")
+    }
+}
+
+// Its one error is want of memory.
+impl fmt::Write for Text {
+    fn write_str(&mut self, s: &str) -> fmt::Result {
+        match self.push(s.as_bytes()) {
+            Ok(()) => Ok(()),
+            Err(_) => Err(fmt::Error),
+        }
+    }
+}

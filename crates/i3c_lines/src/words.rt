@@ -1,0 +1,98 @@
+ghost use Rattle.std.specs.Prelude.{◌≡◌, ◌<◌, ◌^◌, ◌≤◌, ◌↔◌, All, IsTrue, IsSome, IfSome};
+ghost use Rattle.std.specs.Str.Parse.{digits_value};
+ghost use Rattle.i3c_base.specs.Numbers.{kind_set};
+ghost use Rattle.i3c_lines.specs.Words.{IsDecimal, IsDecimalDigit, IsHex, IsHexDigit};
+
+use bitflags::Flags;
+use i3c_base::{Addr7, Kinds, Pid};
+
+/// Numbers are written in hex.
+const RADIX: u32 = 16;
+
+/// Bits of frames are written in decimal.
+const BIT_RADIX: u32 = 10;
+
+/// How many digits a byte has: an address, a BCR, a DCR or an LVR.
+const BYTE_DIGITS: usize = 2;
+
+/// How many digits a provisioned ID has.
+const PID_DIGITS: usize = 12;
+
+/// Whether a word is of hex digits alone. Letters are upper case.
+fn is_hex(word: &str) -> bool
+    ensures { IsTrue result ↔ All IsHexDigit word.now }
+{
+    word.as_bytes()
+        .iter()
+        .all(|byte| matches!(*byte, b'0'..=b'9' | b'A'..=b'F'))
+}
+
+/// The number that a word writes, if it has so many hex digits.
+fn number(word: &str, digits: usize) -> Option<u64>
+    requires some { 0 < digits }
+    requires fits { digits < 16 }
+    ensures form { IsSome result ↔ IsHex digits word.now }
+    ensures value { IfSome result (λ n. n ≡ digits_value RADIX word.now) }
+    ensures bound { IfSome result (λ n. n < 16 ^ digits) }
+{
+    if word.len() != digits || !is_hex(word) {
+        return None;
+    }
+    u64::from_str_radix(word, RADIX).ok()
+}
+
+/// A byte: two hex digits.
+pub(crate) fn byte(word: &str) -> Option<u8>
+    ensures form { IsSome result ↔ IsHex BYTE_DIGITS word.now }
+    ensures value { IfSome result (λ b. b ≡ digits_value RADIX word.now) }
+{
+    let number = number(word, BYTE_DIGITS)?;
+    Some(number as u8)
+}
+
+/// A 7-bit address: two hex digits. One above `7F` has no form.
+pub(crate) fn address(word: &str) -> Option<Addr7>
+    ensures form { IsSome result ↔ (IsHex BYTE_DIGITS word.now × (digits_value RADIX word.now < 128)) }
+    ensures value { IfSome result (λ a. a ≡ digits_value RADIX word.now) }
+{
+    let number = byte(word)?;
+    Addr7::new(number).ok()
+}
+
+/// Whether a word is of decimal digits alone.
+fn is_decimal(word: &str) -> bool
+    ensures { IsTrue result ↔ All IsDecimalDigit word.now }
+{
+    word.as_bytes()
+        .iter()
+        .all(|byte| matches!(*byte, b'0'..=b'9'))
+}
+
+/// A bit of a frame: decimal digits, up to 65535. Zeros may lead them, and a sign may not.
+pub(crate) fn bit(word: &str) -> Option<u16>
+    ensures form { IsSome result ↔ (IsDecimal word.now × (digits_value BIT_RADIX word.now < 2 ^ 16)) }
+    ensures value { IfSome result (λ b. b ≡ digits_value BIT_RADIX word.now) }
+{
+    if word.is_empty() || !is_decimal(word) {
+        return None;
+    }
+    u16::from_str_radix(word, BIT_RADIX).ok()
+}
+
+/// Kinds of events: two hex digits, of which bit 0 names interrupts, bit 1 role requests and bit 3 Hot-Join.
+pub(crate) fn kinds(word: &str) -> Option<Kinds>
+    ensures form { IsSome result ↔ IsHex BYTE_DIGITS word.now }
+    ensures value { IfSome result (λ kinds. kind_set kinds ≡ kind_set (record { 0 = digits_value RADIX word.now })) }
+{
+    let byte = byte(word)?;
+    Some(Kinds::from_bits_retain(byte))
+}
+
+/// A provisioned ID: twelve hex digits.
+pub(crate) fn pid(word: &str) -> Option<Pid>
+    ensures form { IsSome result ↔ IsHex PID_DIGITS word.now }
+    ensures value { IfSome result (λ p. p ≡ digits_value RADIX word.now) }
+{
+    let number = number(word, PID_DIGITS)?;
+    Pid::new(number).ok()
+}

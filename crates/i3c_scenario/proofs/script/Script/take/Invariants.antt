@@ -1,5 +1,0 @@
-use Rattle.std.proofs.Common.{length}
-use Rattle.i3c_scenario.proofs.script.Script.take.Given as goal
-
-abbrev pub decreases-loop-end : goal.decreases-loop-end
-decreases-loop-end g l = length l.rest
