@@ -25,6 +25,7 @@ refusal_word Refusal.HasAddress = codes "HasAddress"
 refusal_word Refusal.ByteMismatch = codes "ByteMismatch"
 refusal_word Refusal.Masked = codes "Masked"
 refusal_word Refusal.Full = codes "Full"
+refusal_word Refusal.ListStale = codes "ListStale"
 refusal_word (Refusal.NoAnswer a) = codes "NoAnswer"
 refusal_word Refusal.NoEnd = codes "NoEnd"
 
@@ -51,6 +52,7 @@ refusal_tail Refusal.HasAddress = []
 refusal_tail Refusal.ByteMismatch = []
 refusal_tail Refusal.Masked = []
 refusal_tail Refusal.Full = []
+refusal_tail Refusal.ListStale = []
 refusal_tail Refusal.NoEnd = []
 
 -- a refusal as it is printed

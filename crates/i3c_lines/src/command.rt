@@ -25,12 +25,20 @@ pub enum Wish {
     Raise { name: Name, byte: Option<u8> },
     /// `ask-join NAME`: a device wishes to join.
     AskJoin { name: Name },
+    /// `ask-role NAME`: a device wishes for the controller role.
+    AskRole { name: Name },
     /// `serve`: the first request is served.
     Serve,
     /// `enec BYTE [ADDR]`: kinds of events are enabled.
     Enec(Choice),
     /// `disec BYTE [ADDR]`: kinds of events are disabled.
     Disec(Choice),
+    /// `reset`: each address but the active controller's is cleared.
+    Reset,
+    /// `list`: the devices are told of all addresses.
+    List,
+    /// `handover ADDR`: the role is offered to the device at an address.
+    HandOver { to: Addr7 },
     /// `open`: a session of dynamic address assignment is opened, and stays open.
     Open,
     /// `round`: one round of the open session.
@@ -83,12 +91,16 @@ impl Command {
             "disec" => Command::Event(Wish::Disec(parse_choice(&mut words)?)),
             "policy" => Command::Policy(policy(words.next()?)?),
             "cut" => parse_cut(&mut words)?,
+            "reset" => Command::Event(Wish::Reset),
+            "list" => Command::Event(Wish::List),
+            "handover" => Command::Event(parse_handover(&mut words)?),
             "open" => Command::Event(Wish::Open),
             "round" => Command::Event(Wish::Round),
             "end" => Command::Event(Wish::End),
             "attach" => Command::Event(parse_attach(&mut words)?),
             "drop" => Command::Event(parse_drop(&mut words)?),
             "ask-join" => Command::Event(parse_ask_join(&mut words)?),
+            "ask-role" => Command::Event(parse_ask_role(&mut words)?),
             "main" => parse_main(&mut words)?,
             "legacy" => parse_legacy(&mut words)?,
             "show" => Command::Show,
@@ -150,6 +162,18 @@ fn parse_drop(words: &mut Words<'_>) -> Option<Wish> {
 fn parse_ask_join(words: &mut Words<'_>) -> Option<Wish> {
     let name = Name::parse(words.next()?)?;
     Some(Wish::AskJoin { name })
+}
+
+/// The word of `ask-role`: a name.
+fn parse_ask_role(words: &mut Words<'_>) -> Option<Wish> {
+    let name = Name::parse(words.next()?)?;
+    Some(Wish::AskRole { name })
+}
+
+/// The word of `handover`: an address.
+fn parse_handover(words: &mut Words<'_>) -> Option<Wish> {
+    let to = words::address(words.next()?)?;
+    Some(Wish::HandOver { to })
 }
 
 /// The words of `cut`: a name and a bit.

@@ -36,6 +36,7 @@ pub enum Refusal {
     ByteMismatch,
     Masked,
     Full,
+    ListStale,
     /// No device answers to this address.
     NoAnswer(Addr7),
     /// The data that was read did not end.
@@ -70,6 +71,7 @@ impl Refusal {
             Refusal::ByteMismatch => "ByteMismatch",
             Refusal::Masked => "Masked",
             Refusal::Full => "Full",
+            Refusal::ListStale => "ListStale",
             Refusal::NoAnswer(_) => "NoAnswer",
             Refusal::NoEnd => "NoEnd",
         }

@@ -99,12 +99,25 @@ attached_text names (Event.Attach slot setup) = named_text (slice_index_or (slot
 attached_text names (Event.DropOff slot) = []
 attached_text names (Event.Raise slot byte) = []
 attached_text names (Event.AskJoin slot) = []
+attached_text names (Event.AskRole slot) = []
+attached_text names (Event.Reset policy cuts) = []
+attached_text names (Event.SendList policy cuts) = []
+attached_text names (Event.HandOver to cuts) = []
 attached_text names (Event.Serve policy cuts) = []
 attached_text names (Event.Enec to kinds policy cuts) = []
 attached_text names (Event.Disec to kinds policy cuts) = []
 attached_text names (Event.OpenDaa cuts) = []
 attached_text names (Event.Round cuts) = []
 attached_text names Event.EndDaa = []
+
+-- an address that is the active controller's now
+abbrev pub active_text : ℕ → List ℕ
+active_text a = codes "active " ++ (byte_text a ++ 10 ∷ [])
+
+-- what a handover served, and who is active now
+abbrev pub handed_text : Event → Served → List ℕ
+handed_text (Event.HandOver to cuts) served = request_text served ++ active_text to
+handed_text _ served = []
 
 -- a reply to an event that a line is, or that is a part of `daa`
 abbrev pub reply_text : Names → Origin → Event → Reply → List ℕ
@@ -117,5 +130,6 @@ reply_text names origin event Reply.Asked = codes "asked" ++ 10 ∷ []
 reply_text names origin event (Reply.Served served) = served_text served
 reply_text names origin event (Reply.Framed framed) = framed_text framed
 reply_text names origin event (Reply.Opened served) = opened_text origin served
+reply_text names origin event (Reply.Handed served) = handed_text event served
 reply_text names origin event (Reply.Round answer) = round_text answer
 reply_text names origin event Reply.Ended = ended_text origin

@@ -22,6 +22,7 @@ bus_refusal BusRefusal.NotCapable = Refusal.NotCapable
 bus_refusal BusRefusal.ByteMismatch = Refusal.ByteMismatch
 bus_refusal BusRefusal.Masked = Refusal.Masked
 bus_refusal BusRefusal.Full = Refusal.Full
+bus_refusal BusRefusal.ListStale = Refusal.ListStale
 bus_refusal (BusRefusal.NoAnswer a) = Refusal.NoAnswer a
 
 -- an answer to a frame's own part that is printed as a refusal
@@ -49,6 +50,7 @@ reply_stop Reply.Asked = None
 reply_stop (Reply.Served served) = None
 reply_stop (Reply.Framed framed) = answer_stop framed.answer
 reply_stop (Reply.Opened served) = None
+reply_stop (Reply.Handed served) = None
 reply_stop (Reply.Round answer) = round_stop answer
 reply_stop Reply.Ended = None
 

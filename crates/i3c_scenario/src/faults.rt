@@ -77,6 +77,7 @@ fn line_refusal(why: i3c_bus::Refusal) -> Refusal
         i3c_bus::Refusal::ByteMismatch => Refusal::ByteMismatch,
         i3c_bus::Refusal::Masked => Refusal::Masked,
         i3c_bus::Refusal::Full => Refusal::Full,
+        i3c_bus::Refusal::ListStale => Refusal::ListStale,
         i3c_bus::Refusal::NoAnswer(address) => Refusal::NoAnswer(address),
     }
 }
@@ -100,6 +101,7 @@ impl Stop {
             | Reply::Asked
             | Reply::Served(_)
             | Reply::Opened(_)
+            | Reply::Handed(_)
             | Reply::Ended => None,
         }
     }

@@ -1,6 +1,6 @@
 ghost use Rattle.std.specs.Prelude.{◌≡◌, ◌⊎◌, [], ◌∷◌, ◌++◌, None, Some, MatchResult, OnOk};
 ghost use Rattle.std.specs.Fmt.{decimal};
-ghost use Rattle.i3c_scenario.specs.Printed.{assigned_text, attached_text, ended_text, field_text, framed_text, identity_text, opened_text, reply_text, request_text, round_text, served_text};
+ghost use Rattle.i3c_scenario.specs.Printed.{assigned_text, attached_text, ended_text, field_text, framed_text, handed_text, identity_text, opened_text, reply_text, request_text, round_text, served_text};
 ghost use Rattle.i3c_scenario.specs.Stops.{reply_stop};
 ghost use Rattle.i3c_scenario.specs.declared.faults.Stop.TheVariants.{Memory};
 
@@ -59,6 +59,7 @@ fn show_reply(
         Reply::Served(served) => show_served(served, text),
         Reply::Framed(framed) => show_framed(framed, text),
         Reply::Opened(served) => show_opened(origin, served, text),
+        Reply::Handed(served) => show_handed(event, served, text),
         Reply::Round(answer) => show_round(answer, text),
         Reply::Ended => show_ended(origin, text),
     }
@@ -142,6 +143,19 @@ fn show_opened(origin: Origin, served: &Served, text: &mut Text) -> Result<(), A
         Origin::Line => text.push(b"open\n"),
         Origin::Daa => Ok(()),
     }
+}
+
+/// Prints what was served while the role was handed over, and the address of who has it.
+fn show_handed(event: &Event, served: &Served, text: &mut Text) -> Result<(), AllocError>
+    ensures { OnOk result (text.new ≡ text.old ++ handed_text event.now served.now) }
+{
+    let Event::HandOver(to, _) = event else {
+        return Ok(());
+    };
+    show_request(served, text)?;
+    text.push(b"active ")?;
+    text.push_byte(to.get())?;
+    text.end()
 }
 
 /// Prints that a session is ended, if the line is that.
