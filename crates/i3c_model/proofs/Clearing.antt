@@ -2,7 +2,7 @@
 use Rattle.std.proofs.Common.{◌≡◌, ℕ, suc, ◌<◌, Bool, true, false, not, ◌==◌, List, [], ◌∷◌, map, get_or, Option, Some, None, option_map, option_and_then, if◌then◌else◌, sym, refl, ap, ◌∙◌}
 use Rattle.std.specs.List.{filter}
 use Rattle.std.specs.Ordering.{nat_cmp}
-use Rattle.std.specs.BTreeMap.{BTreeMap, Updates, get}
+use Rattle.std.specs.BTreeMap.{BTreeMap, WritesThrough, get}
 use Rattle.i3c_base.specs.declared.range.TheConstants.{ADDRESSES, SLOTS}
 use Rattle.i3c_base.specs.Frames.{active_has, handed, reset, unaddressed_device}
 use Rattle.i3c_base.specs.Places.{changed, changed_from}
@@ -59,6 +59,6 @@ module _ (p : Inside) (st : State) (seen : state_of p ≡ st) (within : IsWithin
       λ t. record (seen t) { devices = devices_are t; given = given_are t; listed = false }
 
   -- the slot's device is the active controller
-  pub handed_there : (devices : BTreeMap ℕ Device) (s : ℕ) (d : Device) → s < SLOTS → Some d ≡ get nat_cmp p.devices s → Updates nat_cmp p.devices devices s (Some (without_role d))
+  pub handed_there : (devices : BTreeMap ℕ Device) (s : ℕ) (d w : Device) → s < SLOTS → WritesThrough nat_cmp (nat_cmp s) p.devices w devices → Some d ≡ get nat_cmp p.devices s → w ≡ without_role d
       → forgotten (state_of (record p { devices = devices; active = s; listed = false })) ≡ handed s st
-  handed_there devices s d l at put = ap forgotten (λ t. record (changed_there p st seen within devices s d without_role l at put t) { active = s; listed = false })
+  handed_there devices s d w l written at e = ap forgotten (λ t. record (changed_there p st seen within devices s d w without_role l written at e t) { active = s; listed = false })

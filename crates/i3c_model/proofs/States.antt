@@ -3,7 +3,7 @@ use Rattle.std.proofs.Common.{◌≡◌, IsSome, Bor, ℕ, suc, ◌<◌, true, n
 use Rattle.std.specs.List.{filter}
 use Rattle.std.specs.Option.{option_copied}
 use Rattle.std.specs.Ordering.{nat_cmp}
-use Rattle.std.specs.BTreeMap.{BTreeMap, Updates, get}
+use Rattle.std.specs.BTreeMap.{BTreeMap, Updates, WritesThrough, get}
 use Rattle.std.proofs.lemmas.Bool.{false≢true}
 use Rattle.std.proofs.lemmas.Option.{none-some}
 use Rattle.i3c_base.specs.declared.requests.Request.{Request}
@@ -16,7 +16,7 @@ use Rattle.i3c_base.specs.Serve.{asks, drives, emptied, recorded}
 use Rattle.i3c_base.specs.State.{change, Device, Entry, State, device_at, each, entry_at, in_slot, legacy_target_at, raised_at}
 use Rattle.i3c_model.specs.declared.plain.Plain.TheInside.{Inside}
 use Rattle.i3c_model.specs.Views.{IsKeyedBelow, IsWithinPlaces, places_of, state_of}
-use Rattle.i3c_model.proofs.PlaceLaws.{below_put, places_at, places_changed, places_left, places_put, places_same}
+use Rattle.i3c_model.proofs.PlaceLaws.{below_put, written_puts, places_at, places_changed, places_left, places_put, places_same}
 
 -- what is lent is what is there
 pub lent_seen : {A : Type 0} (r : Option (Bor A)) → option_copied r ≡ option_map (λ d. d.now) r
@@ -45,6 +45,10 @@ within_put p q s d legacy given l put within = record {
   statics = subst (IsKeyedBelow ADDRESSES) (sym legacy) within.statics;
   addresses = subst (IsKeyedBelow ADDRESSES) (sym given) within.addresses;
 }
+
+-- a device is changed in its slot
+pub within_written : (p q : Inside) (s : ℕ) (d w : Device) → q.legacy ≡ p.legacy → q.given ≡ p.given → s < SLOTS → WritesThrough nat_cmp (nat_cmp s) p.devices w q.devices → Some d ≡ get nat_cmp p.devices s → IsWithinPlaces p → IsWithinPlaces q
+within_written p q s d w legacy given l written at within = within_put p q s w legacy given l (written_puts p.devices q.devices s d w written at) within
 
 -- p is a machine's inside, which is seen as the abstract bus st
 module _ (p : Inside) (st : State) (seen : state_of p ≡ st) (within : IsWithinPlaces p) where
@@ -105,8 +109,10 @@ module _ (p : Inside) (st : State) (seen : state_of p ≡ st) (within : IsWithin
       λ t. record (seen t) { devices = devices_are t; raised = set (seen t).raised s (count t) }
 
   -- one device changed
-  pub changed_there : (new : BTreeMap ℕ Device) (s : ℕ) (d : Device) (f : Device → Device) → s < SLOTS → Some d ≡ get nat_cmp p.devices s → Updates nat_cmp p.devices new s (Some (f d)) → state_of (record p { devices = new }) ≡ change s f st
-  changed_there new s d f l at put = devices_there new _ (placed_there new s (Some (f d)) l put ∙ ap (λ o. set st.devices s (option_map f o)) (at ∙ sym (device_there s)))
+  pub changed_there : (new : BTreeMap ℕ Device) (s : ℕ) (d w : Device) (f : Device → Device) → s < SLOTS → WritesThrough nat_cmp (nat_cmp s) p.devices w new → Some d ≡ get nat_cmp p.devices s → w ≡ f d → state_of (record p { devices = new }) ≡ change s f st
+  changed_there new s d w f l written at e =
+      let put = written_puts p.devices new s d w written at in
+      devices_there new _ (placed_there new s (Some w) l put ∙ (ap (λ x. set st.devices s (Some x)) e ∙ ap (λ o. set st.devices s (option_map f o)) (at ∙ sym (device_there s))))
 
   -- a record appended
   pub recorded_there : (records : Vec Record Global) (r : Record) → records.items ≡ p.records.items ++ r ∷ [] → state_of (record p { records = records }) ≡ recorded r st

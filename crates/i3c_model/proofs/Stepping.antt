@@ -1,5 +1,5 @@
 -- Steps, and what decides them.
-use Rattle.std.proofs.Common.{◌≡◌, ◌≢◌, ◌↔◌, ℕ, ◌⊎◌, IsTrue, Bool, true, false, not, ◌&&◌, Option, Some, None, is_none, is_some, MatchBool, MatchOption, sym, refl, ap, ◌∙◌, subst, inl, inr}
+use Rattle.std.proofs.Common.{◌≡◌, ◌≢◌, ◌↔◌, ℕ, ◌⊎◌, IsTrue, Bool, true, false, not, ◌&&◌, ◌∷◌, Option, Some, None, is_none, is_some, MatchBool, MatchOption, sym, refl, ap, ◌∙◌, subst, inl, inr}
 use Rattle.std.specs.Option.{unwrap_or}
 use Rattle.std.proofs.lemmas.Bool.{and_parts, cond-true, false≢true, not-true}
 use Rattle.std.proofs.lemmas.Option.{none-some}
@@ -16,7 +16,7 @@ use Rattle.i3c_step.specs.declared.replies.Reply.{Reply}
 use Rattle.i3c_model.specs.contracts.plain.Choice.{the_type}
 use Rattle.i3c_model.specs.declared.plain.Choice.{Choice}
 use Rattle.i3c_model.specs.declared.plain.Choice.TheVariants.{Heard, Lost, Silent}
-use Rattle.i3c_step.specs.Step.{Acts, IsShort, Step, checks, first_refusal}
+use Rattle.i3c_step.specs.Step.{Acts, Checks, IsShort, Step, checks, first_refusal}
 
 -- an event that no test refuses acts, and one that a test refuses changes nothing
 pub acts_there : (old : State) (event : Event) (reply : Reply) (new : State) → first_refusal (checks old event) ≡ None → Acts old event reply new → Step old event reply new
@@ -65,20 +65,13 @@ given_not_pickable st a given p = false≢true (sym (ap is_some p.1) ∙ given)
 pub legacy_not_pickable : (st : State) (a : ℕ) → is_some (legacy_target_at st a) ≡ true → IsPickable st a → ⊥
 legacy_not_pickable st a legacy p = false≢true (sym (ap is_some p.2) ∙ legacy)
 
--- a raise is refused where no device is there
-pub raise_there : (old : State) (s : ℕ) (byte : Option ℕ) → first_refusal (checks old (Raise s byte)) ≡ None → device_at old s ≡ None → ⊥
-raise_there old s byte none absent = none-some NoDevice (sym none ∙ cond-true (is_none (device_at old s)) (Some NoDevice) _ (ap is_none absent))
+-- where no test refuses, of which the first is that no device is there, a device is there
+pub present_there : (old : State) (s : ℕ) (rest : Checks) → first_refusal ((is_none (device_at old s), NoDevice) ∷ rest) ≡ None → device_at old s ≡ None → ⊥
+present_there old s rest none absent = none-some NoDevice (sym none ∙ cond-true (is_none (device_at old s)) (Some NoDevice) (first_refusal rest) (ap is_none absent))
 
 and_false : (b : Bool) → (b && false) ≡ false
 and_false true = refl
 and_false false = refl
-
--- so is a wish to join, or for the role
-pub join_there : (old : State) (s : ℕ) → first_refusal (checks old (AskJoin s)) ≡ None → device_at old s ≡ None → ⊥
-join_there old s none absent = none-some NoDevice (sym none ∙ cond-true (is_none (device_at old s)) (Some NoDevice) _ (ap is_none absent))
-
-pub role_there : (old : State) (s : ℕ) → first_refusal (checks old (AskRole s)) ≡ None → device_at old s ≡ None → ⊥
-role_there old s none absent = none-some NoDevice (sym none ∙ cond-true (is_none (device_at old s)) (Some NoDevice) _ (ap is_none absent))
 
 -- a round is over where each hearer is lost, as far as that is chosen
 pub over_is : (st : State) (lost : LostDevices) (may found : Bool) → (found ≡ true) ↔ ((s : ℕ) × (d : Device) × (device_at st s ≡ Some d) × ((d.hearing && not (may && lost s)) ≡ true))

@@ -632,3 +632,4 @@ fn raises_are_refused(rt: HostRuntime) -> Result<(), Fail> {
 }
 
 mod cuts;
+mod roles;

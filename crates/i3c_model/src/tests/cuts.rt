@@ -85,9 +85,13 @@ fn with_cuts(event: &Event, cuts: Cuts) -> Event {
         Event::DropOff(slot) => Event::DropOff(*slot),
         Event::Raise(slot, byte) => Event::Raise(*slot, *byte),
         Event::AskJoin(slot) => Event::AskJoin(*slot),
+        Event::AskRole(slot) => Event::AskRole(*slot),
         Event::Serve(policy, _) => Event::Serve(*policy, cuts),
         Event::Enec(to, kinds, policy, _) => Event::Enec(*to, *kinds, *policy, cuts),
         Event::Disec(to, kinds, policy, _) => Event::Disec(*to, *kinds, *policy, cuts),
+        Event::Reset(policy, _) => Event::Reset(*policy, cuts),
+        Event::SendList(policy, _) => Event::SendList(*policy, cuts),
+        Event::HandOver(to, _) => Event::HandOver(*to, cuts),
         Event::OpenDaa(_) => Event::OpenDaa(cuts),
         Event::Round(_) => Event::Round(cuts),
         Event::EndDaa => Event::EndDaa,
@@ -134,12 +138,15 @@ fn check(rt: &impl Abort, alloc: Global, script: &[Event], place: Place) -> Resu
     Ok(())
 }
 
-// The bit past the last one that the frame may send, if the event is one.
+// The bit past the last one that the frame may send, if the event is one. No list has more than three addresses.
 fn past(event: &Event) -> Option<u16> {
     match event {
         Event::Serve(_, _) => Some(10),
         Event::Enec(None, _, _, _) | Event::Disec(None, _, _, _) => Some(37),
         Event::Enec(Some(_), _, _, _) | Event::Disec(Some(_), _, _, _) => Some(46),
+        Event::Reset(_, _) => Some(28),
+        Event::SendList(_, _) => Some(145),
+        Event::HandOver(_, _) => Some(37),
         Event::OpenDaa(_) => Some(19),
         Event::Round(_) => Some(74),
         _ => None,
@@ -322,6 +329,88 @@ fn joining_devices_are_cut(rt: HostRuntime) -> Result<(), Fail> {
         round(),
         round(),
         Event::EndDaa,
+        serve(),
+    ];
+    each_frame(&rt, rt.alloc(), &script)
+}
+
+// A device that can be a controller, and that wishes to be, beside one that can't: addresses are cleared and given anew,
+// with a role request or an interrupt before.
+#[test]
+fn cleared_devices_are_cut(rt: HostRuntime) -> Result<(), Fail> {
+    let (accept, none) = (all(Verdict::Accept), all(Verdict::Refuse));
+    let script = [
+        attach(1, C)?,
+        attach(2, T)?,
+        open(),
+        round(),
+        round(),
+        Event::EndDaa,
+        raise(1, Some(0x11))?,
+        Event::AskRole(Slot::new(1)?),
+        raise(2, Some(0x22))?,
+        Event::Reset(accept, Cuts::new()),
+        open(),
+        round(),
+        round(),
+        Event::EndDaa,
+        Event::AskRole(Slot::new(1)?),
+        Event::Reset(none, Cuts::new()),
+        serve(),
+        open(),
+        round(),
+        round(),
+        Event::EndDaa,
+        serve(),
+        serve(),
+    ];
+    each_frame(&rt, rt.alloc(), &script)
+}
+
+// The role is offered to one who can't have it, is given on, and comes back. Interrupts are served before.
+#[test]
+fn heirs_are_cut(rt: HostRuntime) -> Result<(), Fail> {
+    let (accept, none) = (all(Verdict::Accept), all(Verdict::Refuse));
+    let (hub, heir) = (Addr7::new(0x08)?, Addr7::new(0x0A)?);
+    let script = [
+        attach(1, C)?,
+        attach(2, T)?,
+        open(),
+        round(),
+        round(),
+        Event::EndDaa,
+        Event::HandOver(heir, Cuts::new()),
+        raise(2, Some(0x22))?,
+        Event::SendList(accept, Cuts::new()),
+        Event::HandOver(Addr7::new(0x09)?, Cuts::new()),
+        Event::AskRole(Slot::new(1)?),
+        Event::HandOver(heir, Cuts::new()),
+        raise(0, Some(0x33))?,
+        serve(),
+        Event::SendList(none, Cuts::new()),
+        Event::HandOver(hub, Cuts::new()),
+        drop_off(2)?,
+        attach(2, T)?,
+        open(),
+        round(),
+        Event::EndDaa,
+    ];
+    each_frame(&rt, rt.alloc(), &script)
+}
+
+// Two devices of one identity: the lower slot that is left takes the role.
+#[test]
+fn twin_heirs_are_cut(rt: HostRuntime) -> Result<(), Fail> {
+    let heir = Addr7::new(0x09)?;
+    let script = [
+        attach(1, C)?,
+        attach(3, C)?,
+        open(),
+        round(),
+        Event::EndDaa,
+        Event::SendList(all(Verdict::Refuse), Cuts::new()),
+        Event::HandOver(heir, Cuts::new()),
+        raise(0, Some(0x33))?,
         serve(),
     ];
     each_frame(&rt, rt.alloc(), &script)

@@ -1,17 +1,12 @@
-use Rattle.i3c_base.specs.declared.range.TheConstants.{SLOTS}
-use Rattle.i3c_model.proofs.PlaceLaws.{below_put}
-use Rattle.i3c_model.proofs.States.{after_error, devices_there, placed_there, same_devices}
+use Rattle.std.proofs.Common.{refl}
+use Rattle.i3c_model.proofs.States.{after_error, devices_there, placed_there, same_devices, within_put}
 use Rattle.i3c_model.proofs.plain.Plain.attach.Goals as goal
 
 pub returns-in_err-insert-clause-unchanged : goal.returns-in_err-insert-clause-unchanged
 returns-in_err-insert-clause-unchanged c = after_error _ (same_devices c.self.inside c.args.self.now c.self.view_is c.self.invariant c.insert.new.self c.in_err-insert.ensures.err)
 
 pub invariant_of-self-2 : goal.invariant_of-self-2
-invariant_of-self-2 c = record {
-  slots = below_put SLOTS c.self.inside.devices c.insert.new.self c.args.slot _ c.self.invariant.slots c.index.ensures.in_range c.in_ok-insert.ensures.updates;
-  statics = c.self.invariant.statics;
-  addresses = c.self.invariant.addresses;
-}
+invariant_of-self-2 c = within_put c.self.inside _ c.args.slot _ refl refl c.index.ensures.in_range c.in_ok-insert.ensures.updates c.self.invariant
 
 pub returns-clause-attached : goal.returns-clause-attached
 returns-clause-attached c =

@@ -1,29 +1,24 @@
-use Rattle.std.proofs.Common.{◌+◌, ℕ, suc, Some, arith, get_or, set, subst, sym, ◌∙◌, ◌≡◌}
+use Rattle.std.proofs.Common.{drop, ◌+◌, ℕ, suc, Some, arith, get_or, refl, set, subst, sym, ◌∙◌, ◌≡◌}
 use Rattle.std.specs.BTreeMap.{Updates}
 use Rattle.std.specs.Ordering.{nat_cmp}
 use Rattle.i3c_base.specs.Local.{raise}
 use Rattle.i3c_base.specs.State.{Device}
-use Rattle.i3c_base.specs.declared.range.TheConstants.{SLOTS}
 use Rattle.i3c_model.specs.Views.{state_of}
-use Rattle.i3c_model.proofs.PlaceLaws.{below_put, written_puts, written_same}
-use Rattle.i3c_model.proofs.States.{after_error, device_there, raised_there, same_devices}
-use Rattle.i3c_model.proofs.Stepping.{raise_there}
+use Rattle.i3c_model.proofs.PlaceLaws.{written_puts, written_same}
+use Rattle.i3c_model.proofs.States.{after_error, device_there, raised_there, same_devices, within_written}
+use Rattle.i3c_step.specs.declared.events.Event.TheVariants.{Raise}
+use Rattle.i3c_step.specs.Step.{checks}
+use Rattle.i3c_model.proofs.Stepping.{present_there}
 use Rattle.i3c_model.proofs.plain.Plain.raise.Goals as goal
 
 one_more : (n : ℕ) → n + 1 ≡ suc n
 one_more n = omega arith
 
 pub unreachable-requires : goal.unreachable-requires
-unreachable-requires c = raise_there c.args.self.now c.args.slot c.args.byte c.requires.allowed (device_there c.self.inside c.args.self.now c.self.view_is c.self.invariant c.args.slot ∙ sym c.in_default.ensures.value)
+unreachable-requires c = present_there c.args.self.now c.args.slot (drop 1 (checks c.args.self.now (Raise c.args.slot c.args.byte))) c.requires.allowed (device_there c.self.inside c.args.self.now c.self.view_is c.self.invariant c.args.slot ∙ sym c.in_default.ensures.value)
 
 pub invariant_of-self : goal.invariant_of-self
-invariant_of-self c =
-    let put = written_puts c.self.inside.devices (c.get_mut.follows.lender c.raise.new.self) c.args.slot c.in-Some.device.now c.raise.new.self (c.get_mut.follows.holds c.raise.new.self) c.in-Some.ensures.value in
-    record {
-      slots = below_put SLOTS c.self.inside.devices (c.get_mut.follows.lender c.raise.new.self) c.args.slot _ c.self.invariant.slots c.index-index.ensures.in_range put;
-      statics = c.self.invariant.statics;
-      addresses = c.self.invariant.addresses;
-    }
+invariant_of-self c = within_written c.self.inside _ c.args.slot c.in-Some.device.now c.raise.new.self refl refl c.index-index.ensures.in_range (c.get_mut.follows.holds c.raise.new.self) c.in-Some.ensures.value c.self.invariant
 
 pub returns-in_err-raise-clause-unchanged : goal.returns-in_err-raise-clause-unchanged
 returns-in_err-raise-clause-unchanged c =
@@ -31,13 +26,7 @@ returns-in_err-raise-clause-unchanged c =
     (written_same c.self.inside.devices (c.get_mut.follows.lender c.raise.new.self) c.args.slot c.in-Some.device.now c.raise.new.self (c.get_mut.follows.holds c.raise.new.self) c.in-Some.ensures.value c.in_err-raise.ensures.unchanged))
 
 pub invariant_of-self-2 : goal.invariant_of-self-2
-invariant_of-self-2 c =
-    let put = written_puts c.self.inside.devices (c.get_mut.follows.lender c.raise.new.self) c.args.slot c.in-Some.device.now c.raise.new.self (c.get_mut.follows.holds c.raise.new.self) c.in-Some.ensures.value in
-    record {
-      slots = below_put SLOTS c.self.inside.devices (c.get_mut.follows.lender c.raise.new.self) c.args.slot _ c.self.invariant.slots c.index-index.ensures.in_range put;
-      statics = c.self.invariant.statics;
-      addresses = c.self.invariant.addresses;
-    }
+invariant_of-self-2 c = within_written c.self.inside _ c.args.slot c.in-Some.device.now c.raise.new.self refl refl c.index-index.ensures.in_range (c.get_mut.follows.holds c.raise.new.self) c.in-Some.ensures.value c.self.invariant
 
 pub returns-clause-raised : goal.returns-clause-raised
 returns-clause-raised c =
