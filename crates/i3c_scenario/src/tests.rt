@@ -11,6 +11,7 @@ use std::process::Abort;
 use std::test::Fail;
 use std::{io, str};
 
+mod handing;
 mod joining;
 
 /// How many bytes a script may have.
@@ -259,13 +260,17 @@ fn lines_without_a_form(rt: HostRuntime) -> Result<(), Fail> {
         "cut hub",
         "cut 3",
         "cut hub 3 3",
+        "ask-role",
+        "ask-role hub hub",
+        "ask role hub",
+        "reset 09",
+        "list 09",
+        "handover",
+        "handover hub",
+        "handover 09 0A",
         // lines that come with other calls
-        "ask-role hub",
-        "reset",
-        "list",
         "read 09",
         "write 09 01",
-        "handover 09",
         // spaces
         " ",
         " daa",
@@ -319,6 +324,8 @@ fn lines_without_a_form(rt: HostRuntime) -> Result<(), Fail> {
         // addresses
         "enec 01 80",
         "disec 01 FF",
+        "handover 80",
+        "handover 9",
         "enec 01 9",
         "legacy eep 80 20",
         "legacy eep FF 20",
@@ -721,7 +728,7 @@ const EACH_LINE: &[u8] = b"show\nlegacy eep 50 20\nmain hub 020400000001 46 C0\n
     attach t 020400000010 06 44\nattach t 0\ndaa\nraise t 11\npolicy none\nserve\nenec 01\n\
     policy all\nraise x 11\ndisec 01 09\nenec 01 51\nenec 01 09\nraise t 12\nserve\nshow\nsymbols\n\
     attach u 020400000011 06 44\nask-join u\ncut u 65535\nserve\nopen\nround\nround\nend\nend\ndrop u\n\
-    show\n";
+    attach c 020400000020 46 C1\ndaa\nask-role c\nlist\nhandover 0B\nreset\nshow\n";
 
 // Each write that fails alone ends the run, be it a reply's, a refusal's or a part of `show`, though all later ones
 // would be taken; nothing is printed after it.
