@@ -1,5 +1,5 @@
 -- What it comes to that a line is carried out which names no device.
-use Rattle.std.proofs.Common.{◌≡◌, ◌⊎◌, ◌∙◌, ℕ, ◌+◌, true, false, arith, List, [], ◌∷◌, length, Option, Some, None, Result, Ok, Err, ap, inl, inr, refl, subst}
+use Rattle.std.proofs.Common.{◌≡◌, ◌⊎◌, ◌∙◌, ℕ, ◌+◌, true, false, arith, List, [], ◌∷◌, length, Some, None, Result, Ok, Err, ap, inl, inr, refl, subst}
 use Rattle.std.specs.Result.{MatchResult}
 use Rattle.i3c_base.specs.declared.answers.RoundReply.{RoundReply}
 use Rattle.i3c_base.specs.declared.range.TheConstants.{SLOTS}
@@ -12,7 +12,7 @@ use Rattle.i3c_lines.specs.declared.command.Wish.{Wish}
 use Rattle.i3c_lines.specs.declared.refusals.Refusal.{Refusal}
 use Rattle.i3c_scenario.specs.declared.faults.Stop.{Stop}
 use Rattle.i3c_lines.specs.declared.names.Names.{Names}
-use Rattle.i3c_scenario.specs.Asking.{AreOver, Asked, AsksForNone, Assigns, Carries, EndsRounds, GoOn, Ran, Rounds, RoundsAndEnd, RoundsUp, StopsAt, goes_on}
+use Rattle.i3c_scenario.specs.Asking.{AreOver, Asked, AsksForNone, Assigns, Carries, EndsRounds, GoOn, Ran, Rounds, RoundsUp, StopsAt, goes_on}
 use Rattle.i3c_scenario.specs.Stops.{reply_stop}
 
 -- a line that is refused asks for no event
@@ -115,7 +115,3 @@ over_anyway (Stop.Refused why) replies over = over
 -- rounds that are over are so for whatever the line comes to
 pub up_anyway : (stop : Stop) (old new : State) → RoundsUp (Ok tt) old new → RoundsUp (Err stop) old new
 up_anyway stop old new (replies, rounds, over) = (replies, rounds, over_anyway stop replies over)
-
--- a session that follows its opening
-pub opens_and_ends : (ran : Ran) (names : Names) (reply : Reply) (opened new : State) (r : Result (Unit {0}) Stop) → Carries ran names Wish.Open reply opened → reply_stop reply ≡ None → RoundsAndEnd r opened new → Assigns ran.state ran.cuts r new
-opens_and_ends ran names reply opened new r carried none session = (opened, reply, opens ran names reply opened carried, inr (none, session))

@@ -1,5 +1,5 @@
 -- What comes of a script's lines: what they printed, and how the run ended.
-use Rattle.std.specs.Prelude.{◌≡◌, ◌≢◌, ℕ, ◌≤◌, List, [], ◌∷◌, ◌++◌, length, take, All, Option}
+use Rattle.std.specs.Prelude.{◌≢◌, ℕ, ◌≤◌, List, length, take, All, Option}
 use Rattle.std.specs.Io.KnownBytes.{Appends}
 
 -- no line ends in these bytes

@@ -1,6 +1,5 @@
-use Rattle.std.proofs.Common.{◌≡◌, ◌∙◌, ◌++◌, [], ◌∷◌, ◌-◌, ◌/◌, ◌%◌, true, ap, sym, rules, arith}
+use Rattle.std.proofs.Common.{◌≡◌, ◌∙◌, ◌++◌, [], ◌∷◌, ◌-◌, ◌/◌, ◌%◌, true, ap, sym, rules}
 use Rattle.std.proofs.lemmas.List.{append_assoc}
-use Rattle.std.proofs.lemmas.Grind.{common_steps}
 use Rattle.std.specs.Fmt.{digit_glyph}
 use Rattle.i3c_lines.specs.Hex.{hex_text}
 use Rattle.i3c_lines.proofs.HexTexts.{hex_text_more}

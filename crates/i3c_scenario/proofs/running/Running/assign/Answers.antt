@@ -1,4 +1,4 @@
-use Rattle.i3c_scenario.proofs.Carrying.{opens_and_ends, opens_no_more}
+use Rattle.i3c_scenario.proofs.Carrying.{opens_no_more}
 use Rattle.i3c_scenario.proofs.running.Running.assign.Goals as goal
 
 pub returns-in-Err-clause-assigns : goal.returns-in-Err-clause-assigns

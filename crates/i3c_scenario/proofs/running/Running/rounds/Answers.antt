@@ -1,5 +1,4 @@
 use Rattle.std.proofs.Common.{◌≡◌, ◌∙◌, Ok, true, false, arith, rules, subst, sym}
-use Rattle.i3c_base.specs.declared.range.TheConstants.{SLOTS}
 use Rattle.i3c_scenario.specs.Asking.{Ran, RoundsUp, goes_on}
 use Rattle.i3c_scenario.proofs.Carrying.{all_rounds, last, no_more, one_more}
 use Rattle.i3c_scenario.proofs.running.Running.rounds.Goals as goal
