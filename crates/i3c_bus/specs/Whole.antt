@@ -1,15 +1,24 @@
 -- What each bus keeps.
-use Rattle.std.specs.Prelude.{◌≡◌, true, List, Option, Some, None}
-use Rattle.i3c_base.specs.Covered.{IsCopy, IsTable, Table}
+use Rattle.std.specs.Prelude.{◌≡◌, ℕ, true, List, Option, Some, None}
+use Rattle.i3c_base.specs.Covered.{IsCopy, IsTable, Table, lvrs}
 use Rattle.i3c_base.specs.State.{State}
 use Rattle.i3c_deftgts.specs.declared.entries.Entry.{Entry}
 use Rattle.i3c_deftgts.specs.Copies.{table_of}
+use Rattle.i3c_deftgts.specs.Entries.{entries_of}
 use Rattle.i3c_step.specs.Sound.{IsSound}
 
--- the list that was sent last gives a copy of the active controller's table
+-- the active controller's table, as the state has it
+abbrev pub the_table : State → Table
+the_table st = record { given = st.given; legacy = lvrs st; listed = st.listed }
+
+-- these are the entries of its list, one of them first, and they give a copy of it
+abbrev pub IsCopyOf : State → List Entry → Type 0
+IsCopyOf st list = IsCopy st (table_of list) × ((own : ℕ) × (list ≡ entries_of (the_table st) own))
+
+-- the list that was sent last is such
 abbrev pub IsCurrent : State → Option (List Entry) → Type 0
 IsCurrent st None = ⊥
-IsCurrent st (Some list) = IsCopy st (table_of list)
+IsCurrent st (Some list) = IsCopyOf st list
 
 -- a sound bus that its active controller's table covers, and while the list is current what was read of it too
 pub record IsWhole (st : State) (table : Table) (list : Option (List Entry)) : Type 0 where

@@ -11,7 +11,6 @@ use Rattle.i3c_base.specs.declared.requests.Served.{Served}
 use Rattle.i3c_base.specs.Cutting.{CutList, lost_by}
 use Rattle.i3c_base.specs.State.{State, entry_at}
 use Rattle.i3c_base.specs.Serve.{IsFirst, IsWordBits, byte_due, drives, header_bits}
-use Rattle.i3c_base.specs.Covered.{lvrs}
 use Rattle.i3c_base.specs.Frames.{AnyLeft, SomeLeftAt, active_has}
 use Rattle.i3c_word.specs.declared.Word.{Word}
 use Rattle.i3c_deftgts.specs.Entries.{entries_of}
@@ -30,6 +29,7 @@ use Rattle.i3c_step.specs.declared.events.Event.{Event}
 use Rattle.i3c_step.specs.declared.events.Event.TheVariants.{Enec, Disec, Reset, SendList, HandOver}
 use Rattle.i3c_step.specs.declared.replies.Reply.{Reply}
 use Rattle.i3c_step.specs.Step.{cuts_in}
+use Rattle.i3c_bus.specs.Whole.{the_table}
 
 -- whether some device other than the active controller, not lost by this bit, acknowledges a broadcast there
 abbrev pub IsAck : State → CutList → ℕ → Bool → Type 0
@@ -90,7 +90,7 @@ IsListWire words wire = (code : Word) × IsWord 0x08 code × (wire ≡ Symbol.Wo
 -- these words carry the list of the active controller's table, its own entry first
 abbrev pub IsListOf : State → List Word → Type 0
 IsListOf st words =
-    (own : ℕ) × (active_has st own ≡ true) × Carry (list_bytes (entries_of (record { given = st.given; legacy = lvrs st; listed = st.listed }) own)) words
+    (own : ℕ) × (active_has st own ≡ true) × Carry (list_bytes (entries_of (the_table st) own)) words
 
 -- a list of this bus
 abbrev pub IsListPart : State → List Symbol → Type 0

@@ -72,8 +72,8 @@ impl Model for Bus {
 impl Bus {
     ghost use Rattle.std.specs.Prelude.{◌↔◌, true, false, is_some, IfOk, IsOk, MatchOption, OnOk, OnErr};
     ghost use Rattle.i3c_base.specs.Numbers.{is_capable};
-    ghost use Rattle.i3c_base.specs.Covered.{IsCopy, IsTable};
-    ghost use Rattle.i3c_deftgts.specs.Copies.{table_of};
+    ghost use Rattle.i3c_base.specs.Covered.{IsTable};
+    ghost use Rattle.i3c_bus.specs.Whole.{IsCopyOf};
     ghost use Rattle.i3c_base.specs.State.{device_at, IsStart, legacy_targets_of};
     ghost use Rattle.i3c_step.specs.Step.{Step};
     ghost use Rattle.i3c_bus.specs.Hands.{HandFits};
@@ -279,7 +279,7 @@ impl Bus {
     /// be a controller, and isn't the active one (I3C Basic 5.1.9.3.7). It is what its table is made of where it takes the
     /// role.
     pub fn copy(&self, slot: Slot) -> Option<&List>
-        ensures { MatchOption result (keeps_copy self.now.state slot ≡ false) (λ list. (keeps_copy self.now.state slot ≡ true) × IsCopy self.now.state (table_of list.now)) }
+        ensures { MatchOption result (keeps_copy self.now.state slot ≡ false) (λ list. (keeps_copy self.now.state slot ≡ true) × IsCopyOf self.now.state list.now) }
     {
         let device = self.devices.get(slot)?;
         let keeps = device.address().is_some() && device.identity().bcr.capable();

@@ -14,7 +14,7 @@ use Rattle.i3c_step.proofs.Soundness.{sound_handed}
 use Rattle.i3c_bus.proofs.parts.Bus.hand.Goals as goal
 
 copy : (c : goal.After-give) → IsCopy (seen c.self.inside) (table_of c.in-Some.list)
-copy c = subst (IsCurrent (seen c.self.inside)) c.in-Some.is (c.self.invariant.copied (subst (λ (h : Held). h.state.listed ≡ true) (sym c.self.view_is) c.requires.listed))
+copy c = (subst (IsCurrent (seen c.self.inside)) c.in-Some.is (c.self.invariant.copied (subst (λ (h : Held). h.state.listed ≡ true) (sym c.self.view_is) c.requires.listed))).0
 
 after : (c : goal.After-give)
     → state_of c.lose_role_wish.new.self c.self.inside.raised c.give.new.active c.to_table-self-inside.result c.self.inside.legacy c.self.inside.in_session c.self.inside.records.items ≡ handed c.args.slot (seen c.self.inside)
