@@ -9,7 +9,7 @@ pub enum Answer {
     Done,
     /// The registers that were read.
     Bytes([u8; REGISTERS]),
-    /// The header of this address was not acknowledged.
+    /// The header of this address was not acknowledged, or nobody took the role that was offered there.
     NoAnswer(Addr7),
     /// The data that was read did not end.
     NoEnd,

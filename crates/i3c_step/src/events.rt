@@ -20,7 +20,7 @@ pub enum Event {
     Enec(Option<Addr7>, Kinds, Fixed, Cuts),
     /// Kinds of events are disabled (DISEC, I3C Basic 5.1.9.3.1), of the same.
     Disec(Option<Addr7>, Kinds, Fixed, Cuts),
-    /// All addresses but the active controller's are cleared (RSTDAA, I3C Basic 5.1.9.3.4).
+    /// All addresses but the active controller's are cleared (RSTDAA, I3C Basic 5.1.9.3.3).
     Reset(Fixed, Cuts),
     /// Each device is told of all others (DEFTGTS, I3C Basic 5.1.9.3.7).
     SendList(Fixed, Cuts),

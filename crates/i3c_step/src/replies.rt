@@ -20,7 +20,7 @@ pub enum Refusal {
     NoAddress,
     /// The device has an address.
     HasAddress,
-    /// The device can't do this by its BCR.
+    /// The device can't do this by its BCR, or there is no row at the address that the role is offered to.
     NotCapable,
     /// A mandatory byte is due by the device's BCR and is missing, or is given and isn't due.
     ByteMismatch,
