@@ -131,7 +131,6 @@ step_asked (Command.Enec to kinds) old p q cuts reply new asks h =
 step_asked (Command.Disec to kinds) old p q cuts reply new asks h =
     acts_as old (Event.Disec to kinds (given_by reply) cuts) (Event.Disec to kinds p cuts) reply new refl (λ s. s)
     (λ acts. (acts.0, acts.1, frame_as old (given_by reply) p cuts acts.0.served _ _ new (asked_agree old p q reply (Reply.Framed acts.0) (given_for acts.0.served) acts.1 refl (λ d. d) asks) acts.2)) h
-
 step_asked Command.Reset old p q cuts reply new asks h =
     acts_as old (Event.Reset (given_by reply) cuts) (Event.Reset p cuts) reply new refl (λ s. s)
     (λ acts. (acts.0, acts.1, frame_as old (given_by reply) p cuts acts.0 _ _ new (asked_agree old p q reply (Reply.Framed (done acts.0)) (given_for acts.0) acts.1 refl (λ d. d) asks) acts.2)) h

@@ -75,7 +75,10 @@ impl Bus {
         };
         let words = self.send_list();
         tell_list(tap, &words);
-        self.drop_lost(cuts, begun.bits + WORD_BITS + WORD_BITS * words.len() as u16);
+        self.drop_lost(
+            cuts,
+            begun.bits + WORD_BITS + WORD_BITS * words.len() as u16,
+        );
         Ok(Framed {
             served: begun.served,
             answer: Answer::Done,

@@ -14,9 +14,7 @@ mod sessions;
 mod tokens;
 mod wire;
 
-pub use i3c_base::{
-    Answer, JoinRefusal, RaiseRefusal, Request, RoundReply, Served,
-};
+pub use i3c_base::{Answer, JoinRefusal, RaiseRefusal, Request, RoundReply, Served};
 pub use i3c_handoff::Role;
 pub use i3c_ibi::{Fixed, Policy, Record, Verdict};
 pub use i3c_step::{

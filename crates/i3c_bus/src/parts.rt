@@ -8,8 +8,8 @@ use i3c_handoff::{Active, Role, retire};
 use i3c_hotjoin::{JoinRefusal, ask};
 use i3c_legacy::{LEGACIES, Legacies, LegacyTargets};
 use i3c_picker::pick;
-use i3c_table::{Row, Table};
 use i3c_step::{DropRefusal, OutOfMemory, SlotTaken, StartFault};
+use i3c_table::{Row, Table};
 use std::alloc::Global;
 use std::marker::Model;
 

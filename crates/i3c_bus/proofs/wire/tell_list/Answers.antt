@@ -20,7 +20,11 @@ pub returns : goal.returns
 returns g c =
     let all = take_all c.loop-word.word-index c.args.words.now c.loop-word-test.false in (
       Word c.write_word.result ∷ map Word c.args.words.now ++ Stop ∷ [],
-      (c.note.new.self, c.note.ensures, NotesAll-push g.T.Tap.note_gives c.note.new.self (map Word c.args.words.now) c.loop-word.tap Stop c.note-2.new.self
-          (subst (λ words. NotesAll g.T.Tap.note_gives c.note.new.self (map Word words) c.loop-word.tap) all c.loop-word.invariant) c.note-2.ensures),
+      (
+        c.note.new.self,
+        c.note.ensures,
+        NotesAll-push g.T.Tap.note_gives c.note.new.self (map Word c.args.words.now) c.loop-word.tap Stop c.note-2.new.self
+            (subst (λ words. NotesAll g.T.Tap.note_gives c.note.new.self (map Word words) c.loop-word.tap) all c.loop-word.invariant) c.note-2.ensures,
+      ),
       (c.write_word.result, (c.write_word.ensures.byte ∙ c.byte_of.ensures, c.write_word.ensures.odd), refl),
     )
