@@ -84,8 +84,8 @@ skip_by (suc n) devices first keys sized low silent h =
     let same : first + 1 + n ≡ first + suc n = omega arith in
     let none = silent first (omega arith) (omega arith) in
     let one : ContendersSoFar devices (first + 1) keys =
-        contenders_more devices first (get_or devices first None) keys keys sized (omega arith) h refl
-        (sym (ap (λ ks. keys ++ ks) (silent_none first (get_or devices first None) none) ∙ append-nil keys)) (omega (arith, h.short)) (λ d e b. absurd (silent_out (get_or devices first None) d none e b)) in
+    contenders_more devices first (get_or devices first None) keys keys sized (omega arith) h refl
+    (sym (ap (λ ks. keys ++ ks) (silent_none first (get_or devices first None) none) ∙ append-nil keys)) (omega (arith, h.short)) (λ d e b. absurd (silent_out (get_or devices first None) d none e b)) in
     subst (λ k. ContendersSoFar devices k keys) same (skip_by n devices (first + 1) keys sized (omega arith) (λ t l m. silent t (omega arith) (omega arith)) one)
 
 pub contenders_skip : (devices : List (Option Device)) (first upto : ℕ) (keys : List (ℕ × ℕ)) → length devices ≡ SLOTS → first ≤ upto → upto ≤ SLOTS → ((t : ℕ) → first ≤ t → t < upto → in_slot (λ d. d.hearing) (get_or devices t None) ≡ false)

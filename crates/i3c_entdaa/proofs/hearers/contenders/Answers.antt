@@ -15,7 +15,7 @@ loop-slot-preserved c =
     let hearer = c.in-Some.ensures.hearer in
     let before = contenders_skip devices c.loop-slot.first slot c.loop-slot.keys.items c.enter.ensures.slots hearer.0 (omega (arith, c.index-first.ensures.in_range)) hearer.2 c.loop-slot.invariant.so_far in
     let so_far = contenders_more devices slot (get_or devices slot None) c.loop-slot.keys.items c.enter.new.keys.items c.enter.ensures.slots c.index-first.ensures.in_range before refl c.enter.ensures.entered
-        c.enter.ensures.short c.enter.ensures.in_range in
+    c.enter.ensures.short c.enter.ensures.in_range in
     record {
       so_far = subst (λ k. ContendersSoFar devices (k + 1) c.enter.new.keys.items) (sym c.index-first.ensures.same) so_far;
       low = omega (arith, c.index-first.ensures.in_range, c.index-first.ensures.same);
