@@ -1,8 +1,9 @@
 -- Sets of kinds and the bits that stand for them.
-use Rattle.std.proofs.Common.{◌≡◌, ℕ, ◌-◌, ◌*◌, ◌/◌, ◌%◌, ◌<◌, not, ◌&&◌, ◌||◌, ◌==◌, min, max, sym, ap, ◌∙◌, arith}
+use Rattle.std.proofs.Common.{◌≡◌, ℕ, ◌-◌, ◌*◌, ◌/◌, ◌%◌, ◌^◌, ◌<◌, not, ◌&&◌, ◌||◌, ◌==◌, min, max, sym, ap, ◌∙◌, arith}
 use Rattle.std.proofs.lemmas.Bool.Decides.{nat_tests}
 use Rattle.std.proofs.lemmas.Nat.Bits.{and_pow, bit_at-lt, bit_at_and, bit_at_lowest, bit_at_not, bit_at_or}
-use Rattle.std.specs.Int.{bit_at, w8}
+use Rattle.std.specs.Int.{Width, bit_at, w8}
+use mir.Val.{bits}
 use Rattle.std.specs.Int.RustNames.{bit_or}
 use lib.Bits.{bit_and}
 use Rattle.i3c_base.specs.Numbers.{kind_set}
@@ -34,9 +35,9 @@ one_alone x y l m = grind (arith, nat_tests)
 or_bit : (a b i : ℕ) → (bit_at (bit_or a b) i == 1) ≡ ((bit_at a i == 1) || (bit_at b i == 1))
 or_bit a b i = ap (λ x. x == 1) (bit_at_or a b i) ∙ either_one (bit_at a i) (bit_at b i) (bit_at-lt a i) (bit_at-lt b i)
 
-without_bit : (a b i : ℕ) → b < 256 → i < 8 → (bit_at (bit_and a (255 - b)) i == 1) ≡ ((bit_at a i == 1) && not (bit_at b i == 1))
-without_bit a b i l m =
-    ap (λ x. x == 1) (bit_at_and a (255 - b) i ∙ ap (min (bit_at a i)) (bit_at_not w8 b i l m)) ∙ one_alone (bit_at a i) (bit_at b i) (bit_at-lt a i) (bit_at-lt b i)
+pub without_bit : (w : Width) (a b i : ℕ) → b < 2 ^ bits w → i < bits w → (bit_at (bit_and a (2 ^ bits w - 1 - b)) i == 1) ≡ ((bit_at a i == 1) && not (bit_at b i == 1))
+without_bit w a b i l m =
+    ap (λ x. x == 1) (bit_at_and a (2 ^ bits w - 1 - b) i ∙ ap (min (bit_at a i)) (bit_at_not w b i l m)) ∙ one_alone (bit_at a i) (bit_at b i) (bit_at-lt a i) (bit_at-lt b i)
 
 lowest_is : (n : ℕ) → (bit_at n 0 == 1) ≡ (n % 2 == 1)
 lowest_is n = ap (λ x. x == 1) (bit_at_lowest n)
@@ -51,7 +52,7 @@ union_set a b n e =
 
 pub difference_set : (a b n : ℕ) → b < 256 → n ≡ bit_and a (255 - b) → kind_set (record { 0 = n }) ≡ without_kinds (kind_set (record { 0 = a })) (kind_set (record { 0 = b }))
 difference_set a b n l e =
-    let low : (n % 2 == 1) ≡ ((a % 2 == 1) && not (b % 2 == 1)) = ap (λ k. k % 2 == 1) e ∙ (sym (lowest_is (bit_and a (255 - b))) ∙ (without_bit a b 0 l (omega arith) ∙ ((λ t. lowest_is a t && not (lowest_is b t))))) in
-    let second : (n / 2 % 2 == 1) ≡ ((a / 2 % 2 == 1) && not (b / 2 % 2 == 1)) = ap (λ k. k / 2 % 2 == 1) e ∙ without_bit a b 1 l (omega arith) in
-    let fourth : (n / 8 % 2 == 1) ≡ ((a / 8 % 2 == 1) && not (b / 8 % 2 == 1)) = ap (λ k. k / 8 % 2 == 1) e ∙ without_bit a b 3 l (omega arith) in
+    let low : (n % 2 == 1) ≡ ((a % 2 == 1) && not (b % 2 == 1)) = ap (λ k. k % 2 == 1) e ∙ (sym (lowest_is (bit_and a (255 - b))) ∙ (without_bit w8 a b 0 l (omega arith) ∙ ((λ t. lowest_is a t && not (lowest_is b t))))) in
+    let second : (n / 2 % 2 == 1) ≡ ((a / 2 % 2 == 1) && not (b / 2 % 2 == 1)) = ap (λ k. k / 2 % 2 == 1) e ∙ without_bit w8 a b 1 l (omega arith) in
+    let fourth : (n / 8 % 2 == 1) ≡ ((a / 8 % 2 == 1) && not (b / 8 % 2 == 1)) = ap (λ k. k / 8 % 2 == 1) e ∙ without_bit w8 a b 3 l (omega arith) in
     λ t. record { interrupt = low t; role = second t; join = fourth t }

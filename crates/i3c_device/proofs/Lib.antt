@@ -1,3 +1,6 @@
 pub mod KindLaws
-pub mod Walking
 pub mod Targets
+pub mod SetLaws
+pub mod MarkLaws
+pub mod EachLaws
+pub mod FindLaws

@@ -1,5 +1,5 @@
 -- Whom a command to an address reaches, and who would take the role there, in a bus with these devices.
-use Rattle.std.proofs.Common.{◌≡◌, ◌≢◌, ℕ, Bool, true, false, ◌==◌, not, ◌&&◌, Option, Some, None, refl, ap, ◌∙◌}
+use Rattle.std.proofs.Common.{◌≡◌, ◌≢◌, ℕ, Bool, true, ◌==◌, not, ◌&&◌, Option, Some, None, refl, ap, ◌∙◌}
 use Rattle.std.proofs.lemmas.Bool.{and_parts, both_ways, eq-eqb, eqb-true, ne_eqb}
 use Rattle.i3c_base.specs.State.{Device, IsTargetAt, State, device_at, has_address, is_the}
 use Rattle.i3c_base.specs.Frames.{IsWillingAt}

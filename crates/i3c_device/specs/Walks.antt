@@ -73,3 +73,13 @@ abbrev pub IsLowestWilling : ℕ → ℕ → Lost → List (Option Device) → �
 IsLowestWilling active a lost devices s =
     (willing_at active a s (slice_index_or devices s None) ≡ true) × (lost s ≡ false)
     × ((t : ℕ) → t < s → willing_at active a t (slice_index_or devices t None) ≡ true → lost t ≡ true)
+
+-- nobody hears the open session in this slot or a higher one
+abbrev pub NobodyHearsFrom : ℕ → List (Option Device) → Type 0
+NobodyHearsFrom first devices = (s : ℕ) → first ≤ s → in_slot (λ d. d.hearing) (slice_index_or devices s None) ≡ false
+
+-- slot s is the lowest that isn't below `first` and whose device hears the open session
+abbrev pub IsHearerFrom : ℕ → List (Option Device) → ℕ → Type 0
+IsHearerFrom first devices s =
+    (first ≤ s) × (in_slot (λ d. d.hearing) (slice_index_or devices s None) ≡ true)
+    × ((t : ℕ) → first ≤ t → t < s → in_slot (λ d. d.hearing) (slice_index_or devices t None) ≡ false)

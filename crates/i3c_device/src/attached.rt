@@ -49,6 +49,7 @@ impl Device {
     ghost use Rattle.i3c_base.specs.Round.{unhearing, winner};
     ghost use Rattle.i3c_header.specs.Keys.{IsLawful};
     ghost use Rattle.i3c_device.specs.Hearing.{heard};
+    ghost use Rattle.i3c_device.specs.Wishing.{wishes};
     ghost use Rattle.i3c_device.specs.Raising.{front_byte, next_fault, raise_fault, with_raise};
 
     /// A device that was just attached: all kinds of events are enabled, and its registers are `00`.
@@ -234,6 +235,18 @@ impl Device {
         match self.waiting.first() {
             Some(front) => front.byte,
             None => None,
+        }
+    }
+
+    /// Whether it wishes for something: to join where it has no address, else the role or an interrupt. Whether that kind
+    /// is enabled isn't asked.
+    pub(crate) fn wishes(&self) -> bool
+        ensures { result ≡ wishes self.now }
+    {
+        if self.address.is_none() {
+            self.join_wish
+        } else {
+            self.role_wish || !self.waiting.is_empty()
         }
     }
 

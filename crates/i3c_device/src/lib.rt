@@ -4,8 +4,11 @@
 
 mod attached;
 mod kinds;
+mod marks;
 mod places;
+mod sets;
 mod slots;
+mod walks;
 
 pub use attached::Device;
 pub use slots::Devices;

@@ -1,12 +1,15 @@
-ghost use Rattle.std.specs.Prelude.{◌≡◌, ◌≤◌, ◌<◌, ℕ, true, false, option_map, length, IfSome, IsTrue, ◌↔◌, MatchOption, Some};
+ghost use Rattle.std.specs.Prelude.{◌≡◌, ◌≤◌, ◌<◌, ℕ, true, false, option_map, length, IfSome, IsTrue, ◌↔◌, MatchOption, Some, is_none};
 ghost use Rattle.i3c_base.specs.declared.range.TheConstants.{SLOTS as SLOT_COUNT};
 ghost use Rattle.i3c_base.specs.declared.requests.Request.{Request as RequestValue};
-ghost use Rattle.i3c_base.specs.Cutting.{lost_by};
+ghost use Rattle.i3c_base.specs.Cutting.{nobody};
 ghost use Rattle.i3c_base.specs.Places.{changed};
 ghost use Rattle.i3c_base.specs.Round.{hears, unhearing};
+ghost use Rattle.i3c_base.specs.Serve.{without_role};
 ghost use Rattle.i3c_base.specs.State.{in_slot};
 ghost use Rattle.i3c_header.specs.Keys.{IsLawful};
+ghost use Rattle.i3c_device.specs.Raising.{wishing_join, wishing_role};
 ghost use Rattle.i3c_device.specs.Walks.{accepted_at, assigned_at, drives_at, heard_at, left_at, reaches_at, willing_at};
+ghost use Rattle.i3c_device.specs.Wishing.{wishes};
 
 use crate::attached::Device;
 use i3c_base::{Addr7, Cuts, Identity, Request, Slot};
@@ -31,6 +34,36 @@ pub(crate) fn driven(place: &Option<Device>, index: usize, active: Slot) -> Opti
     }
 }
 
+/// Whether whatever stands in this slot wishes for something.
+pub(crate) fn is_wishing(place: &Option<Device>) -> bool
+    ensures { result ≡ in_slot wishes place.now }
+{
+    match place {
+        Some(device) => device.wishes(),
+        None => false,
+    }
+}
+
+/// Whether whatever stands in this slot hears the open session.
+pub(crate) fn is_hearing(place: &Option<Device>) -> bool
+    ensures { result ≡ in_slot (λ d. d.hearing) place.now }
+{
+    match place {
+        Some(device) => device.is_hearing(),
+        None => false,
+    }
+}
+
+/// Whether a device without an address stands in this slot.
+pub(crate) fn is_unaddressed(place: &Option<Device>) -> bool
+    ensures { result ≡ in_slot (λ d. is_none d.address) place.now }
+{
+    match place {
+        Some(device) => device.address().is_none(),
+        None => false,
+    }
+}
+
 /// Whether whatever stands in this slot drives this request.
 pub(crate) fn drives(place: &Option<Device>, index: usize, active: Slot, request: &Request) -> bool
     ensures { result ≡ drives_at active index place.now request.now }
@@ -38,6 +71,33 @@ pub(crate) fn drives(place: &Option<Device>, index: usize, active: Slot, request
     match driven(place, index, active) {
         Some(driven) => driven == *request,
         None => false,
+    }
+}
+
+/// The device here, if there is one, wishes to join.
+pub(crate) fn wish_join(place: &mut Option<Device>)
+    ensures { place.new ≡ option_map wishing_join place.old }
+{
+    if let Some(device) = place {
+        device.wish_join();
+    }
+}
+
+/// The device here, if there is one, wishes for the controller role.
+pub(crate) fn wish_role(place: &mut Option<Device>)
+    ensures { place.new ≡ option_map wishing_role place.old }
+{
+    if let Some(device) = place {
+        device.wish_role();
+    }
+}
+
+/// The device here, if there is one, loses its wish for the role.
+pub(crate) fn lose_role_wish(place: &mut Option<Device>)
+    ensures { place.new ≡ option_map without_role place.old }
+{
+    if let Some(device) = place {
+        device.lose_role_wish();
     }
 }
 
@@ -123,33 +183,14 @@ pub(crate) fn silence(place: &mut Option<Device>)
     }
 }
 
-/// This identity won a round: the device here takes the address if it hears, has the identity and isn't lost by then.
-pub(crate) fn assign(
-    place: &mut Option<Device>,
-    index: usize,
-    identity: &Identity,
-    address: Addr7,
-    cuts: &Cuts,
-    last: u16,
-)
-    requires slot { index < SLOT_COUNT }
-    requires dynamic { 8 ≤ address }
-    ensures { place.new ≡ assigned_at (lost_by cuts.now last) identity.now address index place.old }
+/// This identity won a round: the device here takes the address if it hears and has the identity.
+pub(crate) fn assign(place: &mut Option<Device>, identity: &Identity, address: Addr7)
+    requires { 8 ≤ address }
+    ensures { (s : ℕ) → place.new ≡ assigned_at nobody identity.now address s place.old }
 {
     if let Some(device) = place {
-        let lost = cuts.is_lost(Slot::from_index(index), last);
-        if device.is_hearing() && !lost && device.identity() == *identity {
+        if device.is_hearing() && device.identity() == *identity {
             device.take_address(address);
         }
-    }
-}
-
-/// The device here is gone if it is lost by this bit.
-pub(crate) fn drop_lost(place: &mut Option<Device>, index: usize, cuts: &Cuts, last: u16)
-    requires slot { index < SLOT_COUNT }
-    ensures { place.new ≡ left_at (lost_by cuts.now last) index place.old }
-{
-    if cuts.is_lost(Slot::from_index(index), last) {
-        *place = None;
     }
 }

@@ -1,6 +1,9 @@
 use crate::attached::Device;
-use crate::places::{
-    accept, assign, driven, drives, drop_lost, hear, is_willing, open, reaches, silence,
+use crate::marks::Marks;
+use crate::places::{driven, drives, hear, lose_role_wish, wish_join, wish_role};
+use crate::sets::{SlotSet, lost_slots};
+use crate::walks::{
+    Accepted, Driver, Ended, Happening, Lost, Opened, Reached, Sought, Willing, Won,
 };
 use arrayvec::ArrayVec;
 use i3c_base::{Addr7, Cuts, Identity, RaiseRefusal, Request, SLOTS, Slot};
@@ -14,25 +17,29 @@ use std::marker::Model;
 #[derive(Drop)]
 pub struct Devices {
     places: [Option<Device>; SLOTS],
+    // so that no walk looks into a slot where there is nothing for it
+    marks: Marks,
 }
 
 impl Model for Devices {
     ghost use Rattle.std.specs.Prelude.{◌≡◌, length, List, Option};
     ghost use Rattle.i3c_base.specs.declared.range.TheConstants.{SLOTS as SLOT_COUNT};
     ghost use Rattle.i3c_base.specs.State.{Device as DeviceState};
+    ghost use Rattle.i3c_device.specs.Marks.{AreMarks};
 
     ghost Value = { List (Option DeviceState) };
 
     ghost view = { λ d. d.places };
 
-    ghost invariant = { λ d. length d.places ≡ SLOT_COUNT };
+    ghost invariant = { λ d. (length d.places ≡ SLOT_COUNT) × AreMarks d.marks d.places };
 }
 
 impl Devices {
     ghost use Rattle.i3c_base.specs.declared.range.TheConstants.{SLOTS as SLOT_COUNT};
     ghost use Rattle.i3c_base.specs.Cutting.{lost_by};
     ghost use Rattle.i3c_base.specs.Places.{changed};
-    ghost use Rattle.i3c_device.specs.Walks.{accepted_at, assigned_at, drives_at, heard_at, left_at, AnyDrives, AreDriven, AreWillingLost, IsLowest, IsLowestWilling, SomeDrives, SomeReached};
+    ghost use Rattle.i3c_device.specs.Finding.{within, IsLowestFound, IsNowhere};
+    ghost use Rattle.i3c_device.specs.Walks.{accepted_at, assigned_at, drives_at, heard_at, left_at, AnyDrives, AreDriven, AreWillingLost, IsHearerFrom, IsLowest, IsLowestWilling, NobodyHearsFrom, SomeDrives, SomeReached};
     ghost use Rattle.std.specs.Prelude.{◌≡◌, ◌≤◌, ◌<◌, ◌↔◌, ℕ, length, IsTrue, suc, Some, None, option_map, slice_index_or, slice_set, MatchOption, MatchResult, OnOk, OnErr};
     ghost use Rattle.i3c_base.specs.Round.{hears, unhearing};
     ghost use Rattle.i3c_base.specs.Serve.{without_role};
@@ -45,6 +52,7 @@ impl Devices {
     {
         Devices {
             places: std::array::from_fn(|_| None),
+            marks: Marks::new(),
         }
     }
 
@@ -60,41 +68,45 @@ impl Devices {
     pub fn put(&mut self, slot: Slot, device: Device)
         ensures { self.new ≡ slice_set self.old slot (Some device) }
     {
-        self.places[slot.index()] = Some(device);
+        let index = slot.index();
+        self.places[index] = Some(device);
+        self.marks = self.marks.noted(index, &self.places[index]);
     }
 
     /// A slot's device is gone.
     pub fn remove(&mut self, slot: Slot)
         ensures { self.new ≡ slice_set self.old slot None }
     {
-        self.places[slot.index()] = None;
+        let index = slot.index();
+        self.places[index] = None;
+        self.marks = self.marks.noted(index, &self.places[index]);
     }
 
     /// The slot's device, if there is one, wishes to join.
     pub fn wish_join(&mut self, slot: Slot)
         ensures { self.new ≡ slice_set self.old slot (option_map wishing_join (slice_index_or self.old slot None)) }
     {
-        if let Some(device) = &mut self.places[slot.index()] {
-            device.wish_join();
-        }
+        let index = slot.index();
+        wish_join(&mut self.places[index]);
+        self.marks = self.marks.noted(index, &self.places[index]);
     }
 
     /// The slot's device, if there is one, wishes for the controller role.
     pub fn wish_role(&mut self, slot: Slot)
         ensures { self.new ≡ slice_set self.old slot (option_map wishing_role (slice_index_or self.old slot None)) }
     {
-        if let Some(device) = &mut self.places[slot.index()] {
-            device.wish_role();
-        }
+        let index = slot.index();
+        wish_role(&mut self.places[index]);
+        self.marks = self.marks.noted(index, &self.places[index]);
     }
 
     /// The slot's device, if there is one, loses its wish for the role.
     pub fn lose_role_wish(&mut self, slot: Slot)
         ensures { self.new ≡ slice_set self.old slot (option_map without_role (slice_index_or self.old slot None)) }
     {
-        if let Some(device) = &mut self.places[slot.index()] {
-            device.lose_role_wish();
-        }
+        let index = slot.index();
+        lose_role_wish(&mut self.places[index]);
+        self.marks = self.marks.noted(index, &self.places[index]);
     }
 
     /// The slot's device raises the interrupt after this many of its slot, and answers its number. The first fault
@@ -105,10 +117,13 @@ impl Devices {
         ensures raised { OnOk result (self.new ≡ slice_set self.old slot (option_map (with_raise (suc raised) byte) (slice_index_or self.old slot None))) }
         ensures unchanged { OnErr result (self.new ≡ self.old) }
     {
-        match &mut self.places[slot.index()] {
-            Some(device) => device.raise(raised, byte),
-            None => unreachable!(),
-        }
+        let index = slot.index();
+        let Some(device) = &mut self.places[index] else {
+            unreachable!()
+        };
+        let outcome = device.raise(raised, byte);
+        self.marks = self.marks.noted(index, &self.places[index]);
+        outcome
     }
 
     /// The requests that the devices drive into one header. The active controller drives none.
@@ -117,8 +132,9 @@ impl Devices {
         ensures slots { length self.now ≡ SLOT_COUNT }
     {
         let mut requests: ArrayVec<Request, SLOTS> = ArrayVec::new();
-        for (index, place) in self.places.iter().enumerate() {
-            if let Some(request) = driven(place, index, active) {
+        let mut left = self.marks.wishing;
+        while let Some(index) = left.take_lowest() {
+            if let Some(request) = driven(&self.places[index], index, active) {
                 requests.push(request);
             }
         }
@@ -130,54 +146,38 @@ impl Devices {
         ensures { result ≡ drives_at active slot (slice_index_or self.now slot None) request.now }
     {
         let index = slot.index();
-        drives(&self.places[index], index, active, request)
+        self.marks.wishing.has(index) && drives(&self.places[index], index, active, request)
     }
 
     /// The lowest slot that drives this request.
     pub fn lowest_driver(&self, active: Slot, request: &Request) -> Option<Slot>
         ensures { MatchOption result (¬ AnyDrives active request.now self.now) (IsLowest active request.now self.now) }
     {
-        for (index, place) in self.places.iter().enumerate() {
-            if drives(place, index, active, request) {
-                return Some(Slot::from_index(index));
-            }
-        }
-        None
+        self.lowest(self.marks.wishing, &Driver { active, request })
     }
 
     /// Whether a device that isn't lost by this bit drives the request.
     pub fn is_driven(&self, active: Slot, request: &Request, cuts: &Cuts, last: u16) -> bool
         ensures { IsTrue result ↔ SomeDrives active request.now (lost_by cuts.now last) self.now }
     {
-        for (index, place) in self.places.iter().enumerate() {
-            if drives(place, index, active, request)
-                && !cuts.is_lost(Slot::from_index(index), last)
-            {
-                return true;
-            }
-        }
-        false
+        let left = self.marks.wishing.without(lost_slots(cuts, last));
+        self.lowest(left, &Driver { active, request }).is_some()
     }
 
     /// The request was accepted: its drivers lose the wish or the front of what waits.
     pub fn accept(&mut self, active: Slot, request: &Request)
         ensures { self.new ≡ changed (accepted_at active request.now) self.old }
     {
-        for (index, place) in self.places.iter_mut().enumerate() {
-            accept(place, index, active, request);
-        }
+        let wishing = self.marks.wishing;
+        self.each(wishing, &Accepted { active, request });
     }
 
     /// Whether a command, to all or to one address, reaches a device that isn't lost by this bit: it acknowledges.
     pub fn is_heard(&self, active: Slot, to: &Option<Addr7>, cuts: &Cuts, last: u16) -> bool
         ensures { IsTrue result ↔ SomeReached active to.now (lost_by cuts.now last) self.now }
     {
-        for (index, place) in self.places.iter().enumerate() {
-            if reaches(place, index, active, to) && !cuts.is_lost(Slot::from_index(index), last) {
-                return true;
-            }
-        }
-        false
+        let left = self.marks.present.without(lost_slots(cuts, last));
+        self.lowest(left, &Reached { active, to }).is_some()
     }
 
     /// The lowest slot with a device that would take the role that is offered to this address, of those that aren't lost
@@ -191,13 +191,8 @@ impl Devices {
     ) -> Option<Slot>
         ensures { MatchOption result (AreWillingLost active address (lost_by cuts.now last) self.now) (IsLowestWilling active address (lost_by cuts.now last) self.now) }
     {
-        for (index, place) in self.places.iter().enumerate() {
-            let slot = Slot::from_index(index);
-            if is_willing(place, index, active, address) && !cuts.is_lost(slot, last) {
-                return Some(slot);
-            }
-        }
-        None
+        let left = self.marks.present.without(lost_slots(cuts, last));
+        self.lowest(left, &Willing { active, address })
     }
 
     /// The devices that a command reaches, all but the active controller or those of them at one address, hear it and
@@ -208,24 +203,33 @@ impl Devices {
         for (index, place) in self.places.iter_mut().enumerate() {
             hear(place, index, active, to, code, words);
         }
+        self.marks = self.marks.commanded(code, &self.places);
     }
 
     /// A session is opened: each device without an address hears it.
     pub fn open(&mut self)
         ensures { self.new ≡ changed (λ s place. option_map hears place) self.old }
     {
-        for place in self.places.iter_mut() {
-            open(place);
-        }
+        let unaddressed = self.marks.unaddressed;
+        self.each(unaddressed, &Opened);
     }
 
     /// The session ends: nobody hears any more.
     pub fn silence(&mut self)
         ensures { self.new ≡ changed (λ s place. option_map unhearing place) self.old }
     {
-        for place in self.places.iter_mut() {
-            silence(place);
-        }
+        let hearing = self.marks.hearing;
+        self.each(hearing, &Ended);
+    }
+
+    /// The lowest slot that isn't below this one and whose device hears the open session.
+    pub fn hearer_from(&self, first: usize) -> Option<Slot>
+        ensures hearer { MatchOption result (NobodyHearsFrom first self.now) (IsHearerFrom first self.now) }
+        ensures slots { length self.now ≡ SLOT_COUNT }
+    {
+        let mut left = self.marks.hearing.from(first);
+        let index = left.take_lowest()?;
+        Some(Slot::from_index(index))
     }
 
     /// An identity won a round: whoever hears, has it and isn't lost by this bit takes the address.
@@ -233,17 +237,39 @@ impl Devices {
         requires { 8 ≤ address }
         ensures { self.new ≡ changed (assigned_at (lost_by cuts.now last) identity.now address) self.old }
     {
-        for (index, place) in self.places.iter_mut().enumerate() {
-            assign(place, index, identity, address, cuts, last);
-        }
+        let left = self.marks.hearing.without(lost_slots(cuts, last));
+        self.each(left, &Won { identity, address });
     }
 
     /// A frame ends: the devices lost by this bit are gone.
     pub fn drop_lost(&mut self, cuts: &Cuts, last: u16)
         ensures { self.new ≡ changed (left_at (lost_by cuts.now last)) self.old }
     {
-        for (index, place) in self.places.iter_mut().enumerate() {
-            drop_lost(place, index, cuts, last);
+        self.each(lost_slots(cuts, last), &Lost);
+    }
+
+    /// The lowest of these slots in which what is sought is found.
+    fn lowest<S: Sought>(&self, among: SlotSet, sought: &S) -> Option<Slot>
+        ensures { MatchOption result (IsNowhere (S.finds sought.now) among self.now) (IsLowestFound (S.finds sought.now) among self.now) }
+    {
+        let mut left = among;
+        while let Some(index) = left.take_lowest() {
+            if sought.is_found(&self.places[index], index) {
+                return Some(Slot::from_index(index));
+            }
+        }
+        None
+    }
+
+    /// This happens in each of these slots.
+    fn each<H: Happening>(&mut self, among: SlotSet, happening: &H)
+        ensures changed { self.new ≡ changed (within among (H.after happening.now)) self.old }
+        ensures slots { length self.old ≡ SLOT_COUNT }
+    {
+        let mut left = among;
+        while let Some(index) = left.take_lowest() {
+            happening.happen(&mut self.places[index], index);
+            self.marks = self.marks.noted(index, &self.places[index]);
         }
     }
 }

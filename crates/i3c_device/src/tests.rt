@@ -431,3 +431,44 @@ fn the_lowest_willing_device_is_offered_the_role(rt: HostRuntime) -> Result<(), 
     );
     Ok(())
 }
+
+// Those who hear are found from any slot on, up to the last.
+#[test]
+fn the_next_hearer_is_found(rt: HostRuntime) -> Result<(), Fail> {
+    let mut devices = Devices::new();
+    assert_eq!(rt; devices.hearer_from(0), None);
+    for slot in [3, 7, 15] {
+        devices.put(Slot::new(slot)?, joining()?);
+    }
+    devices.put(Slot::new(5)?, addressed(0x06, 0x09)?);
+    assert_eq!(rt; devices.hearer_from(0), None);
+    devices.open();
+    devices.put(Slot::new(9)?, joining()?);
+    for (first, slot) in [(0, 3), (3, 3), (4, 7), (7, 7), (8, 15), (15, 15)] {
+        assert_eq!(rt; devices.hearer_from(first), Some(Slot::new(slot)?));
+    }
+    assert_eq!(rt; devices.hearer_from(16), None);
+    devices.remove(Slot::new(15)?);
+    assert_eq!(rt; devices.hearer_from(8), None);
+    devices.silence();
+    assert_eq!(rt; devices.hearer_from(0), None);
+    Ok(())
+}
+
+// A request that is disabled comes back with its kind, and leaves with its device.
+#[test]
+fn a_disabled_request_comes_back(rt: HostRuntime) -> Result<(), Fail> {
+    let (active, slot) = (Slot::new(0)?, Slot::new(15)?);
+    let asked = Request::Interrupt(Addr7::new(0x09)?);
+    let mask = [write_word(0x01)];
+    let mut devices = Devices::new();
+    devices.put(slot, addressed(0x02, 0x09)?);
+    assert_eq!(rt; devices.raise(slot, 0, None), Ok(1));
+    for (code, lowest) in [(Code::Disec, None), (Code::Enec, Some(slot))] {
+        devices.hear(active, &None, code, &mask);
+        assert_eq!(rt; devices.lowest_driver(active, &asked), lowest);
+    }
+    devices.remove(slot);
+    assert_eq!(rt; devices.lowest_driver(active, &asked), None);
+    Ok(())
+}

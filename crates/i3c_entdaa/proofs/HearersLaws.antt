@@ -1,12 +1,12 @@
 -- The contenders of a round: each is a hearer with its number, and each hearer is among them.
-use Rattle.std.proofs.Common.{◌≡◌, ℕ, suc, ◌+◌, ◌<◌, ◌≤◌, ◌^◌, true, false, List, [], ◌∷◌, ◌++◌, length, take, get_or, cond, Option, None, Some, inl, inr, refl, ap, sym, subst, ◌∙◌, arith, add-zero, zero-add, append-nil, append_assoc}
+use Rattle.std.proofs.Common.{◌≡◌, ℕ, zero, suc, ◌+◌, ◌-◌, ◌<◌, ◌≤◌, ◌^◌, true, false, List, [], ◌∷◌, ◌++◌, length, take, get_or, cond, Option, None, Some, inl, inr, refl, ap, sym, subst, ◌∙◌, arith, add-zero, zero-add, append-nil, append_assoc}
 use Rattle.std.specs.List.{All, Contains}
 use Rattle.std.proofs.lemmas.List.Elements.{All-append, All-nil, All-cons, Contains-append_left, Contains-push}
-use Rattle.std.proofs.lemmas.Bool.{cases_eq, cases_lt}
+use Rattle.std.proofs.lemmas.Bool.{both_ways, cases_eq, cases_lt, cond-false}
 use Rattle.std.proofs.lemmas.List.{get_or_past, length-take-le, take_all, take_more}
 use Rattle.std.proofs.lemmas.Option.{none-some}
 use Rattle.i3c_base.specs.declared.range.TheConstants.{SLOTS}
-use Rattle.i3c_base.specs.State.{Device}
+use Rattle.i3c_base.specs.State.{Device, in_slot}
 use Rattle.i3c_base.specs.Numbers.{IsInRange, number_of}
 use Rattle.i3c_entdaa.specs.Hearers.{contender, contenders_from, IsContenderKey}
 
@@ -14,13 +14,12 @@ use Rattle.i3c_entdaa.specs.Hearers.{contender, contenders_from, IsContenderKey}
 pub record ContendersSoFar (devices : List (Option Device)) (upto : ℕ) (keys : List (ℕ × ℕ)) : Type 0 where
   pub exact : keys ≡ contenders_from 0 (take upto devices)
   pub short : length keys ≤ upto
-  pub slots : 0 < upto → length devices ≡ SLOTS
   pub sound : All (IsContenderKey devices) keys
   pub complete : (s : ℕ) (d : Device) → s < upto → get_or devices s None ≡ Some d → d.hearing ≡ true → Contains keys (s, number_of d.identity)
 
 pub contenders_none : (devices : List (Option Device)) → ContendersSoFar devices 0 []
 unfolding contenders_from
-contenders_none devices = record { exact = refl; short = omega arith; slots = λ l. absurd (omega (arith, l)); sound = All-nil (IsContenderKey devices); complete = λ s d l. absurd (omega (arith, l)) }
+contenders_none devices = record { exact = refl; short = omega arith; sound = All-nil (IsContenderKey devices); complete = λ s d l. absurd (omega (arith, l)) }
 
 -- the contender of one place
 new_sound : (devices : List (Option Device)) (s : ℕ) (place : Option Device) → get_or devices s None ≡ place
@@ -63,7 +62,6 @@ pub contenders_more : (devices : List (Option Device)) (upto : ℕ) (place : Opt
 contenders_more devices upto place keys now sized inside h at is l r = record {
   exact = exact_more devices upto place keys now (omega (arith, sized, inside)) at h.exact is;
   short = l;
-  slots = λ m. sized;
   sound = subst (All (IsContenderKey devices)) (sym is) (All-append (IsContenderKey devices) keys (contender upto place) h.sound (new_sound devices upto place at r));
   complete = λ s d b there hearing. subst (λ ks. Contains ks (s, number_of d.identity)) (sym (is ∙ ap (λ p. keys ++ contender upto p) (sym at))) (elim (cases_eq s upto) [
     | inl e ↦ subst (λ k. Contains (keys ++ contender upto (get_or devices upto None)) (k, number_of d.identity)) (sym e) (entered devices upto keys d (ap (λ k. get_or devices k None) (sym e) ∙ there) hearing)
@@ -71,19 +69,41 @@ contenders_more devices upto place keys now sized inside h at is l r = record {
   ]);
 }
 
--- all places
-pub contenders_exact : (devices : List (Option Device)) (upto : ℕ) (keys : List (ℕ × ℕ)) → SLOTS ≤ upto → ContendersSoFar devices upto keys → keys ≡ contenders_from 0 devices
-contenders_exact devices upto keys past h =
-    let sized : length devices ≡ SLOTS = h.slots (omega (arith, past)) in
-    h.exact ∙ ap (contenders_from 0) (take_all upto devices (omega (arith, past, sized)))
+-- places in which nobody hears
+silent_none : (slot : ℕ) (place : Option Device) → in_slot (λ d. d.hearing) place ≡ false → contender slot place ≡ []
+silent_none slot None h = refl
+silent_none slot (Some d) h = cond-false d.hearing ((slot, number_of d.identity) ∷ []) [] h
 
-pub contenders_complete : (devices : List (Option Device)) (upto : ℕ) (keys : List (ℕ × ℕ)) → SLOTS ≤ upto → ContendersSoFar devices upto keys
+silent_out : (place : Option Device) (d : Device) → in_slot (λ e. e.hearing) place ≡ false → place ≡ Some d → d.hearing ≡ true → ⊥
+silent_out place d h there hearing = both_ways _ (sym (ap (in_slot (λ e. e.hearing)) there) ∙ h) hearing
+
+skip_by : (n : ℕ) (devices : List (Option Device)) (first : ℕ) (keys : List (ℕ × ℕ)) → length devices ≡ SLOTS → first + n ≤ SLOTS → ((t : ℕ) → first ≤ t → t < first + n → in_slot (λ d. d.hearing) (get_or devices t None) ≡ false)
+    → ContendersSoFar devices first keys → ContendersSoFar devices (first + n) keys
+skip_by zero devices first keys sized low silent h = subst (λ k. ContendersSoFar devices k keys) (sym (add-zero first)) h
+skip_by (suc n) devices first keys sized low silent h =
+    let same : first + 1 + n ≡ first + suc n = omega arith in
+    let none = silent first (omega arith) (omega arith) in
+    let one : ContendersSoFar devices (first + 1) keys =
+    contenders_more devices first (get_or devices first None) keys keys sized (omega arith) h refl
+    (sym (ap (λ ks. keys ++ ks) (silent_none first (get_or devices first None) none) ∙ append-nil keys)) (omega (arith, h.short)) (λ d e b. absurd (silent_out (get_or devices first None) d none e b)) in
+    subst (λ k. ContendersSoFar devices k keys) same (skip_by n devices (first + 1) keys sized (omega arith) (λ t l m. silent t (omega arith) (omega arith)) one)
+
+pub contenders_skip : (devices : List (Option Device)) (first upto : ℕ) (keys : List (ℕ × ℕ)) → length devices ≡ SLOTS → first ≤ upto → upto ≤ SLOTS → ((t : ℕ) → first ≤ t → t < upto → in_slot (λ d. d.hearing) (get_or devices t None) ≡ false)
+    → ContendersSoFar devices first keys → ContendersSoFar devices upto keys
+contenders_skip devices first upto keys sized l low silent h =
+    let same : first + (upto - first) ≡ upto = omega arith in
+    subst (λ k. ContendersSoFar devices k keys) same (skip_by (upto - first) devices first keys sized (omega arith) (λ t m n. silent t m (omega arith)) h)
+
+-- all places
+pub contenders_exact : (devices : List (Option Device)) (keys : List (ℕ × ℕ)) → length devices ≡ SLOTS → ContendersSoFar devices SLOTS keys → keys ≡ contenders_from 0 devices
+contenders_exact devices keys sized h = h.exact ∙ ap (contenders_from 0) (take_all SLOTS devices (omega (arith, sized)))
+
+pub contenders_complete : (devices : List (Option Device)) (keys : List (ℕ × ℕ)) → length devices ≡ SLOTS → ContendersSoFar devices SLOTS keys
     → (s : ℕ) (d : Device) → get_or devices s None ≡ Some d → d.hearing ≡ true → Contains keys (s, number_of d.identity)
-contenders_complete devices upto keys past h s d there hearing =
-    let sized : length devices ≡ SLOTS = h.slots (omega (arith, past)) in elim (cases_lt s upto) [
-      | inl l ↦ h.complete s d l there hearing
-      | inr l ↦ absurd (none-some d (sym (get_or_past devices s None (omega (arith, past, sized, l))) ∙ there))
-    ]
+contenders_complete devices keys sized h s d there hearing = elim (cases_lt s SLOTS) [
+  | inl l ↦ h.complete s d l there hearing
+  | inr l ↦ absurd (none-some d (sym (get_or_past devices s None (omega (arith, sized, l))) ∙ there))
+]
 
 -- a contender's key is a number of 64 bits
 pub key_fits : (devices : List (Option Device)) (key : ℕ × ℕ) → IsContenderKey devices key → key.1 < 2 ^ 64

@@ -31,8 +31,10 @@ pub(crate) fn contenders(devices: &Devices) -> ArrayVec<(Slot, u64), SLOTS>
     ensures complete { (s : ℕ) (d : DeviceState) → slice_index_or devices.now s None ≡ Some d → d.hearing ≡ true → Contains result.items (s, number_of d.identity) }
 {
     let mut keys: ArrayVec<(Slot, u64), SLOTS> = ArrayVec::new();
-    for index in 0..SLOTS {
-        enter(&mut keys, devices, Slot::from_index(index));
+    let mut first = 0;
+    while let Some(slot) = devices.hearer_from(first) {
+        enter(&mut keys, devices, slot);
+        first = slot.index() + 1;
     }
     keys
 }

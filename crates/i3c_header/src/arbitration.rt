@@ -26,16 +26,20 @@ fn contenders(requests: &[Request]) -> ArrayVec<(Slot, u64), SLOTS>
 }
 
 /// The request that wins the header which these drive at once: a join before all else, then the lower address, then at
-/// one address the role request (I3C Basic 5.1.6.2). `None` only where there is none.
+/// one address the role request (I3C Basic 5.1.6.2). One that is alone wins without a contest. `None` only where there is
+/// none.
 pub fn arbitrate(requests: &[Request]) -> Option<Request>
     requires few { length requests.now ≤ SLOT_COUNT }
     requires lawful { All IsLawful requests.now }
     ensures { MatchOption result (requests.now ≡ []) (IsFirstOf requests.now) }
 {
-    let keys = contenders(requests);
-    if keys.is_empty() {
+    let [first, others @ ..] = requests else {
         return None;
+    };
+    if others.is_empty() {
+        return Some(*first);
     }
+    let keys = contenders(requests);
     let outcome = contest(&keys, KEY_BITS, &Cuts::new());
     let winner = outcome.winners[0];
     Some(requests[winner.index()])

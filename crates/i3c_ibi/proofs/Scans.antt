@@ -13,7 +13,7 @@ use Rattle.std.specs.List.{Contains}
 use Rattle.std.proofs.lemmas.List.Elements.{All-contains, All-nil}
 use Rattle.i3c_header.specs.Keys.{IsFirstOf as IsFirstIn}
 use Rattle.i3c_device.specs.Walks.{AreDriven}
-use Rattle.i3c_device.proofs.Walking.{undriven_past}
+use Rattle.i3c_device.proofs.MarkLaws.{undriven_past}
 use Rattle.i3c_ibi.specs.Driving.{Together}
 
 -- past the last slot nobody drives

@@ -1,23 +1,11 @@
--- One slot more, up to the last.
-use Rattle.std.proofs.Common.{◌∙◌, ap, arith, length-set, refl, set, sym}
-use Rattle.i3c_base.specs.Places.{changed}
-use Rattle.i3c_base.proofs.Lookups.{changed_over_all, changed_over_more}
+use Rattle.std.proofs.Common.{subst}
+use Rattle.i3c_device.specs.Marks.{IsSetOf}
 use Rattle.i3c_device.specs.Walks.{accepted_at}
+use Rattle.i3c_device.specs.Wishing.{wishes}
+use Rattle.i3c_device.proofs.EachLaws.{accept_spares, spared}
 use Rattle.i3c_device.proofs.slots.Devices.accept.Goals as goal
-
-pub loop-index-init : goal.loop-index-init
-loop-index-init c = record { long = c.self.invariant; walked = refl }
-
-pub loop-index-preserved : goal.loop-index-preserved
-loop-index-preserved c =
-    let change = accepted_at c.args.active c.args.request.now in
-    record {
-      long = length-set c.loop-index.place-items c.loop-index.index c.accept.new.place ∙ c.loop-index.invariant.long;
-      walked = ap (set c.loop-index.place-items c.loop-index.index) (c.accept.ensures ∙ ap (change c.loop-index.index) (sym c.place-item.is))
-          ∙ changed_over_more change c.self.inside.places c.loop-index.place-items c.loop-index.index c.place-item.result (omega (arith, c.self.invariant)) c.loop-index.invariant.walked c.place-item.is;
-    }
 
 pub returns : goal.returns
 returns c =
-    let change = accepted_at c.args.active c.args.request.now in
-    changed_over_all change c.self.inside.places c.loop-index.place-items c.loop-index.index (omega (arith, c.self.invariant)) c.loop-index.invariant.walked ∙ ap (changed change) c.self.view_is
+    spared (accepted_at c.args.active c.args.request.now) (wishes) c.self.inside.marks.wishing c.args.self.now c.each.new.self c.each.ensures.slots
+    (subst (IsSetOf (wishes) c.self.inside.marks.wishing) c.self.view_is c.self.invariant.1.wishing) (accept_spares c.args.active c.args.request.now) c.each.ensures.changed

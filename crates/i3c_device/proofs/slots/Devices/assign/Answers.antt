@@ -1,24 +1,14 @@
--- One slot more, up to the last.
-use Rattle.std.proofs.Common.{◌∙◌, ap, arith, length-set, refl, set, sym}
-use Rattle.i3c_base.specs.Places.{changed}
-use Rattle.i3c_base.proofs.Lookups.{changed_over_all, changed_over_more}
+use Rattle.std.proofs.Common.{◌∙◌, ◌&&◌, get_or, not, None, subst}
+use Rattle.i3c_base.specs.Cutting.{lost_by, nobody}
+use Rattle.i3c_device.specs.Marks.{IsSetOf}
 use Rattle.i3c_device.specs.Walks.{assigned_at}
-use Rattle.i3c_base.specs.Cutting.{lost_by}
+use Rattle.i3c_device.proofs.EachLaws.{narrowed, won_alike}
 use Rattle.i3c_device.proofs.slots.Devices.assign.Goals as goal
-
-pub loop-index-init : goal.loop-index-init
-loop-index-init c = record { long = c.self.invariant; walked = refl }
-
-pub loop-index-preserved : goal.loop-index-preserved
-loop-index-preserved c =
-    let change = assigned_at (lost_by c.args.cuts.now c.args.last) c.args.identity.now c.args.address in
-    record {
-      long = length-set c.loop-index.place-items c.loop-index.index c.assign.new.place ∙ c.loop-index.invariant.long;
-      walked = ap (set c.loop-index.place-items c.loop-index.index) (c.assign.ensures ∙ ap (change c.loop-index.index) (sym c.place-item.is))
-          ∙ changed_over_more change c.self.inside.places c.loop-index.place-items c.loop-index.index c.place-item.result (omega (arith, c.self.invariant)) c.loop-index.invariant.walked c.place-item.is;
-    }
 
 pub returns : goal.returns
 returns c =
-    let change = assigned_at (lost_by c.args.cuts.now c.args.last) c.args.identity.now c.args.address in
-    changed_over_all change c.self.inside.places c.loop-index.place-items c.loop-index.index (omega (arith, c.self.invariant)) c.loop-index.invariant.walked ∙ ap (changed change) c.self.view_is
+    let lost = lost_by c.args.cuts.now c.args.last in
+    let hearing = subst (IsSetOf (λ d. d.hearing) c.self.inside.marks.hearing) c.self.view_is c.self.invariant.1.hearing in
+    narrowed (assigned_at nobody c.args.identity.now c.args.address) (assigned_at lost c.args.identity.now c.args.address) c.without-left.result c.args.self.now c.each.new.self c.each.ensures.slots c.each.ensures.changed
+    (λ s l. won_alike lost c.args.identity.now c.args.address s (get_or c.args.self.now s None) c.without-left.result
+    (c.without-left.ensures s l ∙ (λ t. hearing s l t && not (c.lost_slots.ensures s l t))))

@@ -1,24 +1,10 @@
--- One slot more, up to the last.
-use Rattle.std.proofs.Common.{◌∙◌, ap, arith, length-set, refl, set, sym}
-use Rattle.i3c_base.specs.Places.{changed}
-use Rattle.i3c_base.proofs.Lookups.{changed_over_all, changed_over_more}
-use Rattle.i3c_device.specs.Walks.{left_at}
+use Rattle.std.proofs.Common.{if◌then◌else◌, get_or, None, ap}
 use Rattle.i3c_base.specs.Cutting.{lost_by}
+use Rattle.i3c_device.specs.Walks.{left_at}
+use Rattle.i3c_device.proofs.EachLaws.{narrowed}
 use Rattle.i3c_device.proofs.slots.Devices.drop_lost.Goals as goal
-
-pub loop-index-init : goal.loop-index-init
-loop-index-init c = record { long = c.self.invariant; walked = refl }
-
-pub loop-index-preserved : goal.loop-index-preserved
-loop-index-preserved c =
-    let change = left_at (lost_by c.args.cuts.now c.args.last) in
-    record {
-      long = length-set c.loop-index.place-items c.loop-index.index c.drop_lost.new.place ∙ c.loop-index.invariant.long;
-      walked = ap (set c.loop-index.place-items c.loop-index.index) (c.drop_lost.ensures ∙ ap (change c.loop-index.index) (sym c.place-item.is))
-          ∙ changed_over_more change c.self.inside.places c.loop-index.place-items c.loop-index.index c.place-item.result (omega (arith, c.self.invariant)) c.loop-index.invariant.walked c.place-item.is;
-    }
 
 pub returns : goal.returns
 returns c =
-    let change = left_at (lost_by c.args.cuts.now c.args.last) in
-    changed_over_all change c.self.inside.places c.loop-index.place-items c.loop-index.index (omega (arith, c.self.invariant)) c.loop-index.invariant.walked ∙ ap (changed change) c.self.view_is
+    narrowed (λ s place. None) (left_at (lost_by c.args.cuts.now c.args.last)) c.lost_slots.result c.args.self.now c.each.new.self c.each.ensures.slots c.each.ensures.changed
+    (λ s l. ap (λ b. if b then None else get_or c.args.self.now s None) (c.lost_slots.ensures s l))

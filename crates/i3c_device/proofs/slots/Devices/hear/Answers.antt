@@ -6,7 +6,7 @@ use Rattle.i3c_device.specs.Walks.{heard_at}
 use Rattle.i3c_device.proofs.slots.Devices.hear.Goals as goal
 
 pub loop-index-init : goal.loop-index-init
-loop-index-init c = record { long = c.self.invariant; walked = refl }
+loop-index-init c = record { long = c.self.invariant.0; walked = refl }
 
 pub loop-index-preserved : goal.loop-index-preserved
 loop-index-preserved c =
@@ -14,10 +14,10 @@ loop-index-preserved c =
     record {
       long = length-set c.loop-index.place-items c.loop-index.index c.hear.new.place ∙ c.loop-index.invariant.long;
       walked = ap (set c.loop-index.place-items c.loop-index.index) (c.hear.ensures ∙ ap (change c.loop-index.index) (sym c.place-item.is))
-          ∙ changed_over_more change c.self.inside.places c.loop-index.place-items c.loop-index.index c.place-item.result (omega (arith, c.self.invariant)) c.loop-index.invariant.walked c.place-item.is;
+          ∙ changed_over_more change c.self.inside.places c.loop-index.place-items c.loop-index.index c.place-item.result (omega (arith, c.self.invariant.0)) c.loop-index.invariant.walked c.place-item.is;
     }
 
 pub returns : goal.returns
 returns c =
     let change = heard_at c.args.active c.args.to.now c.args.code c.args.words.now in
-    changed_over_all change c.self.inside.places c.loop-index.place-items c.loop-index.index (omega (arith, c.self.invariant)) c.loop-index.invariant.walked ∙ ap (changed change) c.self.view_is
+    changed_over_all change c.self.inside.places c.loop-index.place-items c.loop-index.index (omega (arith, c.self.invariant.0)) c.loop-index.invariant.walked ∙ ap (changed change) c.self.view_is

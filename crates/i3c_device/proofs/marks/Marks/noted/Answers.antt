@@ -1,0 +1,17 @@
+-- Each set, of the places with the one anew.
+use Rattle.std.proofs.Common.{◌∙◌, ◌<◌, true, length, arith, is_none}
+use Rattle.i3c_device.specs.Wishing.{wishes}
+use Rattle.i3c_device.proofs.MarkLaws.{present_is, set_of_put}
+use Rattle.i3c_device.proofs.marks.Marks.noted.Goals as goal
+
+pub returns : goal.returns
+returns c places long are =
+    let low : c.args.index < length places = omega arith in
+    let set = c.args.self in
+    let place = c.args.place.now in
+    record {
+      present = set_of_put (λ d. true) set.present c.with.result places c.args.index place c.is_some.result low are.present (c.is_some.ensures ∙ present_is place) c.with.ensures;
+      wishing = set_of_put wishes set.wishing c.with-2.result places c.args.index place c.is_wishing.result low are.wishing c.is_wishing.ensures c.with-2.ensures;
+      hearing = set_of_put (λ d. d.hearing) set.hearing c.with-3.result places c.args.index place c.is_hearing.result low are.hearing c.is_hearing.ensures c.with-3.ensures;
+      unaddressed = set_of_put (λ d. is_none d.address) set.unaddressed c.with-4.result places c.args.index place c.is_unaddressed.result low are.unaddressed c.is_unaddressed.ensures c.with-4.ensures;
+    }

@@ -1,0 +1,94 @@
+ghost use Rattle.std.specs.Prelude.{◌≡◌, ◌<◌, ℕ, false, true, not, ◌&&◌, ◌==◌, nat_le, if◌then◌else◌, MatchOption};
+ghost use Rattle.i3c_base.specs.declared.range.TheConstants.{SLOTS as SLOT_COUNT};
+ghost use Rattle.i3c_base.specs.Cutting.{lost_by};
+ghost use Rattle.i3c_device.specs.Sets.{has};
+
+use i3c_base::{Cuts, SLOTS, Slot};
+
+/// A set of slots, one bit for each.
+#[derive(Clone, Copy)]
+pub(crate) struct SlotSet {
+    bits: u16,
+}
+
+impl SlotSet {
+    /// No slot.
+    pub(crate) fn none() -> SlotSet
+        ensures { (s : ℕ) → has result s ≡ false }
+    {
+        SlotSet { bits: 0 }
+    }
+
+    /// Whether a slot is in it.
+    pub(crate) fn has(self, index: usize) -> bool
+        requires { index < SLOT_COUNT }
+        ensures { result ≡ has self index }
+    {
+        self.bits >> index & 1 == 1
+    }
+
+    /// The set in which a slot is, or isn't.
+    pub(crate) fn with(self, index: usize, is_in: bool) -> SlotSet
+        requires { index < SLOT_COUNT }
+        ensures { (s : ℕ) → s < SLOT_COUNT → has result s ≡ (if s == index then is_in else has self s) }
+    {
+        let bit = 1 << index;
+        SlotSet {
+            bits: if is_in {
+                self.bits | bit
+            } else {
+                self.bits & !bit
+            },
+        }
+    }
+
+    /// Those of its slots that aren't in another set.
+    pub(crate) fn without(self, other: SlotSet) -> SlotSet
+        ensures { (s : ℕ) → s < SLOT_COUNT → has result s ≡ (has self s && not (has other s)) }
+    {
+        SlotSet {
+            bits: self.bits & !other.bits,
+        }
+    }
+
+    /// Those of its slots that aren't below this one.
+    pub(crate) fn from(self, first: usize) -> SlotSet
+        ensures { (s : ℕ) → s < SLOT_COUNT → has result s ≡ (nat_le first s && has self s) }
+    {
+        if first >= SLOTS {
+            return SlotSet::none();
+        }
+        SlotSet {
+            bits: self.bits & (u16::MAX << first),
+        }
+    }
+
+    /// Takes its lowest slot out of it, if there is one.
+    pub(crate) fn take_lowest(&mut self) -> Option<usize>
+        ensures taken { MatchOption result ((s : ℕ) → s < SLOT_COUNT → has self.old s ≡ false)
+            (λ i. (i < SLOT_COUNT) × (has self.old i ≡ true) × ((s : ℕ) → s < i → has self.old s ≡ false)
+            × ((s : ℕ) → s < SLOT_COUNT → has self.new s ≡ (if s == i then false else has self.old s))) }
+        ensures smaller { MatchOption result (self.new ≡ self.old) (λ i. self.new.bits < self.old.bits) }
+    {
+        if self.bits == 0 {
+            return None;
+        }
+        let index = self.bits.trailing_zeros() as usize;
+        self.bits &= !(1 << index);
+        Some(index)
+    }
+}
+
+/// The slots whose devices are lost by this bit.
+pub(crate) fn lost_slots(cuts: &Cuts, last: u16) -> SlotSet
+    ensures { (s : ℕ) → s < SLOT_COUNT → has result s ≡ lost_by cuts.now last s }
+{
+    let mut lost = SlotSet::none();
+    if cuts.is_empty() {
+        return lost;
+    }
+    for index in 0..SLOTS {
+        lost = lost.with(index, cuts.is_lost(Slot::from_index(index), last));
+    }
+    lost
+}

@@ -1,0 +1,141 @@
+ghost use Rattle.std.specs.Prelude.{◌≡◌, ◌≤◌, ℕ, Bool, Option, None, option_map};
+ghost use Rattle.i3c_base.specs.Cutting.{nobody};
+ghost use Rattle.i3c_base.specs.Round.{hears, unhearing};
+ghost use Rattle.i3c_base.specs.State.{Device as DeviceState, in_slot};
+ghost use Rattle.i3c_device.specs.Walks.{accepted_at, assigned_at, drives_at, reaches_at, willing_at};
+
+use crate::attached::Device;
+use crate::places::{accept, assign, drives, is_willing, open, reaches, silence};
+use i3c_base::{Addr7, Identity, Request, Slot};
+
+/// What happens to whatever stands in some slots.
+pub(crate) trait Happening {
+    /// What stands in a slot after it.
+    ghost after: { Self → ℕ → Option DeviceState → Option DeviceState };
+
+    /// It happens in this slot.
+    fn happen(&self, place: &mut Option<Device>, index: usize)
+        ensures { place.new ≡ after self.now index place.old };
+}
+
+/// This request was accepted.
+#[derive(Drop)]
+pub(crate) struct Accepted<'a> {
+    pub active: Slot,
+    pub request: &'a Request,
+}
+
+impl Happening for Accepted<'_> {
+    ghost after = { λ h s place. accepted_at h.active h.request.now s place };
+
+    fn happen(&self, place: &mut Option<Device>, index: usize) {
+        accept(place, index, self.active, self.request);
+    }
+}
+
+/// A session is opened.
+#[derive(Drop)]
+pub(crate) struct Opened;
+
+impl Happening for Opened {
+    ghost after = { λ h s place. option_map hears place };
+
+    fn happen(&self, place: &mut Option<Device>, _index: usize) {
+        open(place);
+    }
+}
+
+/// A session ends.
+#[derive(Drop)]
+pub(crate) struct Ended;
+
+impl Happening for Ended {
+    ghost after = { λ h s place. option_map unhearing place };
+
+    fn happen(&self, place: &mut Option<Device>, _index: usize) {
+        silence(place);
+    }
+}
+
+/// This identity won a round, and this address. No dynamic address is below `08`.
+#[derive(Drop)]
+pub(crate) struct Won<'a> {
+    pub identity: &'a Identity,
+    pub address: Addr7,
+    ghost dynamic: { 8 ≤ address },
+}
+
+impl Happening for Won<'_> {
+    ghost after = { λ h s place. assigned_at nobody h.identity.now h.address s place };
+
+    fn happen(&self, place: &mut Option<Device>, _index: usize) {
+        assign(place, self.identity, self.address);
+    }
+}
+
+/// The device loses its power.
+#[derive(Drop)]
+pub(crate) struct Lost;
+
+impl Happening for Lost {
+    ghost after = { λ h s place. None };
+
+    fn happen(&self, place: &mut Option<Device>, _index: usize) {
+        *place = None;
+    }
+}
+
+/// What is looked for in some slots.
+pub(crate) trait Sought {
+    /// Whether it stands in a slot.
+    ghost finds: { Self → ℕ → Option DeviceState → Bool };
+
+    /// Whether it stands in this slot.
+    fn is_found(&self, place: &Option<Device>, index: usize) -> bool
+        ensures { result ≡ finds self.now index place.now };
+}
+
+/// A device that drives this request.
+#[derive(Drop)]
+pub(crate) struct Driver<'a> {
+    pub active: Slot,
+    pub request: &'a Request,
+}
+
+impl Sought for Driver<'_> {
+    ghost finds = { λ d s place. drives_at d.active s place d.request.now };
+
+    fn is_found(&self, place: &Option<Device>, index: usize) -> bool {
+        drives(place, index, self.active, self.request)
+    }
+}
+
+/// A device that a command reaches, to all or to one address.
+#[derive(Drop)]
+pub(crate) struct Reached<'a> {
+    pub active: Slot,
+    pub to: &'a Option<Addr7>,
+}
+
+impl Sought for Reached<'_> {
+    ghost finds = { λ d s place. in_slot (reaches_at d.active d.to.now s) place };
+
+    fn is_found(&self, place: &Option<Device>, index: usize) -> bool {
+        reaches(place, index, self.active, self.to)
+    }
+}
+
+/// A device that would take the role at this address.
+#[derive(Drop)]
+pub(crate) struct Willing {
+    pub active: Slot,
+    pub address: Addr7,
+}
+
+impl Sought for Willing {
+    ghost finds = { λ d s place. willing_at d.active d.address s place };
+
+    fn is_found(&self, place: &Option<Device>, index: usize) -> bool {
+        is_willing(place, index, self.active, self.address)
+    }
+}
