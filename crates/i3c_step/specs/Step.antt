@@ -1,5 +1,5 @@
 -- One step of the bus: what an event may answer and leave.
-use Rattle.std.specs.Prelude.{◌≡◌, ℕ, suc, ◌+◌, ◌-◌, ◌^◌, Bool, true, false, not, ◌&&◌, ◌||◌, ◌==◌, ◌⊎◌, nat_le, List, [], ◌∷◌, ◌++◌, length, Option, Some, None, if◌then◌else◌, is_none, is_some, MatchOption, ⊤}
+use Rattle.std.specs.Prelude.{◌≡◌, ℕ, suc, ◌+◌, ◌-◌, ◌^◌, Bool, true, false, not, ◌&&◌, ◌||◌, ◌==◌, ◌⊎◌, nat_le, nat_lt, List, [], ◌∷◌, ◌++◌, length, Option, Some, None, if◌then◌else◌, is_none, is_some, MatchOption, ⊤}
 use Rattle.i3c_base.specs.declared.answers.Answer.{Answer}
 use Rattle.i3c_base.specs.declared.answers.RoundReply.{RoundReply}
 use Rattle.i3c_base.specs.declared.device.TheConstants.{WAITING}
@@ -53,7 +53,7 @@ is_no_partner st a = is_none (legacy_target_at st a) && is_no_target st a
 
 -- the bytes are more than a transfer may bring
 abbrev pub is_too_long : List ℕ → Bool
-is_too_long bytes = not (nat_le (length bytes) TRANSFER)
+is_too_long bytes = nat_lt TRANSFER (length bytes)
 
 -- the refusals of a read, after those of each frame
 abbrev pub read_checks : State → ℕ → Checks

@@ -8,6 +8,8 @@ pub const TRANSFER: usize = REGISTERS;
 /// How many bytes of a write an event keeps: one more than a write may bring, so that a longer one is known as such.
 pub const WRITE_KEPT: usize = 17;
 
+const _: () = prove!(TRANSFER < WRITE_KEPT);
+
 /// What may happen on a bus. A frame carries its policy on requests, and its cuts.
 #[derive(Debug, PartialEq, Eq, Drop)]
 pub enum Event {
