@@ -15,17 +15,18 @@ use Rattle.i3c_base.specs.Cutting.{CutList, Lost, lost_by}
 use Rattle.i3c_base.specs.Numbers.{KindSet}
 use Rattle.i3c_base.specs.State.{Device, State, IsPresent, IsStart, attached, change, device_at, each, no_devices, raised_at, unaddressed}
 use Rattle.i3c_base.specs.Serve.{Frame, Serves, drives, each_driver, emptied, without_front, without_join, without_role}
-use Rattle.i3c_base.specs.Frames.{Rekinds, handed, list, reaches, rekinded, reset, unaddressed_device}
+use Rattle.i3c_base.specs.Frames.{Rekinds, handed, list, overwritten, reaches, rekinded, reset, unaddressed_device, written}
 use Rattle.i3c_base.specs.Round.{Rounds, assigned, hears, opened, unhearing, winner, wins}
 use Rattle.i3c_base.proofs.Lookups.{change_at, drop_off_at, each_at, emptied_at, length-no_devices, set_at, set_in}
 use Rattle.i3c_step.specs.declared.events.Event.{Event}
-use Rattle.i3c_step.specs.declared.events.Event.TheVariants.{Attach, DropOff, Raise, AskJoin, AskRole, Serve, Enec, Disec, Reset, SendList, OpenDaa, Round, EndDaa, HandOver}
+use Rattle.i3c_step.specs.declared.events.Event.TheVariants.{Attach, DropOff, Raise, AskJoin, AskRole, Serve, Enec, Disec, Reset, SendList, ReadFrom, WriteTo, OpenDaa, Round, EndDaa, HandOver}
 use Rattle.i3c_step.specs.declared.replies.Reply.{Reply}
 use Rattle.i3c_step.specs.Runs.{IsLegalRun}
 use Rattle.i3c_step.proofs.Handing.{declined, granted}
 use Rattle.i3c_step.proofs.Kept.{run_keeps}
-use Rattle.i3c_step.specs.Step.{Acts, Step, checks, first_refusal, hand_checks, target_checks}
+use Rattle.i3c_step.specs.Step.{Acts, Step, checks, first_refusal, hand_checks, read_checks, target_checks, write_checks}
 use Rattle.i3c_step.proofs.Steps.{active_left, no_test, step_cases}
+use Rattle.i3c_step.proofs.Transfers.{reads_keep, writes_keep}
 
 -- the active slot is occupied
 abbrev pub HasActive : State → Type 0
@@ -89,6 +90,13 @@ Safe-rekinds (Some a) f answer lost mid done gone h p = elim h [
   | inr e ↦ Safe-same gone mid done e.2 p
 ]
 
+-- so does a write
+pub Present-written : (a : ℕ) (bytes : List ℕ) (st : State) (s : ℕ) → IsPresent st s → IsPresent (written a bytes st) s
+Present-written a bytes st s h = Present-each (λ t d. if reaches st (Some a) t d then record d { registers = overwritten bytes d.registers } else d) st s h
+
+Safe-written : (a : ℕ) (bytes : List ℕ) (lost : Lost) (st : State) → IsSafe lost st → IsSafe lost (written a bytes st)
+Safe-written a bytes lost st h = record { present = Present-written a bytes st _ h.present; left = h.left }
+
 Safe-opened : (lost : Lost) (mid done : State) → done ≡ opened mid → IsSafe lost mid → IsSafe lost done
 Safe-opened lost mid done e h = Safe-same lost (opened mid) done e (record { present = Present-each (λ s d. hears d) mid _ h.present; left = h.left })
 
@@ -124,6 +132,13 @@ Active-acts old (Disec to kinds policy cuts) reply new free h p =
 Active-acts old (AskRole s) reply new free h p = subst HasActive (sym h.1) (Present-change s (λ d. record d { role_wish = true }) old _ p)
 Active-acts old (Reset policy cuts) reply new free h p = Active-frame old policy cuts _ _ _ new Safe-reset h.2 (λ last. active_left old cuts _ _ _ [] last free) p
 Active-acts old (SendList policy cuts) reply new free h p = Active-frame old policy cuts _ _ _ new Safe-list h.2 (λ last. active_left old cuts _ _ _ [] last free) p
+Active-acts old (ReadFrom a policy cuts) reply new free h p =
+    Active-frame old policy cuts _ _ _ new (λ lost. reads_keep (λ mid done. IsSafe lost mid → IsSafe lost done) (λ st safe. safe) a h.0.answer lost) h.2
+    (λ last. active_left old cuts _ _ _ (read_checks old a) last free) p
+Active-acts old (WriteTo a bytes policy cuts) reply new free h p =
+    Active-frame old policy cuts _ _ _ new
+    (λ lost. writes_keep (λ mid done. IsSafe lost mid → IsSafe lost done) a bytes.items (λ st safe. safe) (Safe-written a bytes.items lost) h.0.answer lost) h.2
+    (λ last. active_left old cuts _ _ _ (write_checks old a bytes.items) last free) p
 Active-acts old (OpenDaa cuts) reply new free h p = Active-frame old _ cuts _ _ _ new Safe-opened h.2 (λ last. active_left old cuts _ _ _ [] last free) p
 Active-acts old (Round cuts) reply new free h p = Active-round old cuts h.0 new h.2 (λ last. active_left old cuts _ _ _ [] last free) p
 Active-acts old (HandOver to cuts) reply new free h p = elim h [

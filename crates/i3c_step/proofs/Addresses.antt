@@ -6,7 +6,7 @@ use Rattle.std.proofs.lemmas.Option.{none-some, same_Some}
 use Rattle.i3c_base.specs.declared.identity.Identity.{Identity}
 use Rattle.i3c_base.specs.Cutting.{CutList, Lost, lost_by}
 use Rattle.i3c_step.specs.declared.events.Event.{Event}
-use Rattle.i3c_step.specs.declared.events.Event.TheVariants.{Attach, DropOff, Raise, AskJoin, AskRole, Serve, Enec, Disec, Reset, SendList, OpenDaa, Round, EndDaa, HandOver}
+use Rattle.i3c_step.specs.declared.events.Event.TheVariants.{Attach, DropOff, Raise, AskJoin, AskRole, Serve, Enec, Disec, Reset, SendList, ReadFrom, WriteTo, OpenDaa, Round, EndDaa, HandOver}
 use Rattle.i3c_base.specs.declared.requests.Fixed.{Fixed}
 use Rattle.i3c_base.specs.declared.requests.Request.{Request}
 use Rattle.i3c_step.specs.declared.replies.Reply.{Reply}
@@ -19,7 +19,7 @@ use Rattle.i3c_base.specs.Numbers.{same_identity}
 use Rattle.i3c_base.specs.State.{Device, Entry, State, IsStart, addressed, attached, change, device_at, each, entry_at, has_address, in_slot, is_the, entry_of, kept_entry_of, kept_of, no_devices, no_entries, raised_at, legacy_target_at, unaddressed, unkept}
 use Rattle.i3c_base.specs.declared.range.TheConstants.{ADDRESSES}
 use Rattle.i3c_base.specs.Local.{attach, drop_off, raise}
-use Rattle.i3c_base.specs.Frames.{Rekinds, active_has, handed, list, reaches, rekinded, reset, unaddressed_device}
+use Rattle.i3c_base.specs.Frames.{Rekinds, active_has, handed, list, legacy_written, overwritten, reaches, rekinded, reset, unaddressed_device, written}
 use Rattle.i3c_base.specs.Numbers.{KindSet}
 use Rattle.i3c_base.specs.declared.answers.Answer.{Answer}
 use Rattle.i3c_base.specs.Serve.{Frame, Serves, drives, each_driver, emptied, without_front, without_join, without_role}
@@ -28,7 +28,8 @@ use Rattle.i3c_step.specs.Step.{Acts, Becomes, Step}
 use Rattle.i3c_step.specs.Sound.{Addresses, IsFor}
 use Rattle.i3c_step.proofs.Handing.{declined, granted}
 use Rattle.i3c_step.proofs.Steps.{step_cases}
-use Rattle.i3c_base.proofs.Lookups.{attach_from, changed_at, length-changed, change_from, drop_off_from, each_from, emptied_from, forgotten_at, length-no_entries, option_map_from, no_devices_at, no_entries_at, set_from, set_in}
+use Rattle.i3c_step.proofs.Transfers.{reads_keep, writes_keep}
+use Rattle.i3c_base.proofs.Lookups.{attach_from, changed_at, length-changed, change_from, drop_off_from, each_from, emptied_from, forgotten_at, length-no_entries, option_map_from, no_devices_at, no_entries_at, set_at, set_from, set_in}
 use Rattle.i3c_step.proofs.Maps.{cond_some_from, cond_kept_from, same_identity-true}
 
 -- device d had its identity and address in the same slot before
@@ -171,6 +172,16 @@ NoneNew-rekinds (Some a) f answer lost mid done h = elim h [
   | inl e ↦ subst (NoneNew mid) (sym e.2) (NoneNew-rekinded (Some a) f mid)
   | inr e ↦ subst (NoneNew mid) (sym e.2) (NoneNew-refl mid)
 ]
+
+-- a write changes registers, and no legacy target comes by it
+pub NoneNew-written : (a : ℕ) (bytes : List ℕ) (st : State) → NoneNew st (written a bytes st)
+NoneNew-written a bytes st = NoneNew-from st (written a bytes st)
+    (WasThere-each (λ s d. if reaches st (Some a) s d then record d { registers = overwritten bytes d.registers } else d) st
+    (λ s d. IsSteady-if (reaches st (Some a) s d) d (record d { registers = overwritten bytes d.registers }) (record { identity = refl; address = λ b p. p })))
+    refl (λ b none. elim (set_at st.legacy a b (legacy_written bytes (legacy_target_at st a)) None) [
+      | inl e ↦ e.1 ∙ ap (legacy_written bytes) (ap (legacy_target_at st) (sym e.0) ∙ none)
+      | inr e ↦ e ∙ none
+    ])
 
 pub NoneNew-driver : (r : Request) (f : Device → Device) (st : State) → ((d : Device) → IsSteady (f d) d) → NoneNew st (each_driver r f st)
 NoneNew-driver r f st steady = NoneNew-each (λ s d. if drives st r s then f d else d) st (λ s d. IsSteady-if (drives st r s) d (f d) (steady d))
@@ -370,6 +381,9 @@ Addresses-acts old (AskRole s) reply new h inv =
     subst Addresses (sym h.1) (Addresses-none_new old _ (NoneNew-change s (λ d. record d { role_wish = true }) old (λ d. record { identity = refl; address = λ a p. p })) inv)
 Addresses-acts old (Reset policy cuts) reply new h inv = Addresses-frame old policy cuts _ _ _ new (NoneNew-becomes reset NoneNew-reset) h.2 inv
 Addresses-acts old (SendList policy cuts) reply new h inv = Addresses-frame old policy cuts _ _ _ new (NoneNew-becomes list NoneNew-list) h.2 inv
+Addresses-acts old (ReadFrom a policy cuts) reply new h inv = Addresses-frame old policy cuts _ _ _ new (reads_keep NoneNew NoneNew-refl a h.0.answer) h.2 inv
+Addresses-acts old (WriteTo a bytes policy cuts) reply new h inv =
+    Addresses-frame old policy cuts _ _ _ new (writes_keep NoneNew a bytes.items NoneNew-refl (NoneNew-written a bytes.items) h.0.answer) h.2 inv
 Addresses-acts old (OpenDaa cuts) reply new h inv = Addresses-frame old _ cuts _ _ _ new (NoneNew-becomes opened NoneNew-opened) h.2 inv
 Addresses-acts old (Round cuts) reply new h inv = Addresses-round old cuts h.0 new h.2 inv
 Addresses-acts old (HandOver to cuts) reply new h inv = elim h [

@@ -1,7 +1,7 @@
 -- Devices stay in their slots; one that has an address hears no session, and the active controller keeps its.
 use Rattle.std.proofs.lemmas.Bool.{both_ways, eq-eqb}
 use Rattle.std.proofs.lemmas.List.{length-set}
-use Rattle.std.proofs.Common.{◌≡◌, ℕ, suc, Bool, true, false, [], ◌∷◌, ◌++◌, length, Option, Some, None, is_none, is_some, option_map, ◌==◌, ◌⊎◌, if◌then◌else◌, inl, inr, sym, refl, ap, ◌∙◌, subst}
+use Rattle.std.proofs.Common.{◌≡◌, ℕ, suc, Bool, true, false, List, [], ◌∷◌, ◌++◌, length, Option, Some, None, is_none, is_some, option_map, ◌==◌, ◌⊎◌, if◌then◌else◌, inl, inr, sym, refl, ap, ◌∙◌, subst}
 use Rattle.i3c_base.specs.declared.answers.Answer.{Answer}
 use Rattle.i3c_base.specs.declared.answers.RoundReply.{RoundReply}
 use Rattle.i3c_base.specs.declared.identity.Identity.{Identity}
@@ -11,7 +11,7 @@ use Rattle.i3c_base.specs.declared.requests.Request.TheVariants.{Join, Role, Int
 use Rattle.i3c_base.specs.declared.requests.Served.{Served}
 use Rattle.i3c_base.specs.declared.requests.Served.TheVariants.{Quiet, Recorded, Refused, Torn, Joining, WantsRole}
 use Rattle.i3c_base.specs.Cutting.{CutList, Lost, lost_by}
-use Rattle.i3c_base.specs.Frames.{Rekinds, handed, list, reaches, rekinded, reset, unaddressed_device}
+use Rattle.i3c_base.specs.Frames.{Rekinds, handed, list, overwritten, reaches, rekinded, reset, unaddressed_device, written}
 use Rattle.i3c_base.specs.Local.{drop_off, raise}
 use Rattle.i3c_base.specs.Numbers.{KindSet}
 use Rattle.i3c_base.specs.Round.{Rounds, assigned, ended, hears, opened, unhearing, winner, wins}
@@ -19,12 +19,13 @@ use Rattle.i3c_base.specs.Serve.{Frame, Serves, drives, each_driver, emptied, wi
 use Rattle.i3c_base.specs.State.{Device, State, change, device_at, each, raised_at}
 use Rattle.i3c_base.proofs.Lookups.{attach_from, change_from, drop_off_from, each_from, emptied_from, length-changed}
 use Rattle.i3c_step.specs.declared.events.Event.{Event}
-use Rattle.i3c_step.specs.declared.events.Event.TheVariants.{Attach, DropOff, Raise, AskJoin, AskRole, Serve, Enec, Disec, Reset, SendList, OpenDaa, Round, EndDaa, HandOver}
+use Rattle.i3c_step.specs.declared.events.Event.TheVariants.{Attach, DropOff, Raise, AskJoin, AskRole, Serve, Enec, Disec, Reset, SendList, ReadFrom, WriteTo, OpenDaa, Round, EndDaa, HandOver}
 use Rattle.i3c_step.specs.declared.replies.Reply.{Reply}
 use Rattle.i3c_step.specs.Slots.{HasAttached}
 use Rattle.i3c_step.specs.Step.{Acts, Step}
 use Rattle.i3c_step.proofs.Handing.{IsHandedOver, declined, granted}
 use Rattle.i3c_step.proofs.Steps.{step_cases}
+use Rattle.i3c_step.proofs.Transfers.{reads_keep, writes_keep}
 
 -- a device with an address hears no session
 abbrev pub IsDeaf : Device → Type 0
@@ -115,6 +116,12 @@ Follows-rekinds (Some a) f answer lost mid done h = elim h [
   | inl e ↦ subst (Follows mid) (sym e.2) (Follows-rekinded (Some a) f mid)
   | inr e ↦ subst (Follows mid) (sym e.2) (Follows-refl mid)
 ]
+
+pub Follows-written : (a : ℕ) (bytes : List ℕ) (st : State) → Follows st (written a bytes st)
+Follows-written a bytes st =
+    let n = Follows-each (λ s d. if reaches st (Some a) s d then record d { registers = overwritten bytes d.registers } else d) st
+    (λ s d. later_if _ (reaches st (Some a) s d) d (record d { registers = overwritten bytes d.registers }) (later_same _ d (record d { registers = overwritten bytes d.registers }) refl refl)) in
+    record { devices = n.devices; active = refl; long = n.long }
 
 -- only a device without an address hears a session that is opened
 later_hears : (keeps : Type 0) (d : Device) → IsLater keeps d (hears d)
@@ -209,6 +216,10 @@ Came-acts old (Reset policy cuts) reply new h = came old (Reset policy cuts) rep
     (Follows-frame old policy cuts _ _ _ new (λ lost mid done e. subst (Follows mid) (sym e) (Follows-reset mid)) h.2)
 Came-acts old (SendList policy cuts) reply new h = came old (SendList policy cuts) reply new
     (Follows-frame old policy cuts _ _ _ new (λ lost mid done e. subst (Follows mid) (sym e) (Follows-list mid)) h.2)
+Came-acts old (ReadFrom a policy cuts) reply new h = came old (ReadFrom a policy cuts) reply new
+    (Follows-frame old policy cuts _ _ _ new (reads_keep Follows Follows-refl a h.0.answer) h.2)
+Came-acts old (WriteTo a bytes policy cuts) reply new h = came old (WriteTo a bytes policy cuts) reply new
+    (Follows-frame old policy cuts _ _ _ new (writes_keep Follows a bytes.items Follows-refl (Follows-written a bytes.items) h.0.answer) h.2)
 Came-acts old (OpenDaa cuts) reply new h = came old (OpenDaa cuts) reply new
     (Follows-frame old _ cuts _ _ _ new (λ lost mid done e. subst (Follows mid) (sym e) (Follows-opened mid)) h.2)
 Came-acts old (Round cuts) reply new h = came old (Round cuts) reply new (Follows-round old cuts h.0 new h.2)

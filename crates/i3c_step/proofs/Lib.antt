@@ -6,6 +6,7 @@ pub mod Soundness
 pub mod Active
 pub mod Lost
 pub mod Uniqueness
+pub mod Transfers
 pub mod Uncut
 pub mod Answering
 pub mod Drivers

@@ -19,21 +19,22 @@ use Rattle.i3c_base.specs.State.{Device, State, IsStart, change, device_at, each
 use Rattle.i3c_base.specs.Cutting.{CutList, Lost, lost_by, nobody}
 use Rattle.i3c_base.specs.Local.{ask_join, ask_role, attach, drop_off, raise}
 use Rattle.i3c_base.specs.Serve.{Frame, Serves, drives, each_driver, emptied, tail, without_front, without_join, without_role}
-use Rattle.i3c_base.specs.Frames.{IsWillingAt, Rekinds, handed, list, reaches, rekinded, reset, unaddressed_device}
+use Rattle.i3c_base.specs.Frames.{IsWillingAt, Rekinds, handed, list, overwritten, Reads, Writes, reaches, rekinded, reset, unaddressed_device, written}
 use Rattle.i3c_base.specs.Round.{Rounds, assigned, ended, hears, opened, unhearing, winner, wins}
 use Rattle.i3c_base.specs.Numbers.{same_bool}
 use Rattle.i3c_base.proofs.Lookups.{attach_from, change_at, change_from, drop_off_from, each_from, emptied_from}
 use Rattle.i3c_step.specs.declared.events.Event.{Event}
-use Rattle.i3c_step.specs.declared.events.Event.TheVariants.{Attach, DropOff, Raise, AskJoin, AskRole, Serve, Enec, Disec, Reset, SendList, OpenDaa, Round, EndDaa, HandOver}
+use Rattle.i3c_step.specs.declared.events.Event.TheVariants.{Attach, DropOff, Raise, AskJoin, AskRole, Serve, Enec, Disec, Reset, SendList, ReadFrom, WriteTo, OpenDaa, Round, EndDaa, HandOver}
 use Rattle.i3c_step.specs.declared.replies.Reply.{Reply}
 use Rattle.i3c_step.specs.Step.{Acts, Step, checks, first_refusal}
 use Rattle.i3c_step.specs.Sound.{IsFitting, IsSound}
-use Rattle.i3c_step.proofs.Active.{Active-emptied, Active-round, IsSafe, Present-change, Present-each, Safe-rekinds, Safe-serves}
-use Rattle.i3c_step.proofs.Addresses.{Addresses-emptied, Addresses-none_new, Addresses-round, Addresses-start, Addresses-step, IsSteady, NoneNew-change, NoneNew-ended, NoneNew-handed, NoneNew-list, NoneNew-opened, NoneNew-rekinds, NoneNew-reset, NoneNew-serves, start_device}
-use Rattle.i3c_step.proofs.Follows.{Follows-change, Follows-emptied, Follows-ended, Follows-opened, Follows-rekinds, Follows-reset, Follows-round, Follows-serves}
+use Rattle.i3c_step.proofs.Active.{Active-emptied, Active-round, IsSafe, Present-change, Present-each, Present-written, Safe-rekinds, Safe-serves}
+use Rattle.i3c_step.proofs.Addresses.{Addresses-emptied, Addresses-none_new, Addresses-round, Addresses-start, Addresses-step, IsSteady, NoneNew-change, NoneNew-ended, NoneNew-handed, NoneNew-list, NoneNew-opened, NoneNew-rekinds, NoneNew-reset, NoneNew-serves, NoneNew-written, start_device}
+use Rattle.i3c_step.proofs.Follows.{Follows-change, Follows-emptied, Follows-ended, Follows-opened, Follows-rekinds, Follows-reset, Follows-round, Follows-serves, Follows-written}
 use Rattle.i3c_step.proofs.Handing.{declined, granted}
 use Rattle.i3c_step.proofs.Holding.{active_follows, active_start, active_step}
 use Rattle.i3c_step.proofs.Steps.{no_test, step_cases}
+use Rattle.i3c_step.proofs.Transfers.{reads_keep, writes_keep}
 
 -- what waits in each device fits it
 abbrev AllFit : State → Type 0
@@ -118,6 +119,10 @@ AllFit-rekinds (Some a) f answer lost mid done h all = elim h [
   | inr e ↦ subst AllFit (sym e.2) all
 ]
 
+AllFit-written : (a : ℕ) (bytes : List ℕ) (st : State) → AllFit st → AllFit (written a bytes st)
+AllFit-written a bytes st = AllFit-each (λ s d. if reaches st (Some a) s d then record d { registers = overwritten bytes d.registers } else d) st
+    (λ s d h. Fits-if (reaches st (Some a) s d) d (record d { registers = overwritten bytes d.registers }) h h)
+
 AllFit-opened : (st : State) → AllFit st → AllFit (opened st)
 AllFit-opened st = AllFit-each (λ s d. hears d) st (λ s d h. Fits-if (is_none d.address) d (record d { hearing = true }) h h)
 
@@ -166,6 +171,10 @@ AllFit-acts old (Disec to kinds policy cuts) reply new free h all = AllFit-frame
 AllFit-acts old (AskRole s) reply new free h all = subst AllFit (sym h.1) (AllFit-ask_role s old all)
 AllFit-acts old (Reset policy cuts) reply new free h all = AllFit-frame old policy cuts _ _ _ new (λ lost mid done e fit. subst AllFit (sym e) (AllFit-reset mid fit)) h.2 all
 AllFit-acts old (SendList policy cuts) reply new free h all = AllFit-frame old policy cuts _ _ _ new (λ lost mid done e fit. subst AllFit (sym e) fit) h.2 all
+AllFit-acts old (ReadFrom a policy cuts) reply new free h all =
+    AllFit-frame old policy cuts _ _ _ new (reads_keep (λ mid done. AllFit mid → AllFit done) (λ st fit. fit) a h.0.answer) h.2 all
+AllFit-acts old (WriteTo a bytes policy cuts) reply new free h all =
+    AllFit-frame old policy cuts _ _ _ new (writes_keep (λ mid done. AllFit mid → AllFit done) a bytes.items (λ st fit. fit) (AllFit-written a bytes.items) h.0.answer) h.2 all
 AllFit-acts old (OpenDaa cuts) reply new free h all =
     AllFit-frame old _ cuts _ _ _ new (λ lost mid done e fit. subst AllFit (sym e) (AllFit-opened mid fit)) h.2 all
 AllFit-acts old (Round cuts) reply new free h all = AllFit-round old cuts h.0 new h.2 all
@@ -205,6 +214,21 @@ sound_rekinds to f answer lost mid done h sound = record {
   active = active_follows mid done (Follows-rekinds to f answer lost mid done h) (Safe-rekinds to f answer lost mid done nobody h (all_safe mid sound)).present sound.active;
   fitting = AllFit-rekinds to f answer lost mid done h sound.fitting;
 }
+
+-- and a private transfer
+pub sound_written : (a : ℕ) (bytes : List ℕ) (st : State) → IsSound st → IsSound (written a bytes st)
+sound_written a bytes st sound = record {
+  addresses = Addresses-none_new st (written a bytes st) (NoneNew-written a bytes st) sound.addresses;
+  active = active_follows st (written a bytes st) (Follows-written a bytes st) (Present-written a bytes st st.active (sound.active.0, sound.active.2)) sound.active;
+  fitting = AllFit-written a bytes st sound.fitting;
+}
+
+pub sound_reads : (a : ℕ) (answer : Answer) (lost : Lost) (mid done : State) → Reads a answer lost mid done → IsSound mid → IsSound done
+sound_reads a answer lost mid done h sound = reads_keep (λ st next. IsSound st → IsSound next) (λ st same. same) a answer lost mid done h sound
+
+pub sound_writes : (a : ℕ) (bytes : List ℕ) (answer : Answer) (lost : Lost) (mid done : State) → Writes a bytes answer lost mid done → IsSound mid → IsSound done
+sound_writes a bytes answer lost mid done h sound =
+    writes_keep (λ st next. IsSound st → IsSound next) a bytes (λ st same. same) (sound_written a bytes) answer lost mid done h sound
 
 -- so does a device that changes and keeps its identity and its address
 sound_changed : (s : ℕ) (f : Device → Device) (st : State) → ((d : Device) → IsSteady (f d) d) → ((d : Device) → ((f d).address ≡ d.address) × ((f d).hearing ≡ d.hearing))

@@ -1,6 +1,6 @@
 -- Without cuts a step is a function of the state and the event.
 use Rattle.std.proofs.lemmas.Bool.{both_ways, cases_order, false≢true}
-use Rattle.std.proofs.Common.{◌≡◌, ◌≢◌, ℕ, ◌+◌, true, Option, Some, None, MatchOption, ◌⊎◌, inl, inr, sym, refl, ap, ◌∙◌, subst}
+use Rattle.std.proofs.Common.{◌≡◌, ◌≢◌, ℕ, ◌+◌, true, List, Option, Some, None, MatchOption, ◌⊎◌, inl, inr, sym, refl, ap, ◌∙◌, subst}
 use Rattle.i3c_base.specs.declared.requests.Fixed.{Fixed}
 use Rattle.i3c_base.specs.declared.identity.Identity.{Identity}
 use Rattle.i3c_base.specs.declared.answers.RoundReply.{RoundReply}
@@ -8,7 +8,7 @@ use Rattle.i3c_base.specs.declared.requests.Served.{Served}
 use Rattle.i3c_base.specs.State.{State}
 use Rattle.i3c_base.specs.declared.answers.Answer.{Answer}
 use Rattle.i3c_base.specs.Numbers.{KindSet}
-use Rattle.i3c_base.specs.Frames.{AllLostAt, AnyAt, Hands, KeepsRole, Rekinds, changed_kinds, handed}
+use Rattle.i3c_base.specs.Frames.{AllLostAt, AnyAt, Hands, KeepsRole, Reads, Rekinds, Writes, changed_kinds, handed, read_bits, write_bits}
 use Rattle.i3c_base.specs.Cutting.{CutList, Lost, IsUncut, lost_by}
 use Rattle.i3c_base.specs.Serve.{Frame, Serves, emptied}
 use Rattle.i3c_base.specs.Round.{Rounds, assigned}
@@ -17,12 +17,13 @@ use Rattle.i3c_base.specs.Serve.{refuse_all}
 use Rattle.i3c_base.specs.Round.{AllHearersLost, AnyHears, IsAddressFor, IsBeatenByLost, IsContender}
 use Rattle.i3c_base.specs.declared.kinds.Change.{Change}
 use Rattle.i3c_step.specs.declared.events.Event.{Event}
-use Rattle.i3c_step.specs.declared.events.Event.TheVariants.{Attach, DropOff, Raise, AskJoin, AskRole, Serve, Enec, Disec, Reset, SendList, OpenDaa, Round, EndDaa, HandOver}
+use Rattle.i3c_step.specs.declared.events.Event.TheVariants.{Attach, DropOff, Raise, AskJoin, AskRole, Serve, Enec, Disec, Reset, SendList, ReadFrom, WriteTo, OpenDaa, Round, EndDaa, HandOver}
 use Rattle.i3c_step.specs.declared.replies.Refusal.{Refusal}
 use Rattle.i3c_step.specs.declared.replies.Reply.{Reply}
-use Rattle.i3c_step.specs.Step.{Acts, IsShort, RekindsBy, Step, checks, cuts_in, first_refusal}
+use Rattle.i3c_step.specs.Step.{Acts, IsShort, RekindsBy, Step, Transfers, checks, cuts_in, first_refusal}
 use Rattle.i3c_base.specs.Cutting.{nobody}
 use Rattle.i3c_step.proofs.Lost.{lost_nobody, unlost}
+use Rattle.i3c_step.proofs.Transfers.{reads_unique, writes_unique}
 use Rattle.i3c_step.proofs.Uniqueness.{address_unique, serves_unique, winner_unique}
 
 -- two frames agree if their own parts do
@@ -54,6 +55,15 @@ rekinds_by_unique : (old : State) (to : Option ℕ) (f : KindSet → KindSet) (p
     → RekindsBy old to f policy cuts reply new → RekindsBy old to f policy cuts other next → (reply ≡ other) × (new ≡ next)
 rekinds_by_unique old to f policy cuts reply other new next u h k =
     let r = frames_agree old policy cuts h.0.served k.0.served _ _ _ _ new next (h.0.answer ≡ k.0.answer) u (rekinds_unique to f h.0.answer k.0.answer) h.2 k.2 in
+    let framed : h.0 ≡ k.0 = λ t. record { served = r.0 t; answer = r.1 t } in
+    (h.1 ∙ (ap Reply.Framed framed ∙ sym k.1), r.2)
+
+-- nor do private transfers have more
+transfers_unique : (old : State) (bits : Answer → ℕ) (Own : Answer → Lost → State → State → Type 0) (policy : Fixed) (cuts : CutList) (reply other : Reply) (new next : State) → IsUncut cuts
+    → ((answer also : Answer) (mid done last : State) → Own answer nobody mid done → Own also nobody mid last → (answer ≡ also) × (done ≡ last))
+    → Transfers old bits Own policy cuts reply new → Transfers old bits Own policy cuts other next → (reply ≡ other) × (new ≡ next)
+transfers_unique old bits Own policy cuts reply other new next u unique h k =
+    let r = frames_agree old policy cuts h.0.served k.0.served _ _ _ _ new next (h.0.answer ≡ k.0.answer) u (unique h.0.answer k.0.answer) h.2 k.2 in
     let framed : h.0 ≡ k.0 = λ t. record { served = r.0 t; answer = r.1 t } in
     (h.1 ∙ (ap Reply.Framed framed ∙ sym k.1), r.2)
 
@@ -140,6 +150,9 @@ acts_unique old (Reset policy cuts) reply other new next u h k =
 acts_unique old (SendList policy cuts) reply other new next u h k =
     let r = frames_agree old policy cuts h.0 k.0 _ _ _ _ new next ⊤ u (λ mid done last x y. (tt, x ∙ sym y)) h.2 k.2 in
     (h.1 ∙ (ap (λ s. Reply.Framed (record { served = s; answer = Answer.Done })) r.0 ∙ sym k.1), r.2)
+acts_unique old (ReadFrom a policy cuts) reply other new next u h k = transfers_unique old read_bits (Reads a) policy cuts reply other new next u (reads_unique a) h k
+acts_unique old (WriteTo a bytes policy cuts) reply other new next u h k =
+    transfers_unique old (write_bits bytes.items) (Writes a bytes.items) policy cuts reply other new next u (writes_unique a bytes.items) h k
 acts_unique old (OpenDaa cuts) reply other new next u h k =
     let r = frames_agree old refuse_all cuts h.0 k.0 _ _ _ _ new next ⊤ u (λ mid done last x y. (tt, x ∙ sym y)) h.2 k.2 in
     (h.1 ∙ (ap Reply.Opened r.0 ∙ sym k.1), r.2)

@@ -12,7 +12,7 @@ use Rattle.i3c_base.specs.Numbers.{KindSet}
 use Rattle.i3c_base.specs.State.{Device, State, attached, device_at, each}
 use Rattle.i3c_base.specs.Local.{ask_join, ask_role, attach, drop_off}
 use Rattle.i3c_base.specs.Serve.{drives, each_driver, emptied, without_role}
-use Rattle.i3c_base.specs.Frames.{Rekinds, handed, list, reaches, rekinded, reset, unaddressed_device}
+use Rattle.i3c_base.specs.Frames.{Rekinds, handed, list, overwritten, reaches, rekinded, reset, unaddressed_device, written}
 use Rattle.i3c_base.specs.Round.{Rounds, assigned, ended, hears, opened, unhearing, winner, wins}
 use Rattle.i3c_base.proofs.Lookups.{attach_from, change_from, drop_off_from, each_at, emptied_from, length-changed}
 
@@ -136,6 +136,10 @@ Unserved-rekinds (Some a) f answer lost mid done h = elim h [
   | inl e ↦ subst (Unserved mid) (sym e.2) (Unserved-rekinded (Some a) f mid)
   | inr e ↦ Unserved-same mid done e.2
 ]
+
+pub Unserved-written : (a : ℕ) (bytes : List ℕ) (st : State) → Unserved st (written a bytes st)
+Unserved-written a bytes st = Unserved-each (λ s d. if reaches st (Some a) s d then record d { registers = overwritten bytes d.registers } else d) st _
+    (λ s d. waiting-if (reaches st (Some a) s d) (record d { registers = overwritten bytes d.registers }) d refl) refl refl refl
 
 pub Unserved-opened : (st : State) → Unserved st (opened st)
 Unserved-opened st = Unserved-each (λ s d. hears d) st (opened st) (λ s d. waiting-if (is_none d.address) (record d { hearing = true }) d refl) refl refl refl

@@ -20,3 +20,5 @@ event_of Command.Reset policy cuts = Event.Reset policy cuts
 event_of Command.SendList policy cuts = Event.SendList policy cuts
 event_of (Command.Enec to kinds) policy cuts = Event.Enec to kinds policy cuts
 event_of (Command.Disec to kinds) policy cuts = Event.Disec to kinds policy cuts
+event_of (Command.ReadFrom a) policy cuts = Event.ReadFrom a policy cuts
+event_of (Command.WriteTo a bytes) policy cuts = Event.WriteTo a bytes policy cuts

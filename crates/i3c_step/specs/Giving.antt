@@ -17,4 +17,6 @@ under policy (Event.Enec to kinds other cuts) = Event.Enec to kinds policy cuts
 under policy (Event.Disec to kinds other cuts) = Event.Disec to kinds policy cuts
 under policy (Event.Reset other cuts) = Event.Reset policy cuts
 under policy (Event.SendList other cuts) = Event.SendList policy cuts
+under policy (Event.ReadFrom a other cuts) = Event.ReadFrom a policy cuts
+under policy (Event.WriteTo a bytes other cuts) = Event.WriteTo a bytes policy cuts
 under policy event = event

@@ -11,6 +11,7 @@ use Rattle.i3c_step.specs.declared.replies.Framed.{Framed}
 use Rattle.i3c_step.specs.declared.replies.FrameFault.{FrameFault}
 use Rattle.i3c_step.specs.declared.replies.SlotTaken.{SlotTaken}
 use Rattle.i3c_step.specs.declared.replies.TargetFault.{TargetFault}
+use Rattle.i3c_step.specs.declared.replies.WriteFault.{WriteFault}
 use Rattle.i3c_step.specs.declared.replies.Refusal.{Refusal}
 use Rattle.i3c_step.specs.declared.replies.Reply.{Reply}
 
@@ -78,16 +79,28 @@ abbrev pub served_reply : Result Served FrameFault → Reply
 served_reply (Ok served) = Reply.Served served
 served_reply (Err why) = frame_fault_reply why
 
--- of a fault of a frame to one address
+-- of a fault of a frame to one address, other than a write
 abbrev pub target_fault_reply : TargetFault → Reply
 target_fault_reply TargetFault.ActiveStays = Reply.Refused Refusal.ActiveStays
 target_fault_reply (TargetFault.NoAnswer a) = Reply.Refused (Refusal.NoAnswer a)
 target_fault_reply TargetFault.OutOfMemory = Reply.OutOfMemory
 
--- of `enec` and `disec`
+-- of `enec`, `disec` and `read`
 abbrev pub framed_reply : Result Framed TargetFault → Reply
 framed_reply (Ok framed) = Reply.Framed framed
 framed_reply (Err why) = target_fault_reply why
+
+-- of a fault of a private write
+abbrev pub write_fault_reply : WriteFault → Reply
+write_fault_reply WriteFault.ActiveStays = Reply.Refused Refusal.ActiveStays
+write_fault_reply WriteFault.TooLong = Reply.Refused Refusal.TooLong
+write_fault_reply (WriteFault.NoAnswer a) = Reply.Refused (Refusal.NoAnswer a)
+write_fault_reply WriteFault.OutOfMemory = Reply.OutOfMemory
+
+-- of `write`
+abbrev pub wrote_reply : Result Framed WriteFault → Reply
+wrote_reply (Ok framed) = Reply.Framed framed
+wrote_reply (Err why) = write_fault_reply why
 
 -- of `reset` and `list`
 abbrev pub announced_reply : Result Framed FrameFault → Reply

@@ -1,5 +1,5 @@
 -- One step of the bus: what an event may answer and leave.
-use Rattle.std.specs.Prelude.{◌≡◌, ℕ, suc, ◌+◌, ◌-◌, ◌^◌, Bool, true, false, not, ◌||◌, ◌==◌, ◌⊎◌, nat_le, List, [], ◌∷◌, ◌++◌, length, Option, Some, None, if◌then◌else◌, is_none, is_some, MatchOption, ⊤}
+use Rattle.std.specs.Prelude.{◌≡◌, ℕ, suc, ◌+◌, ◌-◌, ◌^◌, Bool, true, false, not, ◌&&◌, ◌||◌, ◌==◌, ◌⊎◌, nat_le, nat_lt, List, [], ◌∷◌, ◌++◌, length, Option, Some, None, if◌then◌else◌, is_none, is_some, MatchOption, ⊤}
 use Rattle.i3c_base.specs.declared.answers.Answer.{Answer}
 use Rattle.i3c_base.specs.declared.answers.RoundReply.{RoundReply}
 use Rattle.i3c_base.specs.declared.device.TheConstants.{WAITING}
@@ -7,17 +7,18 @@ use Rattle.i3c_base.specs.declared.requests.Fixed.{Fixed}
 use Rattle.i3c_base.specs.declared.requests.Served.{Served}
 use Rattle.i3c_base.specs.declared.kinds.Change.{Change}
 use Rattle.i3c_base.specs.Numbers.{KindSet, can_interrupt, has_byte, is_capable, same_bool}
-use Rattle.i3c_base.specs.State.{Entry, State, device_at, entry_at, in_slot, raised_at}
+use Rattle.i3c_base.specs.State.{Entry, State, device_at, entry_at, in_slot, legacy_target_at, raised_at}
 use Rattle.i3c_base.specs.Cutting.{CutList, IsUncut, Lost, cut_of}
 use Rattle.i3c_base.specs.Local.{ask_join, ask_role, attach, drop_off, raise}
 use Rattle.i3c_base.specs.Serve.{Frame, header_bits, refuse_all}
-use Rattle.i3c_base.specs.Frames.{Hands, IsRefusedBits, KeepsRole, Rekinds, active_has, changed_kinds, kinds_bits, list, list_bits, reset}
+use Rattle.i3c_base.specs.Frames.{Hands, IsRefusedBits, KeepsRole, Reads, Rekinds, Writes, active_has, changed_kinds, kinds_bits, list, list_bits, read_bits, reset, write_bits}
 use Rattle.i3c_base.specs.Round.{Rounds, ended, opened}
 use Rattle.i3c_step.specs.declared.events.Event.{Event}
-use Rattle.i3c_step.specs.declared.events.Event.TheVariants.{Attach, DropOff, Raise, AskJoin, AskRole, Serve, Enec, Disec, Reset, SendList, OpenDaa, Round, EndDaa, HandOver}
+use Rattle.i3c_step.specs.declared.events.Event.TheVariants.{Attach, DropOff, Raise, AskJoin, AskRole, Serve, Enec, Disec, Reset, SendList, ReadFrom, WriteTo, OpenDaa, Round, EndDaa, HandOver}
+use Rattle.i3c_step.specs.declared.events.TheConstants.{TRANSFER}
 use Rattle.i3c_step.specs.declared.replies.Framed.{Framed}
 use Rattle.i3c_step.specs.declared.replies.Refusal.{Refusal}
-use Rattle.i3c_step.specs.declared.replies.Refusal.TheVariants.{SessionOpen, NoSession, ActiveStays, SlotTaken, NoDevice, IsActive, NoAddress, HasAddress, NotCapable, ByteMismatch, Masked, Full, ListStale, NoAnswer}
+use Rattle.i3c_step.specs.declared.replies.Refusal.TheVariants.{SessionOpen, NoSession, ActiveStays, SlotTaken, NoDevice, IsActive, NoAddress, HasAddress, NotCapable, ByteMismatch, Masked, Full, ListStale, NoAnswer, TooLong}
 use Rattle.i3c_step.specs.declared.replies.Reply.{Reply}
 
 -- tests with the refusal that each stands for, in order
@@ -45,6 +46,22 @@ is_no_target st a = is_none (entry_at st a) || active_has st a
 abbrev pub target_checks : State → Option ℕ → Checks
 target_checks st None = []
 target_checks st (Some a) = (is_no_target st a, NoAnswer a) ∷ []
+
+-- nobody for a transfer: no legacy target has the address, nor any device of the table but the active controller
+abbrev pub is_no_partner : State → ℕ → Bool
+is_no_partner st a = is_none (legacy_target_at st a) && is_no_target st a
+
+-- the bytes are more than a transfer may bring
+abbrev pub is_too_long : List ℕ → Bool
+is_too_long bytes = nat_lt TRANSFER (length bytes)
+
+-- the refusals of a read, after those of each frame
+abbrev pub read_checks : State → ℕ → Checks
+read_checks st a = (is_no_partner st a, NoAnswer a) ∷ []
+
+-- and of a write
+abbrev pub write_checks : State → ℕ → List ℕ → Checks
+write_checks st a bytes = (is_too_long bytes, TooLong) ∷ (is_no_partner st a, NoAnswer a) ∷ []
 
 -- no device that can be a controller got an address, as this entry has it
 abbrev pub is_no_controller : Option Entry → Bool
@@ -79,6 +96,8 @@ checks st (Reset policy cuts) = frame_checks st cuts
 checks st (SendList policy cuts) = frame_checks st cuts
 checks st (Enec to kinds policy cuts) = frame_checks st cuts ++ target_checks st to
 checks st (Disec to kinds policy cuts) = frame_checks st cuts ++ target_checks st to
+checks st (ReadFrom a policy cuts) = frame_checks st cuts ++ read_checks st a
+checks st (WriteTo a bytes policy cuts) = frame_checks st cuts ++ write_checks st a bytes.items
 checks st (OpenDaa cuts) = frame_checks st cuts
 checks st (HandOver to cuts) = frame_checks st cuts ++ hand_checks st to
 checks st (Round cuts) = (not st.in_session, NoSession) ∷ (cuts_active st cuts, ActiveStays) ∷ []
@@ -91,6 +110,8 @@ may_want_memory (Enec to kinds policy cuts) = true
 may_want_memory (Disec to kinds policy cuts) = true
 may_want_memory (Reset policy cuts) = true
 may_want_memory (SendList policy cuts) = true
+may_want_memory (ReadFrom a policy cuts) = true
+may_want_memory (WriteTo a bytes policy cuts) = true
 may_want_memory (AskRole s) = false
 may_want_memory (Attach s setup) = false
 may_want_memory (DropOff s) = false
@@ -120,6 +141,11 @@ abbrev pub Announces : State → ℕ → (State → State) → Fixed → CutList
 Announces old bits f policy cuts reply new =
     (served : Served) × (reply ≡ Reply.Framed (record { served = served; answer = Answer.Done })) × Frame old policy cuts served (header_bits served + bits) (Becomes f) new
 
+-- a private transfer, where its answer says how many bits its own part has, and what this part leaves
+abbrev pub Transfers : State → (Answer → ℕ) → (Answer → Lost → State → State → Type 0) → Fixed → CutList → Reply → State → Type 0
+Transfers old bits Own policy cuts reply new =
+    (framed : Framed) × (reply ≡ Reply.Framed framed) × Frame old policy cuts framed.served (header_bits framed.served + bits framed.answer) (Own framed.answer) new
+
 -- a handover that is granted: the target's header, and its byte read whole
 abbrev pub IsGranted : State → ℕ → CutList → Reply → State → Type 0
 IsGranted old to cuts reply new = (served : Served) × (reply ≡ Reply.Handed served) × Frame old refuse_all cuts served (header_bits served + 27) (Hands to) new
@@ -142,6 +168,8 @@ Acts old (SendList policy cuts) reply new = Announces old (list_bits old) list p
 Acts old (Serve policy cuts) reply new = (served : Served) × (reply ≡ Reply.Served served) × Frame old policy cuts served 0 Nothing new
 Acts old (Enec to kinds policy cuts) reply new = RekindsBy old to (changed_kinds Change.Enable kinds) policy cuts reply new
 Acts old (Disec to kinds policy cuts) reply new = RekindsBy old to (changed_kinds Change.Disable kinds) policy cuts reply new
+Acts old (ReadFrom a policy cuts) reply new = Transfers old read_bits (Reads a) policy cuts reply new
+Acts old (WriteTo a bytes policy cuts) reply new = Transfers old (write_bits bytes.items) (Writes a bytes.items) policy cuts reply new
 Acts old (OpenDaa cuts) reply new =
     (served : Served) × (reply ≡ Reply.Opened served) × Frame old refuse_all cuts served (header_bits served + 9) (Becomes opened) new
 Acts old (HandOver to cuts) reply new = IsGranted old to cuts reply new ⊎ IsDeclined old to cuts reply new
@@ -163,6 +191,8 @@ cuts_in (Enec to kinds policy cuts) = Some cuts
 cuts_in (Disec to kinds policy cuts) = Some cuts
 cuts_in (Reset policy cuts) = Some cuts
 cuts_in (SendList policy cuts) = Some cuts
+cuts_in (ReadFrom a policy cuts) = Some cuts
+cuts_in (WriteTo a bytes policy cuts) = Some cuts
 cuts_in (AskRole s) = None
 cuts_in (OpenDaa cuts) = Some cuts
 cuts_in (HandOver to cuts) = Some cuts

@@ -1,4 +1,14 @@
-use i3c_base::{Addr7, Cuts, Fixed, Kinds, Setup, Slot};
+use arrayvec::ArrayVec;
+use i3c_base::{Addr7, Cuts, Fixed, Kinds, REGISTERS, Setup, Slot};
+
+/// How many bytes one private write may bring, and one private read gives: as many as there are registers (this
+/// project's choice).
+pub const TRANSFER: usize = REGISTERS;
+
+/// How many bytes of a write an event keeps: one more than a write may bring, so that a longer one is known as such.
+pub const WRITE_KEPT: usize = 17;
+
+const _: () = prove!(TRANSFER < WRITE_KEPT);
 
 /// What may happen on a bus. A frame carries its policy on requests, and its cuts.
 #[derive(Debug, PartialEq, Eq, Drop)]
@@ -24,6 +34,12 @@ pub enum Event {
     Reset(Fixed, Cuts),
     /// Each device is told of all others (DEFTGTS, I3C Basic 5.1.9.3.7).
     SendList(Fixed, Cuts),
+    /// The active controller reads all registers of the devices, or of the legacy target, at an address (private read,
+    /// I3C Basic 5.1.2.2).
+    ReadFrom(Addr7, Fixed, Cuts),
+    /// The active controller writes these bytes to the first registers of the same (private write, I3C Basic 5.1.2.2).
+    /// Of a longer write they are its first.
+    WriteTo(Addr7, ArrayVec<u8, WRITE_KEPT>, Fixed, Cuts),
     /// The active controller offers its role to a device at an address (GETACCCR, I3C Basic 5.1.9.3.16).
     HandOver(Addr7, Cuts),
     /// The active controller opens a session of dynamic address assignment (ENTDAA, I3C Basic 5.1.4.2).
@@ -35,7 +51,7 @@ pub enum Event {
 }
 
 /// A frame that the active controller sends under its role, with an event's arguments but policy and cuts.
-#[derive(Clone, Copy, Debug, PartialEq, Eq)]
+#[derive(Clone, Debug, PartialEq, Eq, Drop)]
 pub enum Command {
     /// Serves the first request, and nothing else.
     Serve,
@@ -47,4 +63,8 @@ pub enum Command {
     Reset,
     /// Tells each device of all others.
     SendList,
+    /// Reads all registers of the devices, or of the legacy target, at an address.
+    ReadFrom(Addr7),
+    /// Writes these bytes to the first registers of the same; of a longer write they are its first.
+    WriteTo(Addr7, ArrayVec<u8, WRITE_KEPT>),
 }

@@ -8,7 +8,7 @@ mod events;
 mod laws;
 mod replies;
 
-pub use events::{Command, Event};
+pub use events::{Command, Event, TRANSFER, WRITE_KEPT};
 pub use laws::{
     accepted_interrupts_are_recorded, addresses_are_unique, interrupts_are_recorded_once,
     one_is_active, raises_stay_in_order, runs_are_histories, sessions_end, slots_are_kept,
@@ -16,5 +16,5 @@ pub use laws::{
 };
 pub use replies::{
     ActiveStays, DropRefusal, FrameFault, Framed, OutOfMemory, Refusal, Reply, RunFault, SlotTaken,
-    StartFault, TargetFault,
+    StartFault, TargetFault, WriteFault,
 };

@@ -30,8 +30,11 @@ pub enum Refusal {
     Full,
     /// The devices haven't got the list of the addresses as they are now.
     ListStale,
-    /// No device of the active controller's table has this address, or it is the active controller's own.
+    /// No device of the active controller's table has this address, or it is the active controller's own; and for a
+    /// transfer it is no legacy target's.
     NoAnswer(Addr7),
+    /// The write has more bytes than a transfer may bring.
+    TooLong,
 }
 
 /// What a frame served, and the answer to its own part.
@@ -188,13 +191,14 @@ impl From<FrameFault> for Reply {
     }
 }
 
-/// Why a frame to one address is not sent.
+/// Why a frame to one address, other than a write, is not sent.
 #[derive(Clone, Copy, Debug, PartialEq, Eq, Drop, Error)]
 pub enum TargetFault {
     /// The active controller can't be cut.
     #[error("the active controller stays")]
     ActiveStays,
-    /// No device of the active controller's table has this address, or it is the active controller's own.
+    /// No device of the active controller's table has this address, or it is the active controller's own; and for a read
+    /// it is no legacy target's.
     #[error("no device answers to the address")]
     NoAnswer(Addr7),
     /// There was no memory for a record.
@@ -213,6 +217,40 @@ impl From<TargetFault> for Reply {
             TargetFault::ActiveStays => Reply::Refused(Refusal::ActiveStays),
             TargetFault::NoAnswer(address) => Reply::Refused(Refusal::NoAnswer(address)),
             TargetFault::OutOfMemory => Reply::OutOfMemory,
+        }
+    }
+}
+
+/// Why a private write is not sent.
+#[derive(Clone, Copy, Debug, PartialEq, Eq, Drop, Error)]
+pub enum WriteFault {
+    /// The active controller can't be cut.
+    #[error("the active controller stays")]
+    ActiveStays,
+    /// There are more bytes than a transfer may bring.
+    #[error("the write is too long")]
+    TooLong,
+    /// The address is no legacy target's, and no device of the active controller's table has it, or it is the active
+    /// controller's own.
+    #[error("no device answers to the address")]
+    NoAnswer(Addr7),
+    /// There was no memory for a record.
+    #[error("out of memory")]
+    OutOfMemory,
+}
+
+impl From<WriteFault> for Reply {
+    ghost use Rattle.std.specs.Prelude.{◌≡◌};
+    ghost use Rattle.i3c_step.specs.Replies.{write_fault_reply};
+
+    ghost from_gives = { λ fault reply. reply ≡ write_fault_reply fault };
+
+    fn from(fault: WriteFault) -> Reply {
+        match fault {
+            WriteFault::ActiveStays => Reply::Refused(Refusal::ActiveStays),
+            WriteFault::TooLong => Reply::Refused(Refusal::TooLong),
+            WriteFault::NoAnswer(address) => Reply::Refused(Refusal::NoAnswer(address)),
+            WriteFault::OutOfMemory => Reply::OutOfMemory,
         }
     }
 }
