@@ -236,7 +236,8 @@ impl Devices {
 
     /// The slots of the devices at an address, but the active controller's.
     fn targets(&self, active: Slot, address: Addr7) -> SlotSet
-        ensures { AreAt active address result self.now }
+        ensures there { AreAt active address result self.now }
+        ensures slots { length self.now ≡ SLOT_COUNT }
     {
         let mut targets = SlotSet::none();
         let mut left = self.marks.present;
