@@ -1,8 +1,9 @@
 use crate::names::Name;
 use crate::policies::policy;
-use crate::words::{self, WRITE_KEPT};
+use crate::words;
 use arrayvec::ArrayVec;
 use i3c_base::{Addr7, Bcr, Dcr, Fixed, Identity, Kinds, Lvr, Setup};
+use i3c_step::WRITE_KEPT;
 use std::str::Split;
 
 /// The last word of a device that doesn't take the controller role.

@@ -7,6 +7,7 @@ ghost use Rattle.i3c_lines.specs.Words.{AreBytes, IsDecimal, IsDecimalDigit, IsH
 use arrayvec::ArrayVec;
 use bitflags::Flags;
 use i3c_base::{Addr7, Kinds, Pid};
+use i3c_step::WRITE_KEPT;
 
 /// Numbers are written in hex.
 const RADIX: u32 = 16;
@@ -19,9 +20,6 @@ const BYTE_DIGITS: usize = 2;
 
 /// How many digits a provisioned ID has.
 const PID_DIGITS: usize = 12;
-
-/// How many bytes of a write are kept: one more than may be written, so that it shows that there are more.
-pub const WRITE_KEPT: usize = 17;
 
 /// Whether a word is of hex digits alone. Letters are upper case.
 fn is_hex(word: &str) -> bool
