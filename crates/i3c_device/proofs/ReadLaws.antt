@@ -2,10 +2,11 @@
 use Rattle.std.proofs.Common.{◌≡◌, ℕ, ◌+◌, ◌-◌, ◌*◌, ◌/◌, ◌^◌, ◌<◌, ◌≤◌, ◌↔◌, Bool, true, false, not, ◌&&◌, ◌==◌, ◌⊎◌, if◌then◌else◌, min, max, List, length, length-set, get_or, set, Option, Some, None, inl, inr, refl, sym, ap, ◌∙◌, subst, arith}
 use Rattle.std.proofs.lemmas.Bool.{both_ways, cases_eq, cases_lt, cond-true, cond-false, eq-eqb, eqb-true, le-leb, lt-leb, ne_eqb}
 use Rattle.std.proofs.lemmas.Bool.Decides.{nat_tests}
-use Rattle.std.proofs.lemmas.List.{get_or_past, get_or-set_other, get_or-set_same}
+use Rattle.std.proofs.lemmas.List.{get_or_default, get_or_past, get_or-set_other, get_or-set_same}
 use Rattle.std.proofs.lemmas.Option.{none-some}
 use Rattle.std.proofs.lemmas.Nat.Bits.{bit_at-lt, bit_at_and, bit_at_ones, bit_at_ones_above, bit_at_or, ones_shr}
 use Rattle.std.specs.Int.{bit_at}
+use Rattle.std.specs.List.{All}
 use Rattle.std.specs.Int.RustNames.{bit_or}
 use lib.Bits.{bit_and}
 use Rattle.i3c_base.specs.declared.range.TheConstants.{SLOTS}
@@ -202,11 +203,16 @@ register_read active a slots devices cuts start k byte long are is j l = (
 pub record ReadSoFar (slots : SlotSet) (cuts : CutList) (first : ℕ) (devices : List (Option Device)) (n : ℕ) (bytes : List ℕ) : Type 0 where
   pub long : length bytes ≡ REGISTERS
   pub read : (k : ℕ) → k < n → IsRegisterOf slots k cuts (first + 9 * k) devices (get_or bytes k 0)
+  pub small : (k : ℕ) → k < n → get_or bytes k 0 < 256
 
-pub read_more : (slots : SlotSet) (cuts : CutList) (first : ℕ) (devices : List (Option Device)) (n byte : ℕ) (bytes : List ℕ) → n < REGISTERS → ReadSoFar slots cuts first devices n bytes
+pub read_more : (slots : SlotSet) (cuts : CutList) (first : ℕ) (devices : List (Option Device)) (n byte : ℕ) (bytes : List ℕ) → n < REGISTERS → byte < 256 → ReadSoFar slots cuts first devices n bytes
     → IsRegisterOf slots n cuts (first + 9 * n) devices byte → ReadSoFar slots cuts first devices (n + 1) (set bytes n byte)
-read_more slots cuts first devices n byte bytes low h is = record {
+read_more slots cuts first devices n byte bytes low fits h is = record {
   long = length-set bytes n byte ∙ h.long;
+  small = λ k l. elim (cases_eq k n) [
+    | inl e ↦ subst (λ m. get_or (set bytes n byte) m 0 < 256) (sym e) (subst (λ v. v < 256) (sym (get_or-set_same bytes n byte 0 (omega (arith, h.long)))) fits)
+    | inr ne ↦ subst (λ v. v < 256) (sym (get_or-set_other bytes n k byte 0 ne)) (h.small k (omega arith))
+  ];
   read = λ k l. elim (cases_eq k n) [
     | inl e ↦ subst (λ m. IsRegisterOf slots m cuts (first + 9 * m) devices (get_or (set bytes n byte) m 0)) (sym e)
         (subst (IsRegisterOf slots n cuts (first + 9 * n) devices) (sym (get_or-set_same bytes n byte 0 (omega (arith, h.long)))) is)
@@ -218,6 +224,9 @@ pub read_all : (active a : ℕ) (slots : SlotSet) (devices : List (Option Device
     → ReadSoFar slots cuts first devices n bytes → AreReadOf active a cuts first devices bytes
 read_all active a slots devices cuts first n bytes long are past h k j l m =
     register_read active a slots devices cuts (first + 9 * k) k (get_or bytes k 0) long are (h.read k (omega arith)) j m
+
+pub read_small : (slots : SlotSet) (cuts : CutList) (first : ℕ) (devices : List (Option Device)) (n : ℕ) (bytes : List ℕ) → REGISTERS ≤ n → ReadSoFar slots cuts first devices n bytes → All (λ byte. byte < 256) bytes
+read_small slots cuts first devices n bytes past h k d l = subst (λ v. v < 256) (get_or_default bytes k 0 d l) (h.small k (omega (arith, h.long)))
 
 -- a write changes nobody where there is none
 pub write_spares : (active a : ℕ) (bytes : List ℕ) (s : ℕ) (o : Option Device) → in_slot (λ d. true) o ≡ false → written_at active a bytes s o ≡ o

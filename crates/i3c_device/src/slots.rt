@@ -47,7 +47,7 @@ impl Devices {
     ghost use Rattle.i3c_device.specs.Finding.{within, IsLowestFound, IsNowhere};
     ghost use Rattle.i3c_device.specs.Walks.{accepted_at, assigned_at, drives_at, heard_at, left_at, AnyDrives, AreDriven, AreWillingLost, IsHearerFrom, IsLowest, IsLowestWilling, NobodyHearsFrom, SomeDrives, SomeReached, written_at};
     ghost use Rattle.i3c_device.specs.Reading.{AreAt, AreReadOf, IsRegisterOf};
-    ghost use Rattle.std.specs.Prelude.{◌≡◌, ◌≤◌, ◌<◌, ◌+◌, ◌^◌, ◌↔◌, ℕ, length, IsTrue, suc, Some, None, option_map, slice_index_or, slice_set, MatchOption, MatchResult, OnOk, OnErr};
+    ghost use Rattle.std.specs.Prelude.{◌≡◌, ◌≤◌, ◌<◌, ◌+◌, ◌^◌, ◌↔◌, ℕ, All, length, IsTrue, suc, Some, None, option_map, slice_index_or, slice_set, MatchOption, MatchResult, OnOk, OnErr};
     ghost use Rattle.i3c_base.specs.Round.{hears, unhearing};
     ghost use Rattle.i3c_base.specs.Serve.{without_role};
     ghost use Rattle.i3c_base.specs.State.{Device as DeviceState, no_devices};
@@ -224,7 +224,9 @@ impl Devices {
     /// controller and, from their cuts on, those who are cut.
     pub fn read(&self, active: Slot, address: Addr7, cuts: &Cuts, first: u16) -> [u8; REGISTERS]
         requires { first + 144 ≤ 2 ^ 16 }
-        ensures { AreReadOf active address cuts.now first self.now result }
+        ensures read { AreReadOf active address cuts.now first self.now result }
+        ensures long { length result ≡ REGISTER_COUNT }
+        ensures bytes { All (λ byte. byte < 256) result }
     {
         let targets = self.targets(active, address);
         let mut bytes = [0; REGISTERS];

@@ -55,7 +55,7 @@ impl Read {
 
 impl Write {
     ghost use Rattle.std.specs.Prelude.{◌≡◌};
-    ghost use Rattle.i3c_xfer.specs.Transfers.{write_answer};
+    ghost use Rattle.i3c_xfer.specs.Transfers.{is_write_acknowledged, write_answer};
 
     /// The answer of a write to this address.
     pub fn answer(&self, to: Addr7) -> Answer
@@ -64,6 +64,16 @@ impl Write {
         match self {
             Write::Nobody => Answer::NoAnswer(to),
             Write::Legacy | Write::Devices => Answer::Done,
+        }
+    }
+
+    /// Whether somebody acknowledged the header.
+    pub(crate) fn is_acknowledged(&self) -> bool
+        ensures { result ≡ is_write_acknowledged self.now }
+    {
+        match self {
+            Write::Nobody => false,
+            Write::Legacy | Write::Devices => true,
         }
     }
 }

@@ -10,6 +10,29 @@ use i3c_base::{Addr7, Cuts, Slot};
 use i3c_device::Devices;
 use i3c_legacy::LegacyTargets;
 
+/// Who takes the bytes of a write to an address: whoever acknowledges its header, by this bit of the frame.
+fn taker(
+    devices: &Devices,
+    legacy: &LegacyTargets,
+    active: Slot,
+    to: Addr7,
+    cuts: &Cuts,
+    ack: u16,
+) -> Write
+    ensures acknowledged { (st : State) → HasDevices st devices.now active → st.legacy ≡ legacy.now
+        → is_write_acknowledged result ≡ true ↔ AnyAnswers st to (lost_by cuts.now ack) }
+    ensures written { (st : State) → st.legacy ≡ legacy.now → IsWrittenBy st to result }
+{
+    if legacy.get(to).is_some() {
+        return Write::Legacy;
+    }
+    if devices.is_heard(active, &Some(to), cuts, ack) {
+        Write::Devices
+    } else {
+        Write::Nobody
+    }
+}
+
 /// A private write of these bytes to an address, after so many bits of its frame in which these devices are cut: a
 /// header, and where it is acknowledged a word for each byte (I3C Basic 5.1.2.2, 5.1.2.3.1). They go into the first
 /// registers of whoever has the address. Where nobody acknowledges, nothing changes; whoever is lost behind the
@@ -31,14 +54,10 @@ pub fn write(
         → is_write_acknowledged result ≡ true ↔ AnyAnswers st to (lost_by cuts.now (begun + 9)) }
     ensures written { (st : State) → st.legacy ≡ legacy.old → IsWrittenBy st to result }
 {
-    let outcome = if legacy.get(to).is_some() {
-        Write::Legacy
-    } else if devices.is_heard(active, &Some(to), cuts, begun + ACK_BITS) {
-        Write::Devices
-    } else {
-        return Write::Nobody;
-    };
-    devices.write(active, to, bytes);
-    legacy.write(to, bytes);
-    outcome
+    let taker = taker(devices, legacy, active, to, cuts, begun + ACK_BITS);
+    if taker.is_acknowledged() {
+        devices.write(active, to, bytes);
+        legacy.write(to, bytes);
+    }
+    taker
 }
