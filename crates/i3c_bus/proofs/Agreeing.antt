@@ -137,6 +137,12 @@ step_asked Command.Reset old p q cuts reply new asks h =
 step_asked Command.SendList old p q cuts reply new asks h =
     acts_as old (Event.SendList (given_by reply) cuts) (Event.SendList p cuts) reply new refl (λ s. s)
     (λ acts. (acts.0, acts.1, frame_as old (given_by reply) p cuts acts.0 _ _ new (asked_agree old p q reply (Reply.Framed (done acts.0)) (given_for acts.0) acts.1 refl (λ d. d) asks) acts.2)) h
+step_asked (Command.ReadFrom a) old p q cuts reply new asks h =
+    acts_as old (Event.ReadFrom a (given_by reply) cuts) (Event.ReadFrom a p cuts) reply new refl (λ s. s)
+    (λ acts. (acts.0, acts.1, frame_as old (given_by reply) p cuts acts.0.served _ _ new (asked_agree old p q reply (Reply.Framed acts.0) (given_for acts.0.served) acts.1 refl (λ d. d) asks) acts.2)) h
+step_asked (Command.WriteTo a bytes) old p q cuts reply new asks h =
+    acts_as old (Event.WriteTo a bytes (given_by reply) cuts) (Event.WriteTo a bytes p cuts) reply new refl (λ s. s)
+    (λ acts. (acts.0, acts.1, frame_as old (given_by reply) p cuts acts.0.served _ _ new (asked_agree old p q reply (Reply.Framed acts.0) (given_for acts.0.served) acts.1 refl (λ d. d) asks) acts.2)) h
 
 -- its wire doesn't depend on the policy
 wire_asked : (command : Command) (f g : Fixed) (cuts : CutList) (old : State) (reply : Reply) (new : State) (Told : (List Symbol → Type 0) → Type 0)
@@ -146,6 +152,8 @@ wire_asked (Command.Enec to kinds) f g cuts old reply new Told h = h
 wire_asked (Command.Disec to kinds) f g cuts old reply new Told h = h
 wire_asked Command.Reset f g cuts old reply new Told h = h
 wire_asked Command.SendList f g cuts old reply new Told h = h
+wire_asked (Command.ReadFrom a) f g cuts old reply new Told h = h
+wire_asked (Command.WriteTo a bytes) f g cuts old reply new Told h = h
 
 -- a command carried out under what its policy gave is carried out under the policy
 pub carried_asked : (command : Command) (old new : Held) (p q : Fixed) (cuts : CutList) (reply : Reply) (hand : Hand) (Told : (List Symbol → Type 0) → Type 0) → Asks fixed_gives p q old.state reply

@@ -1,5 +1,5 @@
 -- Private transfers, as steps and as what they tell.
-use Rattle.std.proofs.Common.{◌≡◌, ℕ, zero, suc, ◌+◌, ◌≤◌, Bool, true, false, List, [], ◌∷◌, ◌++◌, length, map, set, get_or, take, Option, Some, None, option_map, if◌then◌else◌, ◌⊎◌, inl, inr, ◌↔◌, arith, ap, refl, sym, subst, ◌∙◌}
+use Rattle.std.proofs.Common.{◌≡◌, ℕ, zero, suc, ◌+◌, ◌-◌, ◌*◌, ◌≤◌, Bool, true, false, List, [], ◌∷◌, ◌++◌, length, map, set, get_or, take, Option, Some, None, option_map, if◌then◌else◌, ◌⊎◌, inl, inr, ◌↔◌, arith, ap, refl, sym, subst, ◌∙◌}
 use Rattle.std.specs.Int.{bit_at}
 use Rattle.std.specs.Prelude.{slice_index, slice_index_or}
 use Rattle.i3c_base.specs.declared.answers.Answer.{Answer}
@@ -151,10 +151,10 @@ abbrev pub Leaves : State → State → Type 0
 Leaves mid done = (done.records ≡ mid.records) × Stands mid done
 
 pub reads_leave : (a : ℕ) (answer : Answer) (lost : Lost) (mid done : State) → Reads a answer lost mid done → Leaves mid done
-reads_leave a answer lost mid done h = reads_keep Leaves (λ st. (refl, refl, refl)) a answer lost mid done h
+reads_leave a answer lost mid done h = reads_keep Leaves (λ st. (refl, (refl, refl))) a answer lost mid done h
 
 pub writes_leave : (a : ℕ) (bytes : List ℕ) (answer : Answer) (lost : Lost) (mid done : State) → Writes a bytes answer lost mid done → Leaves mid done
-writes_leave a bytes answer lost mid done h = writes_keep Leaves a bytes (λ st. (refl, refl, refl)) (λ st. (refl, refl, refl)) answer lost mid done h
+writes_leave a bytes answer lost mid done h = writes_keep Leaves a bytes (λ st. (refl, (refl, refl))) (λ st. (refl, (refl, refl))) answer lost mid done h
 
 -- a frame with an own part that leaves records, active controller and session
 pub transferred : {T : Type 0} (gives : T → Symbol → T → Type 0) (tap first last : T) (old mid new : Held) (event : Event) (cuts : CutList) (served : Served) (answer : Answer) (word begun bits holder : ℕ)

@@ -26,7 +26,7 @@ use Rattle.i3c_ibi.specs.Telling.{byte_word, request_header}
 use Rattle.i3c_xfer.specs.declared.outcome.Read.{Read}
 use Rattle.i3c_xfer.specs.declared.outcome.Write.{Write}
 use Rattle.i3c_xfer.specs.Telling.{IsReadWire, IsWriteWire}
-use Rattle.i3c_xfer.specs.Transfers.{AnyAnswers, IsReadAs, IsWrittenBy, is_read_acknowledged, is_write_acknowledged, read_answer, write_answer}
+use Rattle.i3c_xfer.specs.Transfers.{AnyAnswers, IsReadAs as IsDataAs, IsWrittenBy, is_read_acknowledged, is_write_acknowledged, read_answer, write_answer}
 use Rattle.i3c_frame.specs.declared.symbols.Symbol.{Symbol}
 use Rattle.i3c_frame.specs.declared.symbols.Symbol.TheVariants.{Start, Repeated, Stop, Header}
 use Rattle.i3c_step.specs.declared.events.Event.{Event}
@@ -104,7 +104,7 @@ IsListPart st wire = (words : List Word) × IsListOf st words × IsListWire word
 -- and its bytes as those there drive them
 abbrev pub IsReadPart : State → CutList → ℕ → Answer → ℕ → List Symbol → Type 0
 IsReadPart old cuts a answer begun wire =
-    (read : Read) × (read_answer a read ≡ answer) × ((is_read_acknowledged read ≡ true) ↔ AnyAnswers old a (lost_by cuts (begun + 9))) × IsReadAs old a cuts (begun + 10) read × IsReadWire a read wire
+    (read : Read) × (read_answer a read ≡ answer) × ((is_read_acknowledged read ≡ true) ↔ AnyAnswers old a (lost_by cuts (begun + 9))) × IsDataAs old a cuts (begun + 10) read × IsReadWire a read wire
 
 -- a private write of these bytes, acknowledged likewise
 abbrev pub IsWritePart : State → CutList → ℕ → List ℕ → Answer → ℕ → List Symbol → Type 0

@@ -98,10 +98,7 @@ impl Bus {
         match hand {
             Hand::Role(role) => {
                 let mut fixed = policy;
-                let reply = match self.write(&role, to, bytes.as_slice(), &mut fixed, tap, cuts) {
-                    Ok(framed) => Reply::Framed(framed),
-                    Err(fault) => Reply::from(fault),
-                };
+                let reply = self.write_kept(&role, to, bytes, &mut fixed, tap, cuts);
                 (Hand::Role(role), reply)
             }
             Hand::Session(session) => (

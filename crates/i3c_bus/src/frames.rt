@@ -149,12 +149,7 @@ impl Bus {
                 Ok(framed) => Reply::Framed(framed),
                 Err(fault) => Reply::from(fault),
             },
-            Command::WriteTo(to, bytes) => {
-                match self.write(role, *to, bytes.as_slice(), policy, tap, cuts) {
-                    Ok(framed) => Reply::Framed(framed),
-                    Err(fault) => Reply::from(fault),
-                }
-            }
+            Command::WriteTo(to, bytes) => self.write_kept(role, *to, bytes, policy, tap, cuts),
         }
     }
 

@@ -1,9 +1,10 @@
 use crate::parts::Bus;
+use arrayvec::ArrayVec;
 use i3c_base::{Addr7, Answer, Cuts};
 use i3c_frame::Tap;
 use i3c_handoff::Role;
 use i3c_ibi::Policy;
-use i3c_step::{Framed, TRANSFER, TargetFault, WriteFault};
+use i3c_step::{Framed, Reply, TRANSFER, TargetFault, WRITE_KEPT, WriteFault};
 use i3c_xfer::{read, read_bits, tell_read, tell_write, write, write_bits};
 
 impl Bus {
@@ -87,6 +88,26 @@ impl Bus {
             served: begun.served,
             answer,
         })
+    }
+
+    /// A write of the bytes that an event or a command keeps, and its reply.
+    pub(crate) fn write_kept<P: Policy, T: Tap>(
+        &mut self,
+        role: &Role,
+        to: Addr7,
+        bytes: &ArrayVec<u8, WRITE_KEPT>,
+        policy: &mut P,
+        tap: &mut T,
+        cuts: &Cuts,
+    ) -> Reply
+        requires fits { HandFits (Hand.Role role.now) self.old.state }
+        ensures asks { Asks P.verdict_gives policy.old policy.new self.old.state result }
+        ensures carried { Carries self.old self.new (Event.WriteTo to bytes.now (given_by result) cuts.now) result (Hand.Role role.now) (Tells T.note_gives tap.old tap.new) }
+    {
+        match self.write(role, to, bytes.as_slice(), policy, tap, cuts) {
+            Ok(framed) => Reply::Framed(framed),
+            Err(fault) => Reply::from(fault),
+        }
     }
 
     /// The own part of a read, after so many bits of the frame: the bytes are read, and who is cut is gone.
