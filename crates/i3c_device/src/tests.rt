@@ -472,3 +472,75 @@ fn a_disabled_request_comes_back(rt: HostRuntime) -> Result<(), Fail> {
     assert_eq!(rt; devices.lowest_driver(active, &asked), None);
     Ok(())
 }
+
+// A device at this address whose registers are all this byte.
+fn filled(value: u8, byte: u8) -> Result<Device, Fail>
+    requires { 8 ≤ value }
+{
+    let mut device = addressed(0x06, value)?;
+    device.write(&[byte; 16]);
+    Ok(device)
+}
+
+#[test]
+fn a_write_replaces_the_first_registers(rt: HostRuntime) -> Result<(), Fail> {
+    let mut device = addressed(0x06, 0x09)?;
+    assert_eq!(rt; *device.registers(), [0x00; 16]);
+    device.write(&[0xFF; 16]);
+    device.write(&[]);
+    device.write(&[0x01, 0x02]);
+    let mut registers = [0xFF; 16];
+    registers[0] = 0x01;
+    registers[1] = 0x02;
+    assert_eq!(rt; *device.registers(), registers);
+    Ok(())
+}
+
+// Those at the address, but not the active controller.
+#[test]
+fn devices_at_an_address_are_written(rt: HostRuntime) -> Result<(), Fail> {
+    let (active, low, high) = (Slot::new(0)?, Slot::new(2)?, Slot::new(15)?);
+    let (at, free) = (Addr7::new(0x09)?, Addr7::new(0x0B)?);
+    let mut devices = Devices::new();
+    for slot in [active, low, high] {
+        devices.put(slot, filled(0x09, 0xFF)?);
+    }
+    devices.put(Slot::new(7)?, filled(0x0A, 0xFF)?);
+    devices.write(active, free, &[0x00; 16]);
+    devices.write(active, at, &[0x5A; 16]);
+    for (slot, byte) in [(0, 0xFF), (2, 0x5A), (7, 0xFF), (15, 0x5A)] {
+        let registers = match devices.get(Slot::new(slot)?) {
+            Some(device) => Some(*device.registers()),
+            None => None,
+        };
+        assert_eq!(rt; registers, Some([byte; 16]), "slot {slot}");
+    }
+    Ok(())
+}
+
+// Register k is sent in the bits from 9k after the first on. Whoever is cut sends ones from its cut on, and a bit is 0
+// where anybody pulls it low.
+#[test]
+fn a_read_is_what_the_lines_give(rt: HostRuntime) -> Result<(), Fail> {
+    let (active, low, high) = (Slot::new(0)?, Slot::new(2)?, Slot::new(15)?);
+    let at = Addr7::new(0x09)?;
+    let mut devices = Devices::new();
+    devices.put(active, filled(0x09, 0x00)?);
+    let alone = devices.read(active, at, &Cuts::new(), 10);
+    assert_eq!(rt; alone, [0xFF; 16]);
+    devices.put(low, filled(0x09, 0xF0)?);
+    devices.put(high, filled(0x09, 0x3C)?);
+    let uncut = devices.read(active, at, &Cuts::new(), 10);
+    assert_eq!(rt; uncut, [0x30; 16]);
+    let mut cuts = Cuts::new();
+    // in the second bit of register 1, and behind the whole of register 2
+    cuts.add(high, 20);
+    cuts.add(low, 36);
+    let mut bytes = [0xFF; 16];
+    bytes[0] = 0x30;
+    bytes[1] = 0x70;
+    bytes[2] = 0xF0;
+    let cut = devices.read(active, at, &cuts, 10);
+    assert_eq!(rt; cut, bytes);
+    Ok(())
+}

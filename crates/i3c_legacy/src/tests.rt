@@ -1,5 +1,5 @@
 use crate::{LEGACIES, Legacies, LegacyFault, LegacyTargets};
-use i3c_base::{Addr7, Lvr};
+use i3c_base::{Addr7, LegacyTarget, Lvr};
 use std::test::Fail;
 
 #[test]
@@ -55,5 +55,42 @@ fn refusals_come_in_order(rt: HostRuntime) -> Result<(), Fail> {
     assert_eq!(rt; legacies.lvr_at(Addr7::new(0x20)?), None);
     let _sixteen = LegacyTargets::new(&legacies);
     assert_eq!(rt; legacies.len(), 16);
+    Ok(())
+}
+
+// A write replaces the first registers of the target at its address, and of no other.
+#[test]
+fn targets_are_written(rt: HostRuntime) -> Result<(), Fail> {
+    let (first, last) = (Addr7::new(0x08)?, Addr7::new(0x77)?);
+    let mut legacies = Legacies::new();
+    legacies.add(first, Lvr(0x20))?;
+    legacies.add(last, Lvr(0x40))?;
+    let mut targets = LegacyTargets::new(&legacies);
+    targets.write(last, &[0xFF; 16]);
+    targets.write(last, &[0x01, 0x02]);
+    targets.write(last, &[]);
+    targets.write(Addr7::new(0x09)?, &[0x5A; 16]);
+    let mut registers = [0xFF; 16];
+    registers[0] = 0x01;
+    registers[1] = 0x02;
+    for (address, target) in [
+        (
+            first,
+            Some(LegacyTarget {
+                lvr: Lvr(0x20),
+                registers: [0x00; 16],
+            }),
+        ),
+        (
+            last,
+            Some(LegacyTarget {
+                lvr: Lvr(0x40),
+                registers,
+            }),
+        ),
+        (Addr7::new(0x09)?, None),
+    ] {
+        assert_eq!(rt; targets.get(address), target);
+    }
     Ok(())
 }

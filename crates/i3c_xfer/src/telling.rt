@@ -53,8 +53,8 @@ fn tell_unanswered<T: Tap>(tap: &mut T, to: Addr7, read: bool)
     tap.note(Symbol::Stop);
 }
 
-/// Tells a read that is acknowledged, up to STOP: after each byte but the last its ninth bit is 1 where it is a T, and
-/// ACK where it is a legacy target's, and after the last it is this.
+/// Tells a read that is acknowledged, up to STOP. Each word but the last has a T of 1 or an ACK; the last has this T, or an
+/// ACK where it is true.
 fn tell_answered<T: Tap>(tap: &mut T, to: Addr7, side: &Side, bytes: &[u8], last: bool)
     ensures { Tells T.note_gives tap.old tap.new (λ wire. wire ≡ answered_wire to true (read_words side.now last bytes.now)) }
 {
@@ -68,7 +68,7 @@ fn tell_answered<T: Tap>(tap: &mut T, to: Addr7, side: &Side, bytes: &[u8], last
     tap.note(Symbol::Stop);
 }
 
-/// Tells the words of a read, the last with this ninth bit.
+/// Tells the words of a read, the last with this T, or an ACK where it is true.
 fn tell_words<T: Tap>(tap: &mut T, side: &Side, bytes: &[u8], last: bool)
     ensures { Tells T.note_gives tap.old tap.new (λ wire. wire ≡ read_words side.now last bytes.now) }
 {
@@ -97,7 +97,7 @@ fn tell_written<T: Tap>(tap: &mut T, to: Addr7, side: &Side, bytes: &[u8])
     tap.note(Symbol::Stop);
 }
 
-/// A byte that is read, with this ninth bit: a T, or 1 for an ACK.
+/// A byte that is read, with its ninth bit: this T, or an ACK where it is true.
 fn word_of(side: &Side, byte: u8, ninth: bool) -> Symbol
     ensures { result ≡ word_of side.now ninth byte }
 {
