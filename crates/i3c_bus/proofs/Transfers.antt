@@ -1,5 +1,5 @@
 -- Private transfers, as steps and as what they tell.
-use Rattle.std.proofs.Common.{◌≡◌, ℕ, zero, suc, ◌+◌, ◌-◌, ◌*◌, ◌≤◌, Bool, true, false, List, [], ◌∷◌, ◌++◌, length, map, set, get_or, take, Option, Some, None, option_map, if◌then◌else◌, ◌⊎◌, inl, inr, ◌↔◌, arith, ap, refl, sym, subst, ◌∙◌}
+use Rattle.std.proofs.Common.{◌≡◌, ℕ, zero, suc, ◌+◌, ◌-◌, ◌*◌, Bool, true, false, List, [], ◌∷◌, ◌++◌, map, set, get_or, Option, Some, None, option_map, if◌then◌else◌, inl, inr, ◌↔◌, arith, ap, refl, sym, subst, ◌∙◌}
 use Rattle.std.specs.Int.{bit_at}
 use Rattle.std.specs.Prelude.{slice_index, slice_index_or}
 use Rattle.i3c_base.specs.declared.answers.Answer.{Answer}
@@ -23,7 +23,6 @@ use Rattle.i3c_xfer.specs.declared.outcome.Read.{Read}
 use Rattle.i3c_xfer.specs.declared.outcome.Write.{Write}
 use Rattle.i3c_xfer.specs.Transfers.{AnyAnswers, IsReadAs, IsWrittenBy, PullsLow}
 use Rattle.i3c_step.specs.declared.events.Event.{Event}
-use Rattle.i3c_step.specs.declared.events.TheConstants.{WRITE_KEPT}
 use Rattle.i3c_step.specs.declared.replies.Refusal.{Refusal}
 use Rattle.i3c_step.specs.declared.replies.Reply.{Reply}
 use Rattle.i3c_step.specs.Serving.{place_of}
@@ -36,7 +35,7 @@ use Rattle.i3c_bus.specs.declared.tokens.Hand.{Hand}
 use Rattle.i3c_bus.specs.Beginning.{Begins, IsWay, LeavesBy}
 use Rattle.i3c_bus.specs.Calls.{Carries}
 use Rattle.i3c_bus.specs.Hands.{HandFits}
-use Rattle.i3c_bus.specs.Whole.{IsCurrent, IsWhole, the_table}
+use Rattle.i3c_bus.specs.Whole.{IsCurrent, IsWhole}
 use Rattle.i3c_bus.specs.Wire.{IsFrameWire, IsReadPart, IsWire, IsWritePart}
 use Rattle.i3c_bus.proofs.Framing.{fits_left, frame_by, tells_frame}
 

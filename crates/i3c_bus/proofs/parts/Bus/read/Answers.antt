@@ -1,5 +1,5 @@
 -- A private read is a frame with its own part.
-use Rattle.std.proofs.Common.{◌≡◌, ◌∙◌, ℕ, refl, sym}
+use Rattle.std.proofs.Common.{◌∙◌, refl, sym}
 use Rattle.i3c_base.specs.declared.answers.Answer.{Answer}
 use Rattle.i3c_base.specs.declared.requests.Served.{Served}
 use Rattle.i3c_base.specs.Frames.{Reads, read_bits}

@@ -1,5 +1,5 @@
 -- What is kept of a write is at most what an event has.
-use Rattle.std.proofs.Common.{◌≡◌, ◌∙◌, ℕ, List, take, ap, subst}
+use Rattle.std.proofs.Common.{◌≡◌, ◌∙◌, ℕ, List, take, subst}
 use Rattle.std.proofs.lemmas.List.{take_all}
 use Rattle.i3c_base.specs.Serve.{given_for}
 use Rattle.i3c_frame.specs.Taps.{Tells}
