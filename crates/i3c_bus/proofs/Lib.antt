@@ -12,3 +12,4 @@ pub mod ToAll
 pub mod Listing
 pub mod Resetting
 pub mod Handovers
+pub mod Transfers

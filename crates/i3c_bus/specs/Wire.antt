@@ -23,10 +23,14 @@ use Rattle.i3c_handoff.specs.declared.outcome.Offer.{Offer}
 use Rattle.i3c_handoff.specs.Offers.{IsReadAs, SomeTakes, is_acknowledged}
 use Rattle.i3c_handoff.specs.Telling.{IsOfferWire}
 use Rattle.i3c_ibi.specs.Telling.{byte_word, request_header}
+use Rattle.i3c_xfer.specs.declared.outcome.Read.{Read}
+use Rattle.i3c_xfer.specs.declared.outcome.Write.{Write}
+use Rattle.i3c_xfer.specs.Telling.{IsReadWire, IsWriteWire}
+use Rattle.i3c_xfer.specs.Transfers.{AnyAnswers, IsReadAs, IsWrittenBy, is_read_acknowledged, is_write_acknowledged, read_answer, write_answer}
 use Rattle.i3c_frame.specs.declared.symbols.Symbol.{Symbol}
 use Rattle.i3c_frame.specs.declared.symbols.Symbol.TheVariants.{Start, Repeated, Stop, Header}
 use Rattle.i3c_step.specs.declared.events.Event.{Event}
-use Rattle.i3c_step.specs.declared.events.Event.TheVariants.{Enec, Disec, Reset, SendList, HandOver}
+use Rattle.i3c_step.specs.declared.events.Event.TheVariants.{Enec, Disec, Reset, SendList, ReadFrom, WriteTo, HandOver}
 use Rattle.i3c_step.specs.declared.replies.Reply.{Reply}
 use Rattle.i3c_step.specs.Step.{cuts_in}
 use Rattle.i3c_bus.specs.Whole.{the_table}
@@ -96,6 +100,17 @@ IsListOf st words =
 abbrev pub IsListPart : State → List Symbol → Type 0
 IsListPart st wire = (words : List Word) × IsListOf st words × IsListWire words wire
 
+-- a private read after so many bits: acknowledged where a legacy target stands or a device is left at its header's ninth bit,
+-- and its bytes as those there drive them
+abbrev pub IsReadPart : State → CutList → ℕ → Answer → ℕ → List Symbol → Type 0
+IsReadPart old cuts a answer begun wire =
+    (read : Read) × (read_answer a read ≡ answer) × ((is_read_acknowledged read ≡ true) ↔ AnyAnswers old a (lost_by cuts (begun + 9))) × IsReadAs old a cuts (begun + 10) read × IsReadWire a read wire
+
+-- a private write of these bytes, acknowledged likewise
+abbrev pub IsWritePart : State → CutList → ℕ → List ℕ → Answer → ℕ → List Symbol → Type 0
+IsWritePart old cuts a bytes answer begun wire =
+    (write : Write) × (write_answer a write ≡ answer) × ((is_write_acknowledged write ≡ true) ↔ AnyAnswers old a (lost_by cuts (begun + 9))) × IsWrittenBy old a write × IsWriteWire a bytes write wire
+
 -- nobody took the role
 abbrev pub IsUntaken : Offer → Type 0
 IsUntaken Offer.Nobody = ⊤
@@ -119,6 +134,8 @@ IsOwnWire old cuts (Enec to kinds policy others) answer begun wire = IsKindsPart
 IsOwnWire old cuts (Disec to kinds policy others) answer begun wire = IsKindsPart old cuts Change.Disable to kinds answer begun wire
 IsOwnWire old cuts (Reset policy others) answer begun wire = IsResetWire wire
 IsOwnWire old cuts (SendList policy others) answer begun wire = IsListPart old wire
+IsOwnWire old cuts (ReadFrom a policy others) answer begun wire = IsReadPart old cuts a answer begun wire
+IsOwnWire old cuts (WriteTo a bytes policy others) answer begun wire = IsWritePart old cuts a bytes.items answer begun wire
 IsOwnWire old cuts (HandOver to others) answer begun wire = IsDeclinedPart old cuts to begun wire
 IsOwnWire old cuts _ answer begun wire = ⊥
 

@@ -124,12 +124,12 @@ impl Bus {
         let Hand::Role(role) = hand else {
             return Reply::Refused(Refusal::SessionOpen);
         };
-        match *command {
+        match command {
             Command::Serve => match self.serve(role, policy, tap, cuts) {
                 Ok(served) => Reply::Served(served),
                 Err(fault) => Reply::from(fault),
             },
-            Command::Enec(to, kinds) => match self.enec(role, to, kinds, policy, tap, cuts) {
+            Command::Enec(to, kinds) => match self.enec(role, *to, *kinds, policy, tap, cuts) {
                 Ok(framed) => Reply::Framed(framed),
                 Err(fault) => Reply::from(fault),
             },
@@ -141,10 +141,20 @@ impl Bus {
                 Ok(framed) => Reply::Framed(framed),
                 Err(fault) => Reply::from(fault),
             },
-            Command::Disec(to, kinds) => match self.disec(role, to, kinds, policy, tap, cuts) {
+            Command::Disec(to, kinds) => match self.disec(role, *to, *kinds, policy, tap, cuts) {
                 Ok(framed) => Reply::Framed(framed),
                 Err(fault) => Reply::from(fault),
             },
+            Command::ReadFrom(from) => match self.read(role, *from, policy, tap, cuts) {
+                Ok(framed) => Reply::Framed(framed),
+                Err(fault) => Reply::from(fault),
+            },
+            Command::WriteTo(to, bytes) => {
+                match self.write(role, *to, bytes.as_slice(), policy, tap, cuts) {
+                    Ok(framed) => Reply::Framed(framed),
+                    Err(fault) => Reply::from(fault),
+                }
+            }
         }
     }
 
@@ -214,7 +224,7 @@ impl Bus {
     }
 
     /// Whether the table has no row at this address, or it is the active controller's own.
-    fn is_no_target(&self, address: Addr7) -> bool
+    pub(crate) fn is_no_target(&self, address: Addr7) -> bool
         ensures { result ≡ is_no_target self.now.state address }
     {
         self.table.row_of(address).is_none() || self.address(self.active()) == Some(address)

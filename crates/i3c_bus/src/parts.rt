@@ -48,7 +48,7 @@ pub struct Bus {
     pub(crate) table: Table,
     // what each device that keeps the list read of the last one
     pub(crate) list: Option<List>,
-    legacy: LegacyTargets,
+    pub(crate) legacy: LegacyTargets,
     pub(crate) in_session: bool,
     pub(crate) records: Vec<Record>,
 }

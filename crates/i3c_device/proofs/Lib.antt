@@ -4,3 +4,4 @@ pub mod SetLaws
 pub mod MarkLaws
 pub mod EachLaws
 pub mod FindLaws
+pub mod ReadLaws

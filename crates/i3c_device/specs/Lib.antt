@@ -6,3 +6,4 @@ pub mod Wishing
 pub mod Sets
 pub mod Marks
 pub mod Finding
+pub mod Reading

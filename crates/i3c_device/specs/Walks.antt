@@ -3,6 +3,7 @@ use Rattle.std.specs.Prelude.{◌≡◌, ℕ, ◌<◌, Bool, true, false, not, �
 use Rattle.i3c_base.specs.declared.identity.Identity.{Identity}
 use Rattle.i3c_base.specs.declared.requests.Request.{Request}
 use Rattle.i3c_base.specs.Cutting.{Lost}
+use Rattle.i3c_base.specs.Frames.{overwritten}
 use Rattle.i3c_base.specs.Round.{winner, wins}
 use Rattle.i3c_base.specs.Serve.{asks, without}
 use Rattle.i3c_base.specs.State.{Device, has_address, in_slot}
@@ -31,6 +32,10 @@ willing_at active a s place = in_slot (λ d. reaches_at active (Some a) s d && d
 -- it after a command and its words
 abbrev pub heard_at : ℕ → Option ℕ → Code → List Word → ℕ → Option Device → Option Device
 heard_at active to code words s place = option_map (λ d. if reaches_at active to s d then heard code words d else d) place
+
+-- it after these bytes were written to this address
+abbrev pub written_at : ℕ → ℕ → List ℕ → ℕ → Option Device → Option Device
+written_at active a bytes s place = option_map (λ d. if reaches_at active (Some a) s d then record d { registers = overwritten bytes d.registers } else d) place
 
 -- it after a round that this identity won
 abbrev pub assigned_at : Lost → Identity → ℕ → ℕ → Option Device → Option Device

@@ -43,7 +43,9 @@ impl Model for Device {
 
 impl Device {
     ghost use Rattle.std.specs.Prelude.{◌≡◌, ◌≤◌, ◌++◌, ◌∷◌, [], ℕ, suc, true, false, length, slice_get, IfSome, MatchOption, MatchResult, OnErr, OnOk, Some, None};
+    ghost use Rattle.i3c_base.specs.declared.device.TheConstants.{REGISTERS as REGISTER_COUNT};
     ghost use Rattle.i3c_base.specs.declared.requests.Request.{Request as RequestValue};
+    ghost use Rattle.i3c_base.specs.Frames.{overwritten};
     ghost use Rattle.i3c_base.specs.State.{attached};
     ghost use Rattle.i3c_base.specs.Serve.{asks, without_front, without_join, without_role};
     ghost use Rattle.i3c_base.specs.Round.{unhearing, winner};
@@ -116,6 +118,21 @@ impl Device {
         ensures { result ≡ self.now.willing }
     {
         self.willing
+    }
+
+    /// Its registers, which private transfers read and write (I3C Basic 5.1.2.2).
+    pub fn registers(&self) -> &[u8; REGISTERS]
+        ensures { result.now ≡ self.now.registers }
+    {
+        &self.registers
+    }
+
+    /// A private write puts these bytes into its first registers.
+    pub fn write(&mut self, bytes: &[u8])
+        requires { length bytes.now ≤ REGISTER_COUNT }
+        ensures { self.new ≡ record self.old { registers = overwritten bytes.now self.old.registers } }
+    {
+        self.registers[..bytes.len()].copy_from_slice(bytes);
     }
 
     /// What it does with a command and the words after its code (I3C Basic 5.1.9.3). What it keeps of a list (DEFTGTS)

@@ -1,4 +1,5 @@
-ghost use Rattle.std.specs.Prelude.{◌≡◌, ◌≤◌, ◌<◌, ℕ, true, false, option_map, length, IfSome, IsTrue, ◌↔◌, MatchOption, Some, is_none};
+ghost use Rattle.std.specs.Prelude.{◌≡◌, ◌≤◌, ◌<◌, ◌+◌, ◌^◌, ℕ, true, false, option_map, length, IfSome, IsTrue, ◌↔◌, MatchOption, Some, is_none};
+ghost use Rattle.i3c_base.specs.declared.device.TheConstants.{REGISTERS as REGISTER_COUNT};
 ghost use Rattle.i3c_base.specs.declared.range.TheConstants.{SLOTS as SLOT_COUNT};
 ghost use Rattle.i3c_base.specs.declared.requests.Request.{Request as RequestValue};
 ghost use Rattle.i3c_base.specs.Cutting.{nobody};
@@ -8,7 +9,8 @@ ghost use Rattle.i3c_base.specs.Serve.{without_role};
 ghost use Rattle.i3c_base.specs.State.{in_slot};
 ghost use Rattle.i3c_header.specs.Keys.{IsLawful};
 ghost use Rattle.i3c_device.specs.Raising.{wishing_join, wishing_role};
-ghost use Rattle.i3c_device.specs.Walks.{accepted_at, assigned_at, drives_at, heard_at, left_at, reaches_at, willing_at};
+ghost use Rattle.i3c_device.specs.Reading.{IsDrivenFrom, IsRegisterFrom};
+ghost use Rattle.i3c_device.specs.Walks.{accepted_at, assigned_at, drives_at, heard_at, left_at, reaches_at, willing_at, written_at};
 ghost use Rattle.i3c_device.specs.Wishing.{wishes};
 
 use crate::attached::Device;
@@ -134,6 +136,58 @@ pub(crate) fn reaches(
     match to {
         Some(at) => device.address() == Some(*at),
         None => true,
+    }
+}
+
+/// Whatever stands in this slot takes a private write of these bytes, if it is at this address.
+pub(crate) fn write(
+    place: &mut Option<Device>,
+    index: usize,
+    active: Slot,
+    address: Addr7,
+    bytes: &[u8],
+)
+    requires { length bytes.now ≤ REGISTER_COUNT }
+    ensures { place.new ≡ written_at active address bytes.now index place.old }
+{
+    if reaches(place, index, active, &Some(address)) {
+        if let Some(device) = place {
+            device.write(bytes);
+        }
+    }
+}
+
+/// A byte as it is driven from this bit of a frame on, by a device that may be cut: ones from its cut on.
+fn driven_from(own: u8, cut: Option<u16>, at: u16) -> u8
+    ensures { IsDrivenFrom own cut at result }
+{
+    let Some(bit) = cut else {
+        return own;
+    };
+    if bit <= at {
+        return u8::MAX;
+    }
+    let whole = bit - at;
+    if whole < u8::BITS as u16 {
+        own | (u8::MAX >> whole)
+    } else {
+        own
+    }
+}
+
+/// A register of whatever stands in this slot, as it is driven from this bit of a frame on: all ones by nobody.
+pub(crate) fn register_from(
+    place: &Option<Device>,
+    register: usize,
+    cut: Option<u16>,
+    at: u16,
+) -> u8
+    requires { register < REGISTER_COUNT }
+    ensures { IsRegisterFrom place.now register cut at result }
+{
+    match place {
+        Some(device) => driven_from(device.registers()[register], cut, at),
+        None => u8::MAX,
     }
 }
 

@@ -1,15 +1,20 @@
 use crate::attached::Device;
 use crate::marks::Marks;
-use crate::places::{driven, drives, hear, lose_role_wish, wish_join, wish_role};
+use crate::places::{
+    driven, drives, hear, lose_role_wish, reaches, register_from, wish_join, wish_role,
+};
 use crate::sets::{SlotSet, lost_slots};
 use crate::walks::{
-    Accepted, Driver, Ended, Happening, Lost, Opened, Reached, Sought, Willing, Won,
+    Accepted, Driver, Ended, Happening, Lost, Opened, Reached, Sought, Willing, Won, Written,
 };
 use arrayvec::ArrayVec;
-use i3c_base::{Addr7, Cuts, Identity, RaiseRefusal, Request, SLOTS, Slot};
+use i3c_base::{Addr7, Cuts, Identity, REGISTERS, RaiseRefusal, Request, SLOTS, Slot};
 use i3c_ccc::Code;
 use i3c_word::Word;
 use std::marker::Model;
+
+/// The bits of a word.
+const WORD_BITS: u16 = 9;
 
 /// The devices of a bus in their slots.
 ///
@@ -35,12 +40,14 @@ impl Model for Devices {
 }
 
 impl Devices {
+    ghost use Rattle.i3c_base.specs.declared.device.TheConstants.{REGISTERS as REGISTER_COUNT};
     ghost use Rattle.i3c_base.specs.declared.range.TheConstants.{SLOTS as SLOT_COUNT};
     ghost use Rattle.i3c_base.specs.Cutting.{lost_by};
     ghost use Rattle.i3c_base.specs.Places.{changed};
     ghost use Rattle.i3c_device.specs.Finding.{within, IsLowestFound, IsNowhere};
-    ghost use Rattle.i3c_device.specs.Walks.{accepted_at, assigned_at, drives_at, heard_at, left_at, AnyDrives, AreDriven, AreWillingLost, IsHearerFrom, IsLowest, IsLowestWilling, NobodyHearsFrom, SomeDrives, SomeReached};
-    ghost use Rattle.std.specs.Prelude.{◌≡◌, ◌≤◌, ◌<◌, ◌↔◌, ℕ, length, IsTrue, suc, Some, None, option_map, slice_index_or, slice_set, MatchOption, MatchResult, OnOk, OnErr};
+    ghost use Rattle.i3c_device.specs.Walks.{accepted_at, assigned_at, drives_at, heard_at, left_at, AnyDrives, AreDriven, AreWillingLost, IsHearerFrom, IsLowest, IsLowestWilling, NobodyHearsFrom, SomeDrives, SomeReached, written_at};
+    ghost use Rattle.i3c_device.specs.Reading.{AreAt, AreReadOf, IsRegisterOf};
+    ghost use Rattle.std.specs.Prelude.{◌≡◌, ◌≤◌, ◌<◌, ◌+◌, ◌^◌, ◌↔◌, ℕ, All, length, IsTrue, suc, Some, None, option_map, slice_index_or, slice_set, MatchOption, MatchResult, OnOk, OnErr};
     ghost use Rattle.i3c_base.specs.Round.{hears, unhearing};
     ghost use Rattle.i3c_base.specs.Serve.{without_role};
     ghost use Rattle.i3c_base.specs.State.{Device as DeviceState, no_devices};
@@ -193,6 +200,68 @@ impl Devices {
     {
         let left = self.marks.present.without(lost_slots(cuts, last));
         self.lowest(left, &Willing { active, address })
+    }
+
+    /// A private write to an address: these bytes go into the first registers of each device there but the active
+    /// controller.
+    pub fn write(&mut self, active: Slot, address: Addr7, bytes: &[u8])
+        requires { length bytes.now ≤ REGISTER_COUNT }
+        ensures { self.new ≡ changed (written_at active address bytes.now) self.old }
+    {
+        let present = self.marks.present;
+        self.each(
+            present,
+            &Written {
+                active,
+                address,
+                bytes,
+            },
+        );
+    }
+
+    /// The registers of the devices at an address, as the lines give them in a private read whose first data bit is
+    /// this bit of its frame: eight bits for each, and a T. All who have the address drive theirs, but the active
+    /// controller and, from their cuts on, those who are cut.
+    pub fn read(&self, active: Slot, address: Addr7, cuts: &Cuts, first: u16) -> [u8; REGISTERS]
+        requires { first + 144 ≤ 2 ^ 16 }
+        ensures read { AreReadOf active address cuts.now first self.now result }
+        ensures long { length result ≡ REGISTER_COUNT }
+        ensures bytes { All (λ byte. byte < 256) result }
+    {
+        let targets = self.targets(active, address);
+        let mut bytes = [0; REGISTERS];
+        for (index, byte) in bytes.iter_mut().enumerate() {
+            *byte = self.register_of(targets, index, cuts, first + WORD_BITS * index as u16);
+        }
+        bytes
+    }
+
+    /// The slots of the devices at an address, but the active controller's.
+    fn targets(&self, active: Slot, address: Addr7) -> SlotSet
+        ensures there { AreAt active address result self.now }
+        ensures slots { length self.now ≡ SLOT_COUNT }
+    {
+        let mut targets = SlotSet::none();
+        let mut left = self.marks.present;
+        while let Some(index) = left.take_lowest() {
+            let is_there = reaches(&self.places[index], index, active, &Some(address));
+            targets = targets.with(index, is_there);
+        }
+        targets
+    }
+
+    /// A register of these slots' devices, as the lines give it from this bit of a frame on.
+    fn register_of(&self, among: SlotSet, register: usize, cuts: &Cuts, at: u16) -> u8
+        requires { register < REGISTER_COUNT }
+        ensures { IsRegisterOf among register cuts.now at self.now result }
+    {
+        let mut byte = u8::MAX;
+        let mut left = among;
+        while let Some(index) = left.take_lowest() {
+            let cut = cuts.at(Slot::from_index(index));
+            byte &= register_from(&self.places[index], register, cut, at);
+        }
+        byte
     }
 
     /// The devices that a command reaches, all but the active controller or those of them at one address, hear it and

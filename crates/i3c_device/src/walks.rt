@@ -1,11 +1,12 @@
-ghost use Rattle.std.specs.Prelude.{◌≡◌, ◌≤◌, ℕ, Bool, Option, None, option_map};
+ghost use Rattle.std.specs.Prelude.{◌≡◌, ◌≤◌, ℕ, Bool, Option, None, length, option_map};
+ghost use Rattle.i3c_base.specs.declared.device.TheConstants.{REGISTERS as REGISTER_COUNT};
 ghost use Rattle.i3c_base.specs.Cutting.{nobody};
 ghost use Rattle.i3c_base.specs.Round.{hears, unhearing};
 ghost use Rattle.i3c_base.specs.State.{Device as DeviceState, in_slot};
-ghost use Rattle.i3c_device.specs.Walks.{accepted_at, assigned_at, drives_at, reaches_at, willing_at};
+ghost use Rattle.i3c_device.specs.Walks.{accepted_at, assigned_at, drives_at, reaches_at, willing_at, written_at};
 
 use crate::attached::Device;
-use crate::places::{accept, assign, drives, is_willing, open, reaches, silence};
+use crate::places::{accept, assign, drives, is_willing, open, reaches, silence, write};
 use i3c_base::{Addr7, Identity, Request, Slot};
 
 /// What happens to whatever stands in some slots.
@@ -70,6 +71,23 @@ impl Happening for Won<'_> {
 
     fn happen(&self, place: &mut Option<Device>, _index: usize) {
         assign(place, self.identity, self.address);
+    }
+}
+
+/// These bytes were written to this address.
+#[derive(Drop)]
+pub(crate) struct Written<'a> {
+    pub active: Slot,
+    pub address: Addr7,
+    pub bytes: &'a [u8],
+    ghost fitting: { length bytes.now ≤ REGISTER_COUNT },
+}
+
+impl Happening for Written<'_> {
+    ghost after = { λ h s place. written_at h.active h.address h.bytes.now s place };
+
+    fn happen(&self, place: &mut Option<Device>, index: usize) {
+        write(place, index, self.active, self.address, self.bytes);
     }
 }
 

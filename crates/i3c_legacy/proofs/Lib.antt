@@ -1,3 +1,4 @@
 pub mod RowLaws
 pub mod LegacyLaws
 pub mod TargetLaws
+pub mod WriteLaws

@@ -1,3 +1,7 @@
+ghost use Rattle.std.specs.Prelude.{◌≡◌, ◌≢◌, ◌<◌, ◌≤◌, All, HoldsAt, MatchOption, length};
+ghost use Rattle.i3c_base.specs.declared.device.TheConstants.{REGISTERS as REGISTER_COUNT};
+ghost use Rattle.i3c_base.specs.Frames.{overwritten};
+
 use crate::legacies::{LEGACIES, Legacies};
 use arrayvec::ArrayVec;
 use i3c_base::{Addr7, LegacyTarget, REGISTERS};
@@ -21,15 +25,19 @@ pub struct LegacyTargets {
 impl Model for LegacyTargets {
     ghost use Rattle.std.specs.Prelude.{List, Option};
     ghost use Rattle.i3c_base.specs.declared.device.LegacyTarget.{LegacyTarget as LegacyTargetValue};
-    ghost use Rattle.i3c_legacy.specs.Rows.{places};
+    ghost use Rattle.i3c_legacy.specs.Rows.{places, HasOwnAddresses};
 
     ghost Value = { List (Option LegacyTargetValue) };
 
     ghost view = { λ t. places (λ p. p.address) (λ p. p.target) t.placed.items };
+
+    ghost invariant = { λ t. HasOwnAddresses (λ p. p.address) t.placed.items };
 }
 
 impl LegacyTargets {
-    ghost use Rattle.std.specs.Prelude.{◌≡◌};
+    ghost use Rattle.std.specs.Prelude.{◌≡◌, ◌≤◌, length, None, slice_index_or, slice_set};
+    ghost use Rattle.i3c_base.specs.declared.device.TheConstants.{REGISTERS as REGISTER_COUNT};
+    ghost use Rattle.i3c_base.specs.Frames.{legacy_written};
     ghost use Rattle.i3c_base.specs.State.{legacy_targets_of};
 
     /// The declared targets as they are at the start: all registers are `00`.
@@ -48,4 +56,42 @@ impl LegacyTargets {
         }
         LegacyTargets { placed }
     }
+
+    /// The target at a static address, if there is one.
+    pub fn get(&self, address: Addr7) -> Option<LegacyTarget>
+        ensures { result ≡ slice_index_or self.now address None }
+    {
+        let placed = self.placed.as_slice();
+        match index_of(placed, address) {
+            Some(index) => Some(placed[index].target),
+            None => None,
+        }
+    }
+
+    /// A private write to a static address: these bytes go into the first registers of the target there, if there is
+    /// one.
+    pub fn write(&mut self, address: Addr7, bytes: &[u8])
+        requires { length bytes.now ≤ REGISTER_COUNT }
+        ensures { self.new ≡ slice_set self.old address (legacy_written bytes.now (slice_index_or self.old address None)) }
+    {
+        if let Some(index) = index_of(self.placed.as_slice(), address) {
+            write(&mut self.placed[index].target, bytes);
+        }
+    }
+}
+
+// The index of the target at an address.
+fn index_of(placed: &[Placed], address: Addr7) -> Option<usize>
+    ensures { MatchOption result (All (λ p. p.address ≢ address) placed.now)
+        (λ i. (i < length placed.now) × HoldsAt (λ p. p.address ≡ address) placed.now i) }
+{
+    placed.iter().position(|placed| placed.address == address)
+}
+
+// These bytes go into a target's first registers.
+fn write(target: &mut LegacyTarget, bytes: &[u8])
+    requires { length bytes.now ≤ REGISTER_COUNT }
+    ensures { target.new ≡ record target.old { registers = overwritten bytes.now target.old.registers } }
+{
+    target.registers[..bytes.len()].copy_from_slice(bytes);
 }

@@ -3,3 +3,4 @@ pub mod HexLaws
 pub mod NameLaws
 pub mod PieceLaws
 pub mod HexTexts
+pub mod PairLaws

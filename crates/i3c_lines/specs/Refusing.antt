@@ -26,6 +26,7 @@ refusal_word Refusal.ByteMismatch = codes "ByteMismatch"
 refusal_word Refusal.Masked = codes "Masked"
 refusal_word Refusal.Full = codes "Full"
 refusal_word Refusal.ListStale = codes "ListStale"
+refusal_word Refusal.TooLong = codes "TooLong"
 refusal_word (Refusal.NoAnswer a) = codes "NoAnswer"
 refusal_word Refusal.NoEnd = codes "NoEnd"
 
@@ -53,6 +54,7 @@ refusal_tail Refusal.ByteMismatch = []
 refusal_tail Refusal.Masked = []
 refusal_tail Refusal.Full = []
 refusal_tail Refusal.ListStale = []
+refusal_tail Refusal.TooLong = []
 refusal_tail Refusal.NoEnd = []
 
 -- a refusal as it is printed

@@ -1,6 +1,7 @@
 -- The forms of words.
-use Rattle.std.specs.Prelude.{◌≡◌, ℕ, ◌<◌, ◌≤◌, ◌⊎◌, List, length, All}
+use Rattle.std.specs.Prelude.{◌≡◌, ℕ, ◌<◌, ◌≤◌, ◌⊎◌, ⊤, List, [], ◌∷◌, length, All}
 use Rattle.std.specs.Int.{IsInRange}
+use Rattle.std.specs.Str.Parse.{digits_value}
 
 -- `0` to `9` or `A` to `F`
 abbrev pub IsHexDigit : ℕ → Type 0
@@ -25,3 +26,15 @@ IsNameLetter byte = IsInRange 97 122 byte ⊎ IsInRange 48 57 byte
 -- at least one letter, and no more than so many
 abbrev pub IsName : ℕ → List ℕ → Type 0
 IsName most word = (0 < length word) × (length word ≤ most) × All IsNameLetter word
+
+-- two hex digits for each byte
+abbrev pub AreBytes : List ℕ → Type 0
+AreBytes [] = ⊤
+AreBytes (high ∷ []) = ⊥
+AreBytes (high ∷ low ∷ digits) = IsHexDigit high × IsHexDigit low × AreBytes digits
+
+-- the bytes that they write
+abbrev pub pair_values : List ℕ → List ℕ
+pair_values [] = []
+pair_values (high ∷ []) = []
+pair_values (high ∷ low ∷ digits) = digits_value 16 (high ∷ low ∷ []) ∷ pair_values digits

@@ -1,7 +1,9 @@
 use crate::names::Name;
 use crate::policies::policy;
 use crate::words;
+use arrayvec::ArrayVec;
 use i3c_base::{Addr7, Bcr, Dcr, Fixed, Identity, Kinds, Lvr, Setup};
+use i3c_step::WRITE_KEPT;
 use std::str::Split;
 
 /// The last word of a device that doesn't take the controller role.
@@ -15,7 +17,7 @@ pub struct Choice {
 }
 
 /// A line that is one event of the bus, with the names as they stand there.
-#[derive(Clone, Copy)]
+#[derive(Clone, Drop)]
 pub enum Wish {
     /// `attach NAME PID BCR DCR [decline]`: a device enters the lowest free slot.
     Attach { name: Name, setup: Setup },
@@ -37,6 +39,13 @@ pub enum Wish {
     Reset,
     /// `list`: the devices are told of all addresses.
     List,
+    /// `read ADDR`: the registers of the device or legacy target at an address are read.
+    Read { at: Addr7 },
+    /// `write ADDR [BYTES]`: its first registers are replaced. Of more bytes than may be written one more is kept.
+    Write {
+        at: Addr7,
+        bytes: ArrayVec<u8, WRITE_KEPT>,
+    },
     /// `handover ADDR`: the role is offered to the device at an address.
     HandOver { to: Addr7 },
     /// `open`: a session of dynamic address assignment is opened, and stays open.
@@ -87,6 +96,8 @@ impl Command {
             "raise" => Command::Event(parse_raise(&mut words)?),
             "serve" => Command::Event(Wish::Serve),
             "daa" => Command::Daa,
+            "read" => Command::Event(parse_read(&mut words)?),
+            "write" => Command::Event(parse_write(&mut words)?),
             "enec" => Command::Event(Wish::Enec(parse_choice(&mut words)?)),
             "disec" => Command::Event(Wish::Disec(parse_choice(&mut words)?)),
             "policy" => Command::Policy(policy(words.next()?)?),
@@ -168,6 +179,23 @@ fn parse_ask_join(words: &mut Words<'_>) -> Option<Wish> {
 fn parse_ask_role(words: &mut Words<'_>) -> Option<Wish> {
     let name = Name::parse(words.next()?)?;
     Some(Wish::AskRole { name })
+}
+
+/// The word of `read`: an address.
+fn parse_read(words: &mut Words<'_>) -> Option<Wish> {
+    let at = words::address(words.next()?)?;
+    Some(Wish::Read { at })
+}
+
+/// The words of `write`: an address, and bytes if there are some.
+fn parse_write(words: &mut Words<'_>) -> Option<Wish> {
+    let at = words::address(words.next()?)?;
+    let bytes = match words.next() {
+        None => ArrayVec::new(),
+        Some("") => return None,
+        Some(word) => words::bytes(word)?,
+    };
+    Some(Wish::Write { at, bytes })
 }
 
 /// The word of `handover`: an address.

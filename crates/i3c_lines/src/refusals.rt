@@ -37,6 +37,8 @@ pub enum Refusal {
     Masked,
     Full,
     ListStale,
+    /// More bytes than a device has registers.
+    TooLong,
     /// No device answers to this address.
     NoAnswer(Addr7),
     /// The data that was read did not end.
@@ -72,6 +74,7 @@ impl Refusal {
             Refusal::Masked => "Masked",
             Refusal::Full => "Full",
             Refusal::ListStale => "ListStale",
+            Refusal::TooLong => "TooLong",
             Refusal::NoAnswer(_) => "NoAnswer",
             Refusal::NoEnd => "NoEnd",
         }

@@ -1,10 +1,13 @@
-ghost use Rattle.std.specs.Prelude.{◌≡◌, ◌<◌, ◌^◌, ◌≤◌, ◌↔◌, All, IsTrue, IsSome, IfSome};
+ghost use Rattle.std.specs.Prelude.{◌≡◌, ◌<◌, ◌^◌, ◌≤◌, ◌↔◌, ◌++◌, ◌∷◌, [], ◌-◌, All, IsTrue, IsSome, IfSome, length, take};
+ghost use Rattle.std.specs.Char.{digit_value};
 ghost use Rattle.std.specs.Str.Parse.{digits_value};
 ghost use Rattle.i3c_base.specs.Numbers.{kind_set};
-ghost use Rattle.i3c_lines.specs.Words.{IsDecimal, IsDecimalDigit, IsHex, IsHexDigit};
+ghost use Rattle.i3c_lines.specs.Words.{AreBytes, IsDecimal, IsDecimalDigit, IsHex, IsHexDigit, pair_values};
 
+use arrayvec::ArrayVec;
 use bitflags::Flags;
 use i3c_base::{Addr7, Kinds, Pid};
+use i3c_step::WRITE_KEPT;
 
 /// Numbers are written in hex.
 const RADIX: u32 = 16;
@@ -95,4 +98,49 @@ pub(crate) fn pid(word: &str) -> Option<Pid>
 {
     let number = number(word, PID_DIGITS)?;
     Pid::new(number).ok()
+}
+
+/// The bytes of a write: two hex digits for each. Of more than are kept the first ones are given.
+pub(crate) fn bytes(word: &str) -> Option<ArrayVec<u8, WRITE_KEPT>>
+    ensures form { IsSome result ↔ AreBytes word.now }
+    ensures value { IfSome result (λ bytes. bytes.items ≡ take WRITE_KEPT (pair_values word.now)) }
+{
+    let mut bytes = ArrayVec::new();
+    push_pairs(word.as_bytes(), &mut bytes)?;
+    Some(bytes)
+}
+
+/// Appends the bytes that pairs of hex digits write, as long as there is a place.
+fn push_pairs(digits: &[u8], bytes: &mut ArrayVec<u8, WRITE_KEPT>) -> Option<()>
+    ensures form { IsSome result ↔ AreBytes digits.now }
+    ensures value { IfSome result (λ _. bytes.new.items ≡ bytes.old.items ++ take (WRITE_KEPT - length bytes.old.items) (pair_values digits.now)) }
+{
+    let Some((high, rest)) = digits.split_first() else {
+        return Some(());
+    };
+    let (low, rest) = rest.split_first()?;
+    let byte = 16 * digit(*high)? + digit(*low)?;
+    keep(bytes, byte);
+    push_pairs(rest, bytes)
+}
+
+/// Appends a byte, if there is a place.
+fn keep(bytes: &mut ArrayVec<u8, WRITE_KEPT>, byte: u8)
+    ensures { bytes.new.items ≡ bytes.old.items ++ take (WRITE_KEPT - length bytes.old.items) (byte ∷ []) }
+{
+    if !bytes.is_full() {
+        bytes.push(byte);
+    }
+}
+
+/// The value of a hex digit. Letters are upper case.
+fn digit(byte: u8) -> Option<u8>
+    ensures form { IsSome result ↔ IsHexDigit byte }
+    ensures value { IfSome result (λ value. (value ≡ digit_value byte) × (value < 16)) }
+{
+    match byte {
+        b'0'..=b'9' => Some(byte - b'0'),
+        b'A'..=b'F' => Some(byte - b'A' + 10),
+        _ => None,
+    }
 }

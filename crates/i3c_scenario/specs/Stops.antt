@@ -23,6 +23,7 @@ bus_refusal BusRefusal.ByteMismatch = Refusal.ByteMismatch
 bus_refusal BusRefusal.Masked = Refusal.Masked
 bus_refusal BusRefusal.Full = Refusal.Full
 bus_refusal BusRefusal.ListStale = Refusal.ListStale
+bus_refusal BusRefusal.TooLong = Refusal.TooLong
 bus_refusal (BusRefusal.NoAnswer a) = Refusal.NoAnswer a
 
 -- an answer to a frame's own part that is printed as a refusal

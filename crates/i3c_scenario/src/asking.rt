@@ -5,8 +5,9 @@ ghost use Rattle.i3c_scenario.specs.Asking.{Asked, Attaches, IsTaken, cuts_left,
 ghost use Rattle.i3c_lines.specs.Naming.{place_named};
 ghost use Rattle.i3c_scenario.specs.Slots.{AllPresentBelow};
 
+use arrayvec::ArrayVec;
 use i3c_base::{Cuts, Fixed, SLOTS, Setup, Slot};
-use i3c_bus::{Bus, Event};
+use i3c_bus::{Bus, Event, WRITE_KEPT};
 use i3c_lines::{Choice, Name, Names, Place, Refusal, Wish};
 use std::mem;
 
@@ -33,11 +34,26 @@ pub(crate) fn event_of(
         Wish::AskRole { name } => Ok(Event::AskRole(names.slot_of(name)?)),
         Wish::Reset => Ok(Event::Reset(policy, take(cuts))),
         Wish::List => Ok(Event::SendList(policy, take(cuts))),
+        Wish::Read { at } => Ok(Event::ReadFrom(*at, policy, take(cuts))),
+        Wish::Write { at, bytes } => {
+            Ok(Event::WriteTo(*at, copied(bytes), policy, take(cuts)))
+        }
         Wish::HandOver { to } => Ok(Event::HandOver(*to, take(cuts))),
         Wish::Open => Ok(Event::OpenDaa(take(cuts))),
         Wish::Round => Ok(Event::Round(take(cuts))),
         Wish::End => Ok(Event::EndDaa),
     }
+}
+
+/// The same bytes.
+fn copied(bytes: &ArrayVec<u8, WRITE_KEPT>) -> ArrayVec<u8, WRITE_KEPT>
+    ensures { result ≡ bytes.now }
+{
+    let mut copy = ArrayVec::new();
+    let Ok(()) = copy.try_extend_from_slice(bytes.as_slice()) else {
+        unreachable!()
+    };
+    copy
 }
 
 /// The cuts that wait, of which none is left.

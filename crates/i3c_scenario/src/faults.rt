@@ -78,6 +78,7 @@ fn line_refusal(why: i3c_bus::Refusal) -> Refusal
         i3c_bus::Refusal::Masked => Refusal::Masked,
         i3c_bus::Refusal::Full => Refusal::Full,
         i3c_bus::Refusal::ListStale => Refusal::ListStale,
+        i3c_bus::Refusal::TooLong => Refusal::TooLong,
         i3c_bus::Refusal::NoAnswer(address) => Refusal::NoAnswer(address),
     }
 }

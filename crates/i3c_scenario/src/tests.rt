@@ -53,76 +53,6 @@ fn goes_on(
     Ok(())
 }
 
-#[test]
-fn devices_get_addresses(rt: HostRuntime) -> Result<(), Fail> {
-    let alloc = rt.alloc();
-    let cases = [
-        ("daa\n", "done\n"),
-        (
-            "attach t 020400000010 06 44\ndaa\nshow\n",
-            "t slot 1\nassigned 09 020400000010 06 44\ndone\n\
-             active 08\nhub 08 waiting 0\nt 09 waiting 0\nrecords 0\n",
-        ),
-        // identities that differ in their last bit: the lesser is first, whichever came first
-        (
-            "attach v 020400000010 06 45\nattach t 020400000010 06 44\nshow\ndaa\nshow\n",
-            "v slot 1\nt slot 2\n\
-             active 08\nhub 08 waiting 0\nv -- waiting 0\nt -- waiting 0\nrecords 0\n\
-             assigned 09 020400000010 06 44\nassigned 0A 020400000010 06 45\ndone\n\
-             active 08\nhub 08 waiting 0\nv 0A waiting 0\nt 09 waiting 0\nrecords 0\n",
-        ),
-        // devices of one identity take one address together
-        (
-            "attach t 020400000010 06 44\nattach u 020400000010 06 44\ndaa\nshow\n",
-            "t slot 1\nu slot 2\nassigned 09 020400000010 06 44\ndone\n\
-             active 08\nhub 08 waiting 0\nt 09 waiting 0\nu 09 waiting 0\nrecords 0\n",
-        ),
-        // a second session assigns only whom the first did not, and keeps an identity's address
-        (
-            "attach t FFFFFFFFFFFF FF 44 decline\ndaa\nattach u 000000000000 00 00\ndaa\n\
-             attach w FFFFFFFFFFFF FF 44\ndaa\n",
-            "t slot 1\nassigned 09 FFFFFFFFFFFF FF 44\ndone\nu slot 2\n\
-             assigned 0A 000000000000 00 00\ndone\nw slot 3\n\
-             assigned 09 FFFFFFFFFFFF FF 44\ndone\n",
-        ),
-    ];
-    for (script, wanted) in cases {
-        goes_on(&rt, alloc, script, wanted, 0)?;
-    }
-    Ok(())
-}
-
-// The last symbols of the wire, on one line.
-#[test]
-fn symbols_of_the_wire(rt: HostRuntime) -> Result<(), Fail> {
-    let alloc = rt.alloc();
-    let cases = [
-        ("symbols\n", "\n"),
-        // a bus that the main controller has to itself
-        ("daa\nsymbols\n", "done\nS 7E/W- 07.0 Sr 7E/R- P\n"),
-        (
-            "attach t 020400000010 06 44\ndaa\nsymbols\n",
-            "t slot 1\nassigned 09 020400000010 06 44\ndone\n\
-             S 7E/W+ 07.0 Sr 7E/R+ =0204000000100644 @13+ Sr 7E/R- P\n",
-        ),
-        // the second frame follows the first, whose device hears no more but acknowledges the broadcast
-        (
-            "attach t 020400000010 06 44\ndaa\ndaa\nsymbols\n",
-            "t slot 1\nassigned 09 020400000010 06 44\ndone\ndone\n\
-             S 7E/W+ 07.0 Sr 7E/R+ =0204000000100644 @13+ Sr 7E/R- P S 7E/W+ 07.0 Sr 7E/R- P\n",
-        ),
-    ];
-    for (script, wanted) in cases {
-        goes_on(&rt, alloc, script, wanted, 0)?;
-    }
-    // a legacy target acknowledges no broadcast, and there is no wire before the bus
-    let legacy = "symbols\nlegacy eep 50 20\nmain hub 020400000001 46 C0\ndaa\nsymbols\n";
-    let wanted =
-        "refused NoBus\neep legacy at 50\nhub slot 0 at 08\ndone\nS 7E/W- 07.0 Sr 7E/R- P\n";
-    prints(&rt, alloc, legacy, wanted, 1);
-    Ok(())
-}
-
 // The wire of a session that nobody hears is six symbols; of 43 of them the last 256 are kept.
 #[test]
 fn the_last_symbols_are_kept(rt: HostRuntime) -> Result<(), Fail> {
@@ -140,51 +70,6 @@ fn the_last_symbols_are_kept(rt: HostRuntime) -> Result<(), Fail> {
     }
     wanted.push_str("\n")?;
     goes_on(&rt, alloc, script.as_str(), wanted.as_str(), 0)
-}
-
-#[test]
-fn legacy_targets_keep_their_addresses(rt: HostRuntime) {
-    let alloc = rt.alloc();
-    let script = "legacy eep 09 20\nlegacy clock 77 40\nlegacy adc 10 00\n\
-        main hub 020400000001 46 C0 decline\nattach t 020400000010 06 44\ndaa\nshow\n";
-    let wanted = "eep legacy at 09\nclock legacy at 77\nadc legacy at 10\n\
-        hub slot 0 at 08\nt slot 1\nassigned 0A 020400000010 06 44\ndone\n\
-        active 08\nhub 08 waiting 0\nt 0A waiting 0\n\
-        eep 09 legacy\nadc 10 legacy\nclock 77 legacy\nrecords 0\n";
-    prints(&rt, alloc, script, wanted, 0);
-    // one at the least address of all moves the main controller too
-    let script =
-        "legacy eep 08 20\nmain hub 020400000001 46 C0\nattach t 020400000010 06 44\ndaa\n";
-    let wanted = "eep legacy at 08\nhub slot 0 at 09\nt slot 1\n\
-        assigned 0A 020400000010 06 44\ndone\n";
-    prints(&rt, alloc, script, wanted, 0);
-}
-
-// A main device that is refused leaves no name, and the legacy targets stand with theirs.
-#[test]
-fn the_main_device_must_be_capable(rt: HostRuntime) {
-    let script = "legacy eep 09 20\nmain p 020400000030 00 44\nmain eep 020400000001 46 C0\nshow\n\
-        legacy eep 0A 20\nmain p 020400000001 46 C0\nshow\n";
-    let wanted = "eep legacy at 09\nrefused NotCapable\nrefused NameTaken\nrefused NoBus\n\
-        refused NameTaken\np slot 0 at 08\n\
-        active 08\np 08 waiting 0\neep 09 legacy\nrecords 0\n";
-    prints(&rt, rt.alloc(), script, wanted, 4);
-}
-
-#[test]
-fn refusals_come_in_order(rt: HostRuntime) -> Result<(), Fail> {
-    let alloc = rt.alloc();
-    let script = "daa\nshow\nattach t 020400000010 06 44\n\
-        legacy eep 07 20\nlegacy eep 78 20\nlegacy eep 08 20\nlegacy rom 08 20\n\
-        legacy eep 07 20\nmain eep 020400000030 00 44\n";
-    let wanted = "refused NoBus\nrefused NoBus\nrefused NoBus\n\
-        refused LegacyAddress\nrefused LegacyAddress\neep legacy at 08\nrefused LegacyTwice\n\
-        refused NameTaken\nrefused NameTaken\n";
-    prints(&rt, alloc, script, wanted, 8);
-    let script = "main hub 020400000001 46 C0\nmain p 020400000030 00 44\nlegacy hub 07 20\n\
-        attach hub 020400000010 06 44\ndaa\n";
-    let wanted = "refused BusMade\nrefused BusMade\nrefused BusMade\nrefused NameTaken\ndone\n";
-    goes_on(&rt, alloc, script, wanted, 4)
 }
 
 // There are 16 slots and 16 legacy targets, and a name that is taken is told first.
@@ -268,9 +153,12 @@ fn lines_without_a_form(rt: HostRuntime) -> Result<(), Fail> {
         "handover",
         "handover hub",
         "handover 09 0A",
-        // lines that come with other calls
-        "read 09",
-        "write 09 01",
+        "read",
+        "read hub",
+        "read 09 0A",
+        "write",
+        "write hub 01",
+        "write 09 01 02",
         // spaces
         " ",
         " daa",
@@ -285,6 +173,10 @@ fn lines_without_a_form(rt: HostRuntime) -> Result<(), Fail> {
         "open ",
         "policy all ",
         "enec 01 ",
+        "read 09 ",
+        "write 09 ",
+        "write 09  01",
+        "write 09 01 ",
         "attach\tt 020400000010 06 44",
         "attach t\t020400000010 06 44",
         "daa\r",
@@ -309,6 +201,12 @@ fn lines_without_a_form(rt: HostRuntime) -> Result<(), Fail> {
         "enec 1",
         "disec 011",
         "enec 0b",
+        "write 09 0",
+        "write 09 012",
+        "write 09 0g",
+        "write 09 ab",
+        "write 09 0x01",
+        "write 09 +1",
         "cut hub +3",
         "cut hub -3",
         "cut hub 65536",
@@ -327,6 +225,10 @@ fn lines_without_a_form(rt: HostRuntime) -> Result<(), Fail> {
         "handover 80",
         "handover 9",
         "enec 01 9",
+        "read 80",
+        "read 9",
+        "write 80 01",
+        "write 009 01",
         "legacy eep 80 20",
         "legacy eep FF 20",
         "legacy eep 9 20",
@@ -385,67 +287,6 @@ fn target_goes_on(
     goes_on(rt, alloc, script.as_str(), wanted.as_str(), refused)
 }
 
-// Two devices ask at once: the lower address is served first, whoever raised first.
-#[test]
-fn interrupts_are_served_by_address(rt: HostRuntime) -> Result<(), Fail> {
-    let script = "attach v 020400000010 06 45\nattach t 020400000010 06 44\ndaa\n\
-        raise v 22\nraise t 11\nserve\nserve\nserve\nshow\nsymbols\n";
-    let wanted = "v slot 1\nt slot 2\n\
-        assigned 09 020400000010 06 44\nassigned 0A 020400000010 06 45\ndone\n\
-        raised 1\nraised 1\nrecorded 1\nrecorded 2\nquiet\n\
-        active 08\nhub 08 waiting 0\nv 0A waiting 0\nt 09 waiting 0\nrecords 2\n\
-        record 1 slot 2 raise 1 at 09 byte 11\nrecord 2 slot 1 raise 1 at 0A byte 22\n\
-        S 7E/W+ 07.0 Sr 7E/R+ =0204000000100644 @13+ Sr 7E/R+ =0204000000100645 @15+ Sr 7E/R- P \
-        S 09/R+ 11.0 P S 0A/R+ 22.0 P S 7E/W+ P\n";
-    goes_on(&rt, rt.alloc(), script, wanted, 0)
-}
-
-// What was raised before its kind is disabled stays waiting, and is served once its kind is enabled again.
-#[test]
-fn requests_are_turned_down(rt: HostRuntime) -> Result<(), Fail> {
-    let script =
-        "raise t 11\npolicy none\ndisec 01\npolicy all\nserve\nraise t 12\nenec 01\nserve\n";
-    let wanted = "raised 1\nturned down\ndone\nquiet\nrefused Masked\ndone\nrecorded 1\n";
-    let wire = " S 09/R- Sr 7E/W+ 01.0 01.0 P S 7E/W+ P S 7E/W+ 00.1 01.0 P S 09/R+ 11.0 P";
-    target_goes_on(&rt, rt.alloc(), script, wanted, wire, 1)
-}
-
-// Only a policy that accepts interrupts takes one. What is turned down is asked again.
-#[test]
-fn policies(rt: HostRuntime) -> Result<(), Fail> {
-    let script = "raise t 11\npolicy joins\nserve\npolicy roles\nserve\npolicy none\nserve\nshow\n\
-        policy interrupts\nserve\nraise t 12\npolicy all\nenec 01\nserve\n";
-    let wanted = "raised 1\nturned down\nturned down\nturned down\n\
-        active 08\nhub 08 waiting 0\nt 09 waiting 1\nrecords 0\n\
-        recorded 1\nraised 2\nrecorded 2\ndone\nquiet\n";
-    let wire = " S 09/R- P S 09/R- P S 09/R- P S 09/R+ 11.0 P \
-        S 09/R+ 12.0 Sr 7E/W+ 00.1 01.0 P S 7E/W+ P";
-    target_goes_on(&rt, rt.alloc(), script, wanted, wire, 0)
-}
-
-// To one address, by a header of its own; an address that the table has no row for gets no frame, nor the active
-// controller's own.
-#[test]
-fn enabling_at_one_address(rt: HostRuntime) -> Result<(), Fail> {
-    let script =
-        "disec 01 09\nraise t 11\nenec 01 09\nraise t 11\nenec 01 50\ndisec 01 08\nenec 08 09\n";
-    let wanted = "done\nrefused Masked\ndone\nraised 1\nrefused NoAnswer 50\nrefused NoAnswer 08\n\
-        recorded 1\ndone\n";
-    let wire = " S 7E/W+ 81.1 Sr 09/W+ 01.0 P S 7E/W+ 80.0 Sr 09/W+ 01.0 P \
-        S 09/R+ 11.0 Sr 7E/W+ 80.0 Sr 09/W+ 08.0 P";
-    target_goes_on(&rt, rt.alloc(), script, wanted, wire, 3)
-}
-
-// A byte's bits other than 0, 1 and 3 are sent as 0. T makes the number of ones odd.
-#[test]
-fn kinds_on_the_wire(rt: HostRuntime) -> Result<(), Fail> {
-    let script = "enec FF\ndisec 0B\nenec 02\ndisec 08\nenec F4\nraise t 11\nenec 09\nraise t 11\n";
-    let wanted = "done\ndone\ndone\ndone\ndone\nrefused Masked\ndone\nraised 1\n";
-    let wire = " S 7E/W+ 00.1 0B.0 P S 7E/W+ 01.0 0B.0 P S 7E/W+ 00.1 02.0 P S 7E/W+ 01.0 08.0 P \
-        S 7E/W+ 00.1 00.1 P S 7E/W+ 00.1 09.1 P";
-    target_goes_on(&rt, rt.alloc(), script, wanted, wire, 1)
-}
-
 // Why a raise is refused. At most eight wait, and a session turns down who asks while it is opened.
 #[test]
 fn raises_are_refused(rt: HostRuntime) -> Result<(), Fail> {
@@ -468,52 +309,6 @@ fn raises_are_refused(rt: HostRuntime) -> Result<(), Fail> {
     )?;
     let wire = " S 09/R- Sr 7E/W+ 07.0 Sr 7E/R+ =0204000000300044 @15+ Sr 7E/R- P S 09/R+ 01.0 P";
     target_goes_on(&rt, rt.alloc(), script.as_str(), wanted.as_str(), wire, 6)
-}
-
-// A device whose BCR names no mandatory byte interrupts without one.
-#[test]
-fn interrupts_without_a_byte(rt: HostRuntime) -> Result<(), Fail> {
-    let script = "attach n 020400000040 02 44\ndaa\nraise n 01\nraise n\nserve\nshow\nsymbols\n";
-    let wanted = "n slot 1\nassigned 09 020400000040 02 44\ndone\n\
-        refused ByteMismatch\nraised 1\nrecorded 1\n\
-        active 08\nhub 08 waiting 0\nn 09 waiting 0\nrecords 1\n\
-        record 1 slot 1 raise 1 at 09 byte --\n\
-        S 7E/W+ 07.0 Sr 7E/R+ =0204000000400244 @13+ Sr 7E/R- P S 09/R+ P\n";
-    goes_on(&rt, rt.alloc(), script, wanted, 1)
-}
-
-// The lines that docs/FORMATS.md gives as examples.
-#[test]
-fn documented_lines(rt: HostRuntime) -> Result<(), Fail> {
-    let script = "raise t\nraise t 11\npolicy none\ndisec 01\nraise t 12\npolicy all\nenec 01 50\n\
-        serve\nenec 01 09\nserve\n";
-    let wanted =
-        "refused ByteMismatch\nraised 1\nturned down\ndone\nrefused Masked\nrefused NoAnswer 50\n\
-        quiet\ndone\nrecorded 1\n";
-    let wire =
-        " S 09/R- Sr 7E/W+ 01.0 01.0 P S 7E/W+ P S 7E/W+ 80.0 Sr 09/W+ 01.0 P S 09/R+ 11.0 P";
-    target_goes_on(&rt, rt.alloc(), script, wanted, wire, 3)
-}
-
-// Nobody acknowledges the frames of a bus that the main controller has to itself.
-#[test]
-fn frames_of_a_lone_controller(rt: HostRuntime) -> Result<(), Fail> {
-    let script = "serve\ndisec 01\nenec 01 09\nsymbols\n";
-    let wanted = "quiet\ndone\nrefused NoAnswer 09\nS 7E/W- P S 7E/W- 01.0 01.0 P\n";
-    goes_on(&rt, rt.alloc(), script, wanted, 1)
-}
-
-// Before the bus there is nobody to raise or serve, whatever the line names; a legacy target is no device; and a name
-// that was refused was not given.
-#[test]
-fn names_and_devices(rt: HostRuntime) {
-    let script = "raise x 01\npolicy none\nserve\nenec 01\ndisec 01 09\nlegacy eep 50 20\n\
-        main p 020400000030 00 44\nmain hub 020400000001 46 C0\nraise eep 01\nraise p\n\
-        attach eep 020400000010 06 44\nattach t 020400000010 06 44\ndaa\nraise t 11\nserve\n";
-    let wanted = "refused NoBus\nrefused NoBus\nrefused NoBus\nrefused NoBus\nrefused NoBus\n\
-        eep legacy at 50\nrefused NotCapable\nhub slot 0 at 08\nrefused NoDevice\nrefused NoName\n\
-        refused NameTaken\nt slot 1\nassigned 09 020400000010 06 44\ndone\nraised 1\nrecorded 1\n";
-    prints(&rt, rt.alloc(), script, wanted, 9);
 }
 
 // Its form comes first: a line without one is told so before there is a bus, and after.

@@ -1,0 +1,148 @@
+use crate::parts::Bus;
+use i3c_base::{Addr7, Answer, Cuts};
+use i3c_frame::Tap;
+use i3c_handoff::Role;
+use i3c_ibi::Policy;
+use i3c_step::{Framed, TRANSFER, TargetFault, WriteFault};
+use i3c_xfer::{read, read_bits, tell_read, tell_write, write, write_bits};
+
+impl Bus {
+    ghost use Rattle.std.specs.Prelude.{◌≡◌, ◌+◌, ◌≤◌, false, length, take};
+    ghost use Rattle.i3c_base.specs.Frames.{Reads, Writes, read_bits, write_bits};
+    ghost use Rattle.i3c_frame.specs.Taps.{Tells};
+    ghost use Rattle.i3c_step.specs.Giving.{given_by};
+    ghost use Rattle.i3c_step.specs.Replies.{framed_reply, wrote_reply};
+    ghost use Rattle.i3c_step.specs.Step.{cuts_active, is_no_partner};
+    ghost use Rattle.i3c_step.specs.declared.events.Event.{Event};
+    ghost use Rattle.i3c_step.specs.declared.events.TheConstants.{TRANSFER as MOST, WRITE_KEPT};
+    ghost use Rattle.i3c_bus.specs.Asking.{Asks};
+    ghost use Rattle.i3c_bus.specs.Beginning.{LeavesBy};
+    ghost use Rattle.i3c_bus.specs.Calls.{Carries};
+    ghost use Rattle.i3c_bus.specs.Hands.{HandFits};
+    ghost use Rattle.i3c_bus.specs.Wire.{IsReadPart, IsWritePart};
+    ghost use Rattle.i3c_bus.specs.declared.tokens.Hand.{Hand};
+
+    /// Reads all registers of the devices, or of the legacy target, at an address (private read, I3C Basic 5.1.2.2). It
+    /// serves the first request before. It answers `NoAnswer` without a frame where the table has no row at the address or
+    /// it is the active controller's own, and no legacy target stands there.
+    pub fn read<P: Policy, T: Tap>(
+        &mut self,
+        role: &Role,
+        from: Addr7,
+        policy: &mut P,
+        tap: &mut T,
+        cuts: &Cuts,
+    ) -> Result<Framed, TargetFault>
+        requires fits { HandFits (Hand.Role role.now) self.old.state }
+        ensures asks { Asks P.verdict_gives policy.old policy.new self.old.state (framed_reply result) }
+        ensures carried { Carries self.old self.new (Event.ReadFrom from (given_by (framed_reply result)) cuts.now) (framed_reply result) (Hand.Role role.now) (Tells T.note_gives tap.old tap.new) }
+    {
+        if self.cuts_active(cuts) {
+            return Err(TargetFault::ActiveStays);
+        }
+        if self.is_no_partner(from) {
+            return Err(TargetFault::NoAnswer(from));
+        }
+        let Ok(begun) = self.begin_frame(policy, tap, cuts) else {
+            return Err(TargetFault::OutOfMemory);
+        };
+        let answer = self.read_part(from, tap, cuts, begun.bits);
+        Ok(Framed {
+            served: begun.served,
+            answer,
+        })
+    }
+
+    /// Writes up to sixteen bytes into the first registers of the devices, or of the legacy target, at an address (private
+    /// write, I3C Basic 5.1.2.2). It serves the first request before. More bytes are `TooLong`; `NoAnswer` without a frame
+    /// is as for `read`.
+    pub fn write<P: Policy, T: Tap>(
+        &mut self,
+        role: &Role,
+        to: Addr7,
+        bytes: &[u8],
+        policy: &mut P,
+        tap: &mut T,
+        cuts: &Cuts,
+    ) -> Result<Framed, WriteFault>
+        requires fits { HandFits (Hand.Role role.now) self.old.state }
+        ensures asks { Asks P.verdict_gives policy.old policy.new self.old.state (wrote_reply result) }
+        // the event keeps so many bytes of a write that is too long
+        ensures carried { Carries self.old self.new (Event.WriteTo to (record { items = take WRITE_KEPT bytes.now }) (given_by (wrote_reply result)) cuts.now) (wrote_reply result) (Hand.Role role.now) (Tells T.note_gives tap.old tap.new) }
+    {
+        if self.cuts_active(cuts) {
+            return Err(WriteFault::ActiveStays);
+        }
+        if bytes.len() > TRANSFER {
+            return Err(WriteFault::TooLong);
+        }
+        if self.is_no_partner(to) {
+            return Err(WriteFault::NoAnswer(to));
+        }
+        let Ok(begun) = self.begin_frame(policy, tap, cuts) else {
+            return Err(WriteFault::OutOfMemory);
+        };
+        let answer = self.write_part(to, bytes, tap, cuts, begun.bits);
+        Ok(Framed {
+            served: begun.served,
+            answer,
+        })
+    }
+
+    /// The own part of a read, after so many bits of the frame: the bytes are read, and who is cut is gone.
+    fn read_part<T: Tap>(&mut self, from: Addr7, tap: &mut T, cuts: &Cuts, begun: u16) -> Answer
+        requires few { begun ≤ 18 }
+        requires left { cuts_active self.old.state cuts.now ≡ false }
+        ensures reads { LeavesBy cuts.now (begun + read_bits result) (Reads from result) self.old.state self.new.state }
+        ensures told { Tells T.note_gives tap.old tap.new (IsReadPart self.old.state cuts.now from result begun) }
+        ensures room { self.new.room ≡ self.old.room }
+    {
+        let active = self.active();
+        let read = read(&self.devices, &self.legacy, active, from, cuts, begun);
+        tell_read(tap, from, &read);
+        let answer = read.answer(from);
+        self.drop_lost(cuts, begun + read_bits(&answer));
+        answer
+    }
+
+    /// The own part of a write, after so many bits of the frame: whoever acknowledges takes the bytes, and who is cut is
+    /// gone.
+    fn write_part<T: Tap>(
+        &mut self,
+        to: Addr7,
+        bytes: &[u8],
+        tap: &mut T,
+        cuts: &Cuts,
+        begun: u16,
+    ) -> Answer
+        requires few { begun ≤ 18 }
+        requires short { length bytes.now ≤ MOST }
+        requires left { cuts_active self.old.state cuts.now ≡ false }
+        ensures writes { LeavesBy cuts.now (begun + write_bits bytes.now result) (Writes to bytes.now result) self.old.state self.new.state }
+        ensures told { Tells T.note_gives tap.old tap.new (IsWritePart self.old.state cuts.now to bytes.now result begun) }
+        ensures room { self.new.room ≡ self.old.room }
+    {
+        let active = self.active();
+        let written = write(
+            &mut self.devices,
+            &mut self.legacy,
+            active,
+            to,
+            bytes,
+            cuts,
+            begun,
+        );
+        tell_write(tap, to, bytes, &written);
+        let answer = written.answer(to);
+        self.drop_lost(cuts, begun + write_bits(bytes, &answer));
+        answer
+    }
+
+    /// Whether nobody is there for a transfer with an address: no legacy target, and no device of the table but the active
+    /// controller.
+    fn is_no_partner(&self, address: Addr7) -> bool
+        ensures { result ≡ is_no_partner self.now.state address }
+    {
+        self.legacy.get(address).is_none() && self.is_no_target(address)
+    }
+}

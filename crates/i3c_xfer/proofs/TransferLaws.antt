@@ -1,0 +1,125 @@
+-- Who answers at an address, and what is read there.
+use Rattle.std.proofs.Common.{◌≡◌, ℕ, zero, suc, ◌+◌, ◌-◌, ◌*◌, ◌<◌, ◌≤◌, ◌↔◌, ◌⊎◌, true, false, List, get_or, set, Option, Some, None, is_some, inl, inr, refl, sym, ap, ◌∙◌, subst, arith}
+use Rattle.std.proofs.lemmas.Bool.{both_ways, cases_Bool}
+use Rattle.std.proofs.lemmas.Option.{none-some}
+use Rattle.std.proofs.lemmas.Nat.Bits.{bit_at-lt}
+use Rattle.std.specs.Int.{bit_at}
+use Rattle.i3c_base.specs.declared.answers.Answer.{Answer}
+use Rattle.i3c_base.specs.declared.device.LegacyTarget.{LegacyTarget}
+use Rattle.i3c_base.specs.declared.device.TheConstants.{REGISTERS}
+use Rattle.i3c_base.specs.Cutting.{CutList, Lost, lost_by}
+use Rattle.i3c_base.specs.Frames.{AllLostAt, AnyAt, DrivesRegister, SomeLeftAt, Writes, legacy_written, write_bits, written}
+use Rattle.i3c_base.specs.Places.{changed}
+use Rattle.i3c_base.specs.Serve.{IsAnd}
+use Rattle.i3c_base.specs.State.{Device, HasDevices, IsTargetAt, State, legacy_target_at}
+use Rattle.i3c_base.proofs.LostLaws.{left_before}
+use Rattle.i3c_device.specs.Reading.{AreReadOf}
+use Rattle.i3c_device.specs.Walks.{SomeReached, written_at}
+use Rattle.i3c_device.proofs.Targets.{reached_target, target_reached}
+use Rattle.i3c_xfer.specs.Transfers.{AnyAnswers, AreDriven, HasLegacy, IsWrittenBy, PullsLow, is_write_acknowledged, write_answer}
+use Rattle.i3c_xfer.specs.declared.outcome.Write.{Write}
+
+-- whoever is reached at the address is left there, and the other way round
+pub left_there : (st : State) (a : ℕ) (lost : Lost) (devices : List (Option Device)) (active : ℕ) → HasDevices st devices active → SomeReached active (Some a) lost devices → SomeLeftAt st a lost
+left_there st a lost devices active has some =
+    let here = subst (λ places. SomeReached st.active (Some a) lost places) (sym has.0) (subst (λ k. SomeReached k (Some a) lost devices) (sym has.1) some) in
+    (here.0, here.1, reached_target st a here.0 here.1 here.2 here.3, here.4)
+
+reached_there : (st : State) (a : ℕ) (lost : Lost) (devices : List (Option Device)) (active : ℕ) → HasDevices st devices active → SomeLeftAt st a lost → SomeReached active (Some a) lost devices
+reached_there st a lost devices active has some =
+    subst (λ k. SomeReached k (Some a) lost devices) has.1
+    (subst (λ places. SomeReached st.active (Some a) lost places) has.0 (some.0, some.1, some.2.0, target_reached st a some.0 some.1 some.2, some.3))
+
+-- nobody is
+pub none_there : (st : State) (a : ℕ) (lost : Lost) (devices : List (Option Device)) (active : ℕ) → HasDevices st devices active → ¬ SomeReached active (Some a) lost devices → ¬ SomeLeftAt st a lost
+none_there st a lost devices active has none some = none (reached_there st a lost devices active has some)
+
+pub all_lost : (st : State) (a : ℕ) (lost : Lost) (devices : List (Option Device)) (active : ℕ) → HasDevices st devices active → ¬ SomeReached active (Some a) lost devices → AllLostAt st a lost
+all_lost st a lost devices active has none s d is = elim (cases_Bool (lost s)) [ inl gone ↦ gone | inr left ↦ absurd (none_there st a lost devices active has none (s, d, is, left)) ]
+
+pub any_there : (st : State) (a : ℕ) (lost : Lost) → SomeLeftAt st a lost → AnyAt st a
+any_there st a lost some = (some.0, some.1, some.2)
+
+-- the legacy target there
+pub legacy_there : (st : State) (a : ℕ) (legacy : List (Option LegacyTarget)) (o : Option LegacyTarget) → st.legacy ≡ legacy → o ≡ get_or legacy a None → legacy_target_at st a ≡ o
+legacy_there st a legacy o e is = ap (λ places. get_or places a None) e ∙ sym is
+
+-- a target that is there
+pub some_legacy : (st : State) (a : ℕ) (o : Option LegacyTarget) → legacy_target_at st a ≡ o → is_some o ≡ true → HasLegacy st a
+some_legacy st a None e t = absurd (both_ways _ refl t)
+some_legacy st a (Some target) e t = (target, e)
+
+pub no_legacy : (st : State) (a : ℕ) (o : Option LegacyTarget) → legacy_target_at st a ≡ o → is_some o ≡ false → legacy_target_at st a ≡ None
+no_legacy st a None e f = e
+no_legacy st a (Some target) e f = absurd (both_ways _ f refl)
+
+-- nobody answers where no legacy target stands and nobody is left
+pub none_answers : (st : State) (a : ℕ) (lost : Lost) → legacy_target_at st a ≡ None → ¬ SomeLeftAt st a lost → ¬ AnyAnswers st a lost
+none_answers st a lost free none (inl there) = none-some there.0 (sym free ∙ there.1)
+none_answers st a lost free none (inr some) = none some
+
+-- what the devices drive
+pub driven_there : (st : State) (a : ℕ) (cuts : CutList) (first : ℕ) (devices : List (Option Device)) (active : ℕ) (bytes : List ℕ) → HasDevices st devices active → AreReadOf active a cuts first devices bytes → AreDriven st a cuts first bytes
+driven_there st a cuts first devices active bytes has read k j l m =
+    let here = subst (λ places. AreReadOf st.active a cuts first places bytes) (sym has.0) (subst (λ x. AreReadOf x a cuts first devices bytes) (sym has.1) read) k j l m in (
+      λ z. let low = here.0 z in (low.0, low.1, reached_target st a low.0 low.1 low.2 low.3, low.4, low.5),
+      λ low. here.1 (low.0, low.1, low.2.0, target_reached st a low.0 low.1 low.2, low.3, low.4),
+    )
+
+zero_or_one : (b : ℕ) → b < 2 → (b ≡ 0) ⊎ (b ≡ 1)
+zero_or_one zero l = inl refl
+zero_or_one (suc zero) l = inr refl
+zero_or_one (suc (suc n)) l = absurd (omega arith)
+
+not_both : (b : ℕ) → b ≡ 0 → b ≡ 1 → ⊥
+not_both b z o = omega (arith, z, o)
+
+-- which is the AND of their registers where nobody of them is lost by the end
+pub and_there : (st : State) (a : ℕ) (cuts : CutList) (first last : ℕ) (bytes : List ℕ) → first + 143 ≤ last → AreDriven st a cuts first bytes → ((k : ℕ) → k < REGISTERS → get_or bytes k 0 < 256)
+    → ((s : ℕ) (d : Device) → IsTargetAt st a s d → lost_by cuts last s ≡ false) → (k : ℕ) → k < 16 → IsAnd (get_or bytes k 0) (DrivesRegister st a k)
+and_there st a cuts first last bytes late driven small left k l = (
+  small k l,
+  λ bit m.
+      let j : ℕ = 7 - bit in
+      let back : 7 - j ≡ bit = omega arith in
+      let here = subst (λ b. (bit_at (get_or bytes k 0) b ≡ 0) ↔ PullsLow st a (lost_by cuts (first + 9 * k + j)) k b) back (driven k j l (omega arith)) in (
+        λ one s v d. elim (zero_or_one (bit_at v bit) (bit_at-lt v bit)) [
+          | inl z ↦ absurd (not_both (bit_at (get_or bytes k 0) bit)
+              (here.1 (s, d.0, d.1, left_before cuts (first + 9 * k + j) last s (omega arith) (left s d.0 d.1), ap (λ x. bit_at x bit) (sym d.2) ∙ z)) one)
+          | inr o ↦ o
+        ],
+        λ all. elim (zero_or_one (bit_at (get_or bytes k 0) bit) (bit_at-lt (get_or bytes k 0) bit)) [
+          | inl z ↦ let low = here.0 z in absurd (not_both (bit_at (get_or low.1.registers k 0) bit) low.4 (all low.0 (get_or low.1.registers k 0) (low.1, low.2, refl)))
+          | inr o ↦ o
+        ],
+      ),
+)
+
+-- a write as the bus's devices and legacy targets take it
+pub written_there : (st : State) (a : ℕ) (bytes : List ℕ) (devices : List (Option Device)) (active : ℕ) (legacy : List (Option LegacyTarget)) → HasDevices st devices active → st.legacy ≡ legacy
+    → ◌≡◌ {A = State} (record st { devices = changed (written_at active a bytes) devices; legacy = set legacy a (legacy_written bytes (get_or legacy a None)) }) (written a bytes st)
+written_there st a bytes devices active legacy has e = λ t. record st {
+  devices = changed (written_at (sym has.1 t) a bytes) (sym has.0 t);
+  legacy = set (sym e t) a (legacy_written bytes (get_or (sym e t) a None));
+}
+
+-- and nothing is written
+pub same_there : (st : State) (devices : List (Option Device)) (active : ℕ) (legacy : List (Option LegacyTarget)) → HasDevices st devices active → st.legacy ≡ legacy → ◌≡◌ {A = State} (record st { devices = devices; legacy = legacy }) st
+same_there st devices active legacy has e = λ t. record st { devices = sym has.0 t; legacy = sym e t }
+
+there : (st : State) (a : ℕ) (ack : Lost) → AnyAnswers st a ack → HasLegacy st a ⊎ AnyAt st a
+there st a ack (inl target) = inl target
+there st a ack (inr some) = inr (any_there st a ack some)
+
+-- the answer of a write that was taken, and of one that wasn't
+pub write_taken : (st new : State) (a : ℕ) (bytes : List ℕ) (w : Write) (ack : Lost) (lost : Answer → Lost) → is_write_acknowledged w ≡ true → AnyAnswers st a ack → new ≡ written a bytes st
+    → Writes a bytes (write_answer a w) (lost (write_answer a w)) st new
+write_taken st new a bytes Write.Nobody ack lost t any e = absurd (both_ways _ refl t)
+write_taken st new a bytes Write.Legacy ack lost t any e = (there st a ack any, e)
+write_taken st new a bytes Write.Devices ack lost t any e = (there st a ack any, e)
+
+pub write_missed : (st new : State) (a : ℕ) (bytes : List ℕ) (w : Write) (cuts : CutList) (begun : ℕ) → is_write_acknowledged w ≡ false → ¬ AnyAnswers st a (lost_by cuts (begun + 9)) → IsWrittenBy st a w → new ≡ st
+    → Writes a bytes (write_answer a w) (lost_by cuts (begun + write_bits bytes (write_answer a w))) st new
+write_missed st new a bytes Write.Nobody cuts begun f none free e = (refl, (free, λ s d is. elim (cases_Bool (lost_by cuts (begun + 9) s)) [ inl gone ↦ gone | inr left ↦ absurd (none (inr (s, d, is, left))) ]), e)
+write_missed st new a bytes Write.Legacy cuts begun f none free e = absurd (both_ways _ f refl)
+write_missed st new a bytes Write.Devices cuts begun f none free e = absurd (both_ways _ f refl)

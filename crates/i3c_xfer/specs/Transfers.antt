@@ -1,0 +1,65 @@
+-- What a private transfer with an address comes to.
+use Rattle.std.specs.Prelude.{◌≡◌, ℕ, ◌+◌, ◌-◌, ◌*◌, ◌<◌, ◌↔◌, ◌⊎◌, Bool, true, false, ⊤, List, Some, None, slice_index}
+use Rattle.std.specs.Int.{bit_at}
+use Rattle.i3c_base.specs.declared.answers.Answer.{Answer}
+use Rattle.i3c_base.specs.declared.device.LegacyTarget.{LegacyTarget}
+use Rattle.i3c_base.specs.declared.device.TheConstants.{REGISTERS}
+use Rattle.i3c_base.specs.Cutting.{CutList, Lost, lost_by}
+use Rattle.i3c_base.specs.Frames.{SomeLeftAt}
+use Rattle.i3c_base.specs.State.{Device, IsTargetAt, State, legacy_target_at}
+use Rattle.i3c_xfer.specs.declared.outcome.Read.{Read}
+use Rattle.i3c_xfer.specs.declared.outcome.Write.{Write}
+
+-- the answer that a read is
+abbrev pub read_answer : ℕ → Read → Answer
+read_answer to Read.Nobody = Answer.NoAnswer to
+read_answer to (Read.Legacy bytes) = Answer.Bytes bytes
+read_answer to (Read.Ended bytes) = Answer.Bytes bytes
+read_answer to (Read.Torn bytes) = Answer.NoEnd
+
+-- the answer that a write is
+abbrev pub write_answer : ℕ → Write → Answer
+write_answer to Write.Nobody = Answer.NoAnswer to
+write_answer to Write.Legacy = Answer.Done
+write_answer to Write.Devices = Answer.Done
+
+-- the header of a read is acknowledged
+abbrev pub is_read_acknowledged : Read → Bool
+is_read_acknowledged Read.Nobody = false
+is_read_acknowledged _ = true
+
+-- the header of a write is acknowledged
+abbrev pub is_write_acknowledged : Write → Bool
+is_write_acknowledged Write.Nobody = false
+is_write_acknowledged _ = true
+
+-- a legacy target stands at the address
+abbrev pub HasLegacy : State → ℕ → Type 0
+HasLegacy st a = (target : LegacyTarget) × (legacy_target_at st a ≡ Some target)
+
+-- somebody answers there: a legacy target, or a device that isn't lost
+abbrev pub AnyAnswers : State → ℕ → Lost → Type 0
+AnyAnswers st a lost = HasLegacy st a ⊎ SomeLeftAt st a lost
+
+-- a device at the address that isn't lost has 0 in this bit of register k: it pulls the line low
+abbrev pub PullsLow : State → ℕ → Lost → ℕ → ℕ → Type 0
+PullsLow st a lost k bit = (s : ℕ) × (d : Device) × IsTargetAt st a s d × (lost s ≡ false) × (bit_at (slice_index d.registers k) bit ≡ 0)
+
+-- bytes as devices at the address drive them, the first bit of all at bit `first` of the frame: of each register eight
+-- bits, the most significant first, and a T; a bit is read as 0 exactly where a device pulls the line low
+abbrev pub AreDriven : State → ℕ → CutList → ℕ → List ℕ → Type 0
+AreDriven st a cuts first bytes =
+    (k j : ℕ) → k < REGISTERS → j < 8 → (bit_at (slice_index bytes k) (7 - j) ≡ 0) ↔ PullsLow st a (lost_by cuts (first + 9 * k + j)) k (7 - j)
+
+-- whose bytes were read, and how: a legacy target's registers, or where none stands what the devices drive
+abbrev pub IsReadAs : State → ℕ → CutList → ℕ → Read → Type 0
+IsReadAs st a cuts first Read.Nobody = ⊤
+IsReadAs st a cuts first (Read.Legacy bytes) = (target : LegacyTarget) × (legacy_target_at st a ≡ Some target) × (bytes ≡ target.registers)
+IsReadAs st a cuts first (Read.Ended bytes) = (legacy_target_at st a ≡ None) × AreDriven st a cuts first bytes
+IsReadAs st a cuts first (Read.Torn bytes) = (legacy_target_at st a ≡ None) × AreDriven st a cuts first bytes
+
+-- who took the bytes of a write: a legacy target, or where none stands devices
+abbrev pub IsWrittenBy : State → ℕ → Write → Type 0
+IsWrittenBy st a Write.Nobody = legacy_target_at st a ≡ None
+IsWrittenBy st a Write.Legacy = HasLegacy st a
+IsWrittenBy st a Write.Devices = legacy_target_at st a ≡ None

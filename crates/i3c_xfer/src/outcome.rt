@@ -1,0 +1,102 @@
+ghost use Rattle.std.specs.Prelude.{◌≡◌, ◌≤◌, length};
+ghost use Rattle.i3c_base.specs.declared.device.TheConstants.{REGISTERS as REGISTER_COUNT};
+ghost use Rattle.i3c_base.specs.Frames.{read_bits, write_bits};
+
+use i3c_base::{Addr7, Answer, REGISTERS};
+
+/// The bits of a word.
+const WORD_BITS: u16 = 9;
+
+/// How many bits a private transfer has up to its target's acknowledgement: a header.
+pub(crate) const ACK_BITS: u16 = 9;
+
+/// How many bits a private read has that is acknowledged: a header, and a word for each register.
+pub(crate) const READ_BITS: u16 = ACK_BITS + WORD_BITS * REGISTERS as u16;
+
+/// What a private read came to (I3C Basic 5.1.2.2).
+#[derive(Clone, Copy, Debug, PartialEq, Eq)]
+pub enum Read {
+    /// Nobody acknowledged the header.
+    Nobody,
+    /// The registers of a legacy target.
+    Legacy([u8; REGISTERS]),
+    /// The registers of the devices at the address. They ended: the last T was read as 0.
+    Ended([u8; REGISTERS]),
+    /// These bytes were read, and nobody was left to end them: the last T was read as 1.
+    Torn([u8; REGISTERS]),
+}
+
+/// What a private write came to (I3C Basic 5.1.2.2).
+#[derive(Clone, Copy, Debug, PartialEq, Eq)]
+pub enum Write {
+    /// Nobody acknowledged the header.
+    Nobody,
+    /// A legacy target acknowledged it.
+    Legacy,
+    /// The devices at the address acknowledged it.
+    Devices,
+}
+
+impl Read {
+    ghost use Rattle.std.specs.Prelude.{◌≡◌};
+    ghost use Rattle.i3c_xfer.specs.Transfers.{read_answer};
+
+    /// The answer of a read from this address.
+    pub fn answer(&self, to: Addr7) -> Answer
+        ensures { result ≡ read_answer to self.now }
+    {
+        match self {
+            Read::Nobody => Answer::NoAnswer(to),
+            Read::Legacy(bytes) | Read::Ended(bytes) => Answer::Bytes(*bytes),
+            Read::Torn(_) => Answer::NoEnd,
+        }
+    }
+}
+
+impl Write {
+    ghost use Rattle.std.specs.Prelude.{◌≡◌};
+    ghost use Rattle.i3c_xfer.specs.Transfers.{is_write_acknowledged, write_answer};
+
+    /// The answer of a write to this address.
+    pub fn answer(&self, to: Addr7) -> Answer
+        ensures { result ≡ write_answer to self.now }
+    {
+        match self {
+            Write::Nobody => Answer::NoAnswer(to),
+            Write::Legacy | Write::Devices => Answer::Done,
+        }
+    }
+
+    /// Whether somebody acknowledged the header.
+    pub(crate) fn is_acknowledged(&self) -> bool
+        ensures { result ≡ is_write_acknowledged self.now }
+    {
+        match self {
+            Write::Nobody => false,
+            Write::Legacy | Write::Devices => true,
+        }
+    }
+}
+
+/// The bits of a private read with this answer: a header, and after its ACK sixteen words.
+pub fn read_bits(answer: &Answer) -> u16
+    ensures { result ≡ read_bits answer.now }
+{
+    match answer {
+        Answer::NoAnswer(_) => ACK_BITS,
+        Answer::Done | Answer::Bytes(_) | Answer::NoEnd => READ_BITS,
+    }
+}
+
+/// The bits of a private write of these bytes with this answer: a header, and after its ACK a word for each byte.
+pub fn write_bits(bytes: &[u8], answer: &Answer) -> u16
+    requires { length bytes.now ≤ REGISTER_COUNT }
+    ensures { result ≡ write_bits bytes.now answer.now }
+{
+    match answer {
+        Answer::NoAnswer(_) => ACK_BITS,
+        Answer::Done | Answer::Bytes(_) | Answer::NoEnd => {
+            ACK_BITS + WORD_BITS * bytes.len() as u16
+        }
+    }
+}
