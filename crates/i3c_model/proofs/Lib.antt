@@ -6,6 +6,7 @@ pub mod Hearing
 pub mod Keeping
 pub mod Starts
 pub mod Requests
+pub mod Together
 pub mod Readings
 pub mod Framing
 pub mod Stepping
@@ -14,3 +15,4 @@ pub mod Clearing
 pub mod Counting
 pub mod Announcements
 pub mod Offering
+pub mod Transfers

@@ -13,31 +13,6 @@ use Rattle.i3c_base.specs.Serve.{DrivesByte, IsAnd, IsFront, IsRead, asks, drive
 use Rattle.i3c_step.proofs.Uniqueness.{and_unique}
 use Rattle.i3c_model.proofs.Requests.{drives_in}
 
--- the bytes that the slots below n drive
-abbrev pub DrivenBelow : State → ℕ → ℕ → ℕ → ℕ → Type 0
-DrivenBelow st at n s v = (s < n) × DrivesByte st (Interrupt at) s v
-
-pub and_none : (st : State) (at : ℕ) → IsAnd 255 (DrivenBelow st at 0)
-and_none st at = (lit< tt, λ bit l. (λ h s v d. let none : s < 0 = d.0 in absurd (omega arith), λ h. bit_at_ones 8 bit l))
-
--- one slot more, which drives no byte
-pub and_skip : (st : State) (at n both : ℕ) → IsAnd both (DrivenBelow st at n) → ((v : ℕ) → DrivesByte st (Interrupt at) n v → ⊥) → IsAnd both (DrivenBelow st at (n + 1))
-and_skip st at n both h none = (
-  h.0,
-  λ bit l. (
-    λ b s v d. elim (cases_eq s n) [ inl e ↦ absurd (none v (subst (λ k. DrivesByte st (Interrupt at) k v) e d.1)) | inr ne ↦ (h.1 bit l).0 b s v ((let m = d.0 in omega arith), d.1) ],
-    λ all. (h.1 bit l).1 (λ s v d. all s v ((let m = d.0 in omega arith), d.1)),
-  ),
-)
-
-bits_both : (a b bit : ℕ) → bit_at (bit_and a b) bit ≡ 1 → (bit_at a bit ≡ 1) × (bit_at b bit ≡ 1)
-bits_both a b bit h =
-    let m = bit_at_and a b bit in let la = bit_at-lt a bit in let lb = bit_at-lt b bit in
-    (omega (arith, h, m, la, lb), omega (arith, h, m, la, lb))
-
-both_bits : (a b bit : ℕ) → bit_at a bit ≡ 1 → bit_at b bit ≡ 1 → bit_at (bit_and a b) bit ≡ 1
-both_bits a b bit p q = let m = bit_at_and a b bit in omega (arith, m, p, q)
-
 -- one front in one slot
 one_front : (st : State) (s : ℕ) (v w : Waiting) → IsFront st s v → IsFront st s w → v ≡ w
 one_front st s v w f g =
@@ -45,33 +20,10 @@ one_front st s v w f g =
     let lists : (v ∷ f.1) ≡ (w ∷ g.1) = sym f.3 ∙ (ap (λ (d : Device). d.waiting) same ∙ g.3) in
     cc
 
-one_byte : (st : State) (at s u v : ℕ) → DrivesByte st (Interrupt at) s u → DrivesByte st (Interrupt at) s v → u ≡ v
+pub one_byte : (st : State) (at s u v : ℕ) → DrivesByte st (Interrupt at) s u → DrivesByte st (Interrupt at) s v → u ≡ v
 one_byte st at s u v f g =
     let same : f.1.0 ≡ g.1.0 = one_front st s f.1.0 g.1.0 f.1.1 g.1.1 in
     same_Some u v (sym f.1.2 ∙ (ap (λ (w : Waiting). w.byte) same ∙ g.1.2))
-
--- one slot more, which drives this byte
-pub and_more : (st : State) (at n both byte : ℕ) → byte < 256 → IsAnd both (DrivenBelow st at n) → DrivesByte st (Interrupt at) n byte → IsAnd (bit_and both byte) (DrivenBelow st at (n + 1))
-and_more st at n both byte low h driven = (
-  and_lt 8 both byte h.0 low,
-  λ bit l. (
-    λ b s v d. let p = bits_both both byte bit b in elim (cases_eq s n) [
-      | inl e ↦ subst (λ x. bit_at x bit ≡ 1) (one_byte st at n byte v driven (subst (λ k. DrivesByte st (Interrupt at) k v) e d.1)) p.1
-      | inr ne ↦ (h.1 bit l).0 p.0 s v ((let m = d.0 in omega arith), d.1)
-    ],
-    λ all. both_bits both byte bit ((h.1 bit l).1 (λ s v d. all s v ((let m = d.0 in omega arith), d.1))) (all n byte (omega arith, driven)),
-  ),
-)
-
--- past the last slot nobody drives
-pub and_all : (st : State) (at n both : ℕ) → length st.devices ≤ n → IsAnd both (DrivenBelow st at n) → IsAnd both (DrivesByte st (Interrupt at))
-and_all st at n both past h = (
-  h.0,
-  λ bit l. (
-    λ b s v d. (h.1 bit l).0 b s v ((let m = drives_in st (Interrupt at) s d.0 in omega arith), d),
-    λ all. (h.1 bit l).1 (λ s v d. all s v d.1),
-  ),
-)
 
 -- what is read where no byte is driven, and where one is
 pub read_none : (st : State) (at : ℕ) (lost : Lost) (s : ℕ) (front : Waiting) → ((v : ℕ) → DrivesByte st (Interrupt at) s v → ⊥) → drives st (Interrupt at) s ≡ true → IsFront st s front

@@ -5,6 +5,7 @@ use Rattle.std.specs.Option.{option_copied}
 use Rattle.std.specs.Ordering.{nat_cmp}
 use Rattle.std.specs.BTreeMap.{BTreeMap, Updates, WritesThrough, get}
 use Rattle.std.proofs.lemmas.Bool.{false≢true}
+use Rattle.std.proofs.lemmas.List.{set-get_or}
 use Rattle.std.proofs.lemmas.Option.{none-some}
 use Rattle.i3c_base.specs.declared.requests.Request.{Request}
 use Rattle.i3c_base.specs.declared.range.TheConstants.{ADDRESSES, SLOTS}
@@ -12,6 +13,8 @@ use Rattle.i3c_base.specs.Cutting.{Lost}
 use Rattle.i3c_base.specs.declared.requests.Record.{Record}
 use Rattle.i3c_base.specs.Local.{raise}
 use Rattle.i3c_base.specs.Places.{changed}
+use Rattle.i3c_base.specs.declared.device.LegacyTarget.{LegacyTarget}
+use Rattle.i3c_base.specs.Frames.{legacy_written, overwritten}
 use Rattle.i3c_base.specs.Serve.{asks, drives, emptied, recorded}
 use Rattle.i3c_base.specs.State.{change, Device, Entry, State, device_at, each, entry_at, in_slot, legacy_target_at, raised_at}
 use Rattle.i3c_model.specs.declared.plain.Plain.TheInside.{Inside}
@@ -117,3 +120,32 @@ module _ (p : Inside) (st : State) (seen : state_of p ≡ st) (within : IsWithin
   -- a record appended
   pub recorded_there : (records : Vec Record Global) (r : Record) → records.items ≡ p.records.items ++ r ∷ [] → state_of (record p { records = records }) ≡ recorded r st
   recorded_there records r e = λ t. record (seen t) { records = (e ∙ ap (λ (x : State). x.records ++ r ∷ []) seen) t }
+
+  -- a legacy target is changed
+  low_target : (a : ℕ) (t : LegacyTarget) → Some t ≡ get nat_cmp p.legacy a → a < ADDRESSES
+  low_target a t at = within.statics a (subst IsSome at refl)
+
+  pub within_target : (new : BTreeMap ℕ LegacyTarget) (a : ℕ) (t w : LegacyTarget) → WritesThrough nat_cmp (nat_cmp a) p.legacy w new → Some t ≡ get nat_cmp p.legacy a → IsWithinPlaces (record p { legacy = new })
+  within_target new a t w written at = record {
+    slots = within.slots;
+    statics = below_put ADDRESSES p.legacy new a w within.statics (low_target a t at) (written_puts p.legacy new a t w written at);
+    addresses = within.addresses;
+  }
+
+  pub target_written : (new : BTreeMap ℕ LegacyTarget) (a : ℕ) (t w : LegacyTarget) (bytes : List ℕ) → WritesThrough nat_cmp (nat_cmp a) p.legacy w new → Some t ≡ get nat_cmp p.legacy a → w ≡ record t { registers = overwritten bytes t.registers }
+      → state_of (record p { legacy = new }) ≡ record st { legacy = set st.legacy a (legacy_written bytes (legacy_target_at st a)) }
+  target_written new a t w bytes written at e =
+      let put = written_puts p.legacy new a t w written at in
+      let there : legacy_target_at st a ≡ Some t = target_there a ∙ sym at in
+      let places_are : places_of ADDRESSES new ≡ set st.legacy a (legacy_written bytes (legacy_target_at st a)) =
+      places_put ADDRESSES p.legacy new a (Some w) (low_target a t at) put.1 put.2
+      ∙ (ap (λ (x : State). set x.legacy a (Some w)) seen ∙ (ap (λ x. set st.legacy a (Some x)) e ∙ ap (λ o. set st.legacy a (legacy_written bytes o)) (sym there))) in
+      λ i. record (seen i) { legacy = places_are i }
+
+  -- or there is none to change
+  pub target_absent : (a : ℕ) (bytes : List ℕ) → get nat_cmp p.legacy a ≡ None → st ≡ record st { legacy = set st.legacy a (legacy_written bytes (legacy_target_at st a)) }
+  target_absent a bytes none =
+      let there : legacy_target_at st a ≡ None = target_there a ∙ none in
+      let places_are : st.legacy ≡ set st.legacy a (legacy_written bytes (legacy_target_at st a)) =
+      sym (set-get_or st.legacy a None) ∙ (ap (set st.legacy a) there ∙ ap (λ o. set st.legacy a (legacy_written bytes o)) (sym there)) in
+      λ i. record st { legacy = places_are i }

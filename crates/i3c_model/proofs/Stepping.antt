@@ -9,7 +9,7 @@ use Rattle.i3c_base.specs.Cutting.{Lost as LostDevices}
 use Rattle.i3c_base.specs.Round.{AllHearersLost, AnyHears, IsAddressFor, IsHearer}
 use Rattle.i3c_base.specs.State.{Device, State, IsKept, IsPick, IsPickable, IsUnknown, IsUsable, device_at, entry_at, legacy_target_at}
 use Rattle.i3c_step.specs.declared.events.Event.{Event}
-use Rattle.i3c_step.specs.declared.events.Event.TheVariants.{Attach, AskJoin, AskRole, Disec, DropOff, EndDaa, Enec, HandOver, OpenDaa, Raise, Reset, Round, SendList, Serve}
+use Rattle.i3c_step.specs.declared.events.Event.TheVariants.{Attach, AskJoin, AskRole, Disec, DropOff, EndDaa, Enec, HandOver, OpenDaa, Raise, ReadFrom, Reset, Round, SendList, Serve, WriteTo}
 use Rattle.i3c_step.specs.declared.replies.Refusal.{Refusal}
 use Rattle.i3c_step.specs.declared.replies.Refusal.TheVariants.{NoDevice}
 use Rattle.i3c_step.specs.declared.replies.Reply.{Reply}
@@ -42,6 +42,8 @@ acts_own old (HandOver to cuts) reply new h e = elim h [
 acts_own old (Serve policy cuts) reply new h e = let x : Reply.Served h.0 ≡ Reply.OutOfMemory = sym h.1 ∙ e in cc
 acts_own old (Enec to kinds policy cuts) reply new h e = let x : Reply.Framed h.0 ≡ Reply.OutOfMemory = sym h.1 ∙ e in cc
 acts_own old (Disec to kinds policy cuts) reply new h e = let x : Reply.Framed h.0 ≡ Reply.OutOfMemory = sym h.1 ∙ e in cc
+acts_own old (ReadFrom a policy cuts) reply new h e = let x : Reply.Framed h.0 ≡ Reply.OutOfMemory = sym h.1 ∙ e in cc
+acts_own old (WriteTo a bytes policy cuts) reply new h e = let x : Reply.Framed h.0 ≡ Reply.OutOfMemory = sym h.1 ∙ e in cc
 acts_own old (OpenDaa cuts) reply new h e = let x : Reply.Opened h.0 ≡ Reply.OutOfMemory = sym h.1 ∙ e in cc
 acts_own old (Round cuts) reply new h e = let x : Reply.Round h.0 ≡ Reply.OutOfMemory = sym h.1 ∙ e in cc
 acts_own old EndDaa reply new h e = let x : Reply.Ended ≡ Reply.OutOfMemory = sym h.0 ∙ e in cc

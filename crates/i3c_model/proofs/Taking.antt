@@ -180,23 +180,22 @@ serve_follows old policy cuts choice served last new given sent frame = follows 
         (frame.mid, torn_later old policy cuts (frame.word + 0) last frame.mid (omega arith) frame.serves)
 
 -- enabling and disabling
-done_from : (answer : Answer) → of_answer answer ≡ Some Heard → answer ≡ Answer.Done
-done_from Answer.Done e = refl
-done_from (Answer.NoAnswer a) e = cc
-done_from (Answer.Bytes bytes) e = absurd (none-some Heard e)
-done_from Answer.NoEnd e = absurd (none-some Heard e)
-
-no_answer_from : (answer : Answer) → of_answer answer ≡ Some Silent → (a : ℕ) × (answer ≡ Answer.NoAnswer a)
+pub no_answer_from : (answer : Answer) → of_answer answer ≡ Some Silent → (a : ℕ) × (answer ≡ Answer.NoAnswer a)
 no_answer_from (Answer.NoAnswer a) e = (a, refl)
 no_answer_from Answer.Done e = cc
-no_answer_from (Answer.Bytes bytes) e = absurd (none-some Silent e)
-no_answer_from Answer.NoEnd e = absurd (none-some Silent e)
+no_answer_from (Answer.Bytes bytes) e = cc
+no_answer_from Answer.NoEnd e = cc
 
-never_lost : (answer : Answer) → of_answer answer ≡ Some Lost → ⊥
-never_lost Answer.Done e = cc
-never_lost (Answer.NoAnswer a) e = cc
-never_lost (Answer.Bytes bytes) e = none-some Lost e
-never_lost Answer.NoEnd e = none-some Lost e
+never_lost : (answer : Answer) → (answer ≡ Answer.Done) ⊎ ((a : ℕ) × (answer ≡ Answer.NoAnswer a)) → of_answer answer ≡ Some Lost → ⊥
+never_lost answer known e = elim known [
+  | inl h ↦ let x : Some Heard ≡ Some Lost = sym (ap of_answer h) ∙ e in cc
+  | inr h ↦ let x : Some Silent ≡ Some Lost = sym (ap of_answer h.1) ∙ e in cc
+]
+
+rekinds_answers : (to : Option ℕ) (f : KindSet → KindSet) (answer : Answer) (lost : LostDevices) (mid done : State) → Rekinds to f answer lost mid done
+    → (answer ≡ Answer.Done) ⊎ ((a : ℕ) × (answer ≡ Answer.NoAnswer a))
+rekinds_answers None f answer lost mid done h = inl h.0
+rekinds_answers (Some a) f answer lost mid done h = elim h [ inl x ↦ inl x.0 | inr x ↦ inr (a, x.0) ]
 
 done≢no_answer : (a : ℕ) → Answer.Done ≡ Answer.NoAnswer a → ⊥
 done≢no_answer a e = cc
@@ -222,7 +221,7 @@ bits_most old mid done (Some a) f choice (Answer.NoAnswer b) other lost other_lo
   | inr h ↦ subst (λ (x : Answer). kinds_bits (Some a) x ≤ 18) (sym h.0) (omega arith)
 ]
 
-word_unique : (old : State) (served : Served) (m n : ℕ) → IsWordBits old served m → IsWordBits old served n → m ≡ n
+pub word_unique : (old : State) (served : Served) (m n : ℕ) → IsWordBits old served m → IsWordBits old served n → m ≡ n
 word_unique old Served.Quiet m n h k = h ∙ sym k
 word_unique old Served.Refused m n h k = h ∙ sym k
 word_unique old Served.Joining m n h k = h ∙ sym k
@@ -274,18 +273,20 @@ module _ (old : State) (to : Option ℕ) (f : KindSet → KindSet) (policy : Fix
 
   heard_any : (a : ℕ) → to ≡ Some a → MayStandFor Comes of_own_part Heard → AnyAt old a
   heard_any a is l =
-      let did = done_from l.2.0.answer (sym (ap (stands_for of_own_part) l.2.1) ∙ l.3) in
+      let heard : of_answer l.2.0.answer ≡ Some Heard = sym (ap (stands_for of_own_part) l.2.1) ∙ l.3 in
       let ends = l.2.2 in
       let last = ends.word + (header_bits l.2.0.served + kinds_bits to l.2.0.answer) in
       let own = subst (λ x. Rekinds x f l.2.0.answer (lost_by cuts last) ends.mid ends.done) is ends.own in
-      elim own [ inl h ↦ any_kept old ends.mid a (serves_keeps old policy (lost_by cuts last) l.2.0.served ends.mid ends.serves) h.1 | inr h ↦ absurd (done≢no_answer a (sym did ∙ h.0)) ]
+      elim own [ inl h ↦ any_kept old ends.mid a (serves_keeps old policy (lost_by cuts last) l.2.0.served ends.mid ends.serves) h.1 | inr h ↦ absurd (let x : Some Silent ≡ Some Heard = sym (ap of_answer h.0) ∙ heard in heard≢silent cc) ]
 
   lost_never : MayStandFor Comes of_own_part Lost → ⊥
-  lost_never l = never_lost l.2.0.answer (sym (ap (stands_for of_own_part) l.2.1) ∙ l.3)
+  lost_never l = never_lost l.2.0.answer (rekinds_answers to f l.2.0.answer _ l.2.2.mid l.2.2.done l.2.2.own) (sym (ap (stands_for of_own_part) l.2.1) ∙ l.3)
 
   own_taken : (x : Answer) → answer ≡ x → (o : Option ℕ) → to ≡ o → MatchOption (of_answer x) ⊤ (IsTaken (MayStandFor Comes of_own_part) choice)
-  own_taken (Answer.Bytes bytes) e o is = tt
-  own_taken Answer.NoEnd e o is = tt
+  own_taken (Answer.Bytes bytes) e o is =
+      absurd (elim (rekinds_answers to f answer _ frame.mid frame.done frame.own) [ inl h ↦ (let x : Answer.Bytes bytes ≡ Answer.Done = sym e ∙ h in cc) | inr h ↦ (let x : Answer.Bytes bytes ≡ Answer.NoAnswer h.0 = sym e ∙ h.1 in cc) ])
+  own_taken Answer.NoEnd e o is =
+      absurd (elim (rekinds_answers to f answer _ frame.mid frame.done frame.own) [ inl h ↦ (let x : Answer.NoEnd ≡ Answer.Done = sym e ∙ h in cc) | inr h ↦ (let x : Answer.NoEnd ≡ Answer.NoAnswer h.0 = sym e ∙ h.1 in cc) ])
   own_taken Answer.Done e None is = taken_heard (MayStandFor Comes of_own_part) choice (λ c. lost_never) (λ c. never_none is)
   own_taken Answer.Done e (Some a) is = taken_heard (MayStandFor Comes of_own_part) choice (λ c. lost_never)
       (λ c l. as_done c (silent_all a is l))

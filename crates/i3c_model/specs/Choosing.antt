@@ -1,13 +1,14 @@
 -- What a choice decides where drop-offs leave open what comes of an event.
-use Rattle.std.specs.Prelude.{◌≡◌, ℕ, ◌+◌, ◌≤◌, Option, Some, None, MatchOption, option_and_then, ⊤}
+use Rattle.std.specs.Prelude.{◌≡◌, ℕ, ◌+◌, ◌≤◌, ◌⊎◌, Option, Some, None, MatchOption, option_and_then, ⊤}
 use Rattle.i3c_base.specs.declared.answers.Answer.{Answer}
 use Rattle.i3c_base.specs.declared.answers.RoundReply.{RoundReply}
 use Rattle.i3c_base.specs.declared.requests.Fixed.{Fixed}
 use Rattle.i3c_base.specs.declared.requests.Served.{Served}
-use Rattle.i3c_base.specs.Cutting.{CutList, Lost as LostDevices}
+use Rattle.i3c_base.specs.declared.device.LegacyTarget.{LegacyTarget}
+use Rattle.i3c_base.specs.Cutting.{CutList, Lost as LostDevices, lost_by}
 use Rattle.i3c_base.specs.Frames.{AllLostAt, AnyAt, Hands, IsWillingAt, KeepsRole}
 use Rattle.i3c_base.specs.Serve.{Frame, Serves, header_bits, refuse_all}
-use Rattle.i3c_base.specs.State.{State}
+use Rattle.i3c_base.specs.State.{State, legacy_target_at}
 use Rattle.i3c_step.specs.declared.events.Event.{Event}
 use Rattle.i3c_step.specs.declared.events.Event.TheVariants.{HandOver}
 use Rattle.i3c_step.specs.declared.replies.Reply.{Reply}
@@ -28,8 +29,9 @@ of_served _ = None
 
 abbrev pub of_answer : Answer → Option Choice
 of_answer Answer.Done = Some Heard
+of_answer (Answer.Bytes bytes) = Some Heard
+of_answer Answer.NoEnd = Some Lost
 of_answer (Answer.NoAnswer a) = Some Silent
-of_answer _ = None
 
 abbrev pub of_round : RoundReply → Option Choice
 of_round (RoundReply.Assigned a i) = Some Heard
@@ -77,6 +79,17 @@ abbrev pub AnswersAsChosen : State → Option ℕ → LostDevices → Choice →
 AnswersAsChosen st None lost choice answer = ⊤
 AnswersAsChosen st (Some a) lost choice Answer.Done = choice ≡ Silent → ¬ AllLostAt st a lost
 AnswersAsChosen st (Some a) lost choice _ = ¬ (choice ≡ Silent) → ¬ AnyAt st a
+
+-- nor is the header of a write, where no legacy target is there
+abbrev pub WritesAsChosen : State → ℕ → LostDevices → Choice → Answer → Type 0
+WritesAsChosen st a lost choice answer = ((target : LegacyTarget) × (legacy_target_at st a ≡ Some target)) ⊎ AnswersAsChosen st (Some a) lost choice answer
+
+-- data that is read doesn't end unless silence is chosen and may be; the header isn't acknowledged where nobody is there,
+-- or that is chosen
+abbrev pub ReadsAsChosen : State → ℕ → CutList → ℕ → Choice → Answer → Type 0
+ReadsAsChosen st a cuts begin choice (Answer.Bytes bytes) = ⊤
+ReadsAsChosen st a cuts begin choice Answer.NoEnd = choice ≡ Silent → ¬ AllLostAt st a (lost_by cuts (begin + 9))
+ReadsAsChosen st a cuts begin choice _ = ¬ (choice ≡ Silent) → ¬ AnyAt st a
 
 -- what a handover may leave by each choice: it is granted, or breaks off with the target's byte, or ends with its header
 abbrev pub HandsBy : State → ℕ → CutList → Choice → State → Type 0

@@ -1,12 +1,13 @@
 -- Whom a command means, what it may be answered, who contends in a round, and who takes the role.
-use Rattle.std.specs.Prelude.{◌≡◌, ℕ, ◌<◌, Bool, true, false, ◌⊎◌, Option, Some, None}
+use Rattle.std.specs.Prelude.{◌≡◌, ℕ, ◌+◌, ◌<◌, Bool, true, false, ◌⊎◌, List, Option, Some, None, if◌then◌else◌}
 use Rattle.i3c_base.specs.declared.answers.Answer.{Answer}
 use Rattle.i3c_base.specs.declared.identity.Identity.{Identity}
-use Rattle.i3c_base.specs.Cutting.{Lost}
-use Rattle.i3c_base.specs.Frames.{AllLostAt, AnyAt, IsWillingAt}
+use Rattle.i3c_base.specs.declared.device.LegacyTarget.{LegacyTarget}
+use Rattle.i3c_base.specs.Cutting.{CutList, Lost, lost_by}
+use Rattle.i3c_base.specs.Frames.{AllLostAt, AnyAt, DrivesRegister, IsReadOf, IsWillingAt, NobodyLeftAt, overwritten, reaches}
 use Rattle.i3c_base.specs.Numbers.{IsBelow}
 use Rattle.i3c_base.specs.Round.{IsHearer}
-use Rattle.i3c_base.specs.State.{Device, State, has_address}
+use Rattle.i3c_base.specs.State.{Device, State, IsTargetAt, has_address, legacy_target_at}
 use Rattle.i3c_model.specs.declared.plain.Choice.{Choice}
 use Rattle.i3c_model.specs.declared.plain.Choice.TheVariants.{Silent}
 
@@ -19,6 +20,37 @@ is_meant (Some a) d = has_address a d
 abbrev pub MayAnswer : State → Option ℕ → Lost → Answer → Type 0
 MayAnswer st None lost answer = answer ≡ Answer.Done
 MayAnswer st (Some a) lost answer = ((answer ≡ Answer.Done) × AnyAt st a) ⊎ ((answer ≡ Answer.NoAnswer a) × AllLostAt st a lost)
+
+-- the answers that a transfer may have which isn't refused: a write, whose header ends with `lost`
+abbrev pub MayWrite : State → ℕ → Lost → Answer → Type 0
+MayWrite st a lost answer =
+    ((answer ≡ Answer.Done) × (((target : LegacyTarget) × (legacy_target_at st a ≡ Some target)) ⊎ AnyAt st a)) ⊎ ((answer ≡ Answer.NoAnswer a) × NobodyLeftAt st a lost)
+
+-- and a read, whose own part begins behind a bit
+abbrev pub MayRead : State → ℕ → CutList → ℕ → Answer → Type 0
+MayRead st a cuts begin (Answer.Bytes bytes) = IsReadOf st a (lost_by cuts (begin + 153)) bytes
+MayRead st a cuts begin Answer.NoEnd = NobodyLeftAt st a (lost_by cuts (begin + 153)) × AnyAt st a
+MayRead st a cuts begin (Answer.NoAnswer b) = (b ≡ a) × NobodyLeftAt st a (lost_by cuts (begin + 9))
+MayRead st a cuts begin Answer.Done = ⊥
+
+-- slot s has the address, isn't lost, and has v in register k
+abbrev pub DrivesLeft : State → ℕ → Lost → ℕ → ℕ → ℕ → Type 0
+DrivesLeft st a lost k s v = DrivesRegister st a k s v × (lost s ≡ false)
+
+-- these are the registers of the device in slot s, which has the address and isn't lost
+pub record IsGivenBy (st : State) (a : ℕ) (lost : Lost) (s : ℕ) (registers : List ℕ) : Type 0 where
+  pub device : Device
+  pub there : IsTargetAt st a s device
+  pub left : lost s ≡ false
+  pub value : registers ≡ device.registers
+
+-- no such device is in slot s
+abbrev pub NoneGives : State → ℕ → Lost → ℕ → Type 0
+NoneGives st a lost s = (d : Device) → IsTargetAt st a s d → lost s ≡ false → ⊥
+
+-- a device after a write to the address
+abbrev pub overwriting : State → ℕ → List ℕ → ℕ → Device → Device
+overwriting st a bytes s d = if reaches st (Some a) s d then record d { registers = overwritten bytes d.registers } else d
 
 -- each willing device at the address is lost (also where there is none)
 abbrev pub NoHeir : State → ℕ → Lost → Type 0

@@ -9,7 +9,7 @@ use Rattle.i3c_base.specs.Round.{AnyPickable, IsWinner}
 use Rattle.i3c_base.specs.Serve.{IsFirst, verdict}
 use Rattle.i3c_base.specs.State.{State}
 use Rattle.i3c_step.specs.declared.events.Event.{Event}
-use Rattle.i3c_step.specs.declared.events.Event.TheVariants.{Attach, DropOff, Raise, AskJoin, AskRole, Serve, Enec, Disec, Reset, SendList, OpenDaa, Round, EndDaa, HandOver}
+use Rattle.i3c_step.specs.declared.events.Event.TheVariants.{Attach, DropOff, Raise, AskJoin, AskRole, Serve, Enec, Disec, Reset, SendList, ReadFrom, WriteTo, OpenDaa, Round, EndDaa, HandOver}
 use Rattle.i3c_step.specs.Step.{checks, first_refusal}
 
 -- an interrupt comes first and is accepted, so a record may be due
@@ -29,6 +29,8 @@ Stores st (Enec to kinds policy cuts) = IsRecordDue st policy
 Stores st (Disec to kinds policy cuts) = IsRecordDue st policy
 Stores st (Reset policy cuts) = IsRecordDue st policy
 Stores st (SendList policy cuts) = IsRecordDue st policy
+Stores st (ReadFrom a policy cuts) = IsRecordDue st policy
+Stores st (WriteTo a bytes policy cuts) = IsRecordDue st policy
 Stores st (Round cuts) = MayAssign st cuts
 Stores st (DropOff s) = ⊥
 Stores st (AskJoin s) = ⊥

@@ -1,5 +1,5 @@
-ghost use Rattle.std.specs.Prelude.{◌≡◌, ◌↔◌, ◌++◌, ◌∷◌, [], false, true, length, slice_get, IfSome, IsTrue, MatchOption, OnErr, OnOk, Some};
-ghost use Rattle.i3c_base.specs.Frames.{changed_kinds, unaddressed_device};
+ghost use Rattle.std.specs.Prelude.{◌≡◌, ◌≤◌, ◌↔◌, ◌++◌, ◌∷◌, [], false, true, length, slice_get, IfSome, IsTrue, MatchOption, OnErr, OnOk, Some};
+ghost use Rattle.i3c_base.specs.Frames.{changed_kinds, overwritten, unaddressed_device};
 ghost use Rattle.i3c_base.specs.Round.{hears, unhearing, winner};
 ghost use Rattle.i3c_base.specs.Serve.{asks, without, without_role};
 ghost use Rattle.i3c_base.specs.State.{attached, has_address};
@@ -8,6 +8,7 @@ ghost use Rattle.i3c_model.specs.Meaning.{is_meant};
 
 use crate::faults::OutOfMemory;
 use crate::kinds::PlainKinds;
+use crate::transferring::overwrite;
 use i3c_base::{Addr7, Bcr, Change, Dcr, Identity, Kinds, REGISTERS, Request, Setup, Waiting};
 use std::alloc::Global;
 use std::marker::Model;
@@ -239,6 +240,21 @@ impl PlainDevice {
         ensures { self.new ≡ record self.old { kinds = changed_kinds change kinds self.old.kinds } }
     {
         self.kinds.change(change, kinds);
+    }
+
+    // Its registers.
+    pub(crate) fn registers(&self) -> [u8; REGISTERS]
+        ensures { result ≡ self.now.registers }
+    {
+        self.registers
+    }
+
+    // Its first registers are replaced by these bytes.
+    pub(crate) fn overwrite(&mut self, bytes: &[u8])
+        requires short { length bytes.now ≤ 16 }
+        ensures { self.new ≡ record self.old { registers = overwritten bytes.now self.old.registers } }
+    {
+        overwrite(&mut self.registers, bytes);
     }
 
     // A session is opened, which it hears if it has no address.

@@ -26,7 +26,7 @@ impl Plain {
     }
 
     // Whether some such device isn't lost by this bit.
-    fn is_any_left_at(&self, address: Addr7, cuts: &Cuts, last: u16) -> bool
+    pub(crate) fn is_any_left_at(&self, address: Addr7, cuts: &Cuts, last: u16) -> bool
         ensures { IsTrue result ↔ SomeLeftAt self.now address (lost_by cuts.now last) }
     {
         let active = self.active;
@@ -37,7 +37,13 @@ impl Plain {
 
     // The answer of a command to these, whose header to one address ends with this bit: nobody acknowledges that header
     // where nobody is there, or where that is chosen and nobody is left.
-    fn answer_of(&self, to: &Option<Addr7>, cuts: &Cuts, header_end: u16, choice: Choice) -> Answer
+    pub(crate) fn answer_of(
+        &self,
+        to: &Option<Addr7>,
+        cuts: &Cuts,
+        header_end: u16,
+        choice: Choice,
+    ) -> Answer
         ensures lawful { MayAnswer self.now to.now (lost_by cuts.now header_end) result }
         ensures chosen { AnswersAsChosen self.now to.now (lost_by cuts.now header_end) choice result }
     {

@@ -18,6 +18,7 @@ mod reading;
 mod refusals;
 mod serving;
 mod starting;
+mod transferring;
 
 pub use faults::{OutOfMemory, PlainFault};
 pub use plain::{Choice, Plain};

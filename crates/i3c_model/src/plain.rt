@@ -10,14 +10,14 @@ use std::marker::Model;
 /// lawful one of the three, and where nothing is open it has no effect.
 #[derive(Clone, Copy, Debug, PartialEq, Eq)]
 pub enum Choice {
-    /// What a lost device sent last was heard: an interrupt is recorded, an identity gets its address, a command to one
-    /// address is done.
+    /// What a lost device sent last was heard: an interrupt is recorded, an identity gets its address, a command or a
+    /// write to one address is done.
     Heard,
     /// It was lost on the way: a mandatory byte is torn, an address that is assigned reaches nobody, the byte that takes
-    /// the role breaks off.
+    /// the role breaks off, the data that is read doesn't end.
     Lost,
-    /// It sent nothing: the header of a round, of a command to one address, or of the offer of the role isn't
-    /// acknowledged.
+    /// It sent nothing: the header of a round, of a command or a transfer to one address, or of the offer of the role
+    /// isn't acknowledged.
     Silent,
 }
 
@@ -55,7 +55,7 @@ impl Model for Plain {
 impl Plain {
     ghost use Rattle.std.specs.Prelude.{◌≡◌, ◌≢◌, ◌↔◌, IfOk, IsTrue, None, OnErr, length, is_some, option_and_then, option_map};
     ghost use Rattle.i3c_base.specs.declared.range.TheConstants.{SLOTS as SLOT_COUNT};
-    ghost use Rattle.i3c_base.specs.State.{device_at, entry_at, IsPresent};
+    ghost use Rattle.i3c_base.specs.State.{device_at, entry_at, legacy_target_at, IsPresent};
     ghost use Rattle.i3c_step.specs.Step.{Acts, Step, checks, first_refusal};
     ghost use Rattle.i3c_step.specs.declared.replies.Reply.{Reply};
     ghost use Rattle.i3c_model.specs.Choosing.{EndsAsChosen, Follows};
@@ -137,6 +137,10 @@ impl Plain {
             }
             Event::Reset(policy, cuts) => self.reset(policy, cuts, choice),
             Event::SendList(policy, cuts) => self.send_list(policy, cuts, choice),
+            Event::ReadFrom(at, policy, cuts) => self.read(*at, policy, cuts, choice),
+            Event::WriteTo(at, bytes, policy, cuts) => {
+                self.write(*at, bytes.as_slice(), policy, cuts, choice)
+            }
             Event::HandOver(to, cuts) => Ok(self.hand_over(*to, cuts, choice)),
             Event::OpenDaa(cuts) => Ok(Reply::Opened(self.open_daa(cuts))),
             Event::Round(cuts) => Ok(Reply::Round(self.round(cuts, choice)?)),
@@ -168,6 +172,13 @@ impl Plain {
         ensures { option_map (λ e. e.now) result ≡ entry_at self.now address }
     {
         self.given.get(&address)
+    }
+
+    // The legacy target at a static address, if there is one.
+    pub(crate) fn target(&self, address: Addr7) -> Option<&LegacyTarget>
+        ensures { option_map (λ t. t.now) result ≡ legacy_target_at self.now address }
+    {
+        self.legacy.get(&address)
     }
 
     // Whether an address was given.

@@ -1,13 +1,13 @@
 use crate::plain::Plain;
 use i3c_base::{Addr7, Cuts, Slot, WAITING};
-use i3c_step::{Event, Refusal};
+use i3c_step::{Event, Refusal, TRANSFER};
 
 impl Plain {
     ghost use Rattle.std.specs.Prelude.{◌≡◌, ◌++◌};
     ghost use Rattle.i3c_base.specs.declared.device.Setup.{Setup};
     ghost use Rattle.i3c_base.specs.Frames.{active_has};
     ghost use Rattle.i3c_base.specs.State.{entry_at};
-    ghost use Rattle.i3c_step.specs.Step.{checks, first_refusal, frame_checks, is_no_controller, is_no_target, target_checks};
+    ghost use Rattle.i3c_step.specs.Step.{checks, first_refusal, frame_checks, is_no_controller, is_no_partner, is_no_target, read_checks, target_checks, write_checks};
     ghost use Rattle.i3c_step.specs.declared.events.Event.{Event as EventValue};
 
     // Why an event is refused, if it is.
@@ -25,6 +25,10 @@ impl Plain {
             Event::Disec(to, _, _, cuts) => self.command_refusal(to, cuts),
             Event::Reset(_, cuts) => self.frame_refusal(cuts),
             Event::SendList(_, cuts) => self.frame_refusal(cuts),
+            Event::ReadFrom(at, _, cuts) => self.read_refusal(*at, cuts),
+            Event::WriteTo(at, bytes, _, cuts) => {
+                self.write_refusal(*at, bytes.as_slice(), cuts)
+            }
             Event::HandOver(to, cuts) => self.hand_refusal(*to, cuts),
             Event::OpenDaa(cuts) => self.frame_refusal(cuts),
             Event::Round(cuts) => self.round_refusal(cuts),
@@ -159,6 +163,43 @@ impl Plain {
         ensures { result ≡ is_no_target self.now address }
     {
         !self.is_given(address) || self.is_own(address)
+    }
+
+    // Why a read isn't sent.
+    fn read_refusal(&self, at: Addr7, cuts: &Cuts) -> Option<Refusal>
+        ensures { result ≡ first_refusal (frame_checks self.now cuts.now ++ read_checks self.now at) }
+    {
+        if let Some(refusal) = self.frame_refusal(cuts) {
+            return Some(refusal);
+        }
+        if self.is_no_partner(at) {
+            return Some(Refusal::NoAnswer(at));
+        }
+        None
+    }
+
+    // Why a write of these bytes isn't sent.
+    fn write_refusal(&self, at: Addr7, bytes: &[u8], cuts: &Cuts) -> Option<Refusal>
+        ensures { result ≡ first_refusal (frame_checks self.now cuts.now ++ write_checks self.now at bytes.now) }
+    {
+        if let Some(refusal) = self.frame_refusal(cuts) {
+            return Some(refusal);
+        }
+        if bytes.len() > TRANSFER {
+            return Some(Refusal::TooLong);
+        }
+        if self.is_no_partner(at) {
+            return Some(Refusal::NoAnswer(at));
+        }
+        None
+    }
+
+    // Whether there is nobody for a transfer: no legacy target has the address, nor any device of the table but the
+    // active controller.
+    fn is_no_partner(&self, address: Addr7) -> bool
+        ensures { result ≡ is_no_partner self.now address }
+    {
+        self.target(address).is_none() && self.is_no_target(address)
     }
 
     // Whether an address is the active controller's own.

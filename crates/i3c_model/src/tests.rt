@@ -2,13 +2,14 @@
 // may be run through any.
 
 use crate::{Choice, Plain, PlainFault};
+use arrayvec::ArrayVec;
 use i3c_base::{
-    Addr7, Answer, Bcr, Cuts, Dcr, Fixed, Identity, Kinds, Lvr, Pid, Record, RoundReply, Served,
-    Setup, Slot, Verdict,
+    Addr7, Answer, Bcr, Cuts, Dcr, Fixed, Identity, Kinds, Lvr, Pid, REGISTERS, Record, RoundReply,
+    Served, Setup, Slot, Verdict,
 };
 use i3c_bus::{Outcome, run_events};
 use i3c_legacy::Legacies;
-use i3c_step::{Event, Framed, Refusal, Reply};
+use i3c_step::{Event, Framed, Refusal, Reply, WRITE_KEPT};
 use std::alloc::Global;
 use std::process::Abort;
 use std::test::Fail;
@@ -135,6 +136,7 @@ fn is_uncut(event: &Event) -> bool {
         Event::Serve(_, cuts) | Event::OpenDaa(cuts) | Event::Round(cuts) => cuts.is_empty(),
         Event::Enec(_, _, _, cuts) | Event::Disec(_, _, _, cuts) => cuts.is_empty(),
         Event::Reset(_, cuts) | Event::SendList(_, cuts) => cuts.is_empty(),
+        Event::ReadFrom(_, _, cuts) | Event::WriteTo(_, _, _, cuts) => cuts.is_empty(),
         Event::HandOver(_, cuts) => cuts.is_empty(),
         _ => true,
     }
@@ -222,6 +224,24 @@ fn round() -> Event {
 fn disable_at(address: u8, cuts: Cuts) -> Result<Event, Fail> {
     let to = Some(Addr7::new(address)?);
     Ok(Event::Disec(to, Kinds::INTERRUPT, all(Verdict::Accept), cuts))
+}
+
+// A read and a write, in frames that accept each request.
+fn read_cut(address: u8, cuts: Cuts) -> Result<Event, Fail> {
+    Ok(Event::ReadFrom(Addr7::new(address)?, all(Verdict::Accept), cuts))
+}
+
+fn read(address: u8) -> Result<Event, Fail> {
+    read_cut(address, Cuts::new())
+}
+
+fn write_cut(address: u8, bytes: &[u8], cuts: Cuts) -> Result<Event, Fail> {
+    let kept: ArrayVec<u8, WRITE_KEPT> = ArrayVec::try_from(bytes)?;
+    Ok(Event::WriteTo(Addr7::new(address)?, kept, all(Verdict::Accept), cuts))
+}
+
+fn write(address: u8, bytes: &[u8]) -> Result<Event, Fail> {
+    write_cut(address, bytes, Cuts::new())
 }
 
 fn assigned(address: u8, bits: u64) -> Result<Reply, Fail> {
@@ -633,3 +653,4 @@ fn raises_are_refused(rt: HostRuntime) -> Result<(), Fail> {
 
 mod cuts;
 mod roles;
+mod transfers;

@@ -79,8 +79,8 @@ fn agree(alloc: Global, events: &[Event], at: usize, choice: Choice) -> Result<b
 }
 
 // The event, which has these cuts if it is a frame.
-fn with_cuts(event: &Event, cuts: Cuts) -> Event {
-    match event {
+fn with_cuts(event: &Event, cuts: Cuts) -> Result<Event, Fail> {
+    Ok(match event {
         Event::Attach(slot, setup) => Event::Attach(*slot, *setup),
         Event::DropOff(slot) => Event::DropOff(*slot),
         Event::Raise(slot, byte) => Event::Raise(*slot, *byte),
@@ -91,11 +91,13 @@ fn with_cuts(event: &Event, cuts: Cuts) -> Event {
         Event::Disec(to, kinds, policy, _) => Event::Disec(*to, *kinds, *policy, cuts),
         Event::Reset(policy, _) => Event::Reset(*policy, cuts),
         Event::SendList(policy, _) => Event::SendList(*policy, cuts),
+        Event::ReadFrom(at, policy, _) => Event::ReadFrom(*at, *policy, cuts),
+        Event::WriteTo(at, bytes, policy, _) => Event::WriteTo(*at, bytes.clone()?, *policy, cuts),
         Event::HandOver(to, _) => Event::HandOver(*to, cuts),
         Event::OpenDaa(_) => Event::OpenDaa(cuts),
         Event::Round(_) => Event::Round(cuts),
         Event::EndDaa => Event::EndDaa,
-    }
+    })
 }
 
 // A slot that is cut at a bit of the frame at an index.
@@ -120,7 +122,7 @@ fn with_cut(
         } else {
             Cuts::new()
         };
-        events.push(with_cuts(event, cuts))?;
+        events.push(with_cuts(event, cuts)?)?;
     }
     Ok(events)
 }
@@ -138,7 +140,8 @@ fn check(rt: &impl Abort, alloc: Global, script: &[Event], place: Place) -> Resu
     Ok(())
 }
 
-// The bit past the last one that the frame may send, if the event is one. No list has more than three addresses.
+// The bit past the last one that the frame may send, if the event is one. No list has more than three addresses, and no
+// write more than three bytes.
 fn past(event: &Event) -> Option<u16> {
     match event {
         Event::Serve(_, _) => Some(10),
@@ -146,6 +149,8 @@ fn past(event: &Event) -> Option<u16> {
         Event::Enec(Some(_), _, _, _) | Event::Disec(Some(_), _, _, _) => Some(46),
         Event::Reset(_, _) => Some(28),
         Event::SendList(_, _) => Some(145),
+        Event::ReadFrom(_, _, _) => Some(172),
+        Event::WriteTo(_, _, _, _) => Some(55),
         Event::HandOver(_, _) => Some(37),
         Event::OpenDaa(_) => Some(19),
         Event::Round(_) => Some(74),
@@ -411,6 +416,28 @@ fn twin_heirs_are_cut(rt: HostRuntime) -> Result<(), Fail> {
         Event::SendList(all(Verdict::Refuse), Cuts::new()),
         Event::HandOver(heir, Cuts::new()),
         raise(0, Some(0x33))?,
+        serve(),
+    ];
+    each_frame(&rt, rt.alloc(), &script)
+}
+
+// Devices are written and read, with a request of the other before.
+#[test]
+fn partners_are_cut(rt: HostRuntime) -> Result<(), Fail> {
+    let script = [
+        attach(1, T)?,
+        attach(2, V)?,
+        open(),
+        round(),
+        round(),
+        Event::EndDaa,
+        write(0x09, &[0x11, 0x12, 0x13])?,
+        raise(2, Some(0x22))?,
+        write(0x09, &[0x14])?,
+        raise(2, Some(0x23))?,
+        read(0x09)?,
+        raise(1, Some(0x15))?,
+        write(0x0A, &[])?,
         serve(),
     ];
     each_frame(&rt, rt.alloc(), &script)

@@ -23,3 +23,9 @@ returns-in-HandOver-clause-acts c = rw c.in-HandOver.is c.hand_over.ensures.acts
 
 pub returns-in-HandOver-clause-chosen : goal.returns-in-HandOver-clause-chosen
 returns-in-HandOver-clause-chosen c = rw c.in-HandOver.is c.hand_over.ensures.chosen
+
+pub returns-in-ReadFrom-clause-chosen : goal.returns-in-ReadFrom-clause-chosen
+returns-in-ReadFrom-clause-chosen c = rw c.in-ReadFrom.is c.read.ensures.chosen
+
+pub returns-in-WriteTo-clause-chosen : goal.returns-in-WriteTo-clause-chosen
+returns-in-WriteTo-clause-chosen c = rw c.in-WriteTo.is (rw c.as_slice.ensures.value at c.write.ensures.chosen)
