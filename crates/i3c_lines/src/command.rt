@@ -20,15 +20,27 @@ pub struct Choice {
 #[derive(Clone, Drop)]
 pub enum Wish {
     /// `attach NAME PID BCR DCR [decline]`: a device enters the lowest free slot.
-    Attach { name: Name, setup: Setup },
+    Attach {
+        name: Name,
+        setup: Setup,
+    },
     /// `drop NAME`: a device loses power, and is gone.
-    DropOff { name: Name },
+    DropOff {
+        name: Name,
+    },
     /// `raise NAME [BYTE]`: a device raises an interrupt, with its mandatory byte where one is due.
-    Raise { name: Name, byte: Option<u8> },
+    Raise {
+        name: Name,
+        byte: Option<u8>,
+    },
     /// `ask-join NAME`: a device wishes to join.
-    AskJoin { name: Name },
+    AskJoin {
+        name: Name,
+    },
     /// `ask-role NAME`: a device wishes for the controller role.
-    AskRole { name: Name },
+    AskRole {
+        name: Name,
+    },
     /// `serve`: the first request is served.
     Serve,
     /// `enec BYTE [ADDR]`: kinds of events are enabled.
@@ -40,14 +52,18 @@ pub enum Wish {
     /// `list`: the devices are told of all addresses.
     List,
     /// `read ADDR`: the registers of the device or legacy target at an address are read.
-    Read { at: Addr7 },
+    Read {
+        at: Addr7,
+    },
     /// `write ADDR [BYTES]`: its first registers are replaced. Of more bytes than may be written one more is kept.
     Write {
         at: Addr7,
         bytes: ArrayVec<u8, WRITE_KEPT>,
     },
     /// `handover ADDR`: the role is offered to the device at an address.
-    HandOver { to: Addr7 },
+    HandOver {
+        to: Addr7,
+    },
     /// `open`: a session of dynamic address assignment is opened, and stays open.
     Open,
     /// `round`: one round of the open session.

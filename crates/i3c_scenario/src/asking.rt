@@ -35,9 +35,7 @@ pub(crate) fn event_of(
         Wish::Reset => Ok(Event::Reset(policy, take(cuts))),
         Wish::List => Ok(Event::SendList(policy, take(cuts))),
         Wish::Read { at } => Ok(Event::ReadFrom(*at, policy, take(cuts))),
-        Wish::Write { at, bytes } => {
-            Ok(Event::WriteTo(*at, copied(bytes), policy, take(cuts)))
-        }
+        Wish::Write { at, bytes } => { Ok(Event::WriteTo(*at, copied(bytes), policy, take(cuts))) }
         Wish::HandOver { to } => Ok(Event::HandOver(*to, take(cuts))),
         Wish::Open => Ok(Event::OpenDaa(take(cuts))),
         Wish::Round => Ok(Event::Round(take(cuts))),

@@ -100,4 +100,3 @@ fn disabled_role_requests(rt: HostRuntime) -> Result<(), Fail> {
     }
     Ok(())
 }
-

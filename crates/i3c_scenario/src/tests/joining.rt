@@ -138,4 +138,3 @@ fn bits_of_cuts(rt: HostRuntime) -> Result<(), Fail> {
     let wanted = "t slot 1\nu slot 2\nopen\ndone\nended\nactive 08\nhub 08 waiting 0\nrecords 0\n";
     goes_on(&rt, alloc, both.as_str(), wanted, 0)
 }
-
