@@ -1,17 +1,14 @@
 -- What is read behind an accepted interrupt.
 use Rattle.std.specs.Int.{bit_at}
-use Rattle.std.specs.Int.Bits.{and_lt, bit_and}
-use Rattle.std.proofs.lemmas.Bool.{and_parts, both_ways, cases_eq}
-use Rattle.std.proofs.lemmas.Nat.Bits.{bit_at-lt, bit_at_and, bit_at_ones}
+use Rattle.std.proofs.lemmas.Bool.{and_parts, both_ways}
 use Rattle.std.proofs.lemmas.Option.{none-some, same_Some}
-use Rattle.std.proofs.Common.{◌≡◌, ◌↔◌, ℕ, ◌+◌, ◌<◌, ◌≤◌, true, false, not, ◌&&◌, ◌==◌, List, [], ◌∷◌, length, slice_get, lit<, Option, Some, None, is_some, MatchOption, inl, inr, sym, refl, ap, ◌∙◌, subst, arith}
+use Rattle.std.proofs.Common.{◌≡◌, ◌↔◌, ℕ, ◌<◌, true, false, not, ◌&&◌, ◌==◌, List, [], ◌∷◌, slice_get, Option, Some, None, is_some, MatchOption, sym, refl, ap, ◌∙◌, subst}
 use Rattle.i3c_base.specs.declared.requests.Request.TheVariants.{Interrupt}
 use Rattle.i3c_base.specs.declared.device.Waiting.{Waiting}
 use Rattle.i3c_base.specs.Cutting.{Lost}
 use Rattle.i3c_base.specs.State.{Device, State, device_at, has_address, in_slot}
 use Rattle.i3c_base.specs.Serve.{DrivesByte, IsAnd, IsFront, IsRead, asks, drives, is_empty}
 use Rattle.i3c_step.proofs.Uniqueness.{and_unique}
-use Rattle.i3c_model.proofs.Requests.{drives_in}
 
 -- one front in one slot
 one_front : (st : State) (s : ℕ) (v w : Waiting) → IsFront st s v → IsFront st s w → v ≡ w

@@ -1,5 +1,4 @@
 use Rattle.std.proofs.Common.{◌≡◌, ap, sym, subst, ◌∙◌}
-use Rattle.i3c_base.specs.Frames.{overwritten}
 use Rattle.i3c_base.specs.declared.device.LegacyTarget.{LegacyTarget}
 use Rattle.i3c_model.specs.Views.{IsWithinPlaces, state_of}
 use Rattle.i3c_model.proofs.States.{target_absent, target_written, within_target}
