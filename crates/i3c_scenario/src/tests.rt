@@ -522,6 +522,7 @@ impl Write for Flaky<'_> {
 const EACH_LINE: &[u8] = b"show\nlegacy eep 50 20\nmain hub 020400000001 46 C0\n\
     attach t 020400000010 06 44\nattach t 0\ndaa\nraise t 11\npolicy none\nserve\nenec 01\n\
     policy all\nraise x 11\ndisec 01 09\nenec 01 51\nenec 01 09\nraise t 12\nserve\nshow\nsymbols\n\
+    write 50 A5\nread 50\nwrite 09\nread 09\n\
     attach u 020400000011 06 44\nask-join u\ncut u 65535\nserve\nopen\nround\nround\nend\nend\ndrop u\n\
     attach c 020400000020 46 C1\ndaa\nask-role c\nlist\nhandover 0B\nreset\nshow\n";
 
