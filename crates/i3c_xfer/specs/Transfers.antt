@@ -1,5 +1,5 @@
 -- What a private transfer with an address comes to.
-use Rattle.std.specs.Prelude.{◌≡◌, ℕ, ◌+◌, ◌-◌, ◌*◌, ◌<◌, ◌↔◌, ◌⊎◌, Bool, true, false, ⊤, List, Some, None, slice_index}
+use Rattle.std.specs.Prelude.{◌≡◌, ℕ, ◌+◌, ◌-◌, ◌*◌, ◌<◌, ◌↔◌, ◌⊎◌, Bool, true, false, ⊤, List, Some, None, length, slice_index}
 use Rattle.std.specs.Int.{bit_at}
 use Rattle.i3c_base.specs.declared.answers.Answer.{Answer}
 use Rattle.i3c_base.specs.declared.device.LegacyTarget.{LegacyTarget}
@@ -51,12 +51,13 @@ abbrev pub AreDriven : State → ℕ → CutList → ℕ → List ℕ → Type 0
 AreDriven st a cuts first bytes =
     (k j : ℕ) → k < REGISTERS → j < 8 → (bit_at (slice_index bytes k) (7 - j) ≡ 0) ↔ PullsLow st a (lost_by cuts (first + 9 * k + j)) k (7 - j)
 
--- whose bytes were read, and how: a legacy target's registers, or where none stands what the devices drive
+-- whose bytes were read, and how: a legacy target's registers, or where none stands as many as there are, which the devices
+-- drive
 abbrev pub IsReadAs : State → ℕ → CutList → ℕ → Read → Type 0
 IsReadAs st a cuts first Read.Nobody = ⊤
 IsReadAs st a cuts first (Read.Legacy bytes) = (target : LegacyTarget) × (legacy_target_at st a ≡ Some target) × (bytes ≡ target.registers)
-IsReadAs st a cuts first (Read.Ended bytes) = (legacy_target_at st a ≡ None) × AreDriven st a cuts first bytes
-IsReadAs st a cuts first (Read.Torn bytes) = (legacy_target_at st a ≡ None) × AreDriven st a cuts first bytes
+IsReadAs st a cuts first (Read.Ended bytes) = (legacy_target_at st a ≡ None) × AreDriven st a cuts first bytes × (length bytes ≡ REGISTERS)
+IsReadAs st a cuts first (Read.Torn bytes) = (legacy_target_at st a ≡ None) × AreDriven st a cuts first bytes × (length bytes ≡ REGISTERS)
 
 -- who took the bytes of a write: a legacy target, or where none stands devices
 abbrev pub IsWrittenBy : State → ℕ → Write → Type 0

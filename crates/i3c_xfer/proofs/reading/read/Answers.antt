@@ -67,4 +67,8 @@ returns-else-is_heard-clause-acknowledged c st has e = (λ _. inr (heard (goal.a
 
 pub returns-else-is_heard-clause-read : goal.returns-else-is_heard-clause-read
 returns-else-is_heard-clause-read c st has e =
-    let at = goal.at.returns-else-is_heard-clause-read c in (free at.After-is_heard st e, driven at.After-read-bytes st has)
+    let at = goal.at.returns-else-is_heard-clause-read c in (free at.After-is_heard st e, driven at.After-read-bytes st has, long at.After-read-bytes)
+
+pub returns-then-is_heard-clause-read : goal.returns-then-is_heard-clause-read
+returns-then-is_heard-clause-read c st has e =
+    let at = goal.at.returns-then-is_heard-clause-read c in (free at.After-is_heard st e, driven at.After-read-bytes st has, long at.After-read-bytes)
