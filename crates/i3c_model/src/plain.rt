@@ -6,8 +6,8 @@ use std::alloc::Global;
 use std::collections::BTreeMap;
 use std::marker::Model;
 
-/// What the bus does where drop-offs leave open what comes of an event. A choice that isn't lawful gives way to the first
-/// lawful one of the three, and where nothing is open it has no effect.
+/// What the bus does where drop-offs leave open what comes of an event. Where the choice can't come about, the first of the
+/// three that can is taken in its place; where nothing is open, it has no effect.
 #[derive(Clone, Copy, Debug, PartialEq, Eq)]
 pub enum Choice {
     /// What a lost device sent last was heard: an interrupt is recorded, an identity gets its address, a command or a
