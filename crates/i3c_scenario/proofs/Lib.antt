@@ -1,3 +1,6 @@
 pub mod Carrying
 pub mod Presence
 pub mod Written
+pub mod TraceWritten
+pub mod TraceRead
+pub mod TraceOut

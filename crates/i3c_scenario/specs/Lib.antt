@@ -4,3 +4,4 @@ pub mod Stops
 pub mod Asking
 pub mod Printed
 pub mod Outcomes
+pub mod Traces

@@ -5,17 +5,12 @@ ghost use Rattle.i3c_scenario.specs.Stops.{IsLineFault, refusals};
 
 use crate::faults::{ScriptFault, Stop};
 use crate::output::{position_of_feed, show_refusal, write_out};
+use crate::reading::{CHUNK, MOST_BYTES, Piece, read_piece};
 use crate::stage::Stage;
 use i3c_lines::{Line, Names, Text, read_line};
 use std::alloc::Global;
 use std::io::{Read, Write};
 use std::mem;
-
-/// How many bytes a script may have.
-const SCRIPT_LENGTH: usize = 1 << 20;
-
-/// How many bytes are read at once.
-const CHUNK: usize = 8192;
 
 /// What is known of a script that was run to its end.
 #[derive(Clone, Copy, Debug, PartialEq, Eq)]
@@ -36,8 +31,8 @@ pub fn run_script<R: Read, W: Write>(
 ) -> Result<Tally, ScriptFault>
     // an `Ok` comes after the whole of a script that isn't too large
     ensures whole { OnOk result (IsAtEnd (R.remaining reader.new)) }
-    ensures fits { OnOk result (IfSome (R.remaining reader.old) (λ bytes. length bytes ≤ SCRIPT_LENGTH)) }
-    ensures large { result ≡ Err ScriptFault.TooLarge → IfSome (R.remaining reader.old) (λ bytes. SCRIPT_LENGTH < length bytes) }
+    ensures fits { OnOk result (IfSome (R.remaining reader.old) (λ bytes. length bytes ≤ MOST_BYTES)) }
+    ensures large { result ≡ Err ScriptFault.TooLarge → IfSome (R.remaining reader.old) (λ bytes. MOST_BYTES < length bytes) }
 {
     let Ok(mut chunk) = vec![in alloc; 0u8; CHUNK] else {
         return Err(ScriptFault::Memory);
@@ -83,24 +78,23 @@ impl Script {
     ) -> Result<(), ScriptFault>
         requires { 0 < length chunk.old }
         ensures whole { OnOk result (IsAtEnd (R.remaining reader.new)) }
-        ensures fits { OnOk result (IfSome (R.remaining reader.old) (λ bytes. length bytes ≤ SCRIPT_LENGTH)) }
-        ensures large { result ≡ Err ScriptFault.TooLarge → IfSome (R.remaining reader.old) (λ bytes. SCRIPT_LENGTH < length bytes) }
+        ensures fits { OnOk result (IfSome (R.remaining reader.old) (λ bytes. length bytes ≤ MOST_BYTES)) }
+        ensures large { result ≡ Err ScriptFault.TooLarge → IfSome (R.remaining reader.old) (λ bytes. MOST_BYTES < length bytes) }
     {
-        let mut left = SCRIPT_LENGTH;
+        let mut left = MOST_BYTES;
         for _ in 0..u64::MAX {
-            let Ok(count) = reader.read(chunk) else {
-                return Err(ScriptFault::Read);
-            };
-            if count == 0 {
+            match read_piece(reader, chunk, left)? {
                 // the last line may lack its line feed
-                return self.end_held_line(&[], out);
+                Piece::End => return self.end_held_line(&[], out),
+                Piece::Within(count) => {
+                    self.take(&chunk[..count], out)?;
+                    left -= count;
+                }
+                Piece::Beyond(count) => {
+                    self.take(&chunk[..count], out)?;
+                    return Err(ScriptFault::TooLarge);
+                }
             }
-            let taken = count.min(left);
-            self.take(&chunk[..taken], out)?;
-            if count > left {
-                return Err(ScriptFault::TooLarge);
-            }
-            left -= taken;
         }
         unreachable!()
     }

@@ -13,6 +13,7 @@ use std::{io, str};
 
 mod handing;
 mod joining;
+mod traces;
 
 /// How many bytes a script may have.
 const SCRIPT_LENGTH: usize = 1_048_576;

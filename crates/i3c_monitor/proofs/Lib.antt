@@ -1,0 +1,4 @@
+pub mod CodeLaws
+pub mod DueLaws
+pub mod PieceLaws
+pub mod TraceLaws

@@ -1,0 +1,10 @@
+use Rattle.std.proofs.Common.{◌≡◌, length}
+use Rattle.i3c_monitor.specs.Trace.{to_come}
+use Rattle.i3c_monitor.proofs.monitor.Monitor.next.Given as goal
+
+-- what was taken told nothing
+abbrev pub invariant-loop-self : goal.invariant-loop-self
+invariant-loop-self l = to_come l.self ≡ to_come l.initial.self
+
+abbrev pub decreases-loop-self : goal.decreases-loop-self
+decreases-loop-self l = length l.self.rest.now

@@ -1,0 +1,4 @@
+pub mod Due
+pub mod Lines
+pub mod Told
+pub mod Trace

@@ -1,0 +1,106 @@
+-- The lines that are printed.
+use Rattle.std.specs.Prelude.{ℕ, Bool, true, false, List, [], ◌∷◌, ◌++◌, codes, drop, take, Option, Some, None}
+use Rattle.std.specs.Fmt.{decimal}
+use Rattle.i3c_base.specs.declared.requests.Request.{Request}
+use Rattle.i3c_deftgts.specs.declared.faults.ListFault.{ListFault}
+use Rattle.i3c_frame.specs.declared.symbols.Symbol.{Symbol}
+use Rattle.i3c_lines.specs.Hex.{byte_text, hex_text}
+use Rattle.i3c_monitor.specs.declared.seen.Direct.{Direct}
+use Rattle.i3c_monitor.specs.declared.seen.Fault.{Fault}
+use Rattle.i3c_monitor.specs.declared.seen.Seen.{Seen}
+use Rattle.i3c_monitor.specs.declared.seen.Span.{Span}
+
+-- the symbols of a span of a trace
+abbrev pub symbols_of : Span → List Symbol → List Symbol
+symbols_of span trace = take span.count (drop span.before trace)
+
+-- some words and a number
+abbrev pub number_text : List ℕ → ℕ → List ℕ
+number_text words number = words ++ decimal number
+
+-- some words and a byte
+abbrev pub words_text : List ℕ → ℕ → List ℕ
+words_text words byte = words ++ byte_text byte
+
+-- a byte after a space, if there is one
+abbrev pub byte_after : Option ℕ → List ℕ
+byte_after None = []
+byte_after (Some byte) = words_text (codes " ") byte
+
+-- a request
+abbrev pub request_text : Request → List ℕ
+request_text Request.Join = codes "request join"
+request_text (Request.Role a) = words_text (codes "request role ") a
+request_text (Request.Interrupt a) = words_text (codes "request interrupt ") a
+
+-- the controller's answer to it
+abbrev pub verdict_text : Bool → List ℕ
+verdict_text true = codes " accepted"
+verdict_text false = codes " turned down"
+
+-- whether the address of a round was acknowledged
+abbrev pub taken_text : Bool → List ℕ
+taken_text true = codes " taken"
+taken_text false = codes " not taken"
+
+-- a command to single targets
+abbrev pub command_text : Direct → List ℕ
+command_text Direct.Enec = codes "ENEC "
+command_text Direct.Disec = codes "DISEC "
+command_text Direct.Getacccr = codes "GETACCCR "
+
+-- the byte behind a header of such a command, unless nobody answered
+abbrev pub answer_text : Option ℕ → List ℕ
+answer_text None = codes " no answer"
+answer_text (Some byte) = words_text (codes " ") byte
+
+-- the direction of a transfer
+abbrev pub transfer_text : Bool → List ℕ
+transfer_text true = codes "read "
+transfer_text false = codes "write "
+
+-- the byte of a word, with a T bit or of a legacy target
+abbrev pub byte_of : Symbol → Option ℕ
+byte_of (Symbol.Word word) = Some word.byte
+byte_of (Symbol.LegacyWord byte ack) = Some byte
+byte_of _ = None
+
+-- the bytes of the words among symbols, each after a space
+abbrev pub data_text : List Symbol → List ℕ
+data_text [] = []
+data_text (symbol ∷ rest) = byte_after (byte_of symbol) ++ data_text rest
+
+-- the bytes of a transfer, unless nobody answered
+abbrev pub bytes_text : Option Span → List Symbol → List ℕ
+bytes_text None trace = codes " no answer"
+bytes_text (Some span) trace = data_text (symbols_of span trace)
+
+-- a fault
+abbrev pub fault_text : Fault → List ℕ
+fault_text (Fault.Parity number) = number_text (codes "Parity ") number
+fault_text (Fault.Truncated number) = number_text (codes "Truncated ") number
+fault_text (Fault.List (ListFault.Parity number)) = number_text (codes "Parity ") number
+fault_text (Fault.List ListFault.Truncated) = codes "Truncated"
+fault_text (Fault.List ListFault.Count) = codes "Count"
+fault_text (Fault.List (ListFault.Address number)) = number_text (codes "Address ") number
+fault_text (Fault.List ListFault.Twice) = codes "Twice"
+
+-- what is seen, of this trace
+abbrev pub seen_text : List Symbol → Seen → List ℕ
+seen_text trace (Seen.Frame number) = number_text (codes "frame ") number
+seen_text trace (Seen.Request request accepted byte) = request_text request ++ (verdict_text accepted ++ byte_after byte)
+seen_text trace (Seen.Enec kinds) = words_text (codes "ENEC ") kinds
+seen_text trace (Seen.Disec kinds) = words_text (codes "DISEC ") kinds
+seen_text trace Seen.Rstdaa = codes "RSTDAA"
+seen_text trace Seen.Entdaa = codes "ENTDAA"
+seen_text trace (Seen.Deftgts count) = number_text (codes "DEFTGTS ") count ++ codes " entries"
+seen_text trace (Seen.Other byte) = words_text (codes "Other ") byte
+seen_text trace (Seen.Round identity byte taken) = codes "round " ++ (hex_text 16 identity ++ (words_text (codes " ") byte ++ taken_text taken))
+seen_text trace Seen.RoundsDone = codes "round done"
+seen_text trace (Seen.Single command address byte) = words_text (command_text command) address ++ answer_text byte
+seen_text trace (Seen.Transfer address read span) = words_text (transfer_text read) address ++ bytes_text span trace
+seen_text trace (Seen.Refused fault) = codes "refused " ++ fault_text fault
+
+-- its line
+abbrev pub line_text : List Symbol → Seen → List ℕ
+line_text trace seen = seen_text trace seen ++ 10 ∷ []

@@ -1,0 +1,103 @@
+-- What a header and the symbols behind it tell, where a frame stands.
+use Rattle.std.specs.Prelude.{ℕ, ◌+◌, Bool, true, false, ◌==◌, ◌&&◌, not, List, [], ◌∷◌, length, Option, Some, None, Result, Ok, Err, if◌then◌else◌}
+use Rattle.i3c_base.specs.declared.requests.Request.{Request}
+use Rattle.i3c_ccc.specs.declared.codes.Code.{Code}
+use Rattle.i3c_frame.specs.declared.symbols.Symbol.{Symbol}
+use Rattle.i3c_monitor.specs.declared.frames.Header.{Header}
+use Rattle.i3c_monitor.specs.declared.frames.Mode.{Mode}
+use Rattle.i3c_monitor.specs.declared.frames.Told.{Told}
+use Rattle.i3c_monitor.specs.declared.seen.Direct.{Direct}
+use Rattle.i3c_monitor.specs.declared.seen.Fault.{Fault}
+use Rattle.i3c_monitor.specs.declared.seen.Seen.{Seen}
+use Rattle.i3c_monitor.specs.Due.{due_word, entries_told, go_on, written_byte}
+
+-- nothing is told, and the frame stands so
+abbrev pub nothing : Mode → Told
+nothing mode = record { seen = None; mode = mode }
+
+-- this is told, and the frame stands so
+abbrev pub one : Mode → Seen → Result Told Fault
+one mode seen = Ok (record { seen = Some seen; mode = mode })
+
+-- the request that a frame's first header is
+abbrev pub request_at : ℕ → Bool → Request
+request_at a true = Request.Interrupt a
+request_at a false = if a == 0x02 then Request.Join else Request.Role a
+
+-- the byte of a word that follows at once
+abbrev pub next_byte : List Symbol → Option ℕ
+next_byte (Symbol.Word word ∷ rest) = Some word.byte
+next_byte _ = None
+
+-- a frame's first header: the byte behind it is an interrupt's that was accepted
+abbrev pub request_of : Header → List Symbol → Seen
+request_of header symbols =
+    Seen.Request (request_at header.address header.read) header.ack (if header.read && header.ack then next_byte symbols else None)
+
+-- a private transfer, of so many symbols
+abbrev pub transfer_of : Header → ℕ → ℕ → Seen
+transfer_of header count before =
+    Seen.Transfer header.address header.read (if header.ack then Some (record { before = before; count = count }) else None)
+
+-- the byte behind a header of a command to single targets: of one that a target sent, T doesn't count
+abbrev pub single_byte : Direct → List Symbol → ℕ → Result ℕ Fault
+single_byte Direct.Enec symbols before = written_byte symbols before
+single_byte Direct.Disec symbols before = written_byte symbols before
+single_byte Direct.Getacccr symbols before = go_on (due_word symbols before) (λ word. Ok word.byte)
+
+-- a header of such a command
+abbrev pub single_of : Direct → Header → List Symbol → ℕ → Result Seen Fault
+single_of command header symbols before =
+    if header.ack then go_on (single_byte command symbols before) (λ byte. Ok (Seen.Single command header.address (Some byte)))
+    else Ok (Seen.Single command header.address None)
+
+-- a round that somebody takes part in
+abbrev pub round_in : List Symbol → ℕ → Result Seen Fault
+round_in (Symbol.Identity identity ∷ Symbol.AddressByte byte ack ∷ rest) before = Ok (Seen.Round identity byte ack)
+round_in (Symbol.Identity identity ∷ rest) before = Err (Fault.Truncated (before + 2))
+round_in _ before = Err (Fault.Truncated (before + 1))
+
+-- a round
+abbrev pub round_of : Header → List Symbol → ℕ → Result Seen Fault
+round_of header symbols before = if header.ack then round_in symbols before else Ok Seen.RoundsDone
+
+-- a command, of whose code this is what follows
+abbrev pub command_of : Code → List Symbol → ℕ → Result Told Fault
+command_of Code.Enec symbols before = go_on (written_byte symbols before) (λ kinds. one Mode.Plain (Seen.Enec kinds))
+command_of Code.Disec symbols before = go_on (written_byte symbols before) (λ kinds. one Mode.Plain (Seen.Disec kinds))
+command_of Code.Rstdaa symbols before = one Mode.Plain Seen.Rstdaa
+command_of Code.Entdaa symbols before = one Mode.Rounds Seen.Entdaa
+command_of Code.Deftgts symbols before = go_on (entries_told symbols before) (λ count. one Mode.Plain (Seen.Deftgts count))
+command_of Code.EnecDirect symbols before = Ok (nothing (Mode.Single Direct.Enec))
+command_of Code.DisecDirect symbols before = Ok (nothing (Mode.Single Direct.Disec))
+command_of Code.Getacccr symbols before = Ok (nothing (Mode.Single Direct.Getacccr))
+command_of (Code.Other byte) symbols before = one Mode.Skipped (Seen.Other byte)
+
+-- the code of a byte
+abbrev pub code_at : ℕ → Code
+code_at byte =
+    if byte == 0x00 then Code.Enec else if byte == 0x01 then Code.Disec else if byte == 0x06 then Code.Rstdaa
+    else if byte == 0x07 then Code.Entdaa else if byte == 0x08 then Code.Deftgts else if byte == 0x80 then Code.EnecDirect
+    else if byte == 0x81 then Code.DisecDirect else if byte == 0x91 then Code.Getacccr else Code.Other byte
+
+-- what follows 7E/W
+abbrev pub code_of : List Symbol → ℕ → Result Told Fault
+code_of [] before = Ok (nothing Mode.Plain)
+code_of (symbol ∷ rest) before = go_on (written_byte (symbol ∷ rest) before) (λ byte. command_of (code_at byte) rest (before + 1))
+
+-- a header that heads no command
+abbrev pub other_told : Mode → Header → List Symbol → ℕ → Result Told Fault
+other_told Mode.First header symbols before = one Mode.Plain (request_of header symbols)
+other_told Mode.Plain header symbols before = one Mode.Plain (transfer_of header (length symbols) before)
+other_told (Mode.Single command) header symbols before = go_on (single_of command header symbols before) (one (Mode.Single command))
+other_told Mode.Rounds header symbols before =
+    if header.address == 0x7E then go_on (round_of header symbols before) (one Mode.Rounds)
+    else one Mode.Rounds (transfer_of header (length symbols) before)
+other_told Mode.Skipped header symbols before = Ok (nothing Mode.Skipped)
+
+-- what a header tells: 7E/W heads a command, unless the rest of the frame is skipped
+abbrev pub told : Mode → Header → List Symbol → ℕ → Result Told Fault
+told Mode.Skipped header symbols before = Ok (nothing Mode.Skipped)
+told mode header symbols before =
+    if (header.address == 0x7E) && not header.read then code_of symbols before
+    else other_told mode header symbols before

@@ -1,0 +1,25 @@
+ghost use Rattle.std.specs.Prelude.{◌≡◌, position};
+ghost use Rattle.i3c_monitor.specs.Trace.{count_behind, ends};
+
+use i3c_frame::Symbol;
+
+/// How many symbols stand behind a header: those up to the next START, repeated START or STOP.
+pub(crate) fn count_behind(symbols: &[Symbol]) -> usize
+    ensures { result ≡ count_behind symbols.now }
+{
+    first_end(symbols).unwrap_or(symbols.len())
+}
+
+/// Where the first symbol stands that ends them, if there is one.
+fn first_end(symbols: &[Symbol]) -> Option<usize>
+    ensures { result ≡ position ends symbols.now }
+{
+    symbols.iter().position(ends)
+}
+
+/// Whether a symbol ends what stands behind a header.
+fn ends(symbol: &Symbol) -> bool
+    ensures { result ≡ ends symbol.now }
+{
+    matches!(symbol, Symbol::Start | Symbol::Repeated | Symbol::Stop)
+}

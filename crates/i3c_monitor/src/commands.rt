@@ -1,0 +1,48 @@
+ghost use Rattle.std.specs.Prelude.{◌+◌, ◌<◌, length};
+ghost use Rattle.i3c_monitor.specs.Due.{Comes};
+ghost use Rattle.i3c_monitor.specs.Told.{code_of as code_told, command_of};
+
+use crate::frames::{Mode, Told};
+use crate::seen::{Direct, Seen, Stop};
+use crate::words::{read_entries, written_byte};
+use i3c_ccc::{Code, code_of};
+use i3c_frame::Symbol;
+use std::alloc::Global;
+
+/// What follows `7E`/W: the code of a command, and what is read with it (I3C Basic 5.1.9.1). No symbol is no command.
+/// So many symbols of the trace come before.
+pub(crate) fn read_code(alloc: Global, symbols: &[Symbol], before: usize) -> Result<Told, Stop>
+    requires { before + length symbols.now < usize.MAX }
+    ensures { Comes (code_told symbols.now before) result }
+{
+    let [_, rest @ ..] = symbols else {
+        return Ok(Told::nothing(Mode::Plain));
+    };
+    let code = code_of(written_byte(symbols, before)?);
+    read_command(alloc, code, rest, before + 1)
+}
+
+/// A command, of whose code this is what follows.
+fn read_command(alloc: Global, code: Code, symbols: &[Symbol], before: usize) -> Result<Told, Stop>
+    requires { before + length symbols.now < usize.MAX }
+    ensures { Comes (command_of code symbols.now before) result }
+{
+    let (seen, mode) = match code {
+        Code::Enec => (Seen::Enec(written_byte(symbols, before)?), Mode::Plain),
+        Code::Disec => (Seen::Disec(written_byte(symbols, before)?), Mode::Plain),
+        Code::Rstdaa => (Seen::Rstdaa, Mode::Plain),
+        Code::Entdaa => (Seen::Entdaa, Mode::Rounds),
+        Code::Deftgts => (
+            Seen::Deftgts(read_entries(alloc, symbols, before)?),
+            Mode::Plain,
+        ),
+        Code::EnecDirect => return Ok(Told::nothing(Mode::Single(Direct::Enec))),
+        Code::DisecDirect => return Ok(Told::nothing(Mode::Single(Direct::Disec))),
+        Code::Getacccr => return Ok(Told::nothing(Mode::Single(Direct::Getacccr))),
+        Code::Other(byte) => (Seen::Other(byte), Mode::Skipped),
+    };
+    Ok(Told {
+        seen: Some(seen),
+        mode,
+    })
+}

@@ -1,0 +1,97 @@
+ghost use Rattle.std.specs.Prelude.{◌+◌, ◌^◌, ◌<◌, ◌≤◌, length};
+
+use crate::behind::count_behind;
+use crate::frames::{Header, Mode, read_header};
+use crate::seen::{Seen, Stop};
+use i3c_frame::Symbol;
+use std::alloc::{AllocError, Global};
+
+/// One who goes through the symbols of a trace and tells what they are.
+#[derive(Drop)]
+pub struct Monitor<'a> {
+    alloc: Global,
+    /// The symbols that aren't told yet.
+    rest: &'a [Symbol],
+    /// How many symbols come before the rest.
+    before: usize,
+    /// How many frames have begun.
+    frames: usize,
+    mode: Mode,
+    ghost in_range: { before + length rest.now + 1 < 2 ^ 64 },
+    ghost counted: { frames ≤ before },
+}
+
+impl<'a> Monitor<'a> {
+    ghost use Rattle.std.specs.Prelude.{◌≡◌, ◌≤◌, [], ◌∷◌, ◌++◌, length, IfOk, None};
+    ghost use Rattle.std.specs.Option.{option_to_list};
+    ghost use Rattle.i3c_monitor.specs.Trace.{header_told, to_come, trace_told};
+
+    /// At the beginning of these symbols.
+    pub fn new(alloc: Global, symbols: &'a [Symbol]) -> Monitor<'a>
+        ensures { to_come result ≡ trace_told symbols.now }
+    {
+        Monitor {
+            alloc,
+            rest: symbols,
+            before: 0,
+            frames: 0,
+            mode: Mode::Skipped,
+        }
+    }
+
+    /// What comes next, or `None` at the end. After a fault it is the end. Symbols that don't follow one another as
+    /// those of a trace do are passed over.
+    pub fn next(&mut self) -> Result<Option<Seen>, AllocError>
+        ensures told { IfOk result (λ seen. to_come self.old ≡ option_to_list seen ++ to_come self.new) }
+        ensures ended { result ≡ Ok None → to_come self.old ≡ [] }
+    {
+        while let [symbol, rest @ ..] = self.rest {
+            let seen = self.take(symbol, rest)?;
+            if seen.is_some() {
+                return Ok(seen);
+            }
+        }
+        Ok(None)
+    }
+
+    /// Takes the next symbol, with all behind it if it is a header, and tells what it is.
+    fn take(&mut self, symbol: &Symbol, rest: &'a [Symbol]) -> Result<Option<Seen>, AllocError>
+        requires { self.old.rest.now ≡ symbol.now ∷ rest.now }
+        ensures told { IfOk result (λ seen. to_come self.old ≡ option_to_list seen ++ to_come self.new) }
+        ensures shorter { length self.new.rest.now ≤ length rest.now }
+    {
+        self.rest = rest;
+        self.before += 1;
+        if let Symbol::Start = symbol {
+            self.frames += 1;
+            self.mode = Mode::First;
+            return Ok(Some(Seen::Frame(self.frames)));
+        }
+        match Header::of(symbol) {
+            Some(header) => self.take_behind(&header),
+            None => Ok(None),
+        }
+    }
+
+    /// Takes the symbols behind a header, and tells what they are.
+    fn take_behind(&mut self, header: &Header) -> Result<Option<Seen>, AllocError>
+        ensures told { IfOk result (λ seen. header_told self.old header.now ≡ option_to_list seen ++ to_come self.new) }
+        ensures shorter { length self.new.rest.now ≤ length self.old.rest.now }
+    {
+        let (symbols, after) = self.rest.split_at(count_behind(self.rest));
+        let before = self.before;
+        self.rest = after;
+        self.before += symbols.len();
+        match read_header(self.alloc, &self.mode, header, symbols, before) {
+            Ok(told) => {
+                self.mode = told.mode;
+                Ok(told.seen)
+            }
+            Err(Stop::Refused(fault)) => {
+                self.rest = &[];
+                Ok(Some(Seen::Refused(fault)))
+            }
+            Err(Stop::Memory) => Err(AllocError),
+        }
+    }
+}

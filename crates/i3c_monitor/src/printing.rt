@@ -1,0 +1,235 @@
+ghost use Rattle.std.specs.Prelude.{◌≡◌, ◌++◌, OnOk, codes};
+ghost use Rattle.i3c_monitor.specs.Lines.{answer_text, byte_after, byte_of, bytes_text, command_text, data_text, fault_text, number_text, request_text, taken_text, transfer_text, verdict_text, words_text};
+ghost use Rattle.i3c_lines.specs.Hex.{hex_text};
+
+use crate::seen::{Direct, Fault, Seen, Span};
+use i3c_base::{Addr7, Request};
+use i3c_deftgts::ListFault;
+use i3c_frame::Symbol;
+use i3c_lines::Text;
+use std::alloc::AllocError;
+
+impl Seen {
+    ghost use Rattle.std.specs.Prelude.{◌≡◌, ◌++◌, OnOk};
+    ghost use Rattle.i3c_monitor.specs.Lines.{line_text, seen_text};
+
+    /// Appends its line to a text, of this trace.
+    pub fn push(&self, trace: &[Symbol], text: &mut Text) -> Result<(), AllocError>
+        ensures { OnOk result (text.new ≡ text.old ++ line_text trace.now self.now) }
+    {
+        self.push_words(trace, text)?;
+        text.end()
+    }
+
+    /// Appends it without a line's end.
+    fn push_words(&self, trace: &[Symbol], text: &mut Text) -> Result<(), AllocError>
+        ensures { OnOk result (text.new ≡ text.old ++ seen_text trace.now self.now) }
+    {
+        match self {
+            Seen::Frame(number) => push_number(b"frame ", *number, text),
+            Seen::Request {
+                request,
+                accepted,
+                byte,
+            } => push_request(request, *accepted, *byte, text),
+            Seen::Enec(kinds) => push_byte(b"ENEC ", *kinds, text),
+            Seen::Disec(kinds) => push_byte(b"DISEC ", *kinds, text),
+            Seen::Rstdaa => text.push(b"RSTDAA"),
+            Seen::Entdaa => text.push(b"ENTDAA"),
+            Seen::Deftgts(entries) => {
+                push_number(b"DEFTGTS ", *entries, text)?;
+                text.push(b" entries")
+            }
+            Seen::Other(byte) => push_byte(b"Other ", *byte, text),
+            Seen::Round {
+                identity,
+                byte,
+                taken,
+            } => push_round(*identity, *byte, *taken, text),
+            Seen::RoundsDone => text.push(b"round done"),
+            Seen::Single {
+                command,
+                address,
+                byte,
+            } => {
+                push_address(command_words(command), *address, text)?;
+                push_answer(*byte, text)
+            }
+            Seen::Transfer {
+                address,
+                read,
+                span,
+            } => {
+                push_address(transfer_words(*read), *address, text)?;
+                push_bytes(span, trace, text)
+            }
+            Seen::Refused(fault) => {
+                text.push(b"refused ")?;
+                push_fault(fault, text)
+            }
+        }
+    }
+}
+
+/// Appends some words and a number.
+fn push_number(words: &[u8], number: usize, text: &mut Text) -> Result<(), AllocError>
+    ensures { OnOk result (text.new ≡ text.old ++ number_text words.now number) }
+{
+    text.push(words)?;
+    text.push_decimal(number as u64)
+}
+
+/// Appends some words and a byte.
+fn push_byte(words: &[u8], byte: u8, text: &mut Text) -> Result<(), AllocError>
+    ensures { OnOk result (text.new ≡ text.old ++ words_text words.now byte) }
+{
+    text.push(words)?;
+    text.push_byte(byte)
+}
+
+/// Appends some words and an address.
+fn push_address(words: &[u8], address: Addr7, text: &mut Text) -> Result<(), AllocError>
+    ensures { OnOk result (text.new ≡ text.old ++ words_text words.now address) }
+{
+    push_byte(words, address.get(), text)
+}
+
+/// Appends a request and the controller's answer to it.
+fn push_request(
+    request: &Request,
+    accepted: bool,
+    byte: Option<u8>,
+    text: &mut Text,
+) -> Result<(), AllocError>
+    ensures { OnOk result (text.new ≡ text.old ++ (request_text request.now ++ (verdict_text accepted ++ byte_after byte))) }
+{
+    push_asked(request, text)?;
+    text.push(verdict_words(accepted))?;
+    push_after(byte, text)
+}
+
+/// Appends a request.
+fn push_asked(request: &Request, text: &mut Text) -> Result<(), AllocError>
+    ensures { OnOk result (text.new ≡ text.old ++ request_text request.now) }
+{
+    match request {
+        Request::Join => text.push(b"request join"),
+        Request::Role(address) => push_address(b"request role ", *address, text),
+        Request::Interrupt(address) => push_address(b"request interrupt ", *address, text),
+    }
+}
+
+/// The words for the controller's answer to a request.
+fn verdict_words(accepted: bool) -> &'static [u8]
+    ensures { result.now ≡ verdict_text accepted }
+{
+    if accepted {
+        b" accepted"
+    } else {
+        b" turned down"
+    }
+}
+
+/// Appends a round, and whether somebody took the address.
+fn push_round(identity: u64, byte: u8, taken: bool, text: &mut Text) -> Result<(), AllocError>
+    ensures { OnOk result (text.new ≡ text.old ++ (codes "round " ++ (hex_text 16 identity ++ (words_text (codes " ") byte ++ taken_text taken)))) }
+{
+    text.push(b"round ")?;
+    text.push_hex(identity, 16)?;
+    push_byte(b" ", byte, text)?;
+    text.push(taken_words(taken))
+}
+
+/// The words for whether somebody took the address of a round.
+fn taken_words(taken: bool) -> &'static [u8]
+    ensures { result.now ≡ taken_text taken }
+{
+    if taken { b" taken" } else { b" not taken" }
+}
+
+/// The words for a command to single targets.
+fn command_words(command: &Direct) -> &'static [u8]
+    ensures { result.now ≡ command_text command.now }
+{
+    match command {
+        Direct::Enec => b"ENEC ",
+        Direct::Disec => b"DISEC ",
+        Direct::Getacccr => b"GETACCCR ",
+    }
+}
+
+/// Appends the byte behind a header of such a command.
+fn push_answer(byte: Option<u8>, text: &mut Text) -> Result<(), AllocError>
+    ensures { OnOk result (text.new ≡ text.old ++ answer_text byte) }
+{
+    match byte {
+        Some(byte) => push_byte(b" ", byte, text),
+        None => text.push(b" no answer"),
+    }
+}
+
+/// The words for the direction of a private transfer.
+fn transfer_words(read: bool) -> &'static [u8]
+    ensures { result.now ≡ transfer_text read }
+{
+    if read { b"read " } else { b"write " }
+}
+
+/// Appends the bytes of a private transfer.
+fn push_bytes(span: &Option<Span>, trace: &[Symbol], text: &mut Text) -> Result<(), AllocError>
+    ensures { OnOk result (text.new ≡ text.old ++ bytes_text span.now trace.now) }
+{
+    match span {
+        Some(span) => push_data(span.of(trace), text),
+        None => text.push(b" no answer"),
+    }
+}
+
+/// Appends the bytes of the words among symbols.
+fn push_data(symbols: &[Symbol], text: &mut Text) -> Result<(), AllocError>
+    ensures { OnOk result (text.new ≡ text.old ++ data_text symbols.now) }
+{
+    let mut rest = symbols;
+    while let [symbol, more @ ..] = rest {
+        push_after(byte_of(symbol), text)?;
+        rest = more;
+    }
+    Ok(())
+}
+
+/// The byte of a word, with a T bit or of a legacy target.
+fn byte_of(symbol: &Symbol) -> Option<u8>
+    ensures { result ≡ byte_of symbol.now }
+{
+    match symbol {
+        Symbol::Word(word) => Some(word.byte),
+        Symbol::LegacyWord { byte, .. } => Some(*byte),
+        _ => None,
+    }
+}
+
+/// Appends a byte after a space, if there is one.
+fn push_after(byte: Option<u8>, text: &mut Text) -> Result<(), AllocError>
+    ensures { OnOk result (text.new ≡ text.old ++ byte_after byte) }
+{
+    match byte {
+        Some(byte) => push_byte(b" ", byte, text),
+        None => Ok(()),
+    }
+}
+
+/// Appends a fault, and its number if it has one.
+fn push_fault(fault: &Fault, text: &mut Text) -> Result<(), AllocError>
+    ensures { OnOk result (text.new ≡ text.old ++ fault_text fault.now) }
+{
+    match fault {
+        Fault::Parity(number) | Fault::List(ListFault::Parity(number)) => {
+            push_number(b"Parity ", *number, text)
+        }
+        Fault::Truncated(number) => push_number(b"Truncated ", *number, text),
+        Fault::List(ListFault::Truncated) => text.push(b"Truncated"),
+        Fault::List(ListFault::Count) => text.push(b"Count"),
+        Fault::List(ListFault::Address(number)) => push_number(b"Address ", *number, text),
+        Fault::List(ListFault::Twice) => text.push(b"Twice"),
+    }
+}
