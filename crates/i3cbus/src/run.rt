@@ -1,7 +1,7 @@
 use crate::fault::Fault;
 use crate::status::{came_to, status_of};
-use crate::words::{STANDARD_INPUT, file_named};
-use i3c_scenario::{Tally, run_script};
+use crate::words::{STANDARD_INPUT, Task, Work, task_named};
+use i3c_scenario::{Tally, run_script, run_trace};
 use std::io::{BufWriter, ErrorKind, Read, Write};
 use std::rt::{Env, Files};
 use std::{env, fs, io};
@@ -15,15 +15,15 @@ pub(crate) fn run<R: Env + Files + Input + Print + Eprint + AllocGlobal>(rt: &R)
     status_of(&outcome)
 }
 
-/// Runs the script that the command line names. Its words are judged before its file is opened.
+/// Does what the command line asks for. Its words are judged before its file is opened.
 fn run_named<R: Env + Files + Input + Print + AllocGlobal>(rt: &R) -> Result<Tally, Fault> {
     let words = words_given(rt)?;
-    let file = file_named(rt.alloc(), &words)?;
+    let Task { work, file } = task_named(rt.alloc(), &words)?;
     if file == STANDARD_INPUT {
-        return run_from(rt, &mut rt.reader());
+        return run_from(rt, &work, &mut rt.reader());
     }
     match fs::open(rt, file) {
-        Ok(mut script) => run_from(rt, &mut script),
+        Ok(mut input) => run_from(rt, &work, &mut input),
         Err(error) => Err(reading_fault(&error)),
     }
 }
@@ -44,12 +44,20 @@ fn reading_fault(error: &io::Error) -> Fault {
     }
 }
 
-/// Runs the script of a reader. What it printed is written out on a fault too, and the first fault is told.
-fn run_from<R: Print + AllocGlobal, S: Read>(rt: &R, script: &mut S) -> Result<Tally, Fault> {
+/// Runs the script, or reads the trace, of a reader. What was printed is written out on a fault too, and the first fault
+/// is told.
+fn run_from<R: Print + AllocGlobal, S: Read>(
+    rt: &R,
+    work: &Work,
+    input: &mut S,
+) -> Result<Tally, Fault> {
     let Ok(mut printed) = BufWriter::new(rt.alloc(), io::writer(rt)) else {
         return Err(Fault::Memory);
     };
-    let outcome = run_script(rt.alloc(), script, &mut printed);
+    let outcome = match work {
+        Work::Run => run_script(rt.alloc(), input, &mut printed),
+        Work::Trace => run_trace(rt.alloc(), input, &mut printed),
+    };
     let flushed = printed.flush().is_ok();
     came_to(outcome, flushed)
 }

@@ -1,7 +1,7 @@
 ghost use Rattle.std.specs.Prelude.{◌≡◌, length, codes, IsOkAnd};
 
 use crate::fault::Fault;
-use clap::{Arg, Command};
+use clap::{Arg, ArgMatches, Command};
 use std::alloc::Global;
 
 /// The program's name.
@@ -13,7 +13,10 @@ pub(crate) const STANDARD_INPUT: &str = "-";
 /// The command that runs a script.
 const RUN: &str = "run";
 
-/// Its argument.
+/// The command that reads a trace.
+const TRACE: &str = "trace";
+
+/// The argument of both.
 const FILE: &str = "FILE";
 
 /// What `--help` says below the list of commands.
@@ -30,39 +33,81 @@ A script says what happens on the bus, one line for each event, and each line pr
   show                          who is there, at which addresses, and what was recorded
   symbols                       the last symbols of the wire
 
+'trace' reads such symbols, and tells the requests, commands, rounds and transfers of each frame.
+
 Exit status:
   0  each line was done
   1  a line was refused, and printed 'refused' and why
-  2  the script was not run to its end, and standard error says why
+  2  the script was not run, or the trace not read, to its end, and standard error says why
 
 docs/FORMATS.md has every line of a script, what it prints and when it is refused; examples/ has scripts.";
 
-/// The file that the command line's words name, which come without the program's. No words at all mean `run -`.
-pub(crate) fn file_named<'a>(alloc: Global, words: &'a [String]) -> Result<&'a str, Fault>
-    ensures none { length words.now ≡ 0 → IsOkAnd result (λ file. file.now ≡ codes "-") }
+/// What to do, and the file to do it with.
+#[derive(Clone, Copy)]
+pub(crate) struct Task<'a> {
+    pub work: Work,
+    pub file: &'a str,
+}
+
+/// What the program does with a file.
+#[derive(Clone, Copy, Debug, PartialEq, Eq)]
+pub(crate) enum Work {
+    /// Runs it as a script.
+    Run,
+    /// Reads it as a trace.
+    Trace,
+}
+
+/// What the command line's words ask for, which come without the program's. No words at all mean `run -`.
+pub(crate) fn task_named<'a>(alloc: Global, words: &'a [String]) -> Result<Task<'a>, Fault>
+    ensures none { length words.now ≡ 0 → IsOkAnd result (λ task. (task.work ≡ Work.Run) × (task.file.now ≡ codes "-")) }
 {
     if words.is_empty() {
-        return Ok(STANDARD_INPUT);
+        return Ok(Task {
+            work: Work::Run,
+            file: STANDARD_INPUT,
+        });
     }
-    let file = Arg::new(alloc, FILE)
-        .required(true)
-        .help("The script, or - for standard input");
+    let matches = commands(alloc)?.try_get_matches_from(words)?;
+    // the parser requires a command, and its argument
+    let (work, given) = match matches.subcommand_matches(TRACE) {
+        Some(trace) => (Work::Trace, trace.get_str(FILE)),
+        None => (Work::Run, script_given(&matches)),
+    };
+    Ok(Task {
+        work,
+        file: given.unwrap_or(STANDARD_INPUT),
+    })
+}
+
+/// The script that was given, if it was.
+fn script_given<'a>(matches: &ArgMatches<'a>) -> Option<&'a str> {
+    matches.subcommand_matches(RUN)?.get_str(FILE)
+}
+
+/// What the command line may ask for.
+fn commands<'a>(alloc: Global) -> Result<Command<'a>, Fault> {
+    let script = file_argument(alloc, "The script, or - for standard input");
     let run = Command::new(alloc, RUN)
         .about("Runs a script")
         .after_help(TEACHING)
-        .arg(file)?;
+        .arg(script)?;
+    let wires = file_argument(alloc, "The trace, or - for standard input");
+    let trace = Command::new(alloc, TRACE)
+        .about("Tells what a trace says: symbols as the line 'symbols' of a script prints them")
+        .arg(wires)?;
     let command = Command::new(alloc, PROGRAM)
         .bin_name(PROGRAM)?
-        .about("Runs scripts over an I3C bus")
+        .about("Runs scripts over an I3C bus, and reads traces of one")
         .after_help(TEACHING)
         .no_binary_name(true)
         .subcommand_required(true)
-        .subcommand(run)?;
-    let matches = command.try_get_matches_from(words)?;
-    // the parser requires both the command and its argument
-    let file = match matches.subcommand_matches(RUN) {
-        Some(run) => run.get_str(FILE),
-        None => None,
-    };
-    Ok(file.unwrap_or(STANDARD_INPUT))
+        .subcommand(run)?
+        .subcommand(trace)?;
+    Ok(command)
+}
+
+/// The argument of both commands.
+fn file_argument<'a>(alloc: Global, help: &'a str) -> Arg<'a> {
+    Arg::new(alloc, FILE).required(true).help(help)
 }
