@@ -1,10 +1,10 @@
 -- What goes out of a text, be it a trace or not.
-use Rattle.std.proofs.Common.{◌≡◌, ◌⊎◌, ℕ, Bool, true, false, List, map, min, inl, inr, Option, IfSome, IsErr, MatchResult, OnOk, Result, Ok, Err, refl, subst, sym}
+use Rattle.std.proofs.Common.{◌≡◌, ◌⊎◌, ℕ, Bool, true, false, All, List, map, min, inl, inr, Option, IfSome, IsErr, MatchResult, OnOk, Result, Ok, Err, refl, subst, sym}
 use Rattle.std.specs.Io.KnownBytes.{Appends, Keeps}
 use Rattle.i3c_frame.specs.declared.symbols.Symbol.{Symbol}
 use Rattle.i3c_frame.specs.declared.traces.TraceFault.{TraceFault}
 use Rattle.i3c_frame.specs.Parts.{parts}
-use Rattle.i3c_frame.specs.Texts.{text_of}
+use Rattle.i3c_frame.specs.Texts.{IsInRange, text_of}
 use Rattle.i3c_frame.specs.Traces.{IsFirstFault, IsTrace}
 use Rattle.i3c_monitor.specs.Trace.{trace_told}
 use Rattle.i3c_scenario.specs.declared.faults.ScriptFault.{ScriptFault}
@@ -15,15 +15,15 @@ use Rattle.i3c_scenario.specs.Traces.{ascii, fault_line, refused_in, trace_text,
 
 -- a text that is a trace
 pub trace_out : (known old new : Option (List ℕ)) (result : Result Tally ScriptFault) (text : List ℕ) (trace : List Symbol)
-    → IfSome known (λ bytes. text ≡ map ascii bytes) → IsTrace trace → map text_of trace ≡ parts text
+    → IfSome known (λ bytes. text ≡ map ascii bytes) → IsTrace trace → All IsInRange trace → map text_of trace ≡ parts text
     → MatchResult result (λ tally. (tally.refused ≡ min (refused_in (trace_told trace)) 18446744073709551615) × Appends old new (trace_text trace))
     (λ fault. IsLineFault fault × AppendsSome old new (trace_text trace))
     → GoesOut known old new result
-trace_out known old new (Ok tally) text trace read is same tells =
-    (trace_text trace, record { text = text; read = read; told = inl (record { trace = trace; is_trace = is; same = same; told = refl; counted = tells.0 }) }, tells.1)
-trace_out known old new (Err fault) text trace read is same tells =
+trace_out known old new (Ok tally) text trace read is range same tells =
+    (trace_text trace, record { text = text; read = read; told = inl (record { trace = trace; is_trace = is; in_range = range; same = same; told = refl; counted = tells.0 }) }, tells.1)
+trace_out known old new (Err fault) text trace read is range same tells =
     let n = min (refused_in (trace_told trace)) 18446744073709551615 in
-    inr (trace_text trace, n, record { text = text; read = read; told = inl (record { trace = trace; is_trace = is; same = same; told = refl; counted = refl }) }, tells.1)
+    inr (trace_text trace, n, record { text = text; read = read; told = inl (record { trace = trace; is_trace = is; in_range = range; same = same; told = refl; counted = refl }) }, tells.1)
 
 -- a text that is none, or for whose symbols there was no memory
 pub fault_out : (known old new : Option (List ℕ)) (result : Result Tally ScriptFault) (text : List ℕ) (fault : TraceFault)

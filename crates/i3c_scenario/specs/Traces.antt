@@ -1,10 +1,10 @@
 -- The lines that a trace comes to.
-use Rattle.std.specs.Prelude.{◌≡◌, ◌⊎◌, ℕ, ◌+◌, nat_lt, List, [], ◌∷◌, ◌++◌, codes, decimal, flat_map, map, min, Option, IfSome, Result, MatchResult, if◌then◌else◌}
+use Rattle.std.specs.Prelude.{◌≡◌, ◌⊎◌, ℕ, ◌+◌, nat_lt, All, List, [], ◌∷◌, ◌++◌, codes, decimal, flat_map, map, min, Option, IfSome, Result, MatchResult, if◌then◌else◌}
 use Rattle.std.specs.Io.KnownBytes.{Appends, Keeps}
 use Rattle.i3c_frame.specs.declared.symbols.Symbol.{Symbol}
 use Rattle.i3c_frame.specs.declared.traces.TraceFault.{TraceFault}
 use Rattle.i3c_frame.specs.Parts.{parts}
-use Rattle.i3c_frame.specs.Texts.{text_of}
+use Rattle.i3c_frame.specs.Texts.{IsInRange, text_of}
 use Rattle.i3c_frame.specs.Traces.{IsFirstFault, IsTrace}
 use Rattle.i3c_monitor.specs.declared.seen.Seen.{Seen}
 use Rattle.i3c_monitor.specs.Lines.{line_text}
@@ -46,6 +46,7 @@ fault_line TraceFault.OutOfMemory = []
 pub record IsTraceTold (text lines : List ℕ) (refused : ℕ) : Type 0 where
   pub trace : List Symbol
   pub is_trace : IsTrace trace
+  pub in_range : All IsInRange trace
   pub same : map text_of trace ≡ parts text
   pub told : lines ≡ trace_text trace
   pub counted : refused ≡ min (refused_in (trace_told trace)) 18446744073709551615

@@ -23,7 +23,7 @@ returns-in-Ok-read_trace-clause-lines g c =
     let read : IfSome known (λ bytes. text ≡ map ascii bytes) =
     all_read known (g.R.Read.remaining c.read_whole.new.reader) c.in_ok-bytes.bytes.items (λ bytes. text ≡ map ascii bytes) c.in_ok-bytes.ensures.bytes c.in_ok-bytes.ensures.whole same in
     let sound = c.in-Ok-read_trace.ensures.sound in
-    trace_out known old new c.tell_trace.result text c.in-Ok-read_trace.symbols.items read sound.0 sound.1
+    trace_out known old new c.tell_trace.result text c.in-Ok-read_trace.symbols.items read sound.0 c.in-Ok-read_trace.ensures.range sound.1
     (subst (λ trace. MatchResult c.tell_trace.result
     (λ tally. (tally.refused ≡ min (refused_in (trace_told trace)) 18446744073709551615) × Appends old new (trace_text trace))
     (λ fault. IsLineFault fault × AppendsSome old new (trace_text trace))) c.deref-in-Ok-read_trace.ensures.value c.tell_trace.ensures)
