@@ -6,7 +6,7 @@ use i3c_deftgts::ListFault;
 use i3c_frame::Symbol;
 use std::alloc::AllocError;
 
-/// A command to single targets, each of which has a header of its own (I3C Basic 5.1.9.2.3).
+/// A command to single targets, each of which has a header of its own (I3C Basic 5.1.9.1).
 #[derive(Clone, Copy, Debug, PartialEq, Eq)]
 pub enum Direct {
     /// Enable events.
@@ -77,7 +77,7 @@ pub enum Seen {
         byte: Option<u8>,
     },
     /// A private transfer, and the symbols behind its header, of which words are its bytes: `None` where nobody answered
-    /// (I3C Basic 5.1.2.1).
+    /// (I3C Basic 5.1.2).
     Transfer {
         address: Addr7,
         read: bool,
