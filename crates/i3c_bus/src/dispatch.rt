@@ -3,11 +3,10 @@ ghost use Rattle.i3c_bus.specs.Hands.{unhanded};
 
 use crate::parts::Bus;
 use crate::tokens::Hand;
-use arrayvec::ArrayVec;
 use i3c_base::{Addr7, Answer, Cuts, Fixed, Served};
 use i3c_frame::Tap;
 use i3c_handoff::HandFault;
-use i3c_step::{ActiveStays, Command, Event, Framed, Refusal, Reply, SlotTaken, WRITE_KEPT};
+use i3c_step::{ActiveStays, Command, Event, Framed, Refusal, Reply, SlotTaken, copy_of};
 
 impl Bus {
     ghost use Rattle.i3c_frame.specs.Taps.{Tells};
@@ -56,7 +55,8 @@ impl Bus {
                 self.send(hand, Command::ReadFrom(*from), *policy, tap, cuts)
             }
             Event::WriteTo(to, bytes, policy, cuts) => {
-                self.step_write(hand, *to, bytes, *policy, tap, cuts)
+                let command = Command::WriteTo(*to, copy_of(bytes));
+                self.send(hand, command, *policy, tap, cuts)
             }
             Event::HandOver(to, cuts) => self.step_hand(hand, *to, tap, cuts),
             Event::OpenDaa(cuts) => self.step_open(hand, tap, cuts),
@@ -80,32 +80,6 @@ impl Bus {
         let mut fixed = policy;
         let reply = self.command(&hand, &command, &mut fixed, tap, cuts);
         (hand, reply)
-    }
-
-    /// A private write, as an event.
-    fn step_write<T: Tap>(
-        &mut self,
-        hand: Hand,
-        to: Addr7,
-        bytes: &ArrayVec<u8, WRITE_KEPT>,
-        policy: Fixed,
-        tap: &mut T,
-        cuts: &Cuts,
-    ) -> (Hand, Reply)
-        requires fits { HandFits hand self.old.state }
-        ensures carried { Carries self.old self.new (Event.WriteTo to bytes.now policy cuts.now) result.1 result.0 (Tells T.note_gives tap.old tap.new) }
-    {
-        match hand {
-            Hand::Role(role) => {
-                let mut fixed = policy;
-                let reply = self.write_kept(&role, to, bytes, &mut fixed, tap, cuts);
-                (Hand::Role(role), reply)
-            }
-            Hand::Session(session) => (
-                Hand::Session(session),
-                Reply::Refused(Refusal::SessionOpen),
-            ),
-        }
     }
 
     /// Opens a session, as an event.

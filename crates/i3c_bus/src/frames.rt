@@ -125,30 +125,16 @@ impl Bus {
             return Reply::Refused(Refusal::SessionOpen);
         };
         match command {
-            Command::Serve => match self.serve(role, policy, tap, cuts) {
-                Ok(served) => Reply::Served(served),
-                Err(fault) => Reply::from(fault),
-            },
-            Command::Enec(to, kinds) => match self.enec(role, *to, *kinds, policy, tap, cuts) {
-                Ok(framed) => Reply::Framed(framed),
-                Err(fault) => Reply::from(fault),
-            },
-            Command::Reset => match self.reset(role, policy, tap, cuts) {
-                Ok(framed) => Reply::Framed(framed),
-                Err(fault) => Reply::from(fault),
-            },
-            Command::SendList => match self.list(role, policy, tap, cuts) {
-                Ok(framed) => Reply::Framed(framed),
-                Err(fault) => Reply::from(fault),
-            },
-            Command::Disec(to, kinds) => match self.disec(role, *to, *kinds, policy, tap, cuts) {
-                Ok(framed) => Reply::Framed(framed),
-                Err(fault) => Reply::from(fault),
-            },
-            Command::ReadFrom(from) => match self.read(role, *from, policy, tap, cuts) {
-                Ok(framed) => Reply::Framed(framed),
-                Err(fault) => Reply::from(fault),
-            },
+            Command::Serve => Reply::from(self.serve(role, policy, tap, cuts)),
+            Command::Enec(to, kinds) => {
+                Reply::from(self.enec(role, *to, *kinds, policy, tap, cuts))
+            }
+            Command::Disec(to, kinds) => {
+                Reply::from(self.disec(role, *to, *kinds, policy, tap, cuts))
+            }
+            Command::Reset => Reply::from(self.reset(role, policy, tap, cuts)),
+            Command::SendList => Reply::from(self.list(role, policy, tap, cuts)),
+            Command::ReadFrom(from) => Reply::from(self.read(role, *from, policy, tap, cuts)),
             Command::WriteTo(to, bytes) => self.write_kept(role, *to, bytes, policy, tap, cuts),
         }
     }

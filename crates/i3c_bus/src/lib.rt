@@ -21,13 +21,10 @@ pub use i3c_ibi::{Fixed, Policy, Record, Verdict};
 pub use i3c_step::{
     ActiveStays, Command, DropRefusal, Event, FrameFault, Framed, OutOfMemory, Refusal, Reply,
     RunFault, SlotTaken, StartFault, TRANSFER, TargetFault, WRITE_KEPT, WriteFault,
-    accepted_interrupts_are_recorded, addresses_are_unique, interrupts_are_recorded_once,
+    accepted_interrupts_are_recorded, addresses_are_unique, copy_of, interrupts_are_recorded_once,
     one_is_active, raises_stay_in_order, runs_are_histories, sessions_end, slots_are_kept,
     stays_begin_by_attachments, steps_are_given, uncut_steps_are_determined,
 };
 pub use parts::{Bus, Records};
 pub use runs::{Outcome, run_events};
 pub use tokens::{Hand, Session};
-
-#[cfg(test)]
-mod tests;

@@ -90,7 +90,7 @@ impl Bus {
         })
     }
 
-    /// A write of the bytes that an event or a command keeps, and its reply.
+    /// A write of the bytes that a command keeps, and its reply.
     pub(crate) fn write_kept<P: Policy, T: Tap>(
         &mut self,
         role: &Role,
@@ -104,10 +104,7 @@ impl Bus {
         ensures asks { Asks P.verdict_gives policy.old policy.new self.old.state result }
         ensures carried { Carries self.old self.new (Event.WriteTo to bytes.now (given_by result) cuts.now) result (Hand.Role role.now) (Tells T.note_gives tap.old tap.new) }
     {
-        match self.write(role, to, bytes.as_slice(), policy, tap, cuts) {
-            Ok(framed) => Reply::Framed(framed),
-            Err(fault) => Reply::from(fault),
-        }
+        Reply::from(self.write(role, to, bytes.as_slice(), policy, tap, cuts))
     }
 
     /// The own part of a read, after so many bits of the frame: the bytes are read, and who is cut is gone.

@@ -22,6 +22,3 @@ mod transferring;
 
 pub use faults::{OutOfMemory, PlainFault};
 pub use plain::{Choice, Plain};
-
-#[cfg(test)]
-mod tests;

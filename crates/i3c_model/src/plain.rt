@@ -53,7 +53,7 @@ impl Model for Plain {
 }
 
 impl Plain {
-    ghost use Rattle.std.specs.Prelude.{◌≡◌, ◌≢◌, ◌↔◌, IfOk, IsTrue, None, OnErr, length, is_some, option_and_then, option_map};
+    ghost use Rattle.std.specs.Prelude.{◌≡◌, ◌≢◌, ◌↔◌, IfOk, IsTrue, MatchOption, None, OnErr, length, is_some, option_and_then, option_map};
     ghost use Rattle.i3c_base.specs.declared.range.TheConstants.{SLOTS as SLOT_COUNT};
     ghost use Rattle.i3c_base.specs.State.{device_at, entry_at, legacy_target_at, IsPresent};
     ghost use Rattle.i3c_step.specs.Step.{Acts, Step, checks, first_refusal};
@@ -83,6 +83,37 @@ impl Plain {
             Some(device) => device.address(),
             None => None,
         }
+    }
+
+    /// How many interrupts of a slot's device wait.
+    pub fn waiting(&self, slot: Slot) -> usize
+        ensures { MatchOption (device_at self.now slot) (result ≡ 0) (λ d. result ≡ length d.waiting) }
+    {
+        match self.device(slot) {
+            Some(device) => device.waiting(),
+            None => 0,
+        }
+    }
+
+    /// Whether a session of dynamic address assignment is open.
+    pub fn in_session(&self) -> bool
+        ensures { result ≡ self.now.in_session }
+    {
+        self.in_session
+    }
+
+    /// Whether the list of DEFTGTS is current.
+    pub fn listed(&self) -> bool
+        ensures { result ≡ self.now.listed }
+    {
+        self.listed
+    }
+
+    /// The recorded interrupts, the oldest first.
+    pub fn records(&self) -> &[Record]
+        ensures { result.now ≡ self.now.records }
+    {
+        self.records.as_slice()
     }
 
     /// Does an event, and decides by the choice what its drop-offs leave open. Where memory ran out nothing has changed,

@@ -1,3 +1,5 @@
+ghost use Rattle.std.specs.Prelude.{◌≡◌};
+
 use arrayvec::ArrayVec;
 use i3c_base::{Addr7, Cuts, Fixed, Kinds, REGISTERS, Setup, Slot};
 
@@ -67,4 +69,15 @@ pub enum Command {
     ReadFrom(Addr7),
     /// Writes these bytes to the first registers of the same; of a longer write they are its first.
     WriteTo(Addr7, ArrayVec<u8, WRITE_KEPT>),
+}
+
+/// The bytes that an event or a command keeps of a write, once more.
+pub fn copy_of(bytes: &ArrayVec<u8, WRITE_KEPT>) -> ArrayVec<u8, WRITE_KEPT>
+    ensures { result ≡ bytes.now }
+{
+    let mut copy = ArrayVec::new();
+    let Ok(()) = copy.try_extend_from_slice(bytes.as_slice()) else {
+        unreachable!()
+    };
+    copy
 }

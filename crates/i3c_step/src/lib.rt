@@ -8,7 +8,7 @@ mod events;
 mod laws;
 mod replies;
 
-pub use events::{Command, Event, TRANSFER, WRITE_KEPT};
+pub use events::{Command, Event, TRANSFER, WRITE_KEPT, copy_of};
 pub use laws::{
     accepted_interrupts_are_recorded, addresses_are_unique, interrupts_are_recorded_once,
     one_is_active, raises_stay_in_order, runs_are_histories, sessions_end, slots_are_kept,

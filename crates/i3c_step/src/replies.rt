@@ -191,6 +191,34 @@ impl From<FrameFault> for Reply {
     }
 }
 
+impl From<Result<Served, FrameFault>> for Reply {
+    ghost use Rattle.std.specs.Prelude.{◌≡◌};
+    ghost use Rattle.i3c_step.specs.Replies.{served_reply};
+
+    ghost from_gives = { λ answer reply. reply ≡ served_reply answer };
+
+    fn from(answer: Result<Served, FrameFault>) -> Reply {
+        match answer {
+            Ok(served) => Reply::Served(served),
+            Err(fault) => Reply::from(fault),
+        }
+    }
+}
+
+impl From<Result<Framed, FrameFault>> for Reply {
+    ghost use Rattle.std.specs.Prelude.{◌≡◌};
+    ghost use Rattle.i3c_step.specs.Replies.{announced_reply};
+
+    ghost from_gives = { λ answer reply. reply ≡ announced_reply answer };
+
+    fn from(answer: Result<Framed, FrameFault>) -> Reply {
+        match answer {
+            Ok(framed) => Reply::Framed(framed),
+            Err(fault) => Reply::from(fault),
+        }
+    }
+}
+
 /// Why a frame to one address, other than a write, is not sent.
 #[derive(Clone, Copy, Debug, PartialEq, Eq, Drop, Error)]
 pub enum TargetFault {
@@ -217,6 +245,20 @@ impl From<TargetFault> for Reply {
             TargetFault::ActiveStays => Reply::Refused(Refusal::ActiveStays),
             TargetFault::NoAnswer(address) => Reply::Refused(Refusal::NoAnswer(address)),
             TargetFault::OutOfMemory => Reply::OutOfMemory,
+        }
+    }
+}
+
+impl From<Result<Framed, TargetFault>> for Reply {
+    ghost use Rattle.std.specs.Prelude.{◌≡◌};
+    ghost use Rattle.i3c_step.specs.Replies.{framed_reply};
+
+    ghost from_gives = { λ answer reply. reply ≡ framed_reply answer };
+
+    fn from(answer: Result<Framed, TargetFault>) -> Reply {
+        match answer {
+            Ok(framed) => Reply::Framed(framed),
+            Err(fault) => Reply::from(fault),
         }
     }
 }
@@ -251,6 +293,20 @@ impl From<WriteFault> for Reply {
             WriteFault::TooLong => Reply::Refused(Refusal::TooLong),
             WriteFault::NoAnswer(address) => Reply::Refused(Refusal::NoAnswer(address)),
             WriteFault::OutOfMemory => Reply::OutOfMemory,
+        }
+    }
+}
+
+impl From<Result<Framed, WriteFault>> for Reply {
+    ghost use Rattle.std.specs.Prelude.{◌≡◌};
+    ghost use Rattle.i3c_step.specs.Replies.{wrote_reply};
+
+    ghost from_gives = { λ answer reply. reply ≡ wrote_reply answer };
+
+    fn from(answer: Result<Framed, WriteFault>) -> Reply {
+        match answer {
+            Ok(framed) => Reply::Framed(framed),
+            Err(fault) => Reply::from(fault),
         }
     }
 }

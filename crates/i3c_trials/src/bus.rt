@@ -2,10 +2,10 @@
 // of their identities: 48 bits of a PID, 8 of a BCR and 8 of a DCR. V is T but for the last bit.
 ghost use Rattle.std.specs.Prelude.{◌≡◌, ◌⊎◌, [], ◌∷◌, ◌++◌};
 
-use crate::{
+use i3c_base::{Addr7, Cuts, Identity, Kinds, Setup, Slot};
+use i3c_bus::{
     Answer, Bus, Event, Fixed, Framed, Hand, Record, Refusal, Reply, RoundReply, Served, Verdict,
 };
-use i3c_base::{Addr7, Cuts, Identity, Kinds, Setup, Slot};
 use i3c_frame::{Symbol, Tap, read_trace};
 use i3c_legacy::Legacies;
 use std::alloc::Global;

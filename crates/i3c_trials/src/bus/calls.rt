@@ -4,7 +4,7 @@ ghost use Rattle.i3c_bus.specs.Hands.{HandFits};
 ghost use Rattle.i3c_bus.specs.declared.tokens.Hand.{Hand as HandValue};
 
 use super::*;
-use crate::{Command, FrameFault, Role};
+use i3c_bus::{Command, FrameFault, Role};
 use i3c_frame::Silent;
 
 // A bus whose T in slot 1 at 09 has an interrupt that waits.

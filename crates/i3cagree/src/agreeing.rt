@@ -1,0 +1,341 @@
+use crate::course::{Plainly, Ran, on_bus, on_plain, slots};
+use crate::cutting::{Place, cuts_of};
+use crate::faults::Fault;
+use crate::script::{KNOWN, Script};
+use i3c_base::{Answer, Cuts, Record, RoundReply, Served};
+use i3c_bus::{Event, Framed, Reply};
+use i3c_model::Choice;
+use std::alloc::Global;
+
+/// What drop-offs may leave open, in the order in which it is tried.
+const CHOICES: [Choice; 3] = [Choice::Heard, Choice::Lost, Choice::Silent];
+
+/// Of a script with more events than this only the last ones are cut, for each cut runs all that are before it.
+const LONG: usize = 200;
+
+/// So many of them.
+const LAST: usize = 20;
+
+/// What was tried, and where the two machines disagree.
+#[derive(Debug, Drop)]
+pub(crate) struct Verdict {
+    pub events: usize,
+    pub cuts: usize,
+    /// So many of the cuts left two questions open, which the plain machine's one choice can't answer both.
+    pub twofold: usize,
+    /// After so many of them a byte differs that the definitions leave open.
+    pub open: usize,
+    pub disagreements: Vec<Disagreement>,
+}
+
+/// Where the machines disagree.
+#[derive(Debug, Drop)]
+pub(crate) enum Disagreement {
+    /// At an event, with the script's own cuts.
+    Event(usize),
+    /// With this cut and no other.
+    Cut(Place),
+}
+
+/// What has to be the same.
+#[derive(Clone, Copy, PartialEq, Eq)]
+enum Measure {
+    /// All.
+    Whole,
+    /// All but bytes: of devices that drive one together, of whom one is lost, it may be any.
+    ButBytes,
+}
+
+/// Whether the plain machine comes to what the bus came to. Where the bus says that a byte is torn, and that its device
+/// doesn't answer later in the same frame, the plain machine may say the first alone.
+fn agree(ran: &Ran, plainly: &Plainly, measure: Measure) -> bool {
+    let (records, due) = (ran.records.as_slice(), plainly.plain.records());
+    ran.seen == plainly.seen
+        && records.len() == due.len()
+        && records
+            .iter()
+            .zip(due)
+            .all(|(record, other)| are_same(record, other, measure))
+        && ran.replies.len() == plainly.replies.len()
+        && ran
+            .replies
+            .iter()
+            .zip(plainly.replies.as_slice())
+            .all(|(reply, other)| answer_alike(reply, other, measure))
+}
+
+fn are_same(record: &Record, other: &Record, measure: Measure) -> bool {
+    match measure {
+        Measure::Whole => record == other,
+        Measure::ButBytes => {
+            record.slot == other.slot
+                && record.number == other.number
+                && record.at == other.at
+                && record.byte.is_some() == other.byte.is_some()
+        }
+    }
+}
+
+fn answer_alike(reply: &Reply, other: &Reply, measure: Measure) -> bool {
+    reply == other
+        || is_twofold(reply) && is_torn(other)
+        || measure == Measure::ButBytes && are_bytes(reply) && are_bytes(other)
+}
+
+fn are_bytes(reply: &Reply) -> bool {
+    matches!(
+        reply,
+        Reply::Framed(Framed {
+            answer: Answer::Bytes(_),
+            ..
+        })
+    )
+}
+
+fn is_twofold(reply: &Reply) -> bool {
+    matches!(
+        reply,
+        Reply::Framed(Framed {
+            served: Served::Torn,
+            answer: Answer::NoAnswer(_),
+        })
+    )
+}
+
+fn is_torn(reply: &Reply) -> bool {
+    matches!(
+        reply,
+        Reply::Framed(Framed {
+            served: Served::Torn,
+            ..
+        })
+    )
+}
+
+/// Choices for all events: what is heard, is heard.
+fn all_heard(alloc: Global, count: usize) -> Result<Vec<Choice>, Fault> {
+    let mut choices = Vec::new(alloc);
+    for _ in 0..count {
+        choices.push(Choice::Heard)?;
+    }
+    Ok(choices)
+}
+
+/// The choice at an event with which so many events come to what they came to on the bus.
+fn choice_for(
+    alloc: Global,
+    script: &Script,
+    choices: &mut [Choice],
+    at: usize,
+    ran: &[Ran],
+    measure: Measure,
+) -> Result<Option<Choice>, Fault> {
+    let _ = KNOWN;
+    for choice in CHOICES {
+        if let Some(chosen) = choices.get_mut(at) {
+            *chosen = choice;
+        }
+        if all_agree(alloc, script, choices, ran, measure)? {
+            return Ok(Some(choice));
+        }
+    }
+    Ok(None)
+}
+
+/// Whether each of these runs, which have so many events of the script, is one of the plain machine with these choices.
+fn all_agree(
+    alloc: Global,
+    script: &Script,
+    choices: &[Choice],
+    ran: &[Ran],
+    measure: Measure,
+) -> Result<bool, Fault> {
+    for run in ran {
+        let plainly = on_plain(alloc, script, choices, run.replies.len())?;
+        if !agree(run, &plainly, measure) {
+            return Ok(false);
+        }
+    }
+    Ok(true)
+}
+
+fn has_cuts(event: &mut Event) -> bool {
+    match cuts_of(event) {
+        Some(cuts) => !cuts.is_empty(),
+        None => false,
+    }
+}
+
+/// Runs the script as it stands, and then each of its frames with each device cut at each bit.
+pub(crate) fn judge(alloc: Global, mut script: Script) -> Result<Verdict, Fault> {
+    let mut verdict = Verdict {
+        events: script.own,
+        cuts: 0,
+        twofold: 0,
+        open: 0,
+        disagreements: Vec::new(alloc),
+    };
+    if let Some(at) = as_it_stands(alloc, &mut script)? {
+        verdict.disagreements.push(Disagreement::Event(at))?;
+    }
+    clear(&mut script);
+    each_frame(alloc, &mut script, &mut verdict)?;
+    Ok(verdict)
+}
+
+/// The script as it stands: the first event after which the machines disagree, whatever is chosen at it.
+fn as_it_stands(alloc: Global, script: &mut Script) -> Result<Option<usize>, Fault> {
+    let _ = KNOWN;
+    let count = script.events.len();
+    let mut choices = all_heard(alloc, count)?;
+    for at in 0..count {
+        let is_cut = match script.events.get_mut(at) {
+            Some(event) => has_cuts(event),
+            None => false,
+        };
+        // what isn't cut is seen with the next that is, or at the end
+        if is_cut || at + 1 == count {
+            let ran = [on_bus(alloc, script, at + 1)?];
+            if choice_for(alloc, script, &mut choices, at, &ran, Measure::Whole)?.is_none() {
+                return Ok(Some(at));
+            }
+        }
+    }
+    Ok(None)
+}
+
+/// Takes the script's own cuts away.
+fn clear(script: &mut Script) {
+    for event in script.events.iter_mut() {
+        if let Some(cuts) = cuts_of(event) {
+            *cuts = Cuts::new();
+        }
+    }
+}
+
+fn each_frame(alloc: Global, script: &mut Script, verdict: &mut Verdict) -> Result<(), Fault> {
+    let _ = KNOWN;
+    let heard = all_heard(alloc, script.events.len())?;
+    let first = if script.own > LONG {
+        script.own - LAST
+    } else {
+        0
+    };
+    for at in first..script.own {
+        let before = on_plain(alloc, script, &heard, at)?;
+        if let Some(last) = past(script, at, known(script, &before)) {
+            each_slot(alloc, script, &before, at, last, verdict)?;
+        }
+    }
+    Ok(())
+}
+
+fn each_slot(
+    alloc: Global,
+    script: &mut Script,
+    before: &Plainly,
+    at: usize,
+    last: u16,
+    verdict: &mut Verdict,
+) -> Result<(), Fault> {
+    for slot in slots() {
+        if before.plain.present(slot) {
+            let shared = before.seen.shares_address(slot);
+            let place = Place {
+                at,
+                slot,
+                bit: 0,
+                shared,
+            };
+            each_bit(alloc, script, place, last, verdict)?;
+        }
+    }
+    Ok(())
+}
+
+fn each_bit(
+    alloc: Global,
+    script: &mut Script,
+    place: Place,
+    last: u16,
+    verdict: &mut Verdict,
+) -> Result<(), Fault> {
+    for bit in 0..=last {
+        one_cut(alloc, script, Place { bit, ..place }, verdict)?;
+    }
+    Ok(())
+}
+
+/// One cut, which is taken back: with one of the choices both come to the same after its frame, and at the end.
+fn one_cut(
+    alloc: Global,
+    script: &mut Script,
+    place: Place,
+    verdict: &mut Verdict,
+) -> Result<(), Fault> {
+    let _ = KNOWN;
+    let count = script.events.len();
+    let mut choices = all_heard(alloc, count)?;
+    put(script, place.at, place.cuts());
+    let ran = [
+        on_bus(alloc, script, place.at.saturating_add(1))?,
+        on_bus(alloc, script, count)?,
+    ];
+    verdict.cuts = verdict.cuts.saturating_add(1);
+    if ran[0].replies.last().is_some_and(|reply| is_twofold(reply)) {
+        verdict.twofold = verdict.twofold.saturating_add(1);
+    }
+    if choice_for(alloc, script, &mut choices, place.at, &ran, Measure::Whole)?.is_none() {
+        let measure = Measure::ButBytes;
+        if place.shared
+            && choice_for(alloc, script, &mut choices, place.at, &ran, measure)?.is_some()
+        {
+            verdict.open = verdict.open.saturating_add(1);
+        } else {
+            verdict.disagreements.push(Disagreement::Cut(place))?;
+        }
+    }
+    put(script, place.at, Cuts::new());
+    Ok(())
+}
+
+/// Gives an event these cuts.
+fn put(script: &mut Script, at: usize, cuts: Cuts) {
+    if let Some(event) = script.events.get_mut(at) {
+        if let Some(place) = cuts_of(event) {
+            *place = cuts;
+        }
+    }
+}
+
+/// How many addresses may be known by then: the main device's, the legacy targets', and those that were assigned.
+fn known(script: &Script, before: &Plainly) -> usize {
+    let assigned = before
+        .replies
+        .iter()
+        .filter(|reply| is_assigned(*reply))
+        .count();
+    assigned
+        .saturating_add(script.declared.len())
+        .saturating_add(1)
+}
+
+fn is_assigned(reply: &Reply) -> bool {
+    matches!(reply, Reply::Round(RoundReply::Assigned(..)))
+}
+
+/// The bit past the last one that the frame of an index may send, if the event is one, where so many addresses are known.
+fn past(script: &Script, at: usize, addresses: usize) -> Option<u16> {
+    match script.events.get(at)? {
+        Event::Serve(..) => Some(10),
+        Event::Enec(None, ..) | Event::Disec(None, ..) | Event::HandOver(..) => Some(37),
+        Event::Enec(Some(_), ..) | Event::Disec(Some(_), ..) => Some(46),
+        Event::Reset(..) => Some(28),
+        Event::SendList(..) => Some((37 + 36 * addresses.min(108)) as u16),
+        Event::ReadFrom(..) => Some(172),
+        Event::WriteTo(_, bytes, ..) => Some((28 + 9 * bytes.len()) as u16),
+        Event::OpenDaa(_) => Some(19),
+        Event::Round(_) => Some(74),
+        _ => None,
+    }
+}

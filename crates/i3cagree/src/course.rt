@@ -1,0 +1,122 @@
+use crate::faults::Fault;
+use crate::script::{KNOWN, Script};
+use i3c_base::{Addr7, SLOTS, Slot};
+use i3c_bus::{Event, Outcome, Records, Reply, run_events};
+use i3c_model::{Choice, Plain};
+use std::alloc::Global;
+
+/// What is seen of a bus, but its records.
+#[derive(Clone, Copy, Debug, PartialEq, Eq)]
+pub(crate) struct Seen {
+    active: Slot,
+    in_session: bool,
+    listed: bool,
+    present: [bool; SLOTS],
+    addresses: [Option<Addr7>; SLOTS],
+    waiting: [usize; SLOTS],
+}
+
+impl Seen {
+    /// Whether another device has the address of this slot's.
+    pub fn shares_address(&self, slot: Slot) -> bool {
+        let own = self.addresses[slot.index()];
+        own.is_some()
+            && self
+                .addresses
+                .iter()
+                .filter(|address| **address == own)
+                .count()
+                > 1
+    }
+}
+
+/// What events came to on the bus.
+#[derive(Drop)]
+pub(crate) struct Ran {
+    pub replies: Vec<Reply>,
+    pub seen: Seen,
+    pub records: Records,
+}
+
+/// What they came to on the plain machine.
+#[derive(Drop)]
+pub(crate) struct Plainly {
+    pub replies: Vec<Reply>,
+    pub seen: Seen,
+    pub plain: Plain,
+}
+
+/// The slots, in order.
+pub(crate) fn slots() -> [Slot; SLOTS] {
+    let mut slots = [Slot::default(); SLOTS];
+    for (slot, number) in slots.iter_mut().zip(0..SLOTS as u8) {
+        if let Ok(place) = Slot::new(number) {
+            *slot = place;
+        }
+    }
+    slots
+}
+
+/// So many events of a script.
+fn first_of(script: &Script, count: usize) -> &[Event] {
+    match script.events.get(..count) {
+        Some(events) => events,
+        None => script.events.as_slice(),
+    }
+}
+
+/// Runs so many events of a script on the bus.
+pub(crate) fn on_bus(alloc: Global, script: &Script, count: usize) -> Result<Ran, Fault> {
+    let _ = KNOWN;
+    let events = first_of(script, count);
+    let Outcome { bus, hand, replies } = run_events(
+        alloc,
+        script.main,
+        script.legacies()?,
+        events,
+    )?;
+    let slots = slots();
+    let seen = Seen {
+        active: bus.active(),
+        in_session: bus.in_session(),
+        listed: bus.listed(),
+        present: slots.map(|slot| bus.present(slot)),
+        addresses: slots.map(|slot| bus.address(slot)),
+        waiting: slots.map(|slot| bus.waiting(slot)),
+    };
+    let records = bus.retire(hand);
+    Ok(Ran {
+        replies,
+        seen,
+        records,
+    })
+}
+
+/// Runs so many events of a script on the plain machine, with a choice for each.
+pub(crate) fn on_plain(
+    alloc: Global,
+    script: &Script,
+    choices: &[Choice],
+    count: usize,
+) -> Result<Plainly, Fault> {
+    let _ = KNOWN;
+    let mut plain = Plain::new(alloc, script.main, script.legacies()?)?;
+    let mut replies = Vec::new(alloc);
+    for (event, choice) in first_of(script, count).iter().zip(choices) {
+        replies.push(plain.step(event, *choice)?)?;
+    }
+    let slots = slots();
+    let seen = Seen {
+        active: plain.active(),
+        in_session: plain.in_session(),
+        listed: plain.listed(),
+        present: slots.map(|slot| plain.present(slot)),
+        addresses: slots.map(|slot| plain.address(slot)),
+        waiting: slots.map(|slot| plain.waiting(slot)),
+    };
+    Ok(Plainly {
+        replies,
+        seen,
+        plain,
+    })
+}

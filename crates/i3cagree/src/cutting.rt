@@ -1,0 +1,40 @@
+use crate::faults::Fault;
+use crate::script::Script;
+use i3c_base::{Cuts, Slot};
+use i3c_bus::{Event, Reply};
+
+/// A slot that is cut at a bit of the event of an index.
+#[derive(Clone, Copy, Debug)]
+pub(crate) struct Place {
+    pub at: usize,
+    pub slot: Slot,
+    pub bit: u16,
+    /// Another device has the address of the slot's.
+    pub shared: bool,
+}
+
+impl Place {
+    /// The cut alone.
+    pub fn cuts(&self) -> Cuts {
+        let mut cuts = Cuts::new();
+        cuts.add(self.slot, self.bit);
+        cuts
+    }
+}
+
+/// The cuts of an event, if it is a frame.
+pub(crate) fn cuts_of(event: &mut Event) -> Option<&mut Cuts> {
+    match event {
+        Event::Serve(_, cuts)
+        | Event::Enec(_, _, _, cuts)
+        | Event::Disec(_, _, _, cuts)
+        | Event::Reset(_, cuts)
+        | Event::SendList(_, cuts)
+        | Event::ReadFrom(_, _, cuts)
+        | Event::WriteTo(_, _, _, cuts)
+        | Event::HandOver(_, cuts)
+        | Event::OpenDaa(cuts)
+        | Event::Round(cuts) => Some(cuts),
+        _ => None,
+    }
+}

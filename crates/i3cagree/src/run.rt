@@ -1,0 +1,87 @@
+use crate::agreeing::{Verdict, judge};
+use crate::faults::Fault;
+use crate::reader::read_script;
+use std::rt::{Env, Files};
+use std::{env, fs, io};
+
+/// Both machines came to the same.
+const AGREE: u8 = 0;
+
+/// They didn't.
+const DISAGREE: u8 = 1;
+
+/// It can't be said.
+const FAULT: u8 = 2;
+
+/// Prints the plain machine's replies in place of comparing it with the bus.
+const CHOICES: &str = "choices";
+
+/// Runs the program, prints what it found, and gives its exit status.
+pub(crate) fn run<R: Env + Files + Print + Eprint + AllocGlobal>(rt: &R) -> u8 {
+    match done(rt) {
+        Ok(status) => status,
+        Err(fault) => {
+            let _ = rt.eprint(&fault);
+            FAULT
+        }
+    }
+}
+
+/// Does what the command line asks for.
+fn done<R: Env + Files + Print + AllocGlobal>(rt: &R) -> Result<u8, Fault> {
+    let mut words = env::args(rt)?.skip(1);
+    let Some(first) = words.next() else {
+        return Err(Fault::Usage);
+    };
+    let Some(second) = words.next() else {
+        return compared(rt, &first);
+    };
+    if first.as_str() == CHOICES && words.next().is_none() {
+        chosen(rt, &second)?;
+        Ok(AGREE)
+    } else {
+        Err(Fault::Usage)
+    }
+}
+
+/// Compares both machines on the script of a file, if it has a bus.
+fn compared<R: Files + Print + AllocGlobal>(rt: &R, file: &str) -> Result<u8, Fault> {
+    let text = fs::read(rt, file)?;
+    let Some(script) = read_script(rt.alloc(), &text)? else {
+        return Ok(AGREE);
+    };
+    let verdict = judge(rt.alloc(), script)?;
+    tell(rt, &verdict)?;
+    Ok(if verdict.disagreements.is_empty() {
+        AGREE
+    } else {
+        DISAGREE
+    })
+}
+
+/// Prints the plain machine's replies to the events whose choice a comment says.
+fn chosen<R: Files + Print + AllocGlobal>(rt: &R, file: &str) -> Result<(), Fault> {
+    let text = fs::read(rt, file)?;
+    if let Some(script) = read_script(rt.alloc(), &text)? {
+        for reply in &script.chosen {
+            println!(rt; "{reply:?}")?;
+        }
+    }
+    Ok(())
+}
+
+/// Prints what was tried, and each disagreement.
+fn tell<R: Print>(rt: &R, verdict: &Verdict) -> io::Result<()> {
+    let Verdict {
+        events,
+        cuts,
+        twofold,
+        open,
+        disagreements,
+    } = verdict;
+    println!(rt; "{events} events, {cuts} cuts, {twofold} twofold, {open} open")?;
+    for disagreement in disagreements {
+        println!(rt; "{disagreement:?}")?;
+    }
+    Ok(())
+}

@@ -1,0 +1,54 @@
+use crate::faults::Fault;
+use i3c_base::{
+    Addr7, Answer, Bcr, Cuts, Dcr, Fixed, Identity, Kinds, Lvr, Pid, RoundReply, Served, Setup,
+    Slot, Verdict,
+};
+use i3c_bus::{Event, Framed, Refusal, Reply};
+use i3c_legacy::Legacies;
+
+/// A script as what happens to a bus: its main device, its legacy targets, and its events. Those after its own show what
+/// is seen no other way.
+#[derive(Drop)]
+pub(crate) struct Script {
+    pub main: Setup,
+    pub declared: Vec<(Addr7, Lvr)>,
+    pub events: Vec<Event>,
+    pub own: usize,
+    /// The plain machine's replies to the events whose choice a comment says.
+    pub chosen: Vec<Reply>,
+}
+
+impl Script {
+    /// The legacy targets.
+    pub fn legacies(&self) -> Result<Legacies, Fault> {
+        let mut legacies = Legacies::new();
+        for (address, lvr) in &self.declared {
+            if legacies.add(*address, *lvr).is_err() {
+                return Err(Fault::Start);
+            }
+        }
+        Ok(legacies)
+    }
+}
+
+/// The types in an event and a reply: the prover wants them named in each function that moves one into a list.
+pub(crate) type Known = (
+    Refusal,
+    Framed,
+    Served,
+    Answer,
+    RoundReply,
+    Identity,
+    Pid,
+    Bcr,
+    Dcr,
+    Addr7,
+    Fixed,
+    Verdict,
+    Kinds,
+    Cuts,
+    Setup,
+    Slot,
+);
+
+pub(crate) const KNOWN: Option<Known> = None;
