@@ -15,6 +15,7 @@ use Rattle.i3c_base.specs.State.{Device, State}
 use Rattle.i3c_model.specs.Meaning.{IsLeastHearer, NoHearer}
 use Rattle.i3c_model.specs.declared.plain.Plain.TheInside.{Inside}
 use Rattle.i3c_model.specs.Views.{IsWithinPlaces, state_of}
+use Rattle.i3c_step.proofs.Uniqueness.{below_total}
 use Rattle.i3c_model.proofs.Entries.{entry_in_slot, slot_in_entries}
 
 -- an item of a list
@@ -82,19 +83,6 @@ below_less i j h = elim h [
     | inr t ↦ ap (λ o. ordering_then o (ordering_then (nat_cmp i.bcr.0 j.bcr.0) (nat_cmp i.dcr.0 j.dcr.0))) (sym (nat_cmp_is i.pid j.pid Equal t.0))
         ∙ (ap (λ o. ordering_then o (nat_cmp i.dcr.0 j.dcr.0)) (sym (nat_cmp_is i.bcr.0 j.bcr.0 Equal t.1)) ∙ sym (nat_cmp_is i.dcr.0 j.dcr.0 Less t.2))
   ]
-]
-
--- the order is total
-below_total : (i j : Identity) → IsBelow i j ⊎ (IsBelow j i ⊎ (i ≡ j))
-below_total i j = elim (cases_order i.pid j.pid) [
-  | inl p ↦ elim (cases_order i.bcr.0 j.bcr.0) [
-    | inl q ↦ elim (cases_order i.dcr.0 j.dcr.0) [
-      | inl r ↦ inr (inr (λ k. record { pid = p k; bcr = record { 0 = q k }; dcr = record { 0 = r k } }))
-      | inr o ↦ elim o [ inl l ↦ inl (inr (inr (p, q, l))) | inr g ↦ inr (inl (inr (inr (sym p, sym q, g)))) ]
-    ]
-    | inr o ↦ elim o [ inl l ↦ inl (inr (inl (p, l))) | inr g ↦ inr (inl (inr (inl (sym p, g)))) ]
-  ]
-  | inr o ↦ elim o [ inl l ↦ inl (inl l) | inr g ↦ inr (inl (inl g)) ]
 ]
 
 pub less_from : (o : Ordering) → is_lt o ≡ true → o ≡ Less

@@ -23,7 +23,7 @@ use Rattle.i3c_base.specs.Round.{IsAddressFor, IsWinner}
 use Rattle.i3c_base.specs.Cutting.{nobody}
 
 -- the order of identities is total, so a least one is unique
-below_total : (i j : Identity) → IsBelow i j ⊎ (IsBelow j i ⊎ (i ≡ j))
+pub below_total : (i j : Identity) → IsBelow i j ⊎ (IsBelow j i ⊎ (i ≡ j))
 below_total i j = elim (cases_order i.pid j.pid) [
   | inl p ↦ elim (cases_order i.bcr.0 j.bcr.0) [
     | inl q ↦ elim (cases_order i.dcr.0 j.dcr.0) [

@@ -71,7 +71,8 @@ fn begin(
                 declared: mem::replace(declared, Vec::new(alloc)),
                 events: Vec::new(alloc),
                 own: 0,
-                chosen: Vec::new(alloc),
+                replies: Vec::new(alloc),
+                said: Vec::new(alloc),
             };
             let plain = Plain::new(alloc, script.main, script.legacies()?)?;
             Ok(Some(Running {
@@ -83,6 +84,27 @@ fn begin(
             }))
         }
         _ => Ok(None),
+    }
+}
+
+/// What a reply says of a whole assignment.
+#[derive(Clone, Copy, PartialEq, Eq)]
+enum Session {
+    /// It has begun.
+    Opened,
+    /// Another round comes.
+    GoesOn,
+    /// Neither.
+    Other,
+}
+
+impl Session {
+    fn after(reply: &Reply) -> Session {
+        match reply {
+            Reply::Opened(_) => Session::Opened,
+            Reply::Round(RoundReply::Assigned(..) | RoundReply::Nobody) => Session::GoesOn,
+            _ => Session::Other,
+        }
     }
 }
 
@@ -102,7 +124,7 @@ impl Running {
                     if let (Wish::Attach { name, .. }, Event::Attach(slot, _)) = (wish, &event) {
                         names.give_slot(name, *slot)?;
                     }
-                    let _reply = self.happen(event)?;
+                    let _ = self.happen(event)?;
                 }
                 Ok(())
             }
@@ -121,32 +143,39 @@ impl Running {
         }
     }
 
-    fn happen(&mut self, event: Event) -> Result<Reply, Fault> {
+    // An event, with the choice that was said for it, if one was.
+    fn happen(&mut self, event: Event) -> Result<Session, Fault> {
         let _ = KNOWN;
-        let said = self.choice;
-        self.choice = None;
-        let reply = self.plain.step(&event, said.unwrap_or(Choice::Heard))?;
+        let (is_said, choice) = self.said();
+        let reply = self.plain.step(&event, choice)?;
         self.script.events.push(event)?;
-        if said.is_some() {
-            self.script.chosen.push(reply)?;
+        let session = Session::after(&reply);
+        self.script.said.push(is_said)?;
+        self.script.replies.push(reply)?;
+        Ok(session)
+    }
+
+    // Whether a choice was said for the next event, and which. The event after it has none.
+    fn said(&mut self) -> (bool, Choice) {
+        match mem::replace(&mut self.choice, None) {
+            Some(choice) => (true, choice),
+            None => (false, Choice::Heard),
         }
-        Ok(reply)
     }
 
     // A whole session.
     fn assign(&mut self) -> Result<(), Fault> {
         let _ = KNOWN;
         let cuts = self.take();
-        let Reply::Opened(_) = self.happen(Event::OpenDaa(cuts))? else {
+        if self.happen(Event::OpenDaa(cuts))? != Session::Opened {
             return Ok(());
-        };
+        }
         for _ in 0..SLOTS {
-            match self.happen(Event::Round(Cuts::new()))? {
-                Reply::Round(RoundReply::Assigned(..) | RoundReply::Nobody) => {}
-                _ => break,
+            if self.happen(Event::Round(Cuts::new()))? != Session::GoesOn {
+                break;
             }
         }
-        let _reply = self.happen(Event::EndDaa)?;
+        let _ = self.happen(Event::EndDaa)?;
         Ok(())
     }
 
@@ -162,9 +191,9 @@ impl Running {
         }
         self.serve_twice()?;
         for (slot, setup) in &again {
-            let _reply = self.happen(Event::Attach(*slot, *setup))?;
+            let _ = self.happen(Event::Attach(*slot, *setup))?;
         }
-        let _reply = self.happen(Event::EndDaa)?;
+        let _ = self.happen(Event::EndDaa)?;
         self.policy = ACCEPT_ALL;
         self.assign()?;
         for (slot, setup) in &again {
@@ -173,7 +202,7 @@ impl Running {
             } else {
                 None
             };
-            let _reply = self.happen(Event::Raise(*slot, byte))?;
+            let _ = self.happen(Event::Raise(*slot, byte))?;
         }
         self.serve_twice()
     }
@@ -181,7 +210,7 @@ impl Running {
     fn serve_twice(&mut self) -> Result<(), Fault> {
         let _ = KNOWN;
         for _ in 0..2 {
-            let _reply = self.happen(Event::Serve(ACCEPT_ALL, Cuts::new()))?;
+            let _ = self.happen(Event::Serve(ACCEPT_ALL, Cuts::new()))?;
         }
         Ok(())
     }

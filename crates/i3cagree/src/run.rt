@@ -63,8 +63,10 @@ fn compared<R: Files + Print + AllocGlobal>(rt: &R, file: &str) -> Result<u8, Fa
 fn chosen<R: Files + Print + AllocGlobal>(rt: &R, file: &str) -> Result<(), Fault> {
     let text = fs::read(rt, file)?;
     if let Some(script) = read_script(rt.alloc(), &text)? {
-        for reply in &script.chosen {
-            println!(rt; "{reply:?}")?;
+        for (reply, is_said) in script.replies.iter().zip(script.said.as_slice()) {
+            if *is_said {
+                println!(rt; "{reply:?}")?;
+            }
         }
     }
     Ok(())

@@ -14,8 +14,10 @@ pub(crate) struct Script {
     pub declared: Vec<(Addr7, Lvr)>,
     pub events: Vec<Event>,
     pub own: usize,
-    /// The plain machine's replies to the events whose choice a comment says.
-    pub chosen: Vec<Reply>,
+    /// The plain machine's replies.
+    pub replies: Vec<Reply>,
+    /// Whether a comment says the choice for the event.
+    pub said: Vec<bool>,
 }
 
 impl Script {

@@ -11,15 +11,13 @@ use Rattle.i3c_ibi.specs.Telling.{request_header}
 use Rattle.i3c_bus.specs.Wire.{IsAck, IsBegun}
 use Rattle.i3c_step.proofs.Given.{refuses}
 use Rattle.i3c_bus.proofs.Heard.{is_ack}
-use Rattle.i3c_bus.proofs.Seen.{seen}
+use Rattle.i3c_bus.proofs.Seen.{has_devices, seen}
 use Rattle.i3c_bus.proofs.parts.Bus.begin_refusing.Goals as goal
 use Rattle.i3c_bus.proofs.parts.Bus.begin_refusing.Goals.{in-None, in-Some}
 
 pub returns-clause-serves : goal.returns-clause-serves
 returns-clause-serves g c lost =
-    let active : c.self.inside.active ≡ c.active-active.result = ap (λ (h : Held). h.state.active) c.self.view_is ∙ sym c.active-active.ensures in
-    let same : HasDevices c.args.self.now.state c.self.inside.devices c.active-active.result =
-    (ap (λ (h : Held). h.state.devices) (sym c.self.view_is), ap (λ (h : Held). h.state.active) (sym c.self.view_is) ∙ active) in
+    let same : HasDevices c.args.self.now.state c.self.inside.devices c.active-active.result = has_devices _ _ _ c.self.view_is c.active-active.ensures in
     elim c.match-first_request.branch [
       | in-None w ↦ subst (λ (s : Served). Serves c.args.self.now.state refuse_all lost s c.args.self.now.state) (sym w.served-is) (w.in-None.ensures c.args.self.now.state same, refl)
       | in-Some w ↦ subst (λ (s : Served). Serves c.args.self.now.state refuse_all lost s c.args.self.now.state) (sym w.served-is)
@@ -29,8 +27,7 @@ returns-clause-serves g c lost =
 pub returns-clause-told : goal.returns-clause-told
 returns-clause-told g c =
     let active : c.self.inside.active ≡ c.active-active.result = ap (λ (h : Held). h.state.active) c.self.view_is ∙ sym c.active-active.ensures in
-    let same : HasDevices c.args.self.now.state c.self.inside.devices c.active-active.result =
-    (ap (λ (h : Held). h.state.devices) (sym c.self.view_is), ap (λ (h : Held). h.state.active) (sym c.self.view_is) ∙ active) in
+    let same : HasDevices c.args.self.now.state c.self.inside.devices c.active-active.result = has_devices _ _ _ c.self.view_is c.active-active.ensures in
     elim c.match-first_request.branch [
       | in-None w ↦
           let heard : (w.is_heard-ack.result ≡ true) ↔ SomeReached c.self.inside.active None (lost_by c.args.cuts.now 0) c.self.inside.devices =

@@ -15,23 +15,20 @@ use Rattle.i3c_bus.specs.declared.tokens.Hand.{Hand}
 use Rattle.i3c_bus.specs.Calls.{Carries}
 use Rattle.i3c_bus.specs.Wire.{IsUntaken}
 use Rattle.i3c_bus.proofs.Handovers.{declined_carried, handed_carried, taken_by}
+use Rattle.i3c_bus.proofs.Seen.{has_devices}
 use Rattle.i3c_bus.proofs.parts.Bus.hand_over.Goals as goal
 
 -- the devices that the role is offered to are the bus's
 pub hand-role-requires-clause-willing : goal.hand-role-requires-clause-willing
 hand-role-requires-clause-willing g c =
-    let active : c.self.inside.active ≡ c.active-active.result = ap (λ (h : Held). h.state.active) c.self.view_is ∙ sym c.active-active.ensures in
-    let same : HasDevices c.args.self.now.state c.self.inside.devices c.active-active.result =
-    (ap (λ (h : Held). h.state.devices) (sym c.self.view_is), ap (λ (h : Held). h.state.active) (sym c.self.view_is) ∙ active) in
+    let same : HasDevices c.args.self.now.state c.self.inside.devices c.active-active.result = has_devices _ _ _ c.self.view_is c.active-active.ensures in
     let taken : IsOffered c.args.self.now.state c.args.to (lost_by c.args.cuts.now (c.go_on-served.result.bits + 27)) (Taken c.in-Taken.slot) =
     subst (λ o. IsOffered c.args.self.now.state c.args.to (lost_by c.args.cuts.now (c.go_on-served.result.bits + offer_bits o)) o) c.in-Taken.is (c.offer-offer.ensures.offered c.args.self.now.state same) in
     (c.args.to, (taken_by c.args.self.now.state c.args.to c.in-Taken.slot _ taken).0)
 
 pub drop_lost-requires : goal.drop_lost-requires
 drop_lost-requires g c =
-    let active : c.self.inside.active ≡ c.active-active.result = ap (λ (h : Held). h.state.active) c.self.view_is ∙ sym c.active-active.ensures in
-    let same : HasDevices c.args.self.now.state c.self.inside.devices c.active-active.result =
-    (ap (λ (h : Held). h.state.devices) (sym c.self.view_is), ap (λ (h : Held). h.state.active) (sym c.self.view_is) ∙ active) in
+    let same : HasDevices c.args.self.now.state c.self.inside.devices c.active-active.result = has_devices _ _ _ c.self.view_is c.active-active.ensures in
     let taken : IsOffered c.args.self.now.state c.args.to (lost_by c.args.cuts.now (c.go_on-served.result.bits + 27)) (Taken c.in-Taken.slot) =
     subst (λ o. IsOffered c.args.self.now.state c.args.to (lost_by c.args.cuts.now (c.go_on-served.result.bits + offer_bits o)) o) c.in-Taken.is (c.offer-offer.ensures.offered c.args.self.now.state same) in
     let bits : c.offer_bits.result ≡ 27 = c.offer_bits.ensures ∙ ap offer_bits c.in-Taken.is in
@@ -41,8 +38,7 @@ drop_lost-requires g c =
 pub returns-in-Taken-clause-carried : goal.returns-in-Taken-clause-carried
 returns-in-Taken-clause-carried g c =
     let old : State = c.args.self.now.state in
-    let active : c.self.inside.active ≡ c.active-active.result = ap (λ (h : Held). h.state.active) c.self.view_is ∙ sym c.active-active.ensures in
-    let same : HasDevices old c.self.inside.devices c.active-active.result = (ap (λ (h : Held). h.state.devices) (sym c.self.view_is), ap (λ (h : Held). h.state.active) (sym c.self.view_is) ∙ active) in
+    let same : HasDevices old c.self.inside.devices c.active-active.result = has_devices _ _ _ c.self.view_is c.active-active.ensures in
     let taken : IsOffered old c.args.to (lost_by c.args.cuts.now (c.go_on-served.result.bits + 27)) (Taken c.in-Taken.slot) =
     subst (λ o. IsOffered old c.args.to (lost_by c.args.cuts.now (c.go_on-served.result.bits + offer_bits o)) o) c.in-Taken.is (c.offer-offer.ensures.offered old same) in
     let bits : c.offer_bits.result ≡ 27 = c.offer_bits.ensures ∙ ap offer_bits c.in-Taken.is in
@@ -65,8 +61,7 @@ returns-in-Taken-clause-carried g c =
 pub returns-in-Nobody : goal.returns-in-Nobody
 returns-in-Nobody g c =
     let old : State = c.args.self.now.state in
-    let active : c.self.inside.active ≡ c.active-active.result = ap (λ (h : Held). h.state.active) c.self.view_is ∙ sym c.active-active.ensures in
-    let same : HasDevices old c.self.inside.devices c.active-active.result = (ap (λ (h : Held). h.state.devices) (sym c.self.view_is), ap (λ (h : Held). h.state.active) (sym c.self.view_is) ∙ active) in
+    let same : HasDevices old c.self.inside.devices c.active-active.result = has_devices _ _ _ c.self.view_is c.active-active.ensures in
     record {
       carried = subst (λ (s : Served). Carries c.args.self.now c.drop_lost-in-Nobody.new.self (Event.HandOver c.args.to c.args.cuts.now) (Reply.Framed (record { served = s; answer = Answer.NoAnswer c.args.to })) (Hand.Role c.args.role) (Tells g.T.Tap.note_gives c.args.tap.now c.tell_offer.new.tap))
           (sym c.go_on-served.ensures.served)
