@@ -1,8 +1,9 @@
-ghost use Rattle.std.specs.Prelude.{◌≡◌, ◌≤◌, ◌<◌, ◌+◌, ◌^◌, ℕ, true, false, option_map, length, IfSome, IsTrue, ◌↔◌, MatchOption, Some, is_none};
+ghost use Rattle.std.specs.Prelude.{◌≡◌, ◌≤◌, ◌<◌, ◌+◌, ◌^◌, ◌&&◌, ℕ, true, false, option_map, length, IfSome, IsTrue, ◌↔◌, MatchOption, Some, is_none};
 ghost use Rattle.i3c_base.specs.declared.device.TheConstants.{REGISTERS as REGISTER_COUNT};
 ghost use Rattle.i3c_base.specs.declared.range.TheConstants.{SLOTS as SLOT_COUNT};
 ghost use Rattle.i3c_base.specs.declared.requests.Request.{Request as RequestValue};
 ghost use Rattle.i3c_base.specs.Cutting.{nobody};
+ghost use Rattle.i3c_base.specs.Numbers.{same_identity};
 ghost use Rattle.i3c_base.specs.Places.{changed};
 ghost use Rattle.i3c_base.specs.Round.{hears, unhearing};
 ghost use Rattle.i3c_base.specs.Serve.{without_role};
@@ -234,6 +235,16 @@ pub(crate) fn silence(place: &mut Option<Device>)
 {
     if let Some(device) = place {
         device.fall_silent();
+    }
+}
+
+/// Whether a device that hears, and has this identity, stands in this slot.
+pub(crate) fn is_winner(place: &Option<Device>, identity: &Identity) -> bool
+    ensures { result ≡ in_slot (λ d. d.hearing && same_identity d.identity identity.now) place.now }
+{
+    match place {
+        Some(device) => device.is_hearing() && device.identity() == *identity,
+        None => false,
     }
 }
 

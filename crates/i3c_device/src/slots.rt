@@ -337,8 +337,10 @@ impl Devices {
     {
         let mut left = among;
         while let Some(index) = left.take_lowest() {
-            happening.happen(&mut self.places[index], index);
-            self.marks = self.marks.noted(index, &self.places[index]);
+            if happening.concerns(&self.places[index], index) {
+                happening.happen(&mut self.places[index], index);
+                self.marks = self.marks.noted(index, &self.places[index]);
+            }
         }
     }
 }

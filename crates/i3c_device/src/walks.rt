@@ -1,4 +1,4 @@
-ghost use Rattle.std.specs.Prelude.{◌≡◌, ◌≤◌, ℕ, Bool, Option, None, length, option_map};
+ghost use Rattle.std.specs.Prelude.{◌≡◌, ◌≤◌, ℕ, Bool, Option, None, false, length, option_map};
 ghost use Rattle.i3c_base.specs.declared.device.TheConstants.{REGISTERS as REGISTER_COUNT};
 ghost use Rattle.i3c_base.specs.Cutting.{nobody};
 ghost use Rattle.i3c_base.specs.Round.{hears, unhearing};
@@ -6,13 +6,17 @@ ghost use Rattle.i3c_base.specs.State.{Device as DeviceState, in_slot};
 ghost use Rattle.i3c_device.specs.Walks.{accepted_at, assigned_at, drives_at, reaches_at, willing_at, written_at};
 
 use crate::attached::Device;
-use crate::places::{accept, assign, drives, is_willing, open, reaches, silence, write};
+use crate::places::{accept, assign, drives, is_willing, is_winner, open, reaches, silence, write};
 use i3c_base::{Addr7, Identity, Request, Slot};
 
 /// What happens to whatever stands in some slots.
 pub(crate) trait Happening {
     /// What stands in a slot after it.
     ghost after: { Self → ℕ → Option DeviceState → Option DeviceState };
+
+    /// Whether it may change what stands in this slot.
+    fn concerns(&self, place: &Option<Device>, index: usize) -> bool
+        ensures { result ≡ false → after self.now index place.now ≡ place.now };
 
     /// It happens in this slot.
     fn happen(&self, place: &mut Option<Device>, index: usize)
@@ -29,6 +33,10 @@ pub(crate) struct Accepted<'a> {
 impl Happening for Accepted<'_> {
     ghost after = { λ h s place. accepted_at h.active h.request.now s place };
 
+    fn concerns(&self, _place: &Option<Device>, _index: usize) -> bool {
+        true
+    }
+
     fn happen(&self, place: &mut Option<Device>, index: usize) {
         accept(place, index, self.active, self.request);
     }
@@ -41,6 +49,10 @@ pub(crate) struct Opened;
 impl Happening for Opened {
     ghost after = { λ h s place. option_map hears place };
 
+    fn concerns(&self, _place: &Option<Device>, _index: usize) -> bool {
+        true
+    }
+
     fn happen(&self, place: &mut Option<Device>, _index: usize) {
         open(place);
     }
@@ -52,6 +64,10 @@ pub(crate) struct Ended;
 
 impl Happening for Ended {
     ghost after = { λ h s place. option_map unhearing place };
+
+    fn concerns(&self, _place: &Option<Device>, _index: usize) -> bool {
+        true
+    }
 
     fn happen(&self, place: &mut Option<Device>, _index: usize) {
         silence(place);
@@ -68,6 +84,10 @@ pub(crate) struct Won<'a> {
 
 impl Happening for Won<'_> {
     ghost after = { λ h s place. assigned_at nobody h.identity.now h.address s place };
+
+    fn concerns(&self, place: &Option<Device>, _index: usize) -> bool {
+        is_winner(place, self.identity)
+    }
 
     fn happen(&self, place: &mut Option<Device>, _index: usize) {
         assign(place, self.identity, self.address);
@@ -86,6 +106,10 @@ pub(crate) struct Written<'a> {
 impl Happening for Written<'_> {
     ghost after = { λ h s place. written_at h.active h.address h.bytes.now s place };
 
+    fn concerns(&self, place: &Option<Device>, index: usize) -> bool {
+        reaches(place, index, self.active, &Some(self.address))
+    }
+
     fn happen(&self, place: &mut Option<Device>, index: usize) {
         write(place, index, self.active, self.address, self.bytes);
     }
@@ -97,6 +121,10 @@ pub(crate) struct Lost;
 
 impl Happening for Lost {
     ghost after = { λ h s place. None };
+
+    fn concerns(&self, _place: &Option<Device>, _index: usize) -> bool {
+        true
+    }
 
     fn happen(&self, place: &mut Option<Device>, _index: usize) {
         *place = None;

@@ -2,3 +2,4 @@ pub mod TableLaws
 pub mod Room
 pub mod Reset
 pub mod Known
+pub mod Held

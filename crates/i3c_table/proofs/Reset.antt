@@ -17,7 +17,7 @@ pub entries-nil : entries [] ≡ no_entries
 unfolding no_entries
 entries-nil = places-nil address_of entry_of_row
 
-only_at_at : (own : ℕ) (given : List (Option Entry)) (a : ℕ) → entry_in (only_at own given) a ≡ (if a == own then option_map unkept (entry_in given a) else None)
+pub only_at_at : (own : ℕ) (given : List (Option Entry)) (a : ℕ) → entry_in (only_at own given) a ≡ (if a == own then option_map unkept (entry_in given a) else None)
 only_at_at own given a = changed_at (λ b place. if b == own then option_map unkept place else None) given a None (none_if (a == own))
   where
     none_if : (b : Bool) → ◌≡◌ {A = Option Entry} (if b then None else None) None

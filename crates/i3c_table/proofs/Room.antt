@@ -16,10 +16,10 @@ use Rattle.i3c_table.proofs.TableLaws.{address_of}
 use Rattle.std.proofs.lemmas.List.Elements.{recursion_from_All}
 
 -- the test of a usable address
-abbrev is_usable : ℕ → Bool
+abbrev pub is_usable : ℕ → Bool
 is_usable a = nat_le 0x08 a && (nat_le a 0x77 && (not (a == 0x3E) && (not (a == 0x5E) && (not (a == 0x6E) && not (a == 0x76)))))
 
-is_usable-true : (a : ℕ) → IsUsable a → is_usable a ≡ true
+pub is_usable-true : (a : ℕ) → IsUsable a → is_usable a ≡ true
 is_usable-true a u =
     and_from _ _ (le-leb 0x08 a u.0) (and_from _ _ (le-leb a 0x77 u.1) (and_from _ _ (ap not (ne_eqb a 0x3E u.2)) (and_from _ _ (ap not (ne_eqb a 0x5E u.3)) (and_from _ _ (ap not (ne_eqb a 0x6E u.4)) (ap not (ne_eqb a 0x76 u.5))))))
 

@@ -1,8 +1,9 @@
 -- A table's rows, seen as the entries at their addresses.
-use Rattle.std.specs.Prelude.{ℕ, nat_eq, List, map, All, Option}
+use Rattle.std.specs.Prelude.{◌≡◌, ℕ, nat_eq, List, map, All, Option, if◌then◌else◌, is_some}
+use Rattle.std.specs.Int.{bit_at}
 use Rattle.std.specs.List.{IsDistinct}
 use Rattle.i3c_base.specs.declared.identity.Lvr.{Lvr}
-use Rattle.i3c_base.specs.State.{Entry, IsFree, IsUsable}
+use Rattle.i3c_base.specs.State.{Entry, IsFree, IsUsable, entry_in}
 use Rattle.i3c_legacy.specs.Rows.{places}
 use Rattle.i3c_table.specs.declared.row.Row.{Row}
 
@@ -26,3 +27,7 @@ pub record IsTidy (rows : List Row) : Type 0 where
 -- no legacy target has a row's address
 abbrev pub IsApart : List Row → List (Option Lvr) → Type 0
 IsApart rows legacy = All (λ row. IsFree legacy row.address) rows
+
+-- the set has the addresses at which something stands
+pub record IsHeld (held : ℕ) (given : List (Option Entry)) : Type 0 where
+  pub bits : (a : ℕ) → bit_at held a ≡ (if is_some (entry_in given a) then 1 else 0)

@@ -9,6 +9,9 @@ use std::marker::Model;
 /// How many dynamic addresses there are: `08` to `77` without `3E`, `5E`, `6E` and `76` (I3C Basic 5.1.2.2.5).
 pub const ROWS: usize = 108;
 
+/// The addresses that devices may have, one bit for each.
+const USABLE: u128 = 0x00BF_BFFF_BFFF_FFFF_BFFF_FFFF_FFFF_FF00;
+
 /// A controller's table: a row for each address that was given, the legacy targets, and whether the list that was
 /// last sent is current (DEFTGTS, I3C Basic 5.1.9.3.7).
 ///
@@ -16,6 +19,8 @@ pub const ROWS: usize = 108;
 #[derive(Drop)]
 pub struct Table {
     rows: ArrayVec<Row, ROWS>,
+    // the addresses of the rows, one bit for each
+    held: u128,
     legacies: Legacies,
     listed: bool,
 }
@@ -25,18 +30,19 @@ impl Model for Table {
 
     ghost Value = { TableValue };
 
-    ghost use Rattle.i3c_table.specs.Rows.{entries, IsApart, IsTidy};
+    ghost use Rattle.i3c_table.specs.Rows.{entries, IsApart, IsHeld, IsTidy};
 
     ghost view = { λ t. record { given = entries t.rows.items; legacy = t.legacies; listed = t.listed } };
 
-    ghost invariant = { λ t. IsTidy t.rows.items × IsApart t.rows.items t.legacies };
+    ghost invariant = { λ t. IsTidy t.rows.items × IsApart t.rows.items t.legacies × IsHeld t.held (entries t.rows.items) };
 }
 
 impl Table {
-    ghost use Rattle.std.specs.Prelude.{◌≡◌, ℕ, ◌≤◌, None, Some, true, false, count_by, is_some, length, map, option_map, slice_index_or, IfSome, MatchOption};
+    ghost use Rattle.std.specs.Prelude.{◌≡◌, ◌↔◌, ℕ, ◌≤◌, None, Some, true, false, count_by, is_some, length, map, option_map, slice_index_or, IfSome, MatchOption};
     ghost use Rattle.i3c_base.specs.declared.range.TheConstants.{ADDRESSES};
     ghost use Rattle.i3c_table.specs.declared.table.TheConstants.{ROWS};
     ghost use Rattle.i3c_base.specs.State.{entry_in, no_entries, IsFree, IsKeptIn, IsUnknownIn, IsUsable};
+    ghost use Rattle.std.specs.Int.{bit_at};
     ghost use Rattle.i3c_table.specs.Rows.{entry_of_row};
     ghost use Rattle.i3c_table.specs.Putting.{cleared, with_row, MayPut};
 
@@ -46,6 +52,7 @@ impl Table {
     {
         Table {
             rows: ArrayVec::new(),
+            held: 0,
             legacies,
             listed: false,
         }
@@ -62,6 +69,13 @@ impl Table {
             Some(index) => Some(rows[index]),
             None => None,
         }
+    }
+
+    /// The addresses that may be given and were not, one bit for each. Legacy targets may have some of them.
+    pub fn open_addresses(&self) -> u128
+        ensures { (a : ℕ) → (bit_at result a ≡ 1) ↔ (IsUsable a × IsFree self.now.given a) }
+    {
+        USABLE & !self.held
     }
 
     /// The address that is kept for an identity, if one is: the least, were there several.
@@ -85,6 +99,7 @@ impl Table {
         ensures { self.new ≡ with_row row self.old }
     {
         self.listed = false;
+        self.held |= 1 << row.address.get();
         match index_of(self.rows.as_slice(), row.address) {
             Some(index) => self.rows[index] = row,
             None => self.rows.push(row),
@@ -98,11 +113,13 @@ impl Table {
         let kept = self.row_of(own);
         self.listed = false;
         self.rows.clear();
+        self.held = 0;
         if let Some(row) = kept {
             self.rows.push(Row {
                 identity: None,
                 ..row
             });
+            self.held = 1 << own.get();
         }
     }
 

@@ -2,3 +2,4 @@ pub mod MaskLaws
 pub mod PlaneLaws
 pub mod Reading
 pub mod Uncut
+pub mod TurnLaws

@@ -203,7 +203,7 @@ module _ (cuts : CutList) (keys : List (ℕ × ℕ)) (width : ℕ) where
   contested_first mask fit e = record { reading = reading_none cuts keys width fit; still_in = still_first mask fit e }
 
   -- one bit more, where nobody drives 0
-  contested_one : (left bits still drop plane : ℕ) → Sets cuts keys width left drop plane → Contested cuts keys width (suc left) bits still → bit_and (bit_and still (bit_not mask_width drop)) (bit_not mask_width plane) ≡ 0
+  pub contested_one : (left bits still drop plane : ℕ) → Sets cuts keys width left drop plane → Contested cuts keys width (suc left) bits still → bit_and (bit_and still (bit_not mask_width drop)) (bit_not mask_width plane) ≡ 0
       → Contested cuts keys width left (2 * bits + 1) (bit_and still (bit_not mask_width drop))
   contested_one left bits still drop plane sets h none =
       let driving = still_driving left bits still drop sets.few h.still_in sets.cut in
@@ -212,28 +212,13 @@ module _ (cuts : CutList) (keys : List (ℕ × ℕ)) (width : ℕ) where
       record { reading = reading_more cuts keys width left bits true h.reading read; still_in = still_one left bits _ (omega (arith, h.reading.within)) driving read }
 
   -- and where someone does
-  contested_zero : (left bits still drop plane : ℕ) → Sets cuts keys width left drop plane → Contested cuts keys width (suc left) bits still → bit_and (bit_and still (bit_not mask_width drop)) (bit_not mask_width plane) ≢ 0
+  pub contested_zero : (left bits still drop plane : ℕ) → Sets cuts keys width left drop plane → Contested cuts keys width (suc left) bits still → bit_and (bit_and still (bit_not mask_width drop)) (bit_not mask_width plane) ≢ 0
       → Contested cuts keys width left (2 * bits + 0) (bit_and (bit_and still (bit_not mask_width drop)) (bit_not mask_width plane))
   contested_zero left bits still drop plane sets h some =
       let driving = still_driving left bits still drop sets.few h.still_in sets.cut in
       let low = still_low left bits (bit_and still (bit_not mask_width drop)) plane sets.few driving sets.ones in
       let read = read_zero left bits _ low some in
       record { reading = reading_more cuts keys width left bits false h.reading read; still_in = still_zero left bits _ (omega (arith, h.reading.within)) low }
-
-  -- the same by the number of bits left before
-  pub contested_next_one : (left bits still drop plane : ℕ) → 0 < left → Sets cuts keys width (left - 1) drop plane → Contested cuts keys width left bits still → bit_and (bit_and still (bit_not mask_width drop)) (bit_not mask_width plane) ≡ 0
-      → Contested cuts keys width (left - 1) (2 * bits + 1) (bit_and still (bit_not mask_width drop))
-  contested_next_one left bits still drop plane l sets h none =
-      let up : left ≡ suc (left - 1) = omega arith in
-      contested_one (left - 1) bits still drop plane sets (subst (λ n. Contested cuts keys width n bits still) up h) none
-
-  pub contested_next_zero : (left bits still drop plane : ℕ) → 0 < left → Sets cuts keys width (left - 1) drop plane → Contested cuts keys width left bits still → bit_and (bit_and still (bit_not mask_width drop)) (bit_not mask_width plane) ≢ 0
-      → Contested cuts keys width (left - 1) (2 * bits) (bit_and (bit_and still (bit_not mask_width drop)) (bit_not mask_width plane))
-  contested_next_zero left bits still drop plane l sets h some =
-      let up : left ≡ suc (left - 1) = omega arith in
-      let same : 2 * bits + 0 ≡ 2 * bits = omega arith in
-      subst (λ n. Contested cuts keys width (left - 1) n (bit_and (bit_and still (bit_not mask_width drop)) (bit_not mask_width plane))) same
-      (contested_zero (left - 1) bits still drop plane sets (subst (λ n. Contested cuts keys width n bits still) up h) some)
 
   -- all bits were read: who is still in holds the number, and isn't lost
   pub contested_last : (left bits still : ℕ) (winners : List ℕ) → 0 < width → left ≤ 0 → Contested cuts keys width left bits still → ((p : ℕ × ℕ → Bool) → still ≡ mask_of p keys → winners ≡ map (λ e. e.0) (filter p keys)) → (winners ≡ holders cuts keys width bits) × Reading cuts keys width 0 bits

@@ -1,9 +1,10 @@
-ghost use Rattle.std.specs.Prelude.{◌≡◌, ◌⊎◌, ◌-◌, ◌^◌, ◌<◌, ◌≤◌, false, []};
+ghost use Rattle.std.specs.Prelude.{◌≡◌, ◌⊎◌, ◌-◌, ◌/◌, ◌^◌, ◌<◌, ◌≤◌, ℕ, suc, false, true, []};
 ghost use Rattle.std.specs.List.{All};
-ghost use Rattle.i3c_wires.specs.Contest.{AllLost, EachBit, LostIsBelow, holders, is_lost};
+ghost use Rattle.i3c_wires.specs.Contest.{AllLost, EachBit, LostIsBelow, holders, is_lost, is_one};
 
-use crate::masks::{drops_of, first_places, planes_of, slots_at};
+use crate::masks::{cut_at, first_places, planes_of, slots_at};
 use crate::outcome::Contest;
+use crate::turns::turns_of;
 use arrayvec::ArrayVec;
 use i3c_base::{Cuts, SLOTS, Slot};
 
@@ -34,20 +35,44 @@ pub fn contest(keys: &ArrayVec<(Slot, u64), SLOTS>, width: u32, cuts: &Cuts) -> 
     ensures idle { keys.now.items ≡ [] → result.bits ≡ 2 ^ width - 1 }
     ensures in_width { result.bits < 2 ^ width }
 {
-    let planes = planes_of(keys);
-    let drops = drops_of(keys, cuts);
+    let Some(first) = keys.first() else {
+        return Contest {
+            winners: ArrayVec::new(),
+            bits: u64::MAX >> (64 - width),
+        };
+    };
+    let mut bits = first.1;
     let mut still = first_places(keys.len());
-    let mut bits = 0;
-    for left in (0..width).rev() {
-        still &= !drops[(width - 1 - left) as usize];
+    let mut turns = turns_of(keys, bits, width, cuts);
+    let planes = planes_of(keys, turns);
+    while turns != 0 {
+        let left = turns.ilog2();
+        still &= !cut_at(keys, cuts, width - 1 - left);
+        if still == 0 {
+            return unheard(bits, left);
+        }
         let low = still & !planes[left as usize];
         if low == 0 {
-            bits = 2 * bits + 1;
+            bits |= 1 << left;
         } else {
+            bits &= !(1 << left);
             still = low;
-            bits = 2 * bits;
         }
+        turns &= !(1 << left);
     }
     let winners = slots_at(keys, still);
     Contest { winners, bits }
+}
+
+/// Nobody drives any more: from the bit after which this many follow, each reads 1.
+fn unheard(bits: u64, left: u32) -> Contest
+    requires { left < 64 }
+    ensures nobody { result.winners.items ≡ [] }
+    ensures above { result.bits / 2 ^ suc left ≡ bits / 2 ^ suc left }
+    ensures ones { (i : ℕ) → i ≤ left → is_one i result.bits ≡ true }
+{
+    Contest {
+        winners: ArrayVec::new(),
+        bits: bits | (u64::MAX >> (63 - left)),
+    }
 }

@@ -9,6 +9,7 @@ mod arbitration;
 mod lines;
 mod masks;
 mod outcome;
+mod turns;
 
 pub use arbitration::contest;
 pub use lines::Lines;

@@ -1,4 +1,4 @@
-ghost use Rattle.std.specs.Prelude.{◌≡◌, ℕ, ◌-◌, ◌^◌, ◌<◌, ◌≤◌, ◌==◌, Bool, map, if◌then◌else◌, slice_index, bit_or};
+ghost use Rattle.std.specs.Prelude.{◌≡◌, ℕ, ◌-◌, ◌^◌, ◌<◌, ◌≤◌, true, Bool, map, if◌then◌else◌, slice_index, bit_or};
 ghost use Rattle.std.specs.List.{filter};
 ghost use Rattle.i3c_base.specs.Cutting.{cut_of};
 ghost use Rattle.i3c_base.specs.declared.range.TheConstants.{SLOTS as SLOT_COUNT};
@@ -42,36 +42,41 @@ fn put(planes: &mut Planes, place: usize, key: u64)
     }
 }
 
-/// For each bit, by the number of bits that follow, those whose key has a 1 there.
-pub(crate) fn planes_of(keys: &ArrayVec<(Slot, u64), SLOTS>) -> Planes
-    ensures { (left : ℕ) → left < 64 → slice_index result left ≡ mask_of (drives_one left) keys.now.items }
+/// For each bit of these, by the number of bits that follow, those whose key has a 1 there.
+pub(crate) fn planes_of(keys: &ArrayVec<(Slot, u64), SLOTS>, among: u64) -> Planes
+    ensures { (left : ℕ) → left < 64 → is_one left among ≡ true → slice_index result left ≡ mask_of (drives_one left) keys.now.items }
 {
     let mut planes = [0; KEY_BITS];
     for (place, contender) in keys.iter().enumerate() {
-        put(&mut planes, place, contender.1);
+        put(&mut planes, place, contender.1 & among);
     }
     planes
 }
 
-/// The bit of a contest at which a slot is cut. It is `KEY_BITS` or more where the slot is cut in none.
-fn cut_bit(cuts: &Cuts, slot: Slot) -> usize
-    ensures { (bit : ℕ) → bit < 64 → is_at bit (cut_of cuts.now slot) ≡ (result == bit) }
+/// Whether a slot is cut at this bit of a contest.
+fn is_cut_at(cuts: &Cuts, slot: Slot, bit: u32) -> bool
+    ensures { result ≡ is_at bit (cut_of cuts.now slot) }
 {
-    cuts.at(slot).map_or(KEY_BITS, usize::from)
+    match cuts.at(slot) {
+        Some(cut) => u32::from(cut) == bit,
+        None => false,
+    }
 }
 
-/// For each bit, by its number from the first one, those who are cut there.
-pub(crate) fn drops_of(keys: &ArrayVec<(Slot, u64), SLOTS>, cuts: &Cuts) -> Planes
-    ensures { (bit : ℕ) → bit < 64 → slice_index result bit ≡ mask_of (λ e. is_at bit (cut_of cuts.now e.0)) keys.now.items }
+/// Those who are cut at this bit, counted from the first one.
+pub(crate) fn cut_at(keys: &ArrayVec<(Slot, u64), SLOTS>, cuts: &Cuts, bit: u32) -> Mask
+    ensures { result ≡ mask_of (λ e. is_at bit (cut_of cuts.now e.0)) keys.now.items }
 {
-    let mut drops = [0; KEY_BITS];
+    if cuts.is_empty() {
+        return 0;
+    }
+    let mut places = 0;
     for (place, contender) in keys.iter().enumerate() {
-        let bit = cut_bit(cuts, contender.0);
-        if bit < KEY_BITS {
-            drops[bit] |= 1 << place;
+        if is_cut_at(cuts, contender.0, bit) {
+            places |= 1 << place;
         }
     }
-    drops
+    places
 }
 
 /// The slots at the places of a set, in their order.

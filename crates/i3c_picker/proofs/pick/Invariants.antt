@@ -1,6 +1,8 @@
-use Rattle.std.proofs.Common.{ℕ, ◌<◌}
-use Rattle.i3c_base.specs.State.{IsPickableIn}
+use Rattle.i3c_picker.proofs.OpenLaws.{AreOpen}
 use Rattle.i3c_picker.proofs.pick.Given as goal
 
-abbrev pub invariant-loop-value : goal.invariant-loop-value
-invariant-loop-value l = (b : ℕ) → b < l.value → ¬ IsPickableIn l.table.given l.table.legacy b
+abbrev pub invariant-loop-left : goal.invariant-loop-left
+invariant-loop-left l = AreOpen l.table.given l.table.legacy l.left
+
+abbrev pub decreases-loop-left : goal.decreases-loop-left
+decreases-loop-left l = l.left

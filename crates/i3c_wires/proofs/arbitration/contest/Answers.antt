@@ -1,49 +1,93 @@
--- One bit more, on masks; and what was read in the end.
-use Rattle.std.proofs.Common.{◌≡◌, ◌<◌, ◌≤◌, ◌-◌, ◌^◌, ℕ, List, suc, length, get_or, sym, ◌∙◌, ap, arith}
+-- From turn to turn; and what was read in the end.
+use Rattle.std.proofs.Common.{◌≡◌, ◌≤◌, ◌-◌, ℕ, List, suc, length, sym, ◌∙◌, ap, arith, refl, ◌^◌}
 use Rattle.i3c_base.specs.Cutting.{CutList, cut_of}
-use Rattle.i3c_base.specs.declared.range.TheConstants.{SLOTS}
-use Rattle.i3c_wires.specs.Contest.{drives_one}
 use Rattle.i3c_wires.specs.Masks.{is_at, mask_of}
-use Rattle.i3c_wires.proofs.PlaneLaws.{Sets, contested_first, contested_last, contested_next_one, contested_next_zero}
 use Rattle.i3c_wires.proofs.Reading.{read_each, read_idle, read_in_width, read_least, read_none}
+use Rattle.i3c_wires.proofs.TurnLaws.{IsTop, first_of, none_contend, none_of, turn_less, turning_first, turning_last, turning_one, turning_unheard, turning_within, turning_zero}
 use Rattle.i3c_wires.proofs.arbitration.contest.Goals as goal
+use Rattle.i3c_wires.proofs.arbitration.contest.Goals.{then-low-eq0, else-low-eq0}
 
--- the sets of the next bit
-sets_of : (cuts : CutList) (keys : List (ℕ × ℕ)) (width left : ℕ) (drops planes : List ℕ) → length keys ≤ SLOTS → 0 < left → left ≤ width → width ≤ 64 → ((bit : ℕ) → bit < 64 → get_or drops bit 0 ≡ mask_of (λ (e : ℕ × ℕ). is_at bit (cut_of cuts e.0)) keys)
-    → ((left : ℕ) → left < 64 → get_or planes left 0 ≡ mask_of (drives_one left) keys) → Sets cuts keys width (left - 1) (get_or drops (width - 1 - (left - 1)) 0) (get_or planes (left - 1) 0)
-sets_of cuts keys width left drops planes few some within fits cut ones =
-    let same : width - 1 - (left - 1) ≡ width - suc (left - 1) = omega arith in
+-- those who are cut at a bit, by the bits that follow it
+cut_there : (cuts : CutList) (keys : List (ℕ × ℕ)) (width t drop : ℕ) → drop ≡ mask_of (λ (e : ℕ × ℕ). is_at (width - 1 - t) (cut_of cuts e.0)) keys → drop ≡ mask_of (λ (e : ℕ × ℕ). is_at (width - suc t) (cut_of cuts e.0)) keys
+cut_there cuts keys width t drop e =
+    let same : width - 1 - t ≡ width - suc t = omega arith in
+    e ∙ ap (λ k. mask_of (λ (e : ℕ × ℕ). is_at k (cut_of cuts e.0)) keys) same
+
+pub returns-in_default : goal.returns-in_default
+returns-in_default c =
+    let cuts = c.args.cuts.now in
+    let keys = c.args.keys.now.items in
+    let last = none_contend cuts keys c.args.width _ c.requires.some_bits c.requires.few_bits (none_of _ keys c.deref.ensures.0 c.in_default.ensures.value) refl in
     record {
-      few = few;
-      cut = ap (λ k. get_or drops k 0) same ∙ cut (width - suc (left - 1)) (omega arith);
-      ones = ones (left - 1) (omega arith);
+      winners = c.new.ensures ∙ last.0;
+      least = read_least cuts keys c.args.width _ last.1;
+      none = λ none. read_none cuts keys c.args.width _ last.1 (sym last.0);
+      each_bit = read_each cuts keys c.args.width _ last.1;
+      idle = read_idle cuts keys c.args.width _ last.1;
+      in_width = read_in_width cuts keys c.args.width _ last.1;
     }
 
-pub loop-left-init : goal.loop-left-init
-loop-left-init c = contested_first c.args.cuts.now c.args.keys.now.items c.args.width c.first_places-still.result c.requires.fit (c.first_places-still.ensures ∙ ap (λ n. 2 ^ n - 1) c.len.ensures.value)
+pub loop-turns-init : goal.loop-turns-init
+loop-turns-init c =
+    let keys = c.args.keys.now.items in
+    let first = first_of _ keys c.in-Some.first.now c.deref.ensures.0 c.in-Some.ensures.value in
+    turning_first c.args.cuts.now keys c.args.width c.in-Some.first.now.1 c.turns_of-turns.result c.first_places-still.result first.0 c.requires.fit
+    (omega (arith, ap (λ (e : ℕ × ℕ). e.1) first.1, c.requires.fit 0 c.in-Some.first.now first.0)) (c.first_places-still.ensures ∙ ap (λ n. 2 ^ n - 1) c.len.ensures.value)
+    c.turns_of-turns.ensures.quiet c.turns_of-turns.ensures.within
 
-pub loop-left-preserved-then-low-eq0 : goal.loop-left-preserved-then-low-eq0
-loop-left-preserved-then-low-eq0 c =
-    contested_next_one c.args.cuts.now c.args.keys.now.items c.args.width c.loop-left.left c.loop-left.bits c.loop-left.still _ _ c.loop-left-test.true
-    (sets_of c.args.cuts.now c.args.keys.now.items c.args.width c.loop-left.left c.drops_of-drops.result c.planes_of-planes.result (omega (arith, c.len.ensures.value, c.len.ensures.fits)) c.loop-left-test.true c.loop-left.auto.left c.requires.few_bits c.drops_of-drops.ensures c.planes_of-planes.ensures)
-    c.loop-left.invariant c.if-low-eq0.true
+pub overflow_sub-width-in-loop-turns : goal.overflow_sub-width-in-loop-turns
+overflow_sub-width-in-loop-turns c =
+    let top : IsTop c.loop-turns.turns c.ilog2-left.result = record { low = c.ilog2-left.ensures.power_le; high = c.ilog2-left.ensures.next_power_gt; fits = c.ilog2-left.ensures.bound } in
+    omega (arith, turning_within c.args.cuts.now c.args.keys.now.items c.args.width c.turns_of-turns.result c.loop-turns.turns c.loop-turns.bits c.loop-turns.still c.ilog2-left.result c.loop-turns.invariant top)
 
-pub loop-left-preserved : goal.loop-left-preserved
-loop-left-preserved c =
-    contested_next_zero c.args.cuts.now c.args.keys.now.items c.args.width c.loop-left.left c.loop-left.bits c.loop-left.still _ _ c.loop-left-test.true
-    (sets_of c.args.cuts.now c.args.keys.now.items c.args.width c.loop-left.left c.drops_of-drops.result c.planes_of-planes.result (omega (arith, c.len.ensures.value, c.len.ensures.fits)) c.loop-left-test.true c.loop-left.auto.left c.requires.few_bits c.drops_of-drops.ensures c.planes_of-planes.ensures)
-    c.loop-left.invariant c.if-low-eq0.false
+pub returns-then-still-eq0 : goal.returns-then-still-eq0
+returns-then-still-eq0 c =
+    let cuts = c.args.cuts.now in
+    let keys = c.args.keys.now.items in
+    let top : IsTop c.loop-turns.turns c.ilog2-left.result = record { low = c.ilog2-left.ensures.power_le; high = c.ilog2-left.ensures.next_power_gt; fits = c.ilog2-left.ensures.bound } in
+    let last = turning_unheard cuts keys c.args.width c.turns_of-turns.result c.loop-turns.turns c.loop-turns.bits c.loop-turns.still c.ilog2-left.result c.cut_at.result c.unheard.result.bits
+    c.requires.some_bits (omega (arith, c.len.ensures.value, c.len.ensures.fits)) c.loop-turns.invariant top (cut_there cuts keys c.args.width c.ilog2-left.result c.cut_at.result c.cut_at.ensures)
+    c.if-still-eq0.true c.unheard.ensures.above c.unheard.ensures.ones in
+    record {
+      winners = c.unheard.ensures.nobody ∙ last.0;
+      least = read_least cuts keys c.args.width c.unheard.result.bits last.1;
+      none = λ none. read_none cuts keys c.args.width c.unheard.result.bits last.1 (sym last.0);
+      each_bit = read_each cuts keys c.args.width c.unheard.result.bits last.1;
+      idle = read_idle cuts keys c.args.width c.unheard.result.bits last.1;
+      in_width = read_in_width cuts keys c.args.width c.unheard.result.bits last.1;
+    }
+
+pub loop-turns-smaller : goal.loop-turns-smaller
+loop-turns-smaller c = turn_less c.loop-turns.turns c.ilog2-left.result (record { low = c.ilog2-left.ensures.power_le; high = c.ilog2-left.ensures.next_power_gt; fits = c.ilog2-left.ensures.bound })
+
+pub loop-turns-preserved : goal.loop-turns-preserved
+loop-turns-preserved c =
+    let cuts = c.args.cuts.now in
+    let keys = c.args.keys.now.items in
+    let t = c.ilog2-left.result in
+    let top : IsTop c.loop-turns.turns t = record { low = c.ilog2-left.ensures.power_le; high = c.ilog2-left.ensures.next_power_gt; fits = c.ilog2-left.ensures.bound } in
+    let cut = cut_there cuts keys c.args.width t c.cut_at.result c.cut_at.ensures in
+    let few : length keys ≤ 16 = omega (arith, c.len.ensures.value, c.len.ensures.fits) in
+    elim c.if-low-eq0.branch [
+      | then-low-eq0 w ↦ rw (w.bits-is, w.still-is)
+          (turning_one cuts keys c.args.width c.turns_of-turns.result c.loop-turns.turns c.loop-turns.bits c.loop-turns.still t c.cut_at.result _ few (omega arith) (omega arith) c.loop-turns.invariant top cut
+          (c.planes_of-planes.ensures t c.ilog2-left.ensures.bound) c.if-still-eq0.false w.if-low-eq0.true)
+      | else-low-eq0 w ↦ rw (w.bits-is, w.still-is)
+          (turning_zero cuts keys c.args.width c.turns_of-turns.result c.loop-turns.turns c.loop-turns.bits c.loop-turns.still t c.cut_at.result _ few (omega arith) (omega arith) c.loop-turns.invariant top cut
+          (c.planes_of-planes.ensures t c.ilog2-left.ensures.bound) w.if-low-eq0.false)
+    ]
 
 pub returns : goal.returns
 returns c =
     let cuts = c.args.cuts.now in
     let keys = c.args.keys.now.items in
-    let last = contested_last cuts keys c.args.width c.loop-left.left c.loop-left.bits c.loop-left.still c.slots_at-winners.result.items c.requires.some_bits c.loop-left-test.false c.loop-left.invariant c.slots_at-winners.ensures in
+    let last = turning_last cuts keys c.args.width c.turns_of-turns.result c.loop-turns.bits c.loop-turns.still c.slots_at-winners.result.items c.requires.some_bits
+    (rw c.loop-turns-test.false at c.loop-turns.invariant) c.slots_at-winners.ensures in
     record {
       winners = last.0;
-      least = read_least cuts keys c.args.width c.loop-left.bits last.1;
-      none = λ none. read_none cuts keys c.args.width c.loop-left.bits last.1 (sym last.0 ∙ none);
-      each_bit = read_each cuts keys c.args.width c.loop-left.bits last.1;
-      idle = read_idle cuts keys c.args.width c.loop-left.bits last.1;
-      in_width = read_in_width cuts keys c.args.width c.loop-left.bits last.1;
+      least = read_least cuts keys c.args.width c.loop-turns.bits last.1;
+      none = λ none. read_none cuts keys c.args.width c.loop-turns.bits last.1 (sym last.0 ∙ none);
+      each_bit = read_each cuts keys c.args.width c.loop-turns.bits last.1;
+      idle = read_idle cuts keys c.args.width c.loop-turns.bits last.1;
+      in_width = read_in_width cuts keys c.args.width c.loop-turns.bits last.1;
     }

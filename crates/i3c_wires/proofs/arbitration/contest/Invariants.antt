@@ -1,6 +1,9 @@
-use Rattle.i3c_wires.proofs.PlaneLaws.{Contested}
+use Rattle.i3c_wires.proofs.TurnLaws.{Turning}
 use Rattle.i3c_wires.proofs.arbitration.contest.Given as goal
 
--- what was read so far, and who is still in
-abbrev pub invariant-loop-left : goal.invariant-loop-left
-invariant-loop-left l = Contested l.cuts l.keys.items l.width l.left l.bits l.still
+-- the turns that are left
+abbrev pub invariant-loop-turns : goal.invariant-loop-turns
+invariant-loop-turns l = Turning l.cuts l.keys.items l.width l.initial.turns l.turns l.bits l.still
+
+abbrev pub decreases-loop-turns : goal.decreases-loop-turns
+decreases-loop-turns l = l.turns
