@@ -105,36 +105,44 @@ impl Command {
     pub fn parse(line: &[u8]) -> Option<Command> {
         let mut words = Words::of(line);
         let command = match words.next()? {
-            // the lines of which scripts have most come first
             b"raise" => Command::Event(parse_raise(&mut words)?),
             b"serve" => Command::Event(Wish::Serve),
             b"daa" => Command::Daa,
-            b"read" => Command::Event(parse_read(&mut words)?),
-            b"write" => Command::Event(parse_write(&mut words)?),
             b"enec" => Command::Event(Wish::Enec(parse_choice(&mut words)?)),
             b"disec" => Command::Event(Wish::Disec(parse_choice(&mut words)?)),
-            b"policy" => Command::Policy(parse_policy(&mut words)?),
-            b"cut" => parse_cut(&mut words)?,
             b"reset" => Command::Event(Wish::Reset),
             b"list" => Command::Event(Wish::List),
-            b"handover" => Command::Event(parse_handover(&mut words)?),
             b"open" => Command::Event(Wish::Open),
             b"round" => Command::Event(Wish::Round),
             b"end" => Command::Event(Wish::End),
-            b"attach" => Command::Event(parse_attach(&mut words)?),
-            b"drop" => Command::Event(parse_drop(&mut words)?),
-            b"ask-join" => Command::Event(parse_ask_join(&mut words)?),
-            b"ask-role" => Command::Event(parse_ask_role(&mut words)?),
-            b"main" => parse_main(&mut words)?,
-            b"legacy" => parse_legacy(&mut words)?,
             b"show" => Command::Show,
             b"symbols" => Command::Symbols,
-            _ => return None,
+            word => parse_longer(word, &mut words)?,
         };
         match words.next() {
             Some(_) => None,
             None => Some(command),
         }
+    }
+}
+
+/// A command with words of its own, by its first word.
+// kept apart, so that no other line pays for the room that these take on the stack
+#[inline(never)]
+fn parse_longer(word: &[u8], words: &mut Words<'_>) -> Option<Command> {
+    match word {
+        b"read" => Some(Command::Event(parse_read(words)?)),
+        b"write" => Some(Command::Event(parse_write(words)?)),
+        b"handover" => Some(Command::Event(parse_handover(words)?)),
+        b"policy" => Some(Command::Policy(parse_policy(words)?)),
+        b"cut" => parse_cut(words),
+        b"attach" => Some(Command::Event(parse_attach(words)?)),
+        b"drop" => Some(Command::Event(parse_drop(words)?)),
+        b"ask-join" => Some(Command::Event(parse_ask_join(words)?)),
+        b"ask-role" => Some(Command::Event(parse_ask_role(words)?)),
+        b"main" => parse_main(words),
+        b"legacy" => parse_legacy(words),
+        _ => None,
     }
 }
 
