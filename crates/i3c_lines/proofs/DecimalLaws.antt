@@ -1,9 +1,12 @@
 -- Decimal digits, and the numbers that they write.
 use Rattle.std.proofs.Common.{◌≢◌, ℕ, suc, ◌^◌, ◌<◌, List, [], ◌∷◌, get_or, All, Result, Ok, Err, arith, refl, subst}
+use Rattle.std.proofs.lemmas.Fmt.{IsAscii-from_digits}
+use Rattle.std.proofs.lemmas.Str.{IsUtf8-from_ascii}
 use Rattle.std.proofs.lemmas.Str.Parse.{without_leading_plus_none}
 use Rattle.std.specs.Char.{digit_value}
 use Rattle.std.specs.Option.{IsSome}
 use Rattle.std.specs.Result.{OkIff, result_ok}
+use Rattle.std.specs.Str.{IsUtf8}
 use Rattle.std.specs.Str.Parse.{AllDigits, ParsesUnsigned, IsNumeral, digits_value}
 use Rattle.i3c_lines.specs.Words.{IsDecimal, IsDecimalDigit}
 
@@ -13,6 +16,10 @@ decimal_value byte h = grind arith
 all_decimal : (word : List ℕ) → All IsDecimalDigit word → AllDigits 10 word
 all_decimal [] h = tt
 all_decimal (byte ∷ word) h = (decimal_value byte (h 0 0 (omega arith)), all_decimal word (λ k d l. h (suc k) d (omega arith)))
+
+-- decimal digits are text
+pub decimal_is_text : (word : List ℕ) → IsDecimal word → IsUtf8 word
+decimal_is_text word h = IsUtf8-from_ascii word (IsAscii-from_digits word (all_decimal word h.1))
 
 no_plus : (word : List ℕ) → All IsDecimalDigit word → get_or word 0 0 ≢ 43
 no_plus [] h e = omega arith

@@ -1,13 +1,10 @@
 use crate::names::Name;
 use crate::policies::policy;
-use crate::words;
+use crate::words::{self, Words};
 use arrayvec::ArrayVec;
 use i3c_base::{Addr7, Bcr, Dcr, Fixed, Identity, Kinds, Lvr, Setup};
 use i3c_step::WRITE_KEPT;
-use std::str::Split;
-
-/// The last word of a device that doesn't take the controller role.
-const DECLINE: &str = "decline";
+use std::str;
 
 /// Kinds of events, and the address of the devices that are meant. Without one all are but the active controller.
 #[derive(Clone, Copy)]
@@ -105,34 +102,22 @@ pub enum Command {
 
 impl Command {
     /// The command of a line, if the line has a form. Its words are parted by exactly one space.
-    pub fn parse(line: &str) -> Option<Command> {
-        let mut words = line.split(' ');
+    pub fn parse(line: &[u8]) -> Option<Command> {
+        let mut words = Words::of(line);
         let command = match words.next()? {
-            // the lines of which scripts have most come first
-            "raise" => Command::Event(parse_raise(&mut words)?),
-            "serve" => Command::Event(Wish::Serve),
-            "daa" => Command::Daa,
-            "read" => Command::Event(parse_read(&mut words)?),
-            "write" => Command::Event(parse_write(&mut words)?),
-            "enec" => Command::Event(Wish::Enec(parse_choice(&mut words)?)),
-            "disec" => Command::Event(Wish::Disec(parse_choice(&mut words)?)),
-            "policy" => Command::Policy(policy(words.next()?)?),
-            "cut" => parse_cut(&mut words)?,
-            "reset" => Command::Event(Wish::Reset),
-            "list" => Command::Event(Wish::List),
-            "handover" => Command::Event(parse_handover(&mut words)?),
-            "open" => Command::Event(Wish::Open),
-            "round" => Command::Event(Wish::Round),
-            "end" => Command::Event(Wish::End),
-            "attach" => Command::Event(parse_attach(&mut words)?),
-            "drop" => Command::Event(parse_drop(&mut words)?),
-            "ask-join" => Command::Event(parse_ask_join(&mut words)?),
-            "ask-role" => Command::Event(parse_ask_role(&mut words)?),
-            "main" => parse_main(&mut words)?,
-            "legacy" => parse_legacy(&mut words)?,
-            "show" => Command::Show,
-            "symbols" => Command::Symbols,
-            _ => return None,
+            b"raise" => Command::Event(parse_raise(&mut words)?),
+            b"serve" => Command::Event(Wish::Serve),
+            b"daa" => Command::Daa,
+            b"enec" => Command::Event(Wish::Enec(parse_choice(&mut words)?)),
+            b"disec" => Command::Event(Wish::Disec(parse_choice(&mut words)?)),
+            b"reset" => Command::Event(Wish::Reset),
+            b"list" => Command::Event(Wish::List),
+            b"open" => Command::Event(Wish::Open),
+            b"round" => Command::Event(Wish::Round),
+            b"end" => Command::Event(Wish::End),
+            b"show" => Command::Show,
+            b"symbols" => Command::Symbols,
+            word => parse_longer(word, &mut words)?,
         };
         match words.next() {
             Some(_) => None,
@@ -141,8 +126,25 @@ impl Command {
     }
 }
 
-/// The words of a line, after those that were read.
-type Words<'a> = Split<'a, char>;
+/// A command with words of its own, by its first word.
+// kept apart, so that no other line pays for the room that these take on the stack
+#[inline(never)]
+fn parse_longer(word: &[u8], words: &mut Words<'_>) -> Option<Command> {
+    match word {
+        b"read" => Some(Command::Event(parse_read(words)?)),
+        b"write" => Some(Command::Event(parse_write(words)?)),
+        b"handover" => Some(Command::Event(parse_handover(words)?)),
+        b"policy" => Some(Command::Policy(parse_policy(words)?)),
+        b"cut" => parse_cut(words),
+        b"attach" => Some(Command::Event(parse_attach(words)?)),
+        b"drop" => Some(Command::Event(parse_drop(words)?)),
+        b"ask-join" => Some(Command::Event(parse_ask_join(words)?)),
+        b"ask-role" => Some(Command::Event(parse_ask_role(words)?)),
+        b"main" => parse_main(words),
+        b"legacy" => parse_legacy(words),
+        _ => None,
+    }
+}
 
 /// The words of `legacy`.
 fn parse_legacy(words: &mut Words<'_>) -> Option<Command> {
@@ -173,7 +175,7 @@ fn parse_device(words: &mut Words<'_>) -> Option<(Name, Setup)> {
     let identity = Identity { pid, bcr, dcr };
     let willing = match words.next() {
         None => true,
-        Some(DECLINE) => false,
+        Some(b"decline") => false,
         Some(_) => return None,
     };
     Some((name, Setup { identity, willing }))
@@ -208,7 +210,7 @@ fn parse_write(words: &mut Words<'_>) -> Option<Wish> {
     let at = words::address(words.next()?)?;
     let bytes = match words.next() {
         None => ArrayVec::new(),
-        Some("") => return None,
+        Some(b"") => return None,
         Some(word) => words::bytes(word)?,
     };
     Some(Wish::Write { at, bytes })
@@ -218,6 +220,12 @@ fn parse_write(words: &mut Words<'_>) -> Option<Wish> {
 fn parse_handover(words: &mut Words<'_>) -> Option<Wish> {
     let to = words::address(words.next()?)?;
     Some(Wish::HandOver { to })
+}
+
+/// The word of `policy`.
+fn parse_policy(words: &mut Words<'_>) -> Option<Fixed> {
+    let word = str::from_utf8(words.next()?).ok()?;
+    policy(word)
 }
 
 /// The words of `cut`: a name and a bit.

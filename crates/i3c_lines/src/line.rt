@@ -3,7 +3,6 @@ ghost use Rattle.std.specs.Prelude.{◌≡◌, ◌<◌, ◌≤◌, [], length, s
 use crate::command::Command;
 use crate::refusals::Refusal;
 use arrayvec::ArrayVec;
-use std::str;
 
 /// How many bytes a line may have, without its line feed.
 const LINE_LENGTH: usize = 256;
@@ -28,11 +27,7 @@ pub fn read_line(line: &[u8]) -> Result<Option<Command>, Refusal>
         None | Some(&COMMENT) => return Ok(None),
         Some(_) => {}
     }
-    // No word has a byte that isn't ASCII, so it suffices that the line is text.
-    let Ok(text) = str::from_utf8(line) else {
-        return Err(Refusal::BadLine);
-    };
-    match Command::parse(text) {
+    match Command::parse(line) {
         Some(command) => Ok(Some(command)),
         None => Err(Refusal::BadLine),
     }

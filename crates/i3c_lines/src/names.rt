@@ -6,6 +6,7 @@ use arrayvec::ArrayString;
 use i3c_base::{ADDRESSES, Addr7, SLOTS, Slot};
 use indexmap::IndexMap;
 use std::alloc::{AllocError, Global};
+use std::str;
 
 /// The longest name.
 const NAME_LENGTH: usize = 16;
@@ -17,11 +18,10 @@ pub struct Name {
 }
 
 /// Whether a word is of a name's letters alone.
-fn is_of_letters(word: &str) -> bool
+fn is_of_letters(word: &[u8]) -> bool
     ensures { IsTrue result ↔ All IsNameLetter word.now }
 {
-    word.as_bytes()
-        .iter()
+    word.iter()
         .all(|byte| matches!(*byte, b'a'..=b'z' | b'0'..=b'9'))
 }
 
@@ -30,14 +30,17 @@ impl Name {
     ghost use Rattle.i3c_lines.specs.Words.{IsName};
 
     /// The name that a word is, if it has a name's form.
-    pub fn parse(word: &str) -> Option<Name>
+    pub fn parse(word: &[u8]) -> Option<Name>
         ensures form { IsSome result ↔ IsName NAME_LENGTH word.now }
         ensures same { IfSome result (λ name. letters name ≡ word.now) }
     {
         if word.is_empty() || !is_of_letters(word) {
             return None;
         }
-        let text = ArrayString::from(word).ok()?;
+        let Ok(text) = str::from_utf8(word) else {
+            unreachable!();
+        };
+        let text = ArrayString::from(text).ok()?;
         Some(Name { text })
     }
 

@@ -5,8 +5,8 @@ use std::test::Fail;
 // A name stays known where another device takes its slot, and may be given again. A slot knows its name.
 #[test]
 fn names_of_devices_that_are_gone(rt: HostRuntime) -> Result<(), Fail> {
-    let first = Name::parse("t").ok_or("a name")?;
-    let second = Name::parse("u").ok_or("a name")?;
+    let first = Name::parse(b"t").ok_or("a name")?;
+    let second = Name::parse(b"u").ok_or("a name")?;
     let (one, two) = (Slot::new(1)?, Slot::new(2)?);
     let mut names = Names::new(rt.alloc());
     assert!(rt; names.slot_of(&first) == Err(Refusal::NoName));

@@ -8,9 +8,13 @@ use arrayvec::ArrayVec;
 use bitflags::Flags;
 use i3c_base::{Addr7, Kinds, Pid};
 use i3c_step::WRITE_KEPT;
+use std::str;
+
+/// What parts the words of a line.
+const SPACE: u8 = b' ';
 
 /// Numbers are written in hex.
-const RADIX: u32 = 16;
+const RADIX: u64 = 16;
 
 /// Bits of frames are written in decimal.
 const BIT_RADIX: u32 = 10;
@@ -21,40 +25,64 @@ const BYTE_DIGITS: usize = 2;
 /// How many digits a provisioned ID has.
 const PID_DIGITS: usize = 12;
 
-/// Whether a word is of hex digits alone. Letters are upper case.
-fn is_hex(word: &str) -> bool
-    ensures { IsTrue result ↔ All IsHexDigit word.now }
-{
-    word.as_bytes()
-        .iter()
-        .all(|byte| matches!(*byte, b'0'..=b'9' | b'A'..=b'F'))
+/// The words of a line, which are parted by exactly one space: those that weren't read yet.
+#[derive(Clone, Copy)]
+pub(crate) struct Words<'a> {
+    rest: Option<&'a [u8]>,
+}
+
+impl<'a> Words<'a> {
+    /// All words of a line. Without a space it is one word, and so is a line of no bytes.
+    pub fn of(line: &'a [u8]) -> Words<'a> {
+        Words { rest: Some(line) }
+    }
+
+    /// The next word, if there is one.
+    pub fn next(&mut self) -> Option<&'a [u8]> {
+        let rest = self.rest?;
+        match rest.iter().position(|byte| *byte == SPACE) {
+            Some(end) => {
+                self.rest = Some(&rest[end + 1..]);
+                Some(&rest[..end])
+            }
+            None => {
+                self.rest = None;
+                Some(rest)
+            }
+        }
+    }
 }
 
 /// The number that a word writes, if it has so many hex digits.
-fn number(word: &str, digits: usize) -> Option<u64>
-    requires some { 0 < digits }
-    requires fits { digits < 16 }
+fn number(word: &[u8], digits: usize) -> Option<u64>
+    requires { digits < 16 }
     ensures form { IsSome result ↔ IsHex digits word.now }
     ensures value { IfSome result (λ n. n ≡ digits_value RADIX word.now) }
     ensures bound { IfSome result (λ n. n < 16 ^ digits) }
 {
-    if word.len() != digits || !is_hex(word) {
+    if word.len() != digits {
         return None;
     }
-    u64::from_str_radix(word, RADIX).ok()
+    let mut number = 0;
+    for byte in word {
+        number = RADIX * number + u64::from(digit(*byte)?);
+    }
+    Some(number)
 }
 
 /// A byte: two hex digits.
-pub(crate) fn byte(word: &str) -> Option<u8>
+pub(crate) fn byte(word: &[u8]) -> Option<u8>
     ensures form { IsSome result ↔ IsHex BYTE_DIGITS word.now }
     ensures value { IfSome result (λ b. b ≡ digits_value RADIX word.now) }
 {
-    let number = number(word, BYTE_DIGITS)?;
-    Some(number as u8)
+    match word {
+        [high, low] => Some(16 * digit(*high)? + digit(*low)?),
+        _ => None,
+    }
 }
 
 /// A 7-bit address: two hex digits. One above `7F` has no form.
-pub(crate) fn address(word: &str) -> Option<Addr7>
+pub(crate) fn address(word: &[u8]) -> Option<Addr7>
     ensures form { IsSome result ↔ (IsHex BYTE_DIGITS word.now × (digits_value RADIX word.now < 128)) }
     ensures value { IfSome result (λ a. a ≡ digits_value RADIX word.now) }
 {
@@ -63,27 +91,28 @@ pub(crate) fn address(word: &str) -> Option<Addr7>
 }
 
 /// Whether a word is of decimal digits alone.
-fn is_decimal(word: &str) -> bool
+fn is_decimal(word: &[u8]) -> bool
     ensures { IsTrue result ↔ All IsDecimalDigit word.now }
 {
-    word.as_bytes()
-        .iter()
-        .all(|byte| matches!(*byte, b'0'..=b'9'))
+    word.iter().all(|byte| matches!(*byte, b'0'..=b'9'))
 }
 
 /// A bit of a frame: decimal digits, up to 65535. Zeros may lead them, and a sign may not.
-pub(crate) fn bit(word: &str) -> Option<u16>
+pub(crate) fn bit(word: &[u8]) -> Option<u16>
     ensures form { IsSome result ↔ (IsDecimal word.now × (digits_value BIT_RADIX word.now < 2 ^ 16)) }
     ensures value { IfSome result (λ b. b ≡ digits_value BIT_RADIX word.now) }
 {
     if word.is_empty() || !is_decimal(word) {
         return None;
     }
-    u16::from_str_radix(word, BIT_RADIX).ok()
+    let Ok(text) = str::from_utf8(word) else {
+        unreachable!();
+    };
+    u16::from_str_radix(text, BIT_RADIX).ok()
 }
 
 /// Kinds of events: two hex digits, of which bit 0 names interrupts, bit 1 role requests and bit 3 Hot-Join.
-pub(crate) fn kinds(word: &str) -> Option<Kinds>
+pub(crate) fn kinds(word: &[u8]) -> Option<Kinds>
     ensures form { IsSome result ↔ IsHex BYTE_DIGITS word.now }
     ensures value { IfSome result (λ kinds. kind_set kinds ≡ kind_set (record { 0 = digits_value RADIX word.now })) }
 {
@@ -92,7 +121,7 @@ pub(crate) fn kinds(word: &str) -> Option<Kinds>
 }
 
 /// A provisioned ID: twelve hex digits.
-pub(crate) fn pid(word: &str) -> Option<Pid>
+pub(crate) fn pid(word: &[u8]) -> Option<Pid>
     ensures form { IsSome result ↔ IsHex PID_DIGITS word.now }
     ensures value { IfSome result (λ p. p ≡ digits_value RADIX word.now) }
 {
@@ -101,12 +130,12 @@ pub(crate) fn pid(word: &str) -> Option<Pid>
 }
 
 /// The bytes of a write: two hex digits for each. Of more than are kept the first ones are given.
-pub(crate) fn bytes(word: &str) -> Option<ArrayVec<u8, WRITE_KEPT>>
+pub(crate) fn bytes(word: &[u8]) -> Option<ArrayVec<u8, WRITE_KEPT>>
     ensures form { IsSome result ↔ AreBytes word.now }
     ensures value { IfSome result (λ bytes. bytes.items ≡ take WRITE_KEPT (pair_values word.now)) }
 {
     let mut bytes = ArrayVec::new();
-    push_pairs(word.as_bytes(), &mut bytes)?;
+    push_pairs(word, &mut bytes)?;
     Some(bytes)
 }
 

@@ -1,6 +1,5 @@
 -- What it comes to that a line is carried out which names no device.
-use Rattle.std.proofs.Common.{◌≡◌, ◌⊎◌, ◌∙◌, ℕ, ◌+◌, true, false, arith, List, [], ◌∷◌, length, Some, None, Result, Ok, Err, ap, inl, inr, refl, subst}
-use Rattle.std.specs.Result.{MatchResult}
+use Rattle.std.proofs.Common.{◌≡◌, ◌⊎◌, ◌∙◌, ℕ, ◌+◌, Bool, true, false, arith, List, [], ◌∷◌, length, Some, Result, Ok, Err, ap, inl, inr, refl, subst}
 use Rattle.i3c_base.specs.declared.answers.RoundReply.{RoundReply}
 use Rattle.i3c_base.specs.declared.range.TheConstants.{SLOTS}
 use Rattle.i3c_base.specs.Cutting.{no_cuts}
@@ -12,7 +11,7 @@ use Rattle.i3c_lines.specs.declared.command.Wish.{Wish}
 use Rattle.i3c_lines.specs.declared.refusals.Refusal.{Refusal}
 use Rattle.i3c_scenario.specs.declared.faults.Stop.{Stop}
 use Rattle.i3c_lines.specs.declared.names.Names.{Names}
-use Rattle.i3c_scenario.specs.Asking.{AreOver, Asked, AsksForNone, Assigns, Carries, EndsRounds, GoOn, Ran, Rounds, RoundsUp, StopsAt, goes_on}
+use Rattle.i3c_scenario.specs.Asking.{AreOver, Asked, AsksForNone, Assigns, Carries, CarriesOut, EndsRounds, GoOn, Ran, Rounds, RoundsUp, StopsAt, goes_on}
 use Rattle.i3c_scenario.specs.Stops.{reply_stop}
 
 -- a line that is refused asks for no event
@@ -34,6 +33,10 @@ none_asked ran names Wish.Open why asked = (why, asked, refl)
 none_asked ran names Wish.Round why asked = (why, asked, refl)
 none_asked ran names Wish.End why asked = (why, asked, refl)
 
+-- a line's event is asked for, and the bus's step is its reply
+pub carried_by : (ran : Ran) (names : Names) (wish : Wish) (event : Event) (reply : Reply) (mid new : State) → Asked ran.state names ran.policy ran.cuts wish (Ok event) → Step mid event reply new → mid ≡ ran.state → Carries ran names wish reply new
+carried_by ran names wish event reply mid new asked step same = (event, asked, subst (λ st. Step st event reply new) same step)
+
 -- an opening that is carried out
 pub opens : (ran : Ran) (names : Names) (reply : Reply) (new : State) → Carries ran names Wish.Open reply new → Step ran.state (Event.OpenDaa ran.cuts) reply new
 opens ran names reply new (event, asked, step) =
@@ -50,8 +53,8 @@ ends_so ran names reply new (event, asked, step) =
     let is : event ≡ Event.EndDaa = cc in subst (λ e. Step ran.state e reply new) is step
 
 -- the end of a session, be what it prints refused or not
-pub ends : (ran : Ran) (names : Names) (new : State) (r : Result Reply Stop) → MatchResult r (λ reply. Carries ran names Wish.End reply new × (reply_stop reply ≡ None)) (λ stop. StopsAt ran names Wish.End stop new) → (ended : Reply) × Step ran.state Event.EndDaa ended new
-ends ran names new (Ok reply) carried = (reply, ends_so ran names reply new carried.0)
+pub ends : (ran : Ran) (names : Names) (new : State) (r : Result Bool Stop) → CarriesOut ran names Wish.End r new → (ended : Reply) × Step ran.state Event.EndDaa ended new
+ends ran names new (Ok more) (reply, carried, none, same) = (reply, ends_so ran names reply new carried)
 ends ran names new (Err stop) (inl (same, (why, asked, e))) = absurd cc
 ends ran names new (Err stop) (inr (reply, carried, why)) = (reply, ends_so ran names reply new carried)
 

@@ -4,3 +4,5 @@ pub mod Written
 pub mod TraceWritten
 pub mod TraceRead
 pub mod TraceOut
+pub mod ScriptRuns
+pub mod ScriptRead

@@ -6,7 +6,7 @@ use Rattle.std.specs.Io.KnownBytes.{Appends, Keeps}
 use Rattle.i3c_scenario.specs.Outcomes.{AppendsSome}
 use Rattle.i3c_scenario.proofs.Written.{appends_both}
 
-keeps_all : (a b : Option (List ℕ)) → Keeps a b → Appends a b []
+pub keeps_all : (a b : Option (List ℕ)) → Keeps a b → Appends a b []
 keeps_all None b kept = tt
 keeps_all (Some xs) None kept = absurd kept
 keeps_all (Some xs) (Some ys) kept = kept ∙ sym (append-nil xs)

@@ -118,6 +118,11 @@ goes_on (Reply.Opened served) = false
 goes_on (Reply.Handed served) = false
 goes_on Reply.Ended = false
 
+-- a line's event is carried out, and whether there is another round after it; or the line stops
+abbrev pub CarriesOut : Ran → Names → Wish → Result Bool Stop → State → Type 0
+CarriesOut ran names wish (Ok more) new = (reply : Reply) × Carries ran names wish reply new × (reply_stop reply ≡ None) × (more ≡ goes_on reply)
+CarriesOut ran names wish (Err stop) new = StopsAt ran names wish stop new
+
 -- after each of these rounds there is another
 abbrev pub GoOn : List Reply → Type 0
 GoOn [] = Unit {0}
@@ -185,6 +190,25 @@ cuts_left (Wish.Disec choice) cuts = no_cuts
 cuts_left Wish.Open cuts = no_cuts
 cuts_left Wish.Round cuts = no_cuts
 cuts_left Wish.End cuts = cuts
+
+-- the cuts that an event's line takes with it: those that wait, if it sends a frame
+abbrev pub cuts_taken : Wish → CutList → CutList
+cuts_taken (Wish.Attach name setup) cuts = no_cuts
+cuts_taken (Wish.DropOff name) cuts = no_cuts
+cuts_taken (Wish.Raise name byte) cuts = no_cuts
+cuts_taken (Wish.AskJoin name) cuts = no_cuts
+cuts_taken (Wish.AskRole name) cuts = no_cuts
+cuts_taken Wish.Reset cuts = cuts
+cuts_taken Wish.List cuts = cuts
+cuts_taken (Wish.Read at) cuts = cuts
+cuts_taken (Wish.Write at bytes) cuts = cuts
+cuts_taken (Wish.HandOver to) cuts = cuts
+cuts_taken Wish.Serve cuts = cuts
+cuts_taken (Wish.Enec choice) cuts = cuts
+cuts_taken (Wish.Disec choice) cuts = cuts
+cuts_taken Wish.Open cuts = cuts
+cuts_taken Wish.Round cuts = cuts
+cuts_taken Wish.End cuts = no_cuts
 
 -- the same cuts, and one more, if the name stands for a device
 abbrev pub cut_named : Result ℕ Refusal → ℕ → CutList → CutList

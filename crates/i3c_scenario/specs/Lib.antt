@@ -5,3 +5,5 @@ pub mod Asking
 pub mod Printed
 pub mod Outcomes
 pub mod Traces
+pub mod Scripts
+pub mod ScriptSteps

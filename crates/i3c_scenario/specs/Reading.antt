@@ -13,4 +13,5 @@ Leaves most (Some xs) (Some ys) left = length xs + left ≡ most + length ys
 abbrev pub IsPiece : Option (List ℕ) → Option (List ℕ) → ℕ → List ℕ → Piece → Type 0
 IsPiece old new left chunk Piece.End = IsAtEnd old × Consumes old new [] × IsAtEnd new
 IsPiece old new left chunk (Piece.Within count) = (0 < count) × (count ≤ left) × (count ≤ length chunk) × Consumes old new (take count chunk)
-IsPiece old new left chunk (Piece.Beyond count) = (count ≡ left) × (count < length chunk) × IfSome old (λ bytes. left < length bytes)
+IsPiece old new left chunk (Piece.Beyond count) =
+    (count ≡ left) × (count < length chunk) × IfSome old (λ bytes. left < length bytes) × ((more : ℕ) × (left < more) × (more ≤ length chunk) × Consumes old new (take more chunk))

@@ -1,7 +1,7 @@
 ghost use Rattle.std.specs.Prelude.{◌≡◌, ◌↔◌, IsTrue, MatchOption};
 ghost use Rattle.i3c_base.specs.Cutting.{no_cuts};
 ghost use Rattle.i3c_base.specs.State.{IsPresent};
-ghost use Rattle.i3c_scenario.specs.Asking.{Asked, Attaches, IsTaken, cuts_left, device_named};
+ghost use Rattle.i3c_scenario.specs.Asking.{Asked, Attaches, IsTaken, cuts_left, cuts_taken, device_named};
 ghost use Rattle.i3c_lines.specs.Naming.{place_named};
 ghost use Rattle.i3c_scenario.specs.Slots.{AllPresentBelow};
 
@@ -23,22 +23,23 @@ pub(crate) fn event_of(
     ensures asked { Asked bus.now.state names.now policy cuts.old wish.now result }
     ensures cuts { cuts.new ≡ cuts_left wish.now cuts.old }
 {
+    let waiting = frame_cuts(cuts, wish);
     match wish {
         Wish::Attach { name, setup } => attachment(bus, names, name, *setup),
         Wish::DropOff { name } => Ok(Event::DropOff(names.slot_of(name)?)),
         Wish::Raise { name, byte } => Ok(Event::Raise(names.slot_of(name)?, *byte)),
         Wish::AskJoin { name } => Ok(Event::AskJoin(names.slot_of(name)?)),
-        Wish::Serve => Ok(Event::Serve(policy, take(cuts))),
-        Wish::Enec(Choice { kinds, to }) => Ok(Event::Enec(*to, *kinds, policy, take(cuts))),
-        Wish::Disec(Choice { kinds, to }) => Ok(Event::Disec(*to, *kinds, policy, take(cuts))),
+        Wish::Serve => Ok(Event::Serve(policy, waiting)),
+        Wish::Enec(Choice { kinds, to }) => Ok(Event::Enec(*to, *kinds, policy, waiting)),
+        Wish::Disec(Choice { kinds, to }) => Ok(Event::Disec(*to, *kinds, policy, waiting)),
         Wish::AskRole { name } => Ok(Event::AskRole(names.slot_of(name)?)),
-        Wish::Reset => Ok(Event::Reset(policy, take(cuts))),
-        Wish::List => Ok(Event::SendList(policy, take(cuts))),
-        Wish::Read { at } => Ok(Event::ReadFrom(*at, policy, take(cuts))),
-        Wish::Write { at, bytes } => { Ok(Event::WriteTo(*at, copied(bytes), policy, take(cuts))) }
-        Wish::HandOver { to } => Ok(Event::HandOver(*to, take(cuts))),
-        Wish::Open => Ok(Event::OpenDaa(take(cuts))),
-        Wish::Round => Ok(Event::Round(take(cuts))),
+        Wish::Reset => Ok(Event::Reset(policy, waiting)),
+        Wish::List => Ok(Event::SendList(policy, waiting)),
+        Wish::Read { at } => Ok(Event::ReadFrom(*at, policy, waiting)),
+        Wish::Write { at, bytes } => Ok(Event::WriteTo(*at, copied(bytes), policy, waiting)),
+        Wish::HandOver { to } => Ok(Event::HandOver(*to, waiting)),
+        Wish::Open => Ok(Event::OpenDaa(waiting)),
+        Wish::Round => Ok(Event::Round(waiting)),
         Wish::End => Ok(Event::EndDaa),
     }
 }
@@ -52,6 +53,22 @@ fn copied(bytes: &ArrayVec<u8, WRITE_KEPT>) -> ArrayVec<u8, WRITE_KEPT>
         unreachable!()
     };
     copy
+}
+
+/// The cuts that a line's frame takes, of those that wait. A line that sends none leaves them.
+fn frame_cuts(cuts: &mut Cuts, wish: &Wish) -> Cuts
+    ensures taken { result ≡ cuts_taken wish.now cuts.old }
+    ensures left { cuts.new ≡ cuts_left wish.now cuts.old }
+{
+    match wish {
+        Wish::Attach { .. }
+        | Wish::DropOff { .. }
+        | Wish::Raise { .. }
+        | Wish::AskJoin { .. }
+        | Wish::AskRole { .. }
+        | Wish::End => Cuts::new(),
+        _ => take(cuts),
+    }
 }
 
 /// The cuts that wait, of which none is left.

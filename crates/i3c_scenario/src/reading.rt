@@ -1,4 +1,5 @@
 ghost use Rattle.std.specs.Prelude.{◌≡◌, ◌<◌, length, MatchResult};
+ghost use Rattle.std.specs.Io.KnownBytes.{Keeps};
 ghost use Rattle.i3c_scenario.specs.Reading.{IsPiece};
 
 use crate::faults::ScriptFault;
@@ -28,7 +29,8 @@ pub(crate) fn read_piece<R: Read>(
     left: usize,
 ) -> Result<Piece, ScriptFault>
     requires { 0 < length chunk.old }
-    ensures { MatchResult result (IsPiece (R.remaining reader.old) (R.remaining reader.new) left chunk.new) (λ fault. fault ≡ ScriptFault.Read) }
+    ensures { MatchResult result (IsPiece (R.remaining reader.old) (R.remaining reader.new) left chunk.new)
+        (λ fault. (fault ≡ ScriptFault.Read) × Keeps (R.remaining reader.old) (R.remaining reader.new)) }
 {
     let Ok(count) = reader.read(chunk) else {
         return Err(ScriptFault::Read);

@@ -40,16 +40,15 @@ impl Model for Running {
 }
 
 impl Running {
-    ghost use Rattle.std.specs.Prelude.{◌≡◌, true, None, Ok, MatchResult};
+    ghost use Rattle.std.specs.Prelude.{◌≡◌, true, Ok, MatchResult};
     ghost use Rattle.i3c_base.specs.Numbers.{is_capable};
     ghost use Rattle.i3c_base.specs.Cutting.{no_cuts};
     ghost use Rattle.i3c_base.specs.State.{IsStart, legacy_targets_of};
     ghost use Rattle.i3c_base.specs.declared.requests.Verdict.TheVariants.{Accept};
     ghost use Rattle.i3c_step.specs.Step.{Step};
-    ghost use Rattle.i3c_scenario.specs.Asking.{AsksForNone, Asked, Assigns, Carries, Moves, RoundsAndEnd, RoundsUp, StopsAt, comes_to, cut_named, cuts_after, cuts_left, device_named};
+    ghost use Rattle.i3c_scenario.specs.Asking.{AsksForNone, Asked, Assigns, CarriesOut, Moves, RoundsAndEnd, RoundsUp, comes_to, cut_named, cuts_after, cuts_left, device_named};
     ghost use Rattle.i3c_lines.specs.Naming.{place_named};
     ghost use Rattle.i3c_lines.specs.Policies.{each_kind};
-    ghost use Rattle.i3c_scenario.specs.Stops.{reply_stop};
 
     /// A bus with this main controller, whose frames accept each request.
     pub fn new(alloc: Global, main: Setup, legacies: Legacies, wires: Wires) -> Running
@@ -120,33 +119,35 @@ impl Running {
     }
 
     /// One event, by a line of its own or as a part of `daa`: the wish is read to the event, the bus answers, and the
-    /// reply is printed.
+    /// reply is printed. It answers whether there is another round after it.
     fn carry_out(
         &mut self,
         names: &mut Names,
         origin: Origin,
         wish: &Wish,
         text: &mut Text,
-    ) -> Result<Reply, Stop>
+    ) -> Result<bool, Stop>
         ensures policy { self.new.policy ≡ self.old.policy }
         ensures cuts { self.new.cuts ≡ cuts_left wish.now self.old.cuts }
-        ensures carried { MatchResult result
-            (λ reply. Carries self.old names.old wish.now reply self.new.state × (reply_stop reply ≡ None))
-            (λ stop. StopsAt self.old names.old wish.now stop self.new.state) }
+        ensures carried { CarriesOut self.old names.old wish.now result self.new.state }
     {
-        let (event, reply) = self.answer(names, wish)?;
-        tell(names, origin, &event, &reply, text)?;
-        Ok(reply)
+        let event = self.asked(names, wish)?;
+        let reply = self.step(&event);
+        match tell(names, origin, &event, &reply, text) {
+            Ok(()) => Ok(goes_on(&reply)),
+            Err(stop) => Err(stop),
+        }
     }
 
-    /// The event that a line asks for, with the cuts that wait if it sends a frame, and the bus's reply to it. A device
-    /// that is attached gets its name.
-    fn answer(&mut self, names: &mut Names, wish: &Wish) -> Result<(Event, Reply), Stop>
+    /// The event that a line asks for, with the cuts that wait if it sends a frame. A device that is attached gets its
+    /// name.
+    fn asked(&mut self, names: &mut Names, wish: &Wish) -> Result<Event, Stop>
+        ensures state { self.new.state ≡ self.old.state }
         ensures policy { self.new.policy ≡ self.old.policy }
         ensures cuts { self.new.cuts ≡ cuts_left wish.now self.old.cuts }
-        ensures answered { MatchResult result
-            (λ (event, reply). Asked self.old.state names.old self.old.policy self.old.cuts wish.now (Ok event) × Step self.old.state event reply self.new.state)
-            (λ stop. (self.new.state ≡ self.old.state) × AsksForNone self.old names.old wish.now stop) }
+        ensures asked { MatchResult result
+            (λ event. Asked self.old.state names.old self.old.policy self.old.cuts wish.now (Ok event))
+            (λ stop. AsksForNone self.old names.old wish.now stop) }
     {
         let event = match event_of(&self.bus, names, self.policy, &mut self.cuts, wish) {
             Ok(event) => event,
@@ -155,8 +156,7 @@ impl Running {
         if let (Wish::Attach { name, .. }, Event::Attach(slot, _)) = (wish, &event) {
             names.give_slot(name, *slot)?;
         }
-        let reply = self.step(&event);
-        Ok((event, reply))
+        Ok(event)
     }
 
     /// One event: the bus takes the role or session in hand, and gives one back.
@@ -217,8 +217,8 @@ impl Running {
         // of so many rounds one is the last, by the law `sessions_end` of the bus
         for _ in 0..SLOTS {
             match self.carry_out(names, Origin::Daa, &Wish::Round, text) {
-                Ok(reply) if goes_on(&reply) => {}
-                Ok(_) => break,
+                Ok(true) => {}
+                Ok(false) => break,
                 Err(stop) => return Err(stop),
             }
         }

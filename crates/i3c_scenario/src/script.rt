@@ -1,6 +1,10 @@
-ghost use Rattle.std.specs.Prelude.{◌≡◌, ◌+◌, ◌<◌, ◌≤◌, ◌++◌, length, min, IfErr, IfSome, OnOk};
+ghost use Rattle.std.specs.Prelude.{◌≡◌, ℕ, List, ◌+◌, ◌<◌, ◌≤◌, [], ◌∷◌, ◌++◌, length, min, take, IfErr, IfSome, MatchResult, OnOk};
 ghost use Rattle.std.specs.Io.KnownBytes.{IsAtEnd};
+ghost use Rattle.i3c_lines.specs.Gathering.{gathered};
+ghost use Rattle.i3c_scenario.specs.Outcomes.{HasNoFeed};
 ghost use Rattle.i3c_scenario.specs.Printed.{end_text};
+ghost use Rattle.i3c_scenario.specs.Scripts.{LinesGoOut};
+ghost use Rattle.i3c_scenario.specs.ScriptSteps.{LineEnds, Obeys, ReadsAll, Runs, RunsTo, RunStops, Takes};
 ghost use Rattle.i3c_scenario.specs.Stops.{IsLineFault, refusals};
 
 use crate::faults::{ScriptFault, Stop};
@@ -33,6 +37,8 @@ pub fn run_script<R: Read, W: Write>(
     ensures whole { OnOk result (IsAtEnd (R.remaining reader.new)) }
     ensures fits { OnOk result (IfSome (R.remaining reader.old) (λ bytes. length bytes ≤ MOST_BYTES)) }
     ensures large { result ≡ Err ScriptFault.TooLarge → IfSome (R.remaining reader.old) (λ bytes. MOST_BYTES < length bytes) }
+    // what goes out is what the lines put out: all of it with `Ok`, and of its beginning what each fault says
+    ensures lines { LinesGoOut (R.remaining reader.old) (R.remaining reader.new) (W.contents writer.old) (W.contents writer.new) result }
 {
     let Ok(mut chunk) = vec![in alloc; 0u8; CHUNK] else {
         return Err(ScriptFault::Memory);
@@ -58,7 +64,10 @@ struct Script {
 
 impl Script {
     /// A script of which nothing was read.
-    fn new(alloc: Global) -> Script {
+    fn new(alloc: Global) -> Script
+        ensures held { gathered result.line ≡ [] }
+        ensures refused { result.refused ≡ 0 }
+    {
         Script {
             alloc,
             stage: Stage::new(),
@@ -80,20 +89,25 @@ impl Script {
         ensures whole { OnOk result (IsAtEnd (R.remaining reader.new)) }
         ensures fits { OnOk result (IfSome (R.remaining reader.old) (λ bytes. length bytes ≤ MOST_BYTES)) }
         ensures large { result ≡ Err ScriptFault.TooLarge → IfSome (R.remaining reader.old) (λ bytes. MOST_BYTES < length bytes) }
+        ensures runs { gathered self.old.line ≡ [] → ReadsAll (R.remaining reader.old) (R.remaining reader.new) (W.contents out.old) (W.contents out.new) self.old.refused self.new.refused result }
     {
         let mut left = MOST_BYTES;
         for _ in 0..u64::MAX {
-            match read_piece(reader, chunk, left)? {
+            let piece = match read_piece(reader, chunk, left) {
+                Ok(piece) => piece,
+                Err(fault) => return Err(fault),
+            };
+            match piece {
                 // the last line may lack its line feed
                 Piece::End => return self.end_held_line(&[], out),
-                Piece::Within(count) => {
-                    self.take(&chunk[..count], out)?;
-                    left -= count;
-                }
-                Piece::Beyond(count) => {
-                    self.take(&chunk[..count], out)?;
-                    return Err(ScriptFault::TooLarge);
-                }
+                Piece::Within(count) => match self.take(&chunk[..count], out) {
+                    Ok(()) => left -= count,
+                    Err(fault) => return Err(fault),
+                },
+                Piece::Beyond(count) => match self.take(&chunk[..count], out) {
+                    Ok(()) => return Err(ScriptFault::TooLarge),
+                    Err(fault) => return Err(fault),
+                },
             }
         }
         unreachable!()
@@ -101,7 +115,9 @@ impl Script {
 
     /// Takes bytes as they were read, and runs each line that they end. The first of them may have begun before.
     fn take<W: Write>(&mut self, bytes: &[u8], out: &mut W) -> Result<(), ScriptFault>
-        ensures { IfErr result IsLineFault }
+        ensures fault { IfErr result IsLineFault }
+        ensures runs { (begun : List ℕ) → gathered self.old.line ≡ take 257 begun → HasNoFeed begun →
+            Takes (begun ++ bytes.now) (gathered self.new.line) (W.contents out.old) (W.contents out.new) self.old.refused self.new.refused result }
     {
         match position_of_feed(bytes) {
             None => {
@@ -109,15 +125,20 @@ impl Script {
                 Ok(())
             }
             Some(end) => {
-                self.end_held_line(&bytes[..end], out)?;
-                self.run_lines(&bytes[end + 1..], out)
+                match self.end_held_line(&bytes[..end], out) {
+                    Ok(()) => self.run_lines(&bytes[end + 1..], out),
+                    Err(fault) => Err(fault),
+                }
             }
         }
     }
 
     /// Runs the line that was begun, whose last bytes these are.
     fn end_held_line<W: Write>(&mut self, bytes: &[u8], out: &mut W) -> Result<(), ScriptFault>
-        ensures { IfErr result IsLineFault }
+        ensures fault { IfErr result IsLineFault }
+        ensures held { gathered self.new.line ≡ [] }
+        ensures runs { (begun : List ℕ) → gathered self.old.line ≡ take 257 begun → HasNoFeed begun → HasNoFeed bytes.now →
+            Runs (begun ++ (bytes.now ++ 10 ∷ [])) [] (W.contents out.old) (W.contents out.new) self.old.refused self.new.refused result }
     {
         let mut line = mem::replace(&mut self.line, Line::new());
         line.extend(bytes);
@@ -126,12 +147,17 @@ impl Script {
 
     /// Runs the lines that end in these bytes, and begins the one that doesn't.
     fn run_lines<W: Write>(&mut self, bytes: &[u8], out: &mut W) -> Result<(), ScriptFault>
-        ensures { IfErr result IsLineFault }
+        ensures fault { IfErr result IsLineFault }
+        ensures runs { gathered self.old.line ≡ [] →
+            Takes bytes.now (gathered self.new.line) (W.contents out.old) (W.contents out.new) self.old.refused self.new.refused result }
     {
         let mut rest = bytes;
         while let Some(end) = position_of_feed(rest) {
             let (line, after) = rest.split_at(end);
-            self.run_line(line, out)?;
+            match self.run_line(line, out) {
+                Ok(()) => {}
+                Err(fault) => return Err(fault),
+            }
             // after its line feed
             rest = &after[1..];
         }
@@ -141,7 +167,9 @@ impl Script {
 
     /// Runs a line, and writes what it prints.
     fn run_line<W: Write>(&mut self, line: &[u8], out: &mut W) -> Result<(), ScriptFault>
-        ensures { IfErr result IsLineFault }
+        ensures fault { IfErr result IsLineFault }
+        ensures held { self.new.line ≡ self.old.line }
+        ensures ends { LineEnds line.now (W.contents out.old) (W.contents out.new) self.old.refused self.new.refused result }
     {
         self.text.clear();
         let outcome = self.obey(line);
@@ -150,7 +178,11 @@ impl Script {
     }
 
     /// Obeys a line, if it has a command.
-    fn obey(&mut self, line: &[u8]) -> Result<(), Stop> {
+    fn obey(&mut self, line: &[u8]) -> Result<(), Stop>
+        ensures held { self.new.line ≡ self.old.line }
+        ensures refused { self.new.refused ≡ self.old.refused }
+        ensures obeys { Obeys line.now result self.old.text self.new.text }
+    {
         match read_line(line) {
             Ok(Some(command)) => {
                 self.stage
@@ -167,6 +199,7 @@ impl Script {
         ensures memory { outcome ≡ Err Stop.Memory → result ≡ Err ScriptFault.Memory }
         ensures told { OnOk result (self.new.text ≡ self.old.text ++ end_text outcome) }
         ensures counted { self.new.refused ≡ min (self.old.refused + refusals outcome) u64.MAX }
+        ensures held { self.new.line ≡ self.old.line }
     {
         let refused = self.refused;
         match outcome {
@@ -183,7 +216,9 @@ impl Script {
     }
 
     /// Takes the script apart, with its bus, and tells how many lines were refused.
-    fn retire(self) -> u64 {
+    fn retire(self) -> u64
+        ensures { result ≡ self.refused }
+    {
         let Script {
             alloc: _,
             stage,

@@ -1,19 +1,29 @@
-use Rattle.std.proofs.Common.{◌≡◌, ◌<◌, ◌^◌, ◌∙◌, Some, refl, ap, sym, subst, rules}
-use Rattle.std.specs.Option.{IsSome, IfSome}
-use Rattle.std.specs.Result.{result_ok}
-use Rattle.std.specs.Str.Parse.{digits_value}
-use Rattle.i3c_lines.specs.Words.{IsHex}
-use Rattle.i3c_lines.proofs.HexLaws.{hex_parses, hex_bound}
+use Rattle.std.proofs.Common.{◌≡◌, ◌<◌, ◌+◌, ◌*◌, ◌^◌, get_or, arith, below_more, lit<, refl, subst}
+use Rattle.std.proofs.lemmas.Int.Digits.{digits_value_more}
+use Rattle.std.proofs.lemmas.List.{get_or_default}
+use Rattle.i3c_lines.specs.Words.{IsHexDigit}
+use Rattle.i3c_lines.proofs.HexLaws.{fits_digits, lt_more}
 use Rattle.i3c_lines.proofs.words.number.Goals as goal
 
-given : (c : goal.After-ok) → IsHex c.args.digits c.args.word.now
-given c = (c.if-word-digits.false, c.is_hex.ensures.0 (search rules))
+-- the number and one digit more
+more : (c : goal.After-from) → 16 * c.loop-byte.number + c.from.result < 16 ^ (c.loop-byte.byte-index + 1)
+more c = let digit : c.from.result < 16 = omega (arith, c.in_ok-digit.ensures.value.1) in lt_more _ _ _ c.loop-byte.invariant.bound digit
 
-value : (c : goal.After-ok) → c.ok.result ≡ Some (digits_value 16 c.args.word.now)
-value c = c.ok.ensures.value ∙ ap result_ok (hex_parses c.args.word.now c.args.digits _ c.from_str_radix.ensures.value (given c) c.requires.some c.requires.fits)
+pub overflow_mul-number : goal.overflow_mul-number
+overflow_mul-number c = omega (arith, fits_digits _ _ (omega arith) (lt_more c.loop-byte.byte-index c.loop-byte.number 0 c.loop-byte.invariant.bound (lit< tt)))
+
+pub overflow_add-number : goal.overflow_add-number
+overflow_add-number c = omega (arith, fits_digits (c.loop-byte.byte-index + 1) _ (omega arith) (more c))
+
+pub loop-byte-preserved : goal.loop-byte-preserved
+loop-byte-preserved c = record {
+  form = below_more (λ k. IsHexDigit (get_or c.args.word.now k 0)) _ c.loop-byte.invariant.form (c.in_ok-digit.ensures.form.0 refl);
+  value = let e = digits_value_more 16 c.args.word.now c.loop-byte.byte-index c.loop-byte-test.true in omega (arith, e, c.loop-byte.invariant.value, c.in_ok-digit.ensures.value.0, c.from.ensures);
+  bound = more c;
+}
 
 pub returns-clause-form : goal.returns-clause-form
-returns-clause-form c = (λ _. given c, λ _. subst IsSome (sym (value c)) refl)
+returns-clause-form c = (λ _. (omega arith, λ k d within. subst IsHexDigit (get_or_default c.args.word.now k 0 d within) (c.loop-byte.invariant.form k (omega (arith, within)))), λ _. refl)
 
 pub returns-clause-bound : goal.returns-clause-bound
-returns-clause-bound c = subst (λ r. IfSome r (λ n. n < 16 ^ c.args.digits)) (sym (value c)) (hex_bound c.args.word.now c.args.digits (given c))
+returns-clause-bound c = let same : c.loop-byte.byte-index ≡ c.args.digits = omega arith in subst (λ n. c.loop-byte.number < 16 ^ n) same c.loop-byte.invariant.bound

@@ -1,8 +1,8 @@
-use Rattle.std.proofs.Common.{◌≡◌, ◌∙◌, Ok, true, false, arith, rules, subst, sym}
+use Rattle.std.proofs.Common.{◌≡◌, ◌∙◌, Ok, true, false, arith, subst, sym}
 use Rattle.i3c_scenario.specs.Asking.{Ran, RoundsUp, goes_on}
 use Rattle.i3c_scenario.proofs.Carrying.{all_rounds, last, no_more, one_more}
 use Rattle.i3c_scenario.proofs.running.Running.rounds.Goals as goal
-use Rattle.i3c_scenario.proofs.running.Running.rounds.Goals.{else-loop-test, then-loop-test+in-Ok-2}
+use Rattle.i3c_scenario.proofs.running.Running.rounds.Goals.{else-loop-test, then-loop-test+in-Ok-false}
 
 pub returns-in-Err-clause-rounds : goal.returns-in-Err-clause-rounds
 returns-in-Err-clause-rounds c =
@@ -10,10 +10,11 @@ returns-in-Err-clause-rounds c =
 
 pub loop-preserved : goal.loop-preserved
 loop-preserved c =
-    let more : goes_on c.in-Ok.reply ≡ true = search rules in (
+    let (reply, carried, none, same) = c.in-Ok-true.ensures.carried in
+    let more : goes_on reply ≡ true = cc in (
       c.carry_out.ensures.policy ∙ c.loop.invariant.0,
       c.carry_out.ensures.cuts,
-      one_more c.loop.self c.loop.names c.args.self.now.state c.carry_out.new.self.state c.loop.counter c.in-Ok.reply c.loop.invariant.1 c.loop.invariant.2 c.in-Ok.ensures.carried.0 more,
+      one_more c.loop.self c.loop.names c.args.self.now.state c.carry_out.new.self.state c.loop.counter reply c.loop.invariant.1 c.loop.invariant.2 carried more,
     )
 
 pub returns-clause-rounds : goal.returns-clause-rounds
@@ -21,7 +22,8 @@ returns-clause-rounds c =
     let Led : Ran → Type 0 = λ (ran : Ran). RoundsUp (Ok tt) c.args.self.now.state ran.state in
     elim c.loop-test.branch [
       | else-loop-test w ↦ subst Led (sym w.self-is) (all_rounds c.args.self.now.state c.loop.self.state c.loop.counter c.loop.invariant.2 (omega (arith, c.loop.auto.counter-end, w.loop-test.false)))
-      | then-loop-test+in-Ok-2 w ↦
-          let over : goes_on w.in-Ok.reply ≡ false = search rules in
-          subst Led (sym w.self-is) (last c.loop.self c.loop.names c.args.self.now.state w.carry_out.new.self.state c.loop.counter w.in-Ok.reply c.loop.invariant.1 c.loop.invariant.2 w.in-Ok.ensures.carried.0 over)
+      | then-loop-test+in-Ok-false w ↦
+          let (reply, carried, none, same) = w.in-Ok-false.ensures.carried in
+          let over : goes_on reply ≡ false = cc in
+          subst Led (sym w.self-is) (last c.loop.self c.loop.names c.args.self.now.state w.carry_out.new.self.state c.loop.counter reply c.loop.invariant.1 c.loop.invariant.2 carried over)
     ]
