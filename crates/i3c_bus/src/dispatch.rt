@@ -65,6 +65,8 @@ impl Bus {
         }
     }
 
+    // The frames below are kept apart by `inline(never)`: what is inlined here clears its locals for each event.
+
     /// A frame under the role, as an event.
     fn send<T: Tap>(
         &mut self,
@@ -83,6 +85,7 @@ impl Bus {
     }
 
     /// Opens a session, as an event.
+    #[inline(never)]
     fn step_open<T: Tap>(&mut self, hand: Hand, tap: &mut T, cuts: &Cuts) -> (Hand, Reply)
         requires fits { HandFits hand self.old.state }
         ensures carried { Carries self.old self.new (Event.OpenDaa cuts.now) result.1 result.0 (Tells T.note_gives tap.old tap.new) }
@@ -103,6 +106,7 @@ impl Bus {
     }
 
     /// A handover, as an event.
+    #[inline(never)]
     fn step_hand<T: Tap>(
         &mut self,
         hand: Hand,
@@ -126,6 +130,7 @@ impl Bus {
     }
 
     /// A round, as an event.
+    #[inline(never)]
     fn step_round<T: Tap>(&mut self, hand: Hand, tap: &mut T, cuts: &Cuts) -> (Hand, Reply)
         requires fits { HandFits hand self.old.state }
         ensures carried { Carries self.old self.new (Event.Round cuts.now) result.1 result.0 (Tells T.note_gives tap.old tap.new) }
@@ -143,6 +148,7 @@ impl Bus {
     }
 
     /// The end of a session, as an event.
+    #[inline(never)]
     fn step_end<T: Tap>(&mut self, hand: Hand, tap: &mut T) -> (Hand, Reply)
         requires fits { HandFits hand self.old.state }
         ensures carried { Carries self.old self.new Event.EndDaa result.1 result.0 (Tells T.note_gives tap.old tap.new) }

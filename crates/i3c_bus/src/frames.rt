@@ -140,6 +140,7 @@ impl Bus {
     }
 
     /// ENEC or DISEC: serves the first request, and goes on with the command.
+    #[inline(never)]
     fn change_kinds<P: Policy, T: Tap>(
         &mut self,
         role: &Role,

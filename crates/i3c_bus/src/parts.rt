@@ -213,6 +213,7 @@ impl Bus {
     }
 
     /// A device enters a slot, without an address. It answers `SlotTaken` where the slot holds one.
+    #[inline(never)]
     pub fn attach(&mut self, slot: Slot, setup: Setup) -> Result<(), SlotTaken>
         ensures step { Step self.old.state (Event.Attach slot setup) (attached_reply result) self.new.state }
         ensures around { StaysAround self.old self.new }

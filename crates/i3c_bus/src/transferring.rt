@@ -26,6 +26,7 @@ impl Bus {
     /// Reads all registers of the devices, or of the legacy target, at an address (private read, I3C Basic 5.1.2.2). It
     /// serves the first request before. It answers `NoAnswer` without a frame where the table has no row at the address or
     /// it is the active controller's own, and no legacy target stands there.
+    #[inline(never)]
     pub fn read<P: Policy, T: Tap>(
         &mut self,
         role: &Role,
@@ -91,6 +92,7 @@ impl Bus {
     }
 
     /// A write of the bytes that a command keeps, and its reply.
+    #[inline(never)]
     pub(crate) fn write_kept<P: Policy, T: Tap>(
         &mut self,
         role: &Role,

@@ -107,6 +107,7 @@ impl Running {
     }
 
     /// `cut`: whatever device is in the slot by then loses power at a bit of the next frame.
+    #[inline(never)]
     fn cut(&mut self, names: &Names, name: &Name, bit: u16) -> Result<(), Stop>
         ensures refused { result ≡ comes_to (device_named self.old.state (place_named names.now name.now)) }
         ensures state { self.new.state ≡ self.old.state }
@@ -178,6 +179,7 @@ impl Running {
 
     /// `daa`: opens a session, runs its rounds and ends it. Whoever asks while it is opened is turned down. The cuts that
     /// wait are its opening's.
+    #[inline(never)]
     fn assign(&mut self, names: &mut Names, text: &mut Text) -> Result<(), Stop>
         ensures assigns { Assigns self.old.state self.old.cuts result self.new.state }
         ensures policy { self.new.policy ≡ self.old.policy }

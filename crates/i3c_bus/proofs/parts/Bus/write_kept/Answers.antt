@@ -15,4 +15,4 @@ returns-clause-carried g c =
     let whole : take 17 c.as_slice.result.now ≡ c.args.bytes.now.items = take_all 17 c.as_slice.result.now c.as_slice.ensures.fits ∙ c.as_slice.ensures.value in
     let carries : List ℕ → Reply → Type 0 = λ bs reply. Carries c.args.self.now c.write.new.self (Event.WriteTo c.args.to (record { items = bs }) (given_by reply) c.args.cuts.now) reply (Hand.Role c.args.role.now) (Tells g.T.Tap.note_gives c.args.tap.now c.write.new.tap) in
     subst (carries c.args.bytes.now.items) (sym c.from.ensures)
-      (subst (λ (bs : List ℕ). carries bs (wrote_reply c.write.result)) whole c.write.ensures.carried)
+    (subst (λ (bs : List ℕ). carries bs (wrote_reply c.write.result)) whole c.write.ensures.carried)

@@ -1,0 +1,33 @@
+use i3c_base::Cuts;
+use i3c_bus::{Bus, Event, Reply};
+use std::mem::size_of;
+use std::test::Fail;
+
+// Runs are kept by the million. A cut is a bit for each slot, and a mark whether it is cut.
+#[test]
+fn cuts_are_34_bytes(rt: HostRuntime) -> Result<(), Fail> {
+    assert_eq!(rt; size_of::<Cuts>(), 34);
+    Ok(())
+}
+
+// The largest event is a write: its address and policy, seventeen bytes with their number, and cuts.
+#[test]
+fn an_event_is_72_bytes(rt: HostRuntime) -> Result<(), Fail> {
+    assert_eq!(rt; size_of::<Event>(), 72);
+    Ok(())
+}
+
+// The largest reply is that of a read: what was served, with a record's number, and sixteen bytes.
+#[test]
+fn a_reply_is_40_bytes(rt: HostRuntime) -> Result<(), Fail> {
+    assert_eq!(rt; size_of::<Reply>(), 40);
+    Ok(())
+}
+
+// A bus has sixteen devices with eight waiting interrupts each, a table and a list of all addresses, and legacy targets
+// with sixteen registers: all inline, so that a frame wants no memory but for a record.
+#[test]
+fn a_bus_is_inline(rt: HostRuntime) -> Result<(), Fail> {
+    assert_eq!(rt; size_of::<Bus>(), 1);
+    Ok(())
+}
