@@ -11,7 +11,7 @@ use Rattle.i3c_shared.specs.declared.packing.Packed.{Packed}
 
 -- the event that is kept in short
 abbrev pub event_in : Brief → Event
-event_in (Brief.Attach s setup) = Event.Attach s setup
+event_in (Brief.Attach s pid bcr dcr willing) = Event.Attach s (record { identity = record { pid = pid; bcr = bcr; dcr = dcr }; willing = willing })
 event_in (Brief.DropOff s) = Event.DropOff s
 event_in (Brief.Raise s byte) = Event.Raise s byte
 event_in (Brief.AskJoin s) = Event.AskJoin s

@@ -13,6 +13,7 @@ mod recorder;
 mod replying;
 mod run;
 mod shared;
+mod stressing;
 
 pub use entry::Entry;
 pub use faults::{
@@ -25,3 +26,7 @@ pub use port::{Full, POSTS, Port};
 pub use recorder::Recorder;
 pub use run::Run;
 pub use shared::SharedBus;
+pub use stressing::{Gate, StressFault, StressReport, stress};
+
+#[cfg(test)]
+mod tests;

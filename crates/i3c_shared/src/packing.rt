@@ -3,14 +3,17 @@ ghost use Rattle.i3c_base.specs.Cutting.{no_cuts};
 ghost use Rattle.i3c_shared.specs.Packing.{IsShort, event_in, reply_in};
 
 use crate::entry::Entry;
-use i3c_base::{Addr7, Answer, Cuts, Fixed, Kinds, RoundReply, Served, Setup, Slot};
+use i3c_base::{
+    Addr7, Answer, Bcr, Cuts, Dcr, Fixed, Identity, Kinds, Pid, RoundReply, Served, Setup, Slot,
+};
 use i3c_step::{Event, Framed, Refusal, Reply};
 use std::alloc::AllocError;
 
 /// An event that cuts nobody and writes nothing, without its cuts.
 #[derive(Clone, Copy)]
 pub(crate) enum Brief {
-    Attach(Slot, Setup),
+    /// The slot, and its device's setup: PID, BCR, DCR, and whether it is willing.
+    Attach(Slot, Pid, Bcr, Dcr, bool),
     DropOff(Slot),
     Raise(Slot, Option<u8>),
     AskJoin(Slot),
@@ -64,7 +67,10 @@ pub(crate) fn brief_of(event: &Event) -> Option<Brief>
     ensures { MatchOption result ⊤ (λ brief. event.now ≡ event_in brief) }
 {
     match event {
-        Event::Attach(slot, setup) => Some(Brief::Attach(*slot, *setup)),
+        Event::Attach(slot, setup) => {
+            let Identity { pid, bcr, dcr } = setup.identity;
+            Some(Brief::Attach(*slot, pid, bcr, dcr, setup.willing))
+        }
         Event::DropOff(slot) => Some(Brief::DropOff(*slot)),
         Event::Raise(slot, byte) => Some(Brief::Raise(*slot, *byte)),
         Event::AskJoin(slot) => Some(Brief::AskJoin(*slot)),
@@ -138,7 +144,20 @@ pub(crate) fn event_in(brief: &Brief) -> Event
 {
     let cuts = Cuts::new();
     match brief {
-        Brief::Attach(slot, setup) => Event::Attach(*slot, *setup),
+        Brief::Attach(slot, pid, bcr, dcr, willing) => {
+            let identity = Identity {
+                pid: *pid,
+                bcr: *bcr,
+                dcr: *dcr,
+            };
+            Event::Attach(
+                *slot,
+                Setup {
+                    identity,
+                    willing: *willing,
+                },
+            )
+        }
         Brief::DropOff(slot) => Event::DropOff(*slot),
         Brief::Raise(slot, byte) => Event::Raise(*slot, *byte),
         Brief::AskJoin(slot) => Event::AskJoin(*slot),
