@@ -1,0 +1,63 @@
+-- Adding events to a run, one list after another.
+use Rattle.std.proofs.Common.{◌≡◌, ℕ, ◌+◌, List, [], ◌∷◌, ◌++◌, refl, sym, ap, ◌∙◌, subst, append_assoc, append-nil, add-one}
+use Rattle.std.specs.Prelude.{Option}
+use Rattle.i3c_base.specs.State.{State}
+use Rattle.i3c_step.specs.declared.events.Event.{Event}
+use Rattle.i3c_step.specs.declared.events.Event.TheVariants.{Raise}
+use Rattle.i3c_step.specs.declared.replies.Reply.{Reply}
+use Rattle.i3c_step.specs.Step.{Step}
+use Rattle.i3c_shared.specs.declared.entry.Entry.{Entry}
+use Rattle.i3c_shared.specs.KeptRuns.{Leads, events_of}
+use Rattle.i3c_shared.specs.Rings.{known_of, raises_at, raises_below, ring_at}
+use Rattle.i3c_shared.specs.Taking.{Adds}
+use Rattle.i3c_shared.specs.Values.{Reading, Recorded, Rings}
+
+pub events_append : (es fs : List Entry) → events_of (es ++ fs) ≡ events_of es ++ events_of fs
+events_append [] fs = refl
+events_append (e ∷ es) fs = ap (λ xs. e.event ∷ xs) (events_append es fs)
+
+pub leads_append : (start : State) (run : List Entry) (mid : State) (more : List Entry) (new : State) → Leads start run mid → Leads mid more new → Leads start (run ++ more) new
+leads_append start [] mid more new h k = subst (λ st. Leads st more new) h k
+leads_append start (e ∷ run) mid more new h k = (h.0, h.1, leads_append h.0 run mid more new h.2 k)
+
+-- a run goes on by one step
+pub leads_more : (start : State) (run : List Entry) (mid : State) (e : Entry) (new : State) → Leads start run mid → Step mid e.event e.reply new → Leads start (run ++ e ∷ []) new
+leads_more start run mid e new h s = leads_append start run mid (e ∷ []) new h (new, s, refl)
+
+-- nothing is added
+pub adds_none : (old : Recorded) → Adds old [] old
+adds_none old = record { added = []; same = refl; leads = refl; run = sym (append-nil old.run); start = refl }
+
+pub adds_more : (old mid new : Recorded) (es fs : List Event) → Adds old es mid → Adds mid fs new → Adds old (es ++ fs) new
+adds_more old mid new es fs a b = record {
+  added = a.added ++ b.added;
+  same = events_append a.added b.added ∙ ap (λ xs. xs ++ events_of b.added) a.same ∙ ap (λ xs. es ++ xs) b.same;
+  leads = leads_append old.state a.added mid.state b.added new.state a.leads b.leads;
+  run = b.run ∙ ap (λ xs. xs ++ b.added) a.run ∙ append_assoc old.run a.added b.added;
+  start = b.start ∙ a.start;
+}
+
+-- one event is added
+pub adds_one : (old new : Recorded) (event : Event) (reply : Reply) → new.start ≡ old.start → new.run ≡ old.run ++ record { event = event; reply = reply } ∷ [] → Step old.state event reply new.state
+    → Adds old (event ∷ []) new
+adds_one old new event reply start run step = record {
+  added = record { event = event; reply = reply } ∷ [];
+  same = refl;
+  leads = (new.state, step, refl);
+  run = run;
+  start = start;
+}
+
+-- the raises of one slot more
+pub adds_at : (n m : ℕ) (rings : Rings) (o : Option Reading) (old mid new : Recorded) → m ≡ n → ring_at rings n ≡ o → Adds old (raises_below n rings) mid → Adds mid (raises_at m (known_of o)) new
+    → Adds old (raises_below (n + 1) rings) new
+adds_at n m rings o old mid new same here a b =
+    rw add-one (adds_more old mid new _ _ a (subst (λ p. Adds mid (raises_at n (known_of p)) new) (sym here) (subst (λ q. Adds mid (raises_at q (known_of o)) new) same b)))
+
+-- the raise of one post more of a slot
+pub adds_post : (s : ℕ) (done : List (Option ℕ)) (byte : Option ℕ) (old mid new : Recorded) → Adds old (raises_at s done) mid → Adds mid (Raise s byte ∷ []) new → Adds old (raises_at s (done ++ byte ∷ [])) new
+adds_post s done byte old mid new a b = subst (λ es. Adds old es new) (sym (one_more done)) (adds_more old mid new _ _ a b)
+  where
+    one_more : (done : List (Option ℕ)) → raises_at s (done ++ byte ∷ []) ≡ raises_at s done ++ Raise s byte ∷ []
+    one_more [] = refl
+    one_more (x ∷ done) = ap (λ es. Raise s x ∷ es) (one_more done)

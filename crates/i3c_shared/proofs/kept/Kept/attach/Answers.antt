@@ -1,0 +1,20 @@
+use Rattle.std.proofs.Common.{◌∙◌, sym, refl}
+use Rattle.i3c_shared.proofs.Growing.{puts_out_is, with_reply}
+use Rattle.i3c_shared.proofs.kept.Kept.attach.Goals as goal
+
+pub returns : goal.returns
+returns c =
+    let e = c.in-Ok-attach.ensures in
+    rw (← c.self.view_is, c.new-2.ensures) (
+      sym c.is_awaited.ensures ∙ c.if-is_awaited.false,
+      record {
+        slot = refl;
+        fresh = c.in-Ok.ensures.producer.0;
+        taken = e.0;
+        grows = with_reply _ _ _ _ _ c.in-Ok-attached.ensures e.1;
+        ring = c.in-Ok.ring;
+        pair = c.in-Ok.ensures.pair;
+        put = puts_out_is _ _ _ _ _ e.2 c.in-Ok-attached.ensures;
+        parked = refl;
+      },
+    )

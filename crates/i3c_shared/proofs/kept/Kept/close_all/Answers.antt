@@ -1,0 +1,11 @@
+use Rattle.i3c_shared.proofs.kept.Kept.close_all.Goals as goal
+
+pub returns-in-Ok-clause-closed : goal.returns-in-Ok-clause-closed
+returns-in-Ok-clause-closed c =
+    let e = c.in-Ok.ensures.closed in
+    record {
+      role_in = c.requires.role_in;
+      ports_in = c.requires.ports_in;
+      takes = rw (← c.self.view_is) (record { seen = e.0; end = e.1; looked = e.2; takes = e.3; ran = e.4; recorded = e.5; legal = e.6 });
+      all = rw (← c.self.view_is) c.in-Ok.ensures.whole;
+    }

@@ -1,0 +1,39 @@
+-- When a bus may be closed, and what it was.
+use Rattle.std.specs.Prelude.{◌≡◌, ℕ, Bool, true, false, ◌||◌, ◌&&◌, List, Option, is_none}
+use Rattle.i3c_base.specs.declared.requests.Record.{Record}
+use Rattle.i3c_shared.specs.declared.entry.Entry.{Entry}
+use Rattle.i3c_shared.specs.declared.faults.CloseFault.{CloseFault}
+use Rattle.i3c_shared.specs.KeptRuns.{IsLegalTo}
+use Rattle.i3c_shared.specs.Ports.{AllPosted, IsFirstMissing, NoneMissing}
+use Rattle.i3c_shared.specs.Rings.{AllLooked}
+use Rattle.i3c_shared.specs.Taking.{Stays, TakesUp}
+use Rattle.i3c_shared.specs.Values.{KeptValue, Log, PortValue, Rings}
+
+-- a session is open, or no role is handed in and none is parked
+abbrev pub is_role_out : KeptValue → Option ℕ → Bool
+is_role_out k role = k.log.state.in_session || (is_none role && is_none k.parked)
+
+-- posts are taken up for the last time: the run is legal and leads to a state that has these records
+pub record TakesLast (old : Log) (run : List Entry) (records : List Record) : Type 0 where
+  pub seen : Rings
+  pub looked : AllLooked old.rings seen
+  pub end : Log
+  pub takes : TakesUp old seen end
+  pub legal : IsLegalTo end.run end.state
+  pub ran : run ≡ end.run
+  pub recorded : records ≡ end.state.records
+
+-- a close that is accepted: of each port handed in whose ring was here, the raises are all that it posted
+pub record Closes (old : KeptValue) (role : Option ℕ) (ports : List PortValue) (run : List Entry) (records : List Record) : Type 0 where
+  pub role_in : is_role_out old role ≡ false
+  pub ports_in : NoneMissing old.log.rings ports
+  pub takes : TakesLast old.log run records
+  pub all : AllPosted old.log.rings ports run
+
+-- why it is refused, and that nothing changed
+abbrev pub RefusesClose : KeptValue → Option ℕ → List PortValue → CloseFault → KeptValue → Type 0
+RefusesClose old role ports CloseFault.RoleOut new = (is_role_out old role ≡ true) × (new ≡ old)
+RefusesClose old role ports (CloseFault.PortOut s) new =
+    (is_role_out old role ≡ false) × IsFirstMissing old.log.rings ports s × (new ≡ old)
+RefusesClose old role ports CloseFault.OutOfMemory new =
+    (is_role_out old role ≡ false) × NoneMissing old.log.rings ports × Stays old.log new.log × (new.parked ≡ old.parked)

@@ -1,0 +1,12 @@
+pub mod Packing
+pub mod KeptRuns
+pub mod Values
+pub mod Raises
+pub mod Rings
+pub mod Ends
+pub mod Ports
+pub mod Taking
+pub mod Calls
+pub mod Closing
+pub mod Replying
+pub mod Beginning

@@ -1,0 +1,55 @@
+-- What contracts see of the bus that threads share.
+use Rattle.std.specs.Prelude.{ℕ, Bool, List, Option}
+use Rattle.std.specs.declared.alloc.Global.{Global}
+use Rattle.rtrb.specs.declared.consumer.Consumer.{Consumer}
+use Rattle.rtrb.specs.declared.producer.Producer.{Producer}
+use Rattle.rtrb.specs.declared.AnyItems.{AnyItems}
+use Rattle.i3c_base.specs.State.{State}
+use Rattle.i3c_shared.specs.declared.entry.Entry.{Entry}
+
+-- a kept run, and the room that there is for more entries
+pub record Story : Type 0 where
+  pub entries : List Entry
+  pub spare : ℕ
+
+-- a bus with the run that led to it from a start, and the room for one more record and for more entries
+pub record Recorded : Type 0 where
+  pub start : State
+  pub state : State
+  pub run : List Entry
+  pub room : Bool
+  pub spare : ℕ
+
+-- the end of a ring that posts are taken from, and the end that they go into
+abbrev pub Reading : Type 0
+Reading = Consumer (Option ℕ) Global AnyItems
+
+abbrev pub Writing : Type 0
+Writing = Producer (Option ℕ) Global AnyItems
+
+-- the ring of each port that is out, by slot
+abbrev pub Rings : Type 0
+Rings = List (Option Reading)
+
+-- a bus with its run, and the rings that posts are taken from
+pub record Log : Type 0 where
+  pub start : State
+  pub state : State
+  pub run : List Entry
+  pub rings : Rings
+
+-- the same, with the room for one more record and for more entries
+pub record IntakeValue : Type 0 where
+  pub log : Log
+  pub room : Bool
+  pub spare : ℕ
+
+-- what lies under the lock: the same log, and the holder of the parked role
+pub record KeptValue : Type 0 where
+  pub log : Log
+  pub parked : Option ℕ
+
+-- a port: its slot, and its end of its ring
+pub record PortValue : Type 0 where
+  pub slot : ℕ
+  pub producer : Writing

@@ -1,0 +1,32 @@
+//! The bus that threads share: one lock, and under it the bus with the run that led to it.
+#![tactic(auto)]
+
+mod compare;
+mod entry;
+mod faults;
+mod held;
+mod intake;
+mod kept;
+mod packing;
+mod port;
+mod recorder;
+mod replying;
+mod run;
+mod shared;
+mod stressing;
+
+pub use entry::Entry;
+pub use faults::{
+    AskFault, AttachFault, CloseFault, DropFault, HandOverFault, Left, OpenFault, SessionFault,
+    StaleRole, StartFault,
+};
+pub use held::{HeldRole, HeldSession};
+pub use kept::{Closed, Kept, Unclosed};
+pub use port::{Full, POSTS, Port};
+pub use recorder::Recorder;
+pub use run::Run;
+pub use shared::SharedBus;
+pub use stressing::{Gate, StressFault, StressReport, stress};
+
+#[cfg(test)]
+mod tests;
