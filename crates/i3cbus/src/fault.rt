@@ -16,6 +16,8 @@ pub(crate) enum Fault {
     TooLarge,
     #[error("i3cbus: memory\n")]
     Memory,
+    #[error("i3cbus: not balanced\n")]
+    NotBalanced,
 }
 
 impl From<ScriptFault> for Fault {

@@ -1,5 +1,5 @@
 //! `i3cbus run FILE` runs a script over an I3C bus, and prints what came of its lines. `i3cbus trace FILE` reads a trace
-//! of one, and prints what its frames were.
+//! of one, and prints what its frames were. `i3cbus stress` lets devices post from threads of their own.
 //!
 //! Both end with 0, with 1 if a line was refused, or with 2 and a line on standard error if the file wasn't done with
 //! to its end.
@@ -8,6 +8,7 @@
 mod fault;
 mod run;
 mod status;
+mod stressing;
 mod words;
 
 use std::process::ExitCode;

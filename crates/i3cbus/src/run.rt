@@ -1,13 +1,19 @@
 use crate::fault::Fault;
 use crate::status::{came_to, status_of};
-use crate::words::{STANDARD_INPUT, Task, Work, task_named};
+use crate::stressing::run_stress;
+use crate::words::{STANDARD_INPUT, Task, Work, stress_named, task_named};
 use i3c_scenario::{Tally, run_script, run_trace};
 use std::io::{BufWriter, ErrorKind, Read, Write};
 use std::rt::{Env, Files};
+use std::sync::Wait;
+use std::thread::Threads;
 use std::{env, fs, io};
 
 /// Runs the program, tells standard error why it gave up, if it did, and gives its exit status.
-pub(crate) fn run<R: Env + Files + Input + Print + Eprint + AllocGlobal>(rt: &R) -> u8 {
+pub(crate) fn run<R>(rt: &R) -> u8
+where
+    R: Env + Files + Input + Print + Eprint + AllocGlobal + Threads + Wait + Sync,
+{
     let outcome = run_named(rt);
     if let Err(fault) = &outcome {
         let _ = rt.eprint(fault);
@@ -16,8 +22,14 @@ pub(crate) fn run<R: Env + Files + Input + Print + Eprint + AllocGlobal>(rt: &R)
 }
 
 /// Does what the command line asks for. Its words are judged before its file is opened.
-fn run_named<R: Env + Files + Input + Print + AllocGlobal>(rt: &R) -> Result<Tally, Fault> {
+fn run_named<R>(rt: &R) -> Result<Tally, Fault>
+where
+    R: Env + Files + Input + Print + AllocGlobal + Threads + Wait + Sync,
+{
     let words = words_given(rt)?;
+    if let Some(stress) = stress_named(rt.alloc(), &words)? {
+        return run_stress(rt, &stress);
+    }
     let Task { work, file } = task_named(rt.alloc(), &words)?;
     if file == STANDARD_INPUT {
         return run_from(rt, &work, &mut rt.reader());

@@ -1,7 +1,7 @@
-ghost use Rattle.std.specs.Prelude.{◌≡◌, length, codes, IsOkAnd};
+ghost use Rattle.std.specs.Prelude.{◌≡◌, length, codes, None, IsOkAnd};
 
 use crate::fault::Fault;
-use clap::{Arg, ArgMatches, Command};
+use clap::{Arg, ArgMatches, Command, value_parser};
 use std::alloc::Global;
 
 /// The program's name.
@@ -16,7 +16,15 @@ const RUN: &str = "run";
 /// The command that reads a trace.
 const TRACE: &str = "trace";
 
-/// The argument of both.
+/// The command that lets devices post from threads of their own.
+const STRESS: &str = "stress";
+
+/// Its number of devices, and of posts of each.
+const DEVICES: &str = "devices";
+
+const POSTS: &str = "posts";
+
+/// The argument of the first two.
 const FILE: &str = "FILE";
 
 /// What `--help` says below the list of commands.
@@ -56,6 +64,34 @@ pub(crate) enum Work {
     Run,
     /// Reads it as a trace.
     Trace,
+}
+
+/// How many devices post, and how often each tries to.
+#[derive(Clone, Copy)]
+pub(crate) struct Stress {
+    pub devices: u8,
+    pub posts: u64,
+}
+
+/// The stress that the command line's words ask for, if they do.
+pub(crate) fn stress_named(alloc: Global, words: &[String]) -> Result<Option<Stress>, Fault>
+    ensures none { length words.now ≡ 0 → IsOkAnd result (λ stress. stress ≡ None) }
+{
+    if words.is_empty() {
+        return Ok(None);
+    }
+    let matches = commands(alloc)?.try_get_matches_from(words)?;
+    let Some(given) = matches.subcommand_matches(STRESS) else {
+        return Ok(None);
+    };
+    // the parser requires both, within their limits
+    match (given.get_one::<u8>(DEVICES), given.get_one::<u32>(POSTS)) {
+        (Some(devices), Some(posts)) => Ok(Some(Stress {
+            devices,
+            posts: u64::from(posts),
+        })),
+        _ => Ok(None),
+    }
 }
 
 /// What the command line's words ask for, which come without the program's. No words at all mean `run -`.
@@ -103,8 +139,32 @@ fn commands<'a>(alloc: Global) -> Result<Command<'a>, Fault> {
         .no_binary_name(true)
         .subcommand_required(true)
         .subcommand(run)?
-        .subcommand(trace)?;
+        .subcommand(trace)?
+        .subcommand(stress_command(alloc)?)?;
     Ok(command)
+}
+
+/// The command with threads.
+fn stress_command<'a>(alloc: Global) -> Result<Command<'a>, Fault> {
+    let devices = Arg::new(alloc, DEVICES)
+        .long(DEVICES)
+        .required(true)
+        .value_name("N")
+        .help("How many devices post, 1 to 15")
+        .value_parser(value_parser!(u8).range(1..=15));
+    let posts = Arg::new(alloc, POSTS)
+        .long(POSTS)
+        .required(true)
+        .value_name("M")
+        .help("How often each tries to, 1 to 100000")
+        .value_parser(value_parser!(u32).range(1..=100_000));
+    let stress = Command::new(alloc, STRESS)
+        .about(
+            "Lets devices post from threads of their own, and checks that each post is accounted for",
+        )
+        .arg(devices)?
+        .arg(posts)?;
+    Ok(stress)
 }
 
 /// The argument of both commands.
