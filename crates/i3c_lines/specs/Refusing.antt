@@ -1,7 +1,14 @@
 -- Refusals as they are printed.
 use Rattle.std.specs.Prelude.{ℕ, List, [], ◌++◌, codes}
+use Rattle.i3c_legacy.specs.declared.faults.LegacyFault.{LegacyFault}
 use Rattle.i3c_lines.specs.declared.refusals.Refusal.{Refusal}
 use Rattle.i3c_lines.specs.Hex.{byte_text}
+
+-- why a legacy target isn't declared, among all refusals
+abbrev pub legacy_refusal : LegacyFault → Refusal
+legacy_refusal LegacyFault.LegacyAddress = Refusal.LegacyAddress
+legacy_refusal LegacyFault.LegacyTwice = Refusal.LegacyTwice
+legacy_refusal LegacyFault.TooManyLegacy = Refusal.TooManyLegacy
 
 -- the name of a refusal
 abbrev pub refusal_word : Refusal → List ℕ

@@ -96,6 +96,11 @@ impl Refusal {
 }
 
 impl From<LegacyFault> for Refusal {
+    ghost use Rattle.std.specs.Prelude.{◌≡◌};
+    ghost use Rattle.i3c_lines.specs.Refusing.{legacy_refusal};
+
+    ghost from_gives = { λ fault refusal. refusal ≡ legacy_refusal fault };
+
     fn from(fault: LegacyFault) -> Refusal {
         match fault {
             LegacyFault::LegacyAddress => Refusal::LegacyAddress,

@@ -11,6 +11,15 @@ told_as ScriptFault.Read = Fault.Read
 told_as ScriptFault.Write = Fault.Write
 told_as ScriptFault.TooLarge = Fault.TooLarge
 
+-- a fault of the command line is want of memory, or told in the parser's own words
+abbrev pub IsOfWords : Fault → Type 0
+IsOfWords Fault.Memory = Unit {0}
+IsOfWords (Fault.Usage words) = Unit {0}
+IsOfWords Fault.Read = ⊥
+IsOfWords Fault.Write = ⊥
+IsOfWords Fault.TooLarge = ⊥
+IsOfWords Fault.NotBalanced = ⊥
+
 -- a script's own fault comes first; output that isn't taken to its end is lost
 abbrev pub ending : Result Tally ScriptFault → Bool → Result Tally Fault
 ending (Err fault) flushed = Err (told_as fault)

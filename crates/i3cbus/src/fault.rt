@@ -37,6 +37,11 @@ impl From<ScriptFault> for Fault {
 }
 
 impl From<AllocError> for Fault {
+    ghost use Rattle.std.specs.Prelude.{◌≡◌};
+    ghost use Rattle.i3cbus.specs.declared.fault.Fault.TheVariants.{Memory};
+
+    ghost from_gives = { λ _ fault. fault ≡ Memory };
+
     fn from(_error: AllocError) -> Fault {
         Fault::Memory
     }
@@ -44,6 +49,10 @@ impl From<AllocError> for Fault {
 
 // The parser's want of memory isn't told in its words.
 impl From<clap::Error> for Fault {
+    ghost use Rattle.i3cbus.specs.Endings.{IsOfWords};
+
+    ghost from_gives = { λ _ fault. IsOfWords fault };
+
     fn from(error: clap::Error) -> Fault {
         match error.kind() {
             clap::error::ErrorKind::OutOfMemory => Fault::Memory,
