@@ -1,29 +1,5 @@
-//! Scripts over the bus: a script's lines are read, run in order, and each writes what came of it. And traces, which
-//! are told in lines.
-//!
-//! A line of one event takes one path: `asking` reads it to an event, `running` has the bus answer, `telling` prints the
-//! reply; `daa` takes it for each event of a whole session. `stage` is where a script stands, before its bus and with it;
-//! `script` parts the bytes into lines and counts the refusals, `output` writes what a line printed. `trace` tells what a
-//! trace says. Both read by `reading`.
+//! What a user runs: scripts and traces, told in lines, and devices on threads of their own.
 #![tactic(auto)]
 
-mod asking;
-mod faults;
-mod output;
-mod reading;
-mod running;
-mod script;
-mod show;
-mod stage;
-mod telling;
-mod trace;
-mod wires;
-
-pub use faults::ScriptFault;
-pub use script::{Tally, run_script};
-pub use trace::run_trace;
-
-#[cfg(test)]
-mod library;
-#[cfg(test)]
-mod tests;
+pub use i3c_script::{ScriptFault, Tally, run_script, run_trace};
+pub use i3c_shared::{Gate, StressFault, StressReport, stress};

@@ -1,8 +1,7 @@
 use crate::fault::Fault;
 use crate::words::Stress;
 use i3c_base::{Fixed, Slot, Verdict};
-use i3c_scenario::Tally;
-use i3c_shared::{Gate, StressFault, stress};
+use i3c_scenario::{Gate, StressFault, Tally, stress};
 use std::sync::Wait;
 use std::thread::Threads;
 

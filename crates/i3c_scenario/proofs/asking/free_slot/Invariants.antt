@@ -1,5 +1,0 @@
-use Rattle.i3c_scenario.specs.Slots.{AllPresentBelow}
-use Rattle.i3c_scenario.proofs.asking.free_slot.Given as goal
-
-abbrev pub invariant-loop-number : goal.invariant-loop-number
-invariant-loop-number l = AllPresentBelow l.bus.state l.number

@@ -1,0 +1,137 @@
+-- What lines print.
+use Rattle.std.specs.Prelude.{ℕ, List, [], ◌∷◌, ◌++◌, codes, Option, Some, None, Result, Ok, Err, slice_index_or}
+use Rattle.std.specs.Fmt.{decimal}
+use Rattle.i3c_base.specs.declared.answers.Answer.{Answer}
+use Rattle.i3c_base.specs.declared.answers.RoundReply.{RoundReply}
+use Rattle.i3c_base.specs.declared.identity.Identity.{Identity}
+use Rattle.i3c_base.specs.declared.requests.Served.{Served}
+use Rattle.i3c_step.specs.declared.events.Event.{Event}
+use Rattle.i3c_step.specs.declared.replies.Framed.{Framed}
+use Rattle.i3c_step.specs.declared.replies.Reply.{Reply}
+use Rattle.i3c_lines.specs.declared.names.Name.{Name}
+use Rattle.i3c_lines.specs.declared.names.Names.{Names}
+use Rattle.i3c_lines.specs.Hex.{byte_text, bytes_text, hex_text}
+use Rattle.i3c_lines.specs.Naming.{letters, slot_names}
+use Rattle.i3c_lines.specs.Refusing.{refusal_text}
+use Rattle.i3c_script.specs.declared.faults.Stop.{Stop}
+use Rattle.i3c_script.specs.declared.telling.Origin.{Origin}
+
+-- what a line's end prints: its refusal, if it is refused
+abbrev pub end_text : Result (Unit {0}) Stop → List ℕ
+end_text (Ok done) = []
+end_text (Err Stop.Memory) = []
+end_text (Err (Stop.Refused why)) = codes "refused " ++ (refusal_text why ++ 10 ∷ [])
+
+-- some words and a number
+abbrev pub number_text : List ℕ → ℕ → List ℕ
+number_text words number = words ++ (decimal number ++ 10 ∷ [])
+
+-- what became of a request
+abbrev pub served_text : Served → List ℕ
+served_text Served.Quiet = codes "quiet" ++ 10 ∷ []
+served_text (Served.Recorded place) = number_text (codes "recorded ") place
+served_text Served.Refused = codes "turned down" ++ 10 ∷ []
+served_text Served.Torn = codes "torn" ++ 10 ∷ []
+served_text Served.Joining = codes "joining" ++ 10 ∷ []
+served_text (Served.WantsRole a) = codes "wants role " ++ (byte_text a ++ 10 ∷ [])
+
+-- the same before a frame's own part, where nobody asking prints nothing
+abbrev pub request_text : Served → List ℕ
+request_text Served.Quiet = []
+request_text (Served.Recorded place) = served_text (Served.Recorded place)
+request_text Served.Refused = served_text Served.Refused
+request_text Served.Torn = served_text Served.Torn
+request_text Served.Joining = served_text Served.Joining
+request_text (Served.WantsRole a) = served_text (Served.WantsRole a)
+
+-- the answer to a frame's own part
+abbrev pub answer_text : Answer → List ℕ
+answer_text Answer.Done = codes "done" ++ 10 ∷ []
+answer_text (Answer.Bytes bytes) = codes "bytes " ++ (bytes_text bytes ++ 10 ∷ [])
+answer_text (Answer.NoAnswer a) = []
+answer_text Answer.NoEnd = []
+
+-- what a frame served, and its own part
+abbrev pub framed_text : Framed → List ℕ
+framed_text framed = request_text framed.served ++ answer_text framed.answer
+
+-- that a session is open, where the line is its opening
+abbrev pub open_text : Origin → List ℕ
+open_text Origin.Line = codes "open" ++ 10 ∷ []
+open_text Origin.Daa = []
+
+-- what an opening served, and that the session is open
+abbrev pub opened_text : Origin → Served → List ℕ
+opened_text origin served = request_text served ++ open_text origin
+
+-- that a session is ended, where the line is its end
+abbrev pub ended_text : Origin → List ℕ
+ended_text Origin.Line = codes "ended" ++ 10 ∷ []
+ended_text Origin.Daa = []
+
+-- a register of an identity, after a space
+abbrev pub field_text : ℕ → List ℕ
+field_text byte = codes " " ++ byte_text byte
+
+-- an identity, at the end of a line
+abbrev pub identity_text : Identity → List ℕ
+identity_text identity = hex_text 12 identity.pid ++ (field_text identity.bcr.0 ++ (field_text identity.dcr.0 ++ 10 ∷ []))
+
+-- an address and the identity that got it
+abbrev pub assigned_text : ℕ → Identity → List ℕ
+assigned_text a identity = codes "assigned " ++ (byte_text a ++ (codes " " ++ identity_text identity))
+
+-- a round
+abbrev pub round_text : RoundReply → List ℕ
+round_text (RoundReply.Assigned a identity) = assigned_text a identity
+round_text RoundReply.Nobody = codes "nobody" ++ 10 ∷ []
+round_text RoundReply.Done = codes "done" ++ 10 ∷ []
+round_text RoundReply.NoAddress = []
+
+-- the name in a slot, and the slot
+abbrev pub named_text : Option Name → ℕ → List ℕ
+named_text None slot = []
+named_text (Some name) slot = letters name ++ number_text (codes " slot ") slot
+
+-- the device that an event attaches, where the event is such
+abbrev pub attached_text : Names → Event → List ℕ
+attached_text names (Event.Attach slot setup) = named_text (slice_index_or (slot_names names) slot None) slot
+attached_text names (Event.DropOff slot) = []
+attached_text names (Event.Raise slot byte) = []
+attached_text names (Event.AskJoin slot) = []
+attached_text names (Event.AskRole slot) = []
+attached_text names (Event.Reset policy cuts) = []
+attached_text names (Event.SendList policy cuts) = []
+attached_text names (Event.ReadFrom a policy cuts) = []
+attached_text names (Event.WriteTo a bytes policy cuts) = []
+attached_text names (Event.HandOver to cuts) = []
+attached_text names (Event.Serve policy cuts) = []
+attached_text names (Event.Enec to kinds policy cuts) = []
+attached_text names (Event.Disec to kinds policy cuts) = []
+attached_text names (Event.OpenDaa cuts) = []
+attached_text names (Event.Round cuts) = []
+attached_text names Event.EndDaa = []
+
+-- an address that is the active controller's now
+abbrev pub active_text : ℕ → List ℕ
+active_text a = codes "active " ++ (byte_text a ++ 10 ∷ [])
+
+-- what a handover served, and who is active now
+abbrev pub handed_text : Event → Served → List ℕ
+handed_text (Event.HandOver to cuts) served = request_text served ++ active_text to
+handed_text _ served = []
+
+-- a reply to an event that a line is, or that is a part of `daa`
+abbrev pub reply_text : Names → Origin → Event → Reply → List ℕ
+reply_text names origin event (Reply.Refused why) = []
+reply_text names origin event Reply.OutOfMemory = []
+reply_text names origin event Reply.Attached = attached_text names event
+reply_text names origin event Reply.Dropped = codes "dropped" ++ 10 ∷ []
+reply_text names origin event (Reply.Raised number) = number_text (codes "raised ") number
+reply_text names origin event Reply.Asked = codes "asked" ++ 10 ∷ []
+reply_text names origin event (Reply.Served served) = served_text served
+reply_text names origin event (Reply.Framed framed) = framed_text framed
+reply_text names origin event (Reply.Opened served) = opened_text origin served
+reply_text names origin event (Reply.Handed served) = handed_text event served
+reply_text names origin event (Reply.Round answer) = round_text answer
+reply_text names origin event Reply.Ended = ended_text origin

@@ -1,0 +1,48 @@
+ghost use Rattle.std.specs.Prelude.{◌≡◌, ◌⊎◌, ℕ, ◌<◌, [], ◌∷◌, ◌++◌, codes, length, take, IfErr, MatchOption, MatchResult, OnOk, slice_get, Some};
+ghost use Rattle.std.specs.Io.KnownBytes.{Appends};
+ghost use Rattle.i3c_lines.specs.Refusing.{refusal_text};
+ghost use Rattle.i3c_script.specs.Outcomes.{HasNoFeed, AppendsSome};
+
+use crate::faults::ScriptFault;
+use i3c_lines::{Refusal, Text};
+use std::alloc::AllocError;
+use std::io::{ErrorKind, Write};
+
+/// What ends a line.
+const LINE_FEED: u8 = b'\n';
+
+/// Where the first line ends that ends in these bytes.
+pub(crate) fn position_of_feed(bytes: &[u8]) -> Option<usize>
+    ensures { MatchOption result (HasNoFeed bytes.now) (λ end. (end < length bytes.now) × (slice_get bytes.now end ≡ Some LINE_FEED) × HasNoFeed (take end bytes.now)) }
+{
+    bytes.iter().position(|byte| *byte == LINE_FEED)
+}
+
+/// Prints that a line is refused, and why.
+pub(crate) fn show_refusal(refusal: Refusal, text: &mut Text) -> Result<(), AllocError>
+    ensures { OnOk result (text.new ≡ text.old ++ (codes "refused " ++ (refusal_text refusal ++ 10 ∷ []))) }
+{
+    text.push(b"refused ")?;
+    refusal.push(text)?;
+    text.end()
+}
+
+/// Writes a text, or, where the writer fails or takes nothing, a part of it from its beginning.
+pub(crate) fn write_out<W: Write>(text: &[u8], out: &mut W) -> Result<(), ScriptFault>
+    ensures { MatchResult result (λ _. Appends (W.contents out.old) (W.contents out.new) text.now)
+        (λ fault. (fault ≡ ScriptFault.Write) × AppendsSome (W.contents out.old) (W.contents out.new) text.now) }
+{
+    let mut written = 0;
+    for _ in 0..u64::MAX {
+        if written == text.len() {
+            return Ok(());
+        }
+        match out.write(&text[written..]) {
+            Ok(0) => return Err(ScriptFault::Write),
+            Ok(count) => written += count,
+            Err(error) if error.kind() == ErrorKind::Interrupted => {}
+            Err(_) => return Err(ScriptFault::Write),
+        }
+    }
+    Err(ScriptFault::Write)
+}

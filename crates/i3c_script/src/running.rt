@@ -1,0 +1,256 @@
+ghost use Rattle.std.specs.Prelude.{◌≡◌};
+ghost use Rattle.i3c_script.specs.Asking.{goes_on};
+
+use crate::asking::{event_of, slot_of_device};
+use crate::faults::Stop;
+use crate::show::show;
+use crate::telling::{Origin, tell};
+use crate::wires::Wires;
+use i3c_base::{Cuts, Fixed, RoundReply, SLOTS, Setup};
+use i3c_bus::{Bus, Event, Hand, Reply};
+use i3c_legacy::Legacies;
+use i3c_lines::{ACCEPT_ALL, Command, Name, Names, Refusal, Text, Wish};
+use std::alloc::Global;
+use std::marker::Model;
+use std::mem;
+
+/// A bus, its role or session, the last symbols of its wire, which requests its frames accept, and the cuts that wait for
+/// the next frame.
+///
+/// Its role stands in an `Option`, so that an event can take it from a stage that is lent, and give one back.
+pub(crate) struct Running {
+    bus: Bus,
+    hand: Option<Hand>,
+    wires: Wires,
+    policy: Fixed,
+    cuts: Cuts,
+}
+
+impl Model for Running {
+    ghost use Rattle.std.specs.Prelude.{◌≡◌, Some};
+    ghost use Rattle.i3c_bus.specs.Hands.{HandFits};
+    ghost use Rattle.i3c_bus.specs.declared.tokens.Hand.{Hand as HandValue};
+    ghost use Rattle.i3c_script.specs.Asking.{Ran};
+
+    ghost Value = { Ran };
+
+    ghost view = { λ r. record { state = r.bus.state; policy = r.policy; cuts = r.cuts } };
+
+    ghost invariant = { λ r. (hand : HandValue) × (r.hand ≡ Some hand) × HandFits hand r.bus.state };
+}
+
+impl Running {
+    ghost use Rattle.std.specs.Prelude.{◌≡◌, true, Ok, MatchResult};
+    ghost use Rattle.i3c_base.specs.Numbers.{is_capable};
+    ghost use Rattle.i3c_base.specs.Cutting.{no_cuts};
+    ghost use Rattle.i3c_base.specs.State.{IsStart, legacy_targets_of};
+    ghost use Rattle.i3c_base.specs.declared.requests.Verdict.TheVariants.{Accept};
+    ghost use Rattle.i3c_step.specs.Step.{Step};
+    ghost use Rattle.i3c_script.specs.Asking.{AsksForNone, Asked, Assigns, CarriesOut, Moves, RoundsAndEnd, RoundsUp, comes_to, cut_named, cuts_after, cuts_left, device_named};
+    ghost use Rattle.i3c_lines.specs.Naming.{place_named};
+    ghost use Rattle.i3c_lines.specs.Policies.{each_kind};
+
+    /// A bus with this main controller, whose frames accept each request.
+    pub fn new(alloc: Global, main: Setup, legacies: Legacies, wires: Wires) -> Running
+        requires { is_capable main.identity.bcr ≡ true }
+        ensures start { IsStart main (legacy_targets_of legacies) result.state }
+        ensures policy { result.policy ≡ each_kind Accept }
+        ensures cuts { result.cuts ≡ no_cuts }
+    {
+        let Ok((bus, role)) = Bus::new(alloc, main, legacies) else {
+            unreachable!();
+        };
+        Running {
+            bus,
+            hand: Some(Hand::Role(role)),
+            wires,
+            policy: ACCEPT_ALL,
+            cuts: Cuts::new(),
+        }
+    }
+
+    /// The bus.
+    pub fn bus(&self) -> &Bus
+        ensures { result.now.state ≡ self.now.state }
+    {
+        &self.bus
+    }
+
+    /// Obeys a line, and prints what came of it.
+    pub fn obey(
+        &mut self,
+        names: &mut Names,
+        command: &Command,
+        text: &mut Text,
+    ) -> Result<(), Stop>
+        ensures moves { Moves self.old names.old command.now result self.new.state }
+        // refused or not
+        ensures cuts { self.new.cuts ≡ cuts_after self.old names.old command.now }
+    {
+        match command {
+            Command::Legacy { .. } | Command::Main { .. } => Err(Refusal::BusMade.into()),
+            Command::Event(wish) => {
+                match self.carry_out(names, Origin::Line, wish, text) {
+                    Ok(_) => Ok(()),
+                    Err(stop) => Err(stop),
+                }
+            }
+            Command::Policy(named) => {
+                self.policy = *named;
+                Ok(())
+            }
+            Command::Cut { name, bit } => self.cut(names, name, *bit),
+            Command::Daa => self.assign(names, text),
+            Command::Show => show(&self.bus, names, text).map_err(Stop::from),
+            Command::Symbols => self.wires.show(text).map_err(Stop::from),
+        }
+    }
+
+    /// `cut`: whatever device is in the slot by then loses power at a bit of the next frame.
+    #[inline(never)]
+    fn cut(&mut self, names: &Names, name: &Name, bit: u16) -> Result<(), Stop>
+        ensures refused { result ≡ comes_to (device_named self.old.state (place_named names.now name.now)) }
+        ensures state { self.new.state ≡ self.old.state }
+        ensures policy { self.new.policy ≡ self.old.policy }
+        ensures cuts { self.new.cuts ≡ cut_named (device_named self.old.state (place_named names.now name.now)) bit self.old.cuts }
+    {
+        let slot = slot_of_device(&self.bus, names, name)?;
+        self.cuts.add(slot, bit);
+        Ok(())
+    }
+
+    /// One event, by a line of its own or as a part of `daa`: the wish is read to the event, the bus answers, and the
+    /// reply is printed. It answers whether there is another round after it.
+    fn carry_out(
+        &mut self,
+        names: &mut Names,
+        origin: Origin,
+        wish: &Wish,
+        text: &mut Text,
+    ) -> Result<bool, Stop>
+        ensures policy { self.new.policy ≡ self.old.policy }
+        ensures cuts { self.new.cuts ≡ cuts_left wish.now self.old.cuts }
+        ensures carried { CarriesOut self.old names.old wish.now result self.new.state }
+    {
+        let event = self.asked(names, wish)?;
+        let reply = self.step(&event);
+        match tell(names, origin, &event, &reply, text) {
+            Ok(()) => Ok(goes_on(&reply)),
+            Err(stop) => Err(stop),
+        }
+    }
+
+    /// The event that a line asks for, with the cuts that wait if it sends a frame. A device that is attached gets its
+    /// name.
+    fn asked(&mut self, names: &mut Names, wish: &Wish) -> Result<Event, Stop>
+        ensures state { self.new.state ≡ self.old.state }
+        ensures policy { self.new.policy ≡ self.old.policy }
+        ensures cuts { self.new.cuts ≡ cuts_left wish.now self.old.cuts }
+        ensures asked { MatchResult result
+            (λ event. Asked self.old.state names.old self.old.policy self.old.cuts wish.now (Ok event))
+            (λ stop. AsksForNone self.old names.old wish.now stop) }
+    {
+        let event = match event_of(&self.bus, names, self.policy, &mut self.cuts, wish) {
+            Ok(event) => event,
+            Err(why) => return Err(Stop::Refused(why)),
+        };
+        if let (Wish::Attach { name, .. }, Event::Attach(slot, _)) = (wish, &event) {
+            names.give_slot(name, *slot)?;
+        }
+        Ok(event)
+    }
+
+    /// One event: the bus takes the role or session in hand, and gives one back.
+    fn step(&mut self, event: &Event) -> Reply
+        ensures policy { self.new.policy ≡ self.old.policy }
+        ensures cuts { self.new.cuts ≡ self.old.cuts }
+        ensures step { Step self.old.state event.now result self.new.state }
+    {
+        let Some(hand) = self.hand.take() else {
+            unreachable!()
+        };
+        let (hand, reply) = self.bus.step(hand, event, &mut self.wires);
+        match mem::replace(&mut self.hand, Some(hand)) {
+            None => {}
+            Some(_) => unreachable!(),
+        }
+        reply
+    }
+
+    /// `daa`: opens a session, runs its rounds and ends it. Whoever asks while it is opened is turned down. The cuts that
+    /// wait are its opening's.
+    #[inline(never)]
+    fn assign(&mut self, names: &mut Names, text: &mut Text) -> Result<(), Stop>
+        ensures assigns { Assigns self.old.state self.old.cuts result self.new.state }
+        ensures policy { self.new.policy ≡ self.old.policy }
+        ensures cuts { self.new.cuts ≡ no_cuts }
+    {
+        match self.carry_out(names, Origin::Daa, &Wish::Open, text) {
+            Ok(_) => self.finish(names, text),
+            Err(stop) => Err(stop),
+        }
+    }
+
+    /// Runs the rounds of a session and ends it, whatever they came to.
+    fn finish(&mut self, names: &mut Names, text: &mut Text) -> Result<(), Stop>
+        requires uncut { self.old.cuts ≡ no_cuts }
+        ensures session { RoundsAndEnd result self.old.state self.new.state }
+        ensures policy { self.new.policy ≡ self.old.policy }
+        ensures cuts { self.new.cuts ≡ no_cuts }
+    {
+        let outcome = self.rounds(names, text);
+        let ended = self.carry_out(names, Origin::Daa, &Wish::End, text);
+        match outcome {
+            Err(stop) => Err(stop),
+            Ok(()) => match ended {
+                Ok(_) => Ok(()),
+                Err(stop) => Err(stop),
+            },
+        }
+    }
+
+    /// Runs the rounds of a session, and prints each, until nobody hears it any more or no address is left.
+    fn rounds(&mut self, names: &mut Names, text: &mut Text) -> Result<(), Stop>
+        requires uncut { self.old.cuts ≡ no_cuts }
+        ensures rounds { RoundsUp result self.old.state self.new.state }
+        ensures policy { self.new.policy ≡ self.old.policy }
+        ensures cuts { self.new.cuts ≡ no_cuts }
+    {
+        // of so many rounds one is the last, by the law `sessions_end` of the bus
+        for _ in 0..SLOTS {
+            match self.carry_out(names, Origin::Daa, &Wish::Round, text) {
+                Ok(true) => {}
+                Ok(false) => break,
+                Err(stop) => return Err(stop),
+            }
+        }
+        Ok(())
+    }
+
+    /// Takes the bus apart. A session that is open ends so.
+    pub fn retire(self) {
+        let Running {
+            bus,
+            hand,
+            wires: _,
+            policy: _,
+            cuts: _,
+        } = self;
+        match hand {
+            Some(hand) => {
+                let _records = bus.retire(hand);
+            }
+            None => unreachable!(),
+        }
+    }
+}
+
+/// Whether there is another round after one with this reply: an address was given, or its acknowledgment was missing.
+fn goes_on(reply: &Reply) -> bool
+    ensures { result ≡ goes_on reply.now }
+{
+    matches!(
+        reply,
+        Reply::Round(RoundReply::Assigned(..) | RoundReply::Nobody)
+    )
+}

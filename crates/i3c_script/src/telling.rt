@@ -1,0 +1,209 @@
+ghost use Rattle.std.specs.Prelude.{◌≡◌, ◌⊎◌, [], ◌∷◌, ◌++◌, None, Some, MatchResult, OnOk};
+ghost use Rattle.std.specs.Fmt.{decimal};
+ghost use Rattle.i3c_script.specs.Printed.{assigned_text, attached_text, ended_text, field_text, framed_text, handed_text, identity_text, opened_text, reply_text, request_text, round_text, served_text};
+ghost use Rattle.i3c_script.specs.Stops.{reply_stop};
+ghost use Rattle.i3c_script.specs.declared.faults.Stop.TheVariants.{Memory};
+
+use crate::faults::Stop;
+use i3c_base::{Addr7, Answer, Identity, RoundReply, Served};
+use i3c_bus::{Event, Framed, Reply};
+use i3c_lines::{Names, Text};
+use std::alloc::AllocError;
+
+/// How many hex digits a provisioned ID has.
+const PID_DIGITS: usize = 12;
+
+/// What an event is carried out for, by which some replies print less.
+#[derive(Clone, Copy)]
+pub(crate) enum Origin {
+    /// The line is the event.
+    Line,
+    /// The line is `daa`, of whose opening and end nothing is printed but what was served.
+    Daa,
+}
+
+/// Prints the bus's reply to an event. What the line is refused or stopped by is answered, and not printed here.
+pub(crate) fn tell(
+    names: &Names,
+    origin: Origin,
+    event: &Event,
+    reply: &Reply,
+    text: &mut Text,
+) -> Result<(), Stop>
+    ensures stop { MatchResult result (λ _. reply_stop reply.now ≡ None) (λ stop. (stop ≡ Stop.Memory) ⊎ (reply_stop reply.now ≡ Some stop)) }
+    ensures told { OnOk result (text.new ≡ text.old ++ reply_text names.now origin event.now reply.now) }
+{
+    show_reply(names, origin, event, reply, text)?;
+    match Stop::of_reply(reply) {
+        Some(stop) => Err(stop),
+        None => Ok(()),
+    }
+}
+
+/// Prints what a reply has to say, but for refusals.
+fn show_reply(
+    names: &Names,
+    origin: Origin,
+    event: &Event,
+    reply: &Reply,
+    text: &mut Text,
+) -> Result<(), AllocError>
+    ensures { OnOk result (text.new ≡ text.old ++ reply_text names.now origin event.now reply.now) }
+{
+    match reply {
+        Reply::Refused(_) | Reply::OutOfMemory => Ok(()),
+        Reply::Attached => show_attached(names, event, text),
+        Reply::Dropped => text.push(b"dropped\n"),
+        Reply::Raised(number) => show_number(b"raised ", *number, text),
+        Reply::Asked => text.push(b"asked\n"),
+        Reply::Served(served) => show_served(served, text),
+        Reply::Framed(framed) => show_framed(framed, text),
+        Reply::Opened(served) => show_opened(origin, served, text),
+        Reply::Handed(served) => show_handed(event, served, text),
+        Reply::Round(answer) => show_round(answer, text),
+        Reply::Ended => show_ended(origin, text),
+    }
+}
+
+/// Prints a line of some words and a number.
+fn show_number(words: &[u8], number: u64, text: &mut Text) -> Result<(), AllocError>
+    ensures { OnOk result (text.new ≡ text.old ++ (words.now ++ (decimal number ++ 10 ∷ []))) }
+{
+    text.push(words)?;
+    text.push_decimal(number)?;
+    text.end()
+}
+
+/// Prints the name and the slot of a device that was attached.
+fn show_attached(names: &Names, event: &Event, text: &mut Text) -> Result<(), AllocError>
+    ensures { OnOk result (text.new ≡ text.old ++ attached_text names.now event.now) }
+{
+    let Event::Attach(slot, _) = event else {
+        return Ok(());
+    };
+    match names.in_slot(*slot) {
+        Some(name) => {
+            text.push(name.as_bytes())?;
+            show_number(b" slot ", slot.index() as u64, text)
+        }
+        None => Ok(()),
+    }
+}
+
+/// Prints what became of the request in a frame's first header.
+fn show_served(served: &Served, text: &mut Text) -> Result<(), AllocError>
+    ensures { OnOk result (text.new ≡ text.old ++ served_text served.now) }
+{
+    match served {
+        Served::Quiet => text.push(b"quiet\n"),
+        Served::Recorded(place) => show_number(b"recorded ", *place as u64, text),
+        Served::Refused => text.push(b"turned down\n"),
+        Served::Torn => text.push(b"torn\n"),
+        Served::Joining => text.push(b"joining\n"),
+        Served::WantsRole(address) => {
+            text.push(b"wants role ")?;
+            text.push_byte(address.get())?;
+            text.end()
+        }
+    }
+}
+
+/// Prints what a frame served before its own part, unless nobody asked.
+fn show_request(served: &Served, text: &mut Text) -> Result<(), AllocError>
+    ensures { OnOk result (text.new ≡ text.old ++ request_text served.now) }
+{
+    match served {
+        Served::Quiet => Ok(()),
+        _ => show_served(served, text),
+    }
+}
+
+/// Prints what a frame served, and what its own part came to, if it was carried out.
+fn show_framed(framed: &Framed, text: &mut Text) -> Result<(), AllocError>
+    ensures { OnOk result (text.new ≡ text.old ++ framed_text framed.now) }
+{
+    show_request(&framed.served, text)?;
+    match &framed.answer {
+        Answer::Done => text.push(b"done\n"),
+        Answer::Bytes(bytes) => {
+            text.push(b"bytes ")?;
+            text.push_bytes(bytes)?;
+            text.end()
+        }
+        Answer::NoAnswer(_) | Answer::NoEnd => Ok(()),
+    }
+}
+
+/// Prints what was served while a session was opened, and that it is open, if the line is that.
+fn show_opened(origin: Origin, served: &Served, text: &mut Text) -> Result<(), AllocError>
+    ensures { OnOk result (text.new ≡ text.old ++ opened_text origin served.now) }
+{
+    show_request(served, text)?;
+    match origin {
+        Origin::Line => text.push(b"open\n"),
+        Origin::Daa => Ok(()),
+    }
+}
+
+/// Prints what was served while the role was handed over, and the address of who has it.
+fn show_handed(event: &Event, served: &Served, text: &mut Text) -> Result<(), AllocError>
+    ensures { OnOk result (text.new ≡ text.old ++ handed_text event.now served.now) }
+{
+    let Event::HandOver(to, _) = event else {
+        return Ok(());
+    };
+    show_request(served, text)?;
+    text.push(b"active ")?;
+    text.push_byte(to.get())?;
+    text.end()
+}
+
+/// Prints that a session is ended, if the line is that.
+fn show_ended(origin: Origin, text: &mut Text) -> Result<(), AllocError>
+    ensures { OnOk result (text.new ≡ text.old ++ ended_text origin) }
+{
+    match origin {
+        Origin::Line => text.push(b"ended\n"),
+        Origin::Daa => Ok(()),
+    }
+}
+
+/// Prints a round.
+fn show_round(answer: &RoundReply, text: &mut Text) -> Result<(), AllocError>
+    ensures { OnOk result (text.new ≡ text.old ++ round_text answer.now) }
+{
+    match answer {
+        RoundReply::Assigned(address, identity) => show_assigned(*address, identity, text),
+        RoundReply::Nobody => text.push(b"nobody\n"),
+        RoundReply::Done => text.push(b"done\n"),
+        RoundReply::NoAddress => Ok(()),
+    }
+}
+
+/// Prints an address and the identity that got it.
+fn show_assigned(address: Addr7, identity: &Identity, text: &mut Text) -> Result<(), AllocError>
+    ensures { OnOk result (text.new ≡ text.old ++ assigned_text address identity.now) }
+{
+    text.push(b"assigned ")?;
+    text.push_byte(address.get())?;
+    text.push(b" ")?;
+    show_identity(identity, text)
+}
+
+/// Prints an identity, and ends the line.
+fn show_identity(identity: &Identity, text: &mut Text) -> Result<(), AllocError>
+    ensures { OnOk result (text.new ≡ text.old ++ identity_text identity.now) }
+{
+    text.push_hex(identity.pid.get(), PID_DIGITS)?;
+    show_field(identity.bcr.0, text)?;
+    show_field(identity.dcr.0, text)?;
+    text.end()
+}
+
+/// Prints a register of an identity, after a space.
+fn show_field(byte: u8, text: &mut Text) -> Result<(), AllocError>
+    ensures { OnOk result (text.new ≡ text.old ++ field_text byte) }
+{
+    text.push(b" ")?;
+    text.push_byte(byte)
+}

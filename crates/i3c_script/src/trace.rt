@@ -1,0 +1,178 @@
+ghost use Rattle.std.specs.Prelude.{◌≡◌, ◌<◌, ◌≤◌, [], ◌++◌, length, map, min, option_to_list, string_bytes, IfErr, IfOk, IfSome, IsErr, MatchResult, OnOk};
+ghost use Rattle.std.specs.Io.KnownBytes.{Appends, Consumes, IsAtEnd, Keeps};
+ghost use Rattle.i3c_monitor.specs.Lines.{line_text};
+ghost use Rattle.i3c_monitor.specs.Trace.{to_come, trace_told};
+ghost use Rattle.i3c_script.specs.Outcomes.{AppendsSome};
+ghost use Rattle.i3c_script.specs.Stops.{IsLineFault};
+ghost use Rattle.i3c_script.specs.Traces.{ascii, fault_line, refusals_in, refused_in, trace_text, GoesOut};
+
+use crate::faults::ScriptFault;
+use crate::output::write_out;
+use crate::reading::{CHUNK, MOST_BYTES, Piece, read_piece};
+use crate::script::Tally;
+use i3c_frame::{Symbol, TraceFault, read_trace};
+use i3c_lines::Text;
+use i3c_monitor::{Monitor, Seen};
+use std::alloc::{AllocError, Global};
+use std::io::{Read, Write};
+
+/// What stands for a byte that isn't ASCII. No symbol has it.
+const UNKNOWN: u8 = b'?';
+
+/// Tells what a trace says: a line for each frame, and below it a line for each thing that was seen in it; or one line
+/// with the trace's first fault. A trace is read whole, and has at most 1,048,576 bytes.
+pub fn run_trace<R: Read, W: Write>(
+    alloc: Global,
+    reader: &mut R,
+    writer: &mut W,
+) -> Result<Tally, ScriptFault>
+    // an `Ok` comes after the whole of a trace that isn't too large
+    ensures whole { OnOk result (IsAtEnd (R.remaining reader.new)) }
+    ensures fits { OnOk result (IfSome (R.remaining reader.old) (λ bytes. length bytes ≤ MOST_BYTES)) }
+    ensures large { result ≡ Err ScriptFault.TooLarge → IfSome (R.remaining reader.old) (λ bytes. MOST_BYTES < length bytes) }
+    ensures lines { GoesOut (R.remaining reader.old) (W.contents writer.old) (W.contents writer.new) result }
+{
+    let Ok(mut chunk) = vec![in alloc; 0u8; CHUNK] else {
+        return Err(ScriptFault::Memory);
+    };
+    let bytes = read_whole(alloc, reader, &mut chunk)?;
+    let Ok(text) = ascii_text(alloc, &bytes) else {
+        return Err(ScriptFault::Memory);
+    };
+    match read_trace(alloc, text.as_str()) {
+        Ok(symbols) => tell_trace(alloc, &symbols, writer),
+        Err(fault) => tell_fault(alloc, &fault, writer),
+    }
+}
+
+/// Reads an input to its end, by chunks.
+fn read_whole<R: Read>(
+    alloc: Global,
+    reader: &mut R,
+    chunk: &mut [u8],
+) -> Result<Vec<u8>, ScriptFault>
+    requires { 0 < length chunk.old }
+    ensures whole { OnOk result (IsAtEnd (R.remaining reader.new)) }
+    ensures bytes { IfOk result (λ read. Consumes (R.remaining reader.old) (R.remaining reader.new) read.items) }
+    ensures fits { IfOk result (λ read. length read.items ≤ MOST_BYTES) }
+    ensures large { result ≡ Err ScriptFault.TooLarge → IfSome (R.remaining reader.old) (λ bytes. MOST_BYTES < length bytes) }
+{
+    let mut bytes = Vec::new(alloc);
+    let mut left = MOST_BYTES;
+    for _ in 0..u64::MAX {
+        match read_piece(reader, chunk, left)? {
+            Piece::End => return Ok(bytes),
+            Piece::Within(count) => {
+                let Ok(()) = bytes.extend_from_slice(&chunk[..count]) else {
+                    return Err(ScriptFault::Memory);
+                };
+                left -= count;
+            }
+            Piece::Beyond(_) => return Err(ScriptFault::TooLarge),
+        }
+    }
+    unreachable!()
+}
+
+/// A text of bytes, with a question mark for each that isn't ASCII.
+fn ascii_text(alloc: Global, bytes: &[u8]) -> Result<String, AllocError>
+    ensures { IfOk result (λ text. string_bytes text ≡ map ascii bytes.now) }
+{
+    let mut text = String::new(alloc);
+    for byte in bytes {
+        let letter = if *byte < 128 { *byte } else { UNKNOWN };
+        text.push(char::from(letter))?;
+    }
+    Ok(text)
+}
+
+/// Writes the lines of a trace, one after another.
+fn tell_trace<W: Write>(alloc: Global, trace: &[Symbol], out: &mut W) -> Result<Tally, ScriptFault>
+    ensures { MatchResult result
+        (λ tally. (tally.refused ≡ min (refused_in (trace_told trace.now)) u64.MAX) × Appends (W.contents out.old) (W.contents out.new) (trace_text trace.now))
+        (λ fault. IsLineFault fault × AppendsSome (W.contents out.old) (W.contents out.new) (trace_text trace.now)) }
+{
+    let mut monitor = Monitor::new(alloc, trace);
+    let mut text = Text::new(alloc);
+    let mut refused: u64 = 0;
+    while let Some(seen) = next_seen(&mut monitor)? {
+        tell_seen(&seen, trace, &mut text, out)?;
+        refused = refused.saturating_add(refusals(&seen));
+    }
+    Ok(Tally { refused })
+}
+
+/// What comes next in a trace.
+fn next_seen(monitor: &mut Monitor<'_>) -> Result<Option<Seen>, ScriptFault>
+    ensures told { IfOk result (λ seen. to_come monitor.old ≡ option_to_list seen ++ to_come monitor.new) }
+    ensures ended { result ≡ Ok None → to_come monitor.old ≡ [] }
+    ensures memory { IfErr result (λ fault. fault ≡ ScriptFault.Memory) }
+{
+    match monitor.next() {
+        Ok(seen) => Ok(seen),
+        Err(_) => Err(ScriptFault::Memory),
+    }
+}
+
+/// How many refusals it is.
+fn refusals(seen: &Seen) -> u64
+    ensures { result ≡ refusals_in seen.now }
+{
+    match seen {
+        Seen::Refused(_) => 1,
+        _ => 0,
+    }
+}
+
+/// Writes the line of what was seen.
+fn tell_seen<W: Write>(
+    seen: &Seen,
+    trace: &[Symbol],
+    text: &mut Text,
+    out: &mut W,
+) -> Result<(), ScriptFault>
+    ensures { MatchResult result (λ _. Appends (W.contents out.old) (W.contents out.new) (line_text trace.now seen.now))
+        (λ fault. IsLineFault fault × AppendsSome (W.contents out.old) (W.contents out.new) (line_text trace.now seen.now)) }
+{
+    text.clear();
+    match seen.push(trace, text) {
+        Ok(()) => write_out(text.as_bytes(), out),
+        Err(_) => Err(ScriptFault::Memory),
+    }
+}
+
+/// Writes the line of a text that is no trace.
+fn tell_fault<W: Write>(
+    alloc: Global,
+    fault: &TraceFault,
+    out: &mut W,
+) -> Result<Tally, ScriptFault>
+    ensures lines { MatchResult result
+        (λ tally. (tally.refused ≡ 1) × Appends (W.contents out.old) (W.contents out.new) (fault_line fault.now))
+        (λ stop. IsLineFault stop × AppendsSome (W.contents out.old) (W.contents out.new) (fault_line fault.now)) }
+    ensures memory { fault.now ≡ TraceFault.OutOfMemory → (result ≡ Err ScriptFault.Memory) × Keeps (W.contents out.old) (W.contents out.new) }
+{
+    let mut text = Text::new(alloc);
+    match push_fault(fault, &mut text) {
+        Ok(()) => write_out(text.as_bytes(), out)?,
+        Err(_) => return Err(ScriptFault::Memory),
+    }
+    Ok(Tally { refused: 1 })
+}
+
+/// Appends the line of a trace's fault. Want of memory has none, and stays what it is.
+fn push_fault(fault: &TraceFault, text: &mut Text) -> Result<(), AllocError>
+    ensures told { OnOk result (text.new ≡ text.old ++ fault_line fault.now) }
+    ensures memory { fault.now ≡ TraceFault.OutOfMemory → IsErr result }
+{
+    match fault {
+        TraceFault::BadSymbol(number) => {
+            text.push(b"refused BadSymbol ")?;
+            text.push_decimal(*number as u64)?;
+        }
+        TraceFault::NoStart => text.push(b"refused NoStart")?,
+        TraceFault::NoStop => text.push(b"refused NoStop")?,
+        TraceFault::OutOfMemory => return Err(AllocError),
+    }
+    text.end()
+}
