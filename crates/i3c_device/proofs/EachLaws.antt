@@ -17,7 +17,7 @@ use Rattle.i3c_device.specs.declared.sets.SlotSet.{SlotSet}
 use Rattle.i3c_device.specs.Finding.{within}
 use Rattle.i3c_device.specs.Marks.{AreMarks, IsSetOf}
 use Rattle.i3c_device.specs.Sets.{has}
-use Rattle.i3c_device.specs.Walks.{accepted_at, assigned_at, drives_at}
+use Rattle.i3c_device.specs.Walks.{accepted_at, assigned_at, drives_at, taken_from}
 use Rattle.i3c_device.specs.Wishing.{wishes}
 use Rattle.i3c_device.proofs.MarkLaws.{driver_wishes}
 
@@ -52,12 +52,16 @@ spared f test among xs ys long is spares e = narrowed f f among xs ys long e (λ
   | inr n ↦ cond-false (has among s) (f s (get_or xs s None)) (get_or xs s None) n ∙ sym (spares s (get_or xs s None) (sym (is s l) ∙ n))
 ])
 
--- an accepted request, an opening and an end
-pub accept_spares : (active : ℕ) (r : Request) (s : ℕ) (o : Option Device) → in_slot wishes o ≡ false → accepted_at active r s o ≡ o
-accept_spares active r s None e = refl
-accept_spares active r s (Some d) e =
-    ap Some (cond-false (drives_at active s (Some d) r) (without r d) d (false_from_ne_true (drives_at active s (Some d) r) (λ h. both_ways _ e (driver_wishes active s (Some d) r h))))
+-- an accepted request that these slots drive
+pub accepted_alike : (active : ℕ) (r : Request) (s : ℕ) (o : Option Device) (among : SlotSet) → has among s ≡ drives_at active s o r → within among (λ k place. taken_from r place) s o ≡ accepted_at active r s o
+accepted_alike active r s None among e = elim (has among s) as (λ b. ◌≡◌ {A = Option Device} (if b then None else None) None) [ true ↦ refl | false ↦ refl ]
+accepted_alike active r s (Some d) among e = ap (λ b. if b then Some (without r d) else Some d) e ∙ go (drives_at active s (Some d) r)
+  where
+    go : (b : Bool) → (if b then Some (without r d) else Some d) ≡ Some (if b then without r d else d)
+    go true = refl
+    go false = refl
 
+-- an opening and an end
 pub open_spares : (s : ℕ) (o : Option Device) → in_slot (λ d. is_none d.address) o ≡ false → option_map hears o ≡ o
 open_spares s None e = refl
 open_spares s (Some d) e = ap Some (cond-false (is_none d.address) (record d { hearing = true }) d e)

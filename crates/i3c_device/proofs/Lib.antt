@@ -4,4 +4,5 @@ pub mod SetLaws
 pub mod MarkLaws
 pub mod EachLaws
 pub mod FindLaws
+pub mod FirstLaws
 pub mod ReadLaws

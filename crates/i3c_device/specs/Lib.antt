@@ -2,6 +2,7 @@ pub mod Hearing
 pub mod Raising
 pub mod Addressing
 pub mod Walks
+pub mod First
 pub mod Wishing
 pub mod Sets
 pub mod Marks

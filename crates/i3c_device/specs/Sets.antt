@@ -1,8 +1,22 @@
 -- Sets of slots.
-use Rattle.std.specs.Prelude.{ℕ, Bool, ◌==◌}
+use Rattle.std.specs.Prelude.{◌≡◌, ℕ, ◌<◌, Bool, true, false, ◌==◌}
 use Rattle.std.specs.Int.{bit_at}
+use Rattle.i3c_base.specs.declared.range.TheConstants.{SLOTS}
+use Rattle.i3c_base.specs.Cutting.{Lost}
 use Rattle.i3c_device.specs.declared.sets.SlotSet.{SlotSet}
 
 -- the slot is in the set
 abbrev pub has : SlotSet → ℕ → Bool
 has slots s = bit_at slots.bits s == 1
+
+-- no slot is in the set
+abbrev pub IsNone : SlotSet → Type 0
+IsNone slots = (s : ℕ) → s < SLOTS → has slots s ≡ false
+
+-- slot i is the lowest of the set
+abbrev pub IsLowestOf : SlotSet → ℕ → Type 0
+IsLowestOf slots i = (i < SLOTS) × (has slots i ≡ true) × ((s : ℕ) → s < i → has slots s ≡ false)
+
+-- a slot of the set isn't lost
+abbrev pub SomeLeft : SlotSet → Lost → Type 0
+SomeLeft slots lost = (s : ℕ) × (s < SLOTS) × (has slots s ≡ true) × (lost s ≡ false)

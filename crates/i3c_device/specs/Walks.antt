@@ -1,16 +1,18 @@
 -- What a request, a command, a session or a drop-off does to whatever stands in a slot. `active` is the active controller's slot.
-use Rattle.std.specs.Prelude.{◌≡◌, ℕ, ◌<◌, Bool, true, false, not, ◌&&◌, ◌==◌, List, Option, Some, None, option_map, if◌then◌else◌, slice_index_or, All, Contains, length, ◌≤◌}
+use Rattle.std.specs.Prelude.{◌≡◌, ℕ, ◌<◌, ◌≤◌, Bool, true, false, not, ◌&&◌, ◌==◌, List, Option, Some, None, option_map, if◌then◌else◌, slice_index_or}
 use Rattle.i3c_base.specs.declared.identity.Identity.{Identity}
+use Rattle.i3c_base.specs.declared.range.TheConstants.{SLOTS}
 use Rattle.i3c_base.specs.declared.requests.Request.{Request}
 use Rattle.i3c_base.specs.Cutting.{Lost}
 use Rattle.i3c_base.specs.Frames.{overwritten}
 use Rattle.i3c_base.specs.Round.{winner, wins}
-use Rattle.i3c_base.specs.Serve.{asks, without}
+use Rattle.i3c_base.specs.Serve.{asks, rank, without}
 use Rattle.i3c_base.specs.State.{Device, has_address, in_slot}
 use Rattle.i3c_word.specs.declared.Word.{Word}
 use Rattle.i3c_ccc.specs.declared.codes.Code.{Code}
-use Rattle.i3c_header.specs.Keys.{IsLawful}
+use Rattle.i3c_device.specs.declared.sets.SlotSet.{SlotSet}
 use Rattle.i3c_device.specs.Hearing.{heard}
+use Rattle.i3c_device.specs.Sets.{has}
 
 -- it drives this request
 abbrev pub drives_at : ℕ → ℕ → Option Device → Request → Bool
@@ -45,25 +47,27 @@ assigned_at lost i a s place = option_map (λ d. if wins lost i s d then winner 
 abbrev pub left_at : Lost → ℕ → Option Device → Option Device
 left_at lost s place = if lost s then None else place
 
--- the requests that whatever stands in the slots below n drives: each is driven and lawful, and each that is driven is among them
-pub record AreDriven (active : ℕ) (devices : List (Option Device)) (n : ℕ) (requests : List Request) : Type 0 where
-  pub driven : All (λ r. (s : ℕ) × (drives_at active s (slice_index_or devices s None) r ≡ true)) requests
-  pub lawful : All IsLawful requests
-  pub among : (s : ℕ) (q : Request) → s < n → drives_at active s (slice_index_or devices s None) q ≡ true → Contains requests q
-  pub few : length requests ≤ n
-
 -- a device of these drives the request
 abbrev pub AnyDrives : ℕ → Request → List (Option Device) → Type 0
 AnyDrives active r devices = (s : ℕ) × (drives_at active s (slice_index_or devices s None) r ≡ true)
 
--- a device of these that isn't lost drives the request
-abbrev pub SomeDrives : ℕ → Request → Lost → List (Option Device) → Type 0
-SomeDrives active r lost devices = (s : ℕ) × (drives_at active s (slice_index_or devices s None) r ≡ true) × (lost s ≡ false)
+-- nobody drives a request
+abbrev pub NobodyDrives : ℕ → List (Option Device) → Type 0
+NobodyDrives active devices = (s : ℕ) (q : Request) → drives_at active s (slice_index_or devices s None) q ≡ false
 
--- slot s is the lowest that drives the request
-abbrev pub IsLowest : ℕ → Request → List (Option Device) → ℕ → Type 0
-IsLowest active r devices s =
-    (drives_at active s (slice_index_or devices s None) r ≡ true) × ((t : ℕ) → t < s → drives_at active t (slice_index_or devices t None) r ≡ false)
+-- these are the slots that drive the request
+abbrev pub AreDrivers : ℕ → Request → List (Option Device) → SlotSet → Type 0
+AreDrivers active r devices slots = (s : ℕ) → s < SLOTS → has slots s ≡ drives_at active s (slice_index_or devices s None) r
+
+-- of the requests that these devices drive this is the first, and these slots drive it
+pub record IsFirstDriven (active : ℕ) (devices : List (Option Device)) (first : Request × SlotSet) : Type 0 where
+  pub drivers : AreDrivers active first.0 devices first.1
+  pub driven : AnyDrives active first.0 devices
+  pub least : (s : ℕ) (q : Request) → drives_at active s (slice_index_or devices s None) q ≡ true → rank first.0 ≤ rank q
+
+-- it without what an accepted request takes from a device that drives it
+abbrev pub taken_from : Request → Option Device → Option Device
+taken_from r place = option_map (without r) place
 
 -- a command reaches a device of these that isn't lost
 abbrev pub SomeReached : ℕ → Option ℕ → Lost → List (Option Device) → Type 0

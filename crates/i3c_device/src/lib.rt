@@ -3,6 +3,7 @@
 #![tactic(auto)]
 
 mod attached;
+mod first;
 mod kinds;
 mod marks;
 mod places;
@@ -11,6 +12,7 @@ mod slots;
 mod walks;
 
 pub use attached::Device;
+pub use sets::SlotSet;
 pub use slots::Devices;
 
 #[cfg(test)]

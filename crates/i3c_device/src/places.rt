@@ -11,7 +11,7 @@ ghost use Rattle.i3c_base.specs.State.{in_slot};
 ghost use Rattle.i3c_header.specs.Keys.{IsLawful};
 ghost use Rattle.i3c_device.specs.Raising.{wishing_join, wishing_role};
 ghost use Rattle.i3c_device.specs.Reading.{IsDrivenFrom, IsRegisterFrom};
-ghost use Rattle.i3c_device.specs.Walks.{accepted_at, assigned_at, drives_at, heard_at, left_at, reaches_at, willing_at, written_at};
+ghost use Rattle.i3c_device.specs.Walks.{assigned_at, drives_at, heard_at, reaches_at, taken_from, willing_at, written_at};
 ghost use Rattle.i3c_device.specs.Wishing.{wishes};
 
 use crate::attached::Device;
@@ -67,16 +67,6 @@ pub(crate) fn is_unaddressed(place: &Option<Device>) -> bool
     }
 }
 
-/// Whether whatever stands in this slot drives this request.
-pub(crate) fn drives(place: &Option<Device>, index: usize, active: Slot, request: &Request) -> bool
-    ensures { result ≡ drives_at active index place.now request.now }
-{
-    match driven(place, index, active) {
-        Some(driven) => driven == *request,
-        None => false,
-    }
-}
-
 /// The device here, if there is one, wishes to join.
 pub(crate) fn wish_join(place: &mut Option<Device>)
     ensures { place.new ≡ option_map wishing_join place.old }
@@ -104,18 +94,17 @@ pub(crate) fn lose_role_wish(place: &mut Option<Device>)
     }
 }
 
-/// This request was accepted: a driver of it loses the wish or the front.
-pub(crate) fn accept(place: &mut Option<Device>, index: usize, active: Slot, request: &Request)
-    ensures { place.new ≡ accepted_at active request.now index place.old }
+/// This request was accepted, which the device here drives: it loses the wish or the front.
+pub(crate) fn accept(place: &mut Option<Device>, request: &Request)
+    ensures { place.new ≡ taken_from request.now place.old }
 {
-    if drives(place, index, active, request) {
-        if let Some(device) = place {
-            match request {
-                Request::Join => device.lose_join_wish(),
-                Request::Role(_) => device.lose_role_wish(),
-                Request::Interrupt(_) => device.lose_front(),
-            }
-        }
+    let Some(device) = place else {
+        return;
+    };
+    match request {
+        Request::Join => device.lose_join_wish(),
+        Request::Role(_) => device.lose_role_wish(),
+        Request::Interrupt(_) => device.lose_front(),
     }
 }
 

@@ -1,13 +1,13 @@
-ghost use Rattle.std.specs.Prelude.{◌≡◌, ◌<◌, ℕ, false, true, not, ◌&&◌, ◌==◌, nat_le, if◌then◌else◌, MatchOption};
+ghost use Rattle.std.specs.Prelude.{◌≡◌, ◌<◌, ◌↔◌, ℕ, false, true, not, ◌&&◌, ◌==◌, nat_le, if◌then◌else◌, IsTrue, MatchOption};
 ghost use Rattle.i3c_base.specs.declared.range.TheConstants.{SLOTS as SLOT_COUNT};
 ghost use Rattle.i3c_base.specs.Cutting.{lost_by};
-ghost use Rattle.i3c_device.specs.Sets.{has};
+ghost use Rattle.i3c_device.specs.Sets.{IsLowestOf, IsNone, SomeLeft, has};
 
 use i3c_base::{Cuts, SLOTS, Slot};
 
 /// A set of slots, one bit for each.
 #[derive(Clone, Copy)]
-pub(crate) struct SlotSet {
+pub struct SlotSet {
     bits: u16,
 }
 
@@ -42,6 +42,37 @@ impl SlotSet {
         }
     }
 
+    /// One slot alone.
+    pub(crate) fn only(index: usize) -> SlotSet
+        requires { index < SLOT_COUNT }
+        ensures { (s : ℕ) → s < SLOT_COUNT → has result s ≡ (if s == index then true else false) }
+    {
+        SlotSet::none().with(index, true)
+    }
+
+    /// Its lowest slot, if there is one.
+    pub fn lowest(self) -> Option<Slot>
+        ensures { MatchOption result (IsNone self) (IsLowestOf self) }
+    {
+        let mut left = self;
+        let index = left.take_lowest()?;
+        Some(Slot::from_index(index))
+    }
+
+    /// Its other slots.
+    pub fn but(self, slot: Slot) -> SlotSet
+        ensures { (s : ℕ) → s < SLOT_COUNT → has result s ≡ (if s == slot then false else has self s) }
+    {
+        self.with(slot.index(), false)
+    }
+
+    /// Whether one of its slots isn't lost by this bit.
+    pub fn outlasts(self, cuts: &Cuts, last: u16) -> bool
+        ensures { IsTrue result ↔ SomeLeft self (lost_by cuts.now last) }
+    {
+        self.without(lost_slots(cuts, last)).lowest().is_some()
+    }
+
     /// Those of its slots that aren't in another set.
     pub(crate) fn without(self, other: SlotSet) -> SlotSet
         ensures { (s : ℕ) → s < SLOT_COUNT → has result s ≡ (has self s && not (has other s)) }
@@ -64,7 +95,7 @@ impl SlotSet {
     }
 
     /// Takes its lowest slot out of it, if there is one.
-    pub(crate) fn take_lowest(&mut self) -> Option<usize>
+    pub fn take_lowest(&mut self) -> Option<usize>
         ensures taken { MatchOption result ((s : ℕ) → s < SLOT_COUNT → has self.old s ≡ false)
             (λ i. (i < SLOT_COUNT) × (has self.old i ≡ true) × ((s : ℕ) → s < i → has self.old s ≡ false)
             × ((s : ℕ) → s < SLOT_COUNT → has self.new s ≡ (if s == i then false else has self.old s))) }

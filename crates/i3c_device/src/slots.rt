@@ -1,13 +1,11 @@
 use crate::attached::Device;
+use crate::first::joined;
 use crate::marks::Marks;
-use crate::places::{
-    driven, drives, hear, lose_role_wish, reaches, register_from, wish_join, wish_role,
-};
+use crate::places::{driven, hear, lose_role_wish, reaches, register_from, wish_join, wish_role};
 use crate::sets::{SlotSet, lost_slots};
 use crate::walks::{
-    Accepted, Driver, Ended, Happening, Lost, Opened, Reached, Sought, Willing, Won, Written,
+    Accepted, Ended, Happening, Lost, Opened, Reached, Sought, Willing, Won, Written,
 };
-use arrayvec::ArrayVec;
 use i3c_base::{Addr7, Cuts, Identity, REGISTERS, RaiseRefusal, Request, SLOTS, Slot};
 use i3c_ccc::Code;
 use i3c_word::Word;
@@ -45,7 +43,7 @@ impl Devices {
     ghost use Rattle.i3c_base.specs.Cutting.{lost_by};
     ghost use Rattle.i3c_base.specs.Places.{changed};
     ghost use Rattle.i3c_device.specs.Finding.{within, IsLowestFound, IsNowhere};
-    ghost use Rattle.i3c_device.specs.Walks.{accepted_at, assigned_at, drives_at, heard_at, left_at, AnyDrives, AreDriven, AreWillingLost, IsHearerFrom, IsLowest, IsLowestWilling, NobodyHearsFrom, SomeDrives, SomeReached, written_at};
+    ghost use Rattle.i3c_device.specs.Walks.{accepted_at, assigned_at, heard_at, left_at, AreDrivers, AreWillingLost, IsFirstDriven, IsHearerFrom, IsLowestWilling, NobodyDrives, NobodyHearsFrom, SomeReached, written_at};
     ghost use Rattle.i3c_device.specs.Reading.{AreAt, AreReadOf, IsRegisterOf};
     ghost use Rattle.std.specs.Prelude.{◌≡◌, ◌≤◌, ◌<◌, ◌+◌, ◌^◌, ◌↔◌, ℕ, All, length, IsTrue, suc, Some, None, option_map, slice_index_or, slice_set, MatchOption, MatchResult, OnOk, OnErr};
     ghost use Rattle.i3c_base.specs.Round.{hears, unhearing};
@@ -133,50 +131,27 @@ impl Devices {
         outcome
     }
 
-    /// The requests that the devices drive into one header. The active controller drives none.
-    pub fn requests(&self, active: Slot) -> ArrayVec<Request, SLOTS>
-        ensures driven { AreDriven active self.now (length self.now) result.items }
+    /// The first of the requests that the devices drive into one header, and the slots that drive it (I3C Basic 5.1.6.2).
+    /// The active controller drives none.
+    pub fn first_request(&self, active: Slot) -> Option<(Request, SlotSet)>
+        ensures first { MatchOption result (NobodyDrives active self.now) (IsFirstDriven active self.now) }
         ensures slots { length self.now ≡ SLOT_COUNT }
     {
-        let mut requests: ArrayVec<Request, SLOTS> = ArrayVec::new();
+        let mut first: Option<(Request, SlotSet)> = None;
         let mut left = self.marks.wishing;
         while let Some(index) = left.take_lowest() {
             if let Some(request) = driven(&self.places[index], index, active) {
-                requests.push(request);
+                first = Some(joined(first, request, index));
             }
         }
-        requests
+        first
     }
 
-    /// Whether the slot's device drives this request.
-    pub fn drives(&self, active: Slot, slot: Slot, request: &Request) -> bool
-        ensures { result ≡ drives_at active slot (slice_index_or self.now slot None) request.now }
+    /// The request was accepted: these slots, its drivers, lose the wish or the front of what waits.
+    pub fn accept(&mut self, drivers: SlotSet, request: &Request)
+        ensures { (active : ℕ) → AreDrivers active request.now self.old drivers → self.new ≡ changed (accepted_at active request.now) self.old }
     {
-        let index = slot.index();
-        self.marks.wishing.has(index) && drives(&self.places[index], index, active, request)
-    }
-
-    /// The lowest slot that drives this request.
-    pub fn lowest_driver(&self, active: Slot, request: &Request) -> Option<Slot>
-        ensures { MatchOption result (¬ AnyDrives active request.now self.now) (IsLowest active request.now self.now) }
-    {
-        self.lowest(self.marks.wishing, &Driver { active, request })
-    }
-
-    /// Whether a device that isn't lost by this bit drives the request.
-    pub fn is_driven(&self, active: Slot, request: &Request, cuts: &Cuts, last: u16) -> bool
-        ensures { IsTrue result ↔ SomeDrives active request.now (lost_by cuts.now last) self.now }
-    {
-        let left = self.marks.wishing.without(lost_slots(cuts, last));
-        self.lowest(left, &Driver { active, request }).is_some()
-    }
-
-    /// The request was accepted: its drivers lose the wish or the front of what waits.
-    pub fn accept(&mut self, active: Slot, request: &Request)
-        ensures { self.new ≡ changed (accepted_at active request.now) self.old }
-    {
-        let wishing = self.marks.wishing;
-        self.each(wishing, &Accepted { active, request });
+        self.each(drivers, &Accepted { request });
     }
 
     /// Whether a command, to all or to one address, reaches a device that isn't lost by this bit: it acknowledges.

@@ -3,10 +3,10 @@ ghost use Rattle.i3c_base.specs.declared.device.TheConstants.{REGISTERS as REGIS
 ghost use Rattle.i3c_base.specs.Cutting.{nobody};
 ghost use Rattle.i3c_base.specs.Round.{hears, unhearing};
 ghost use Rattle.i3c_base.specs.State.{Device as DeviceState, in_slot};
-ghost use Rattle.i3c_device.specs.Walks.{accepted_at, assigned_at, drives_at, reaches_at, willing_at, written_at};
+ghost use Rattle.i3c_device.specs.Walks.{assigned_at, reaches_at, taken_from, willing_at, written_at};
 
 use crate::attached::Device;
-use crate::places::{accept, assign, drives, is_willing, is_winner, open, reaches, silence, write};
+use crate::places::{accept, assign, is_willing, is_winner, open, reaches, silence, write};
 use i3c_base::{Addr7, Identity, Request, Slot};
 
 /// What happens to whatever stands in some slots.
@@ -23,22 +23,21 @@ pub(crate) trait Happening {
         ensures { place.new ≡ after self.now index place.old };
 }
 
-/// This request was accepted.
+/// This request was accepted, which is driven here.
 #[derive(Drop)]
 pub(crate) struct Accepted<'a> {
-    pub active: Slot,
     pub request: &'a Request,
 }
 
 impl Happening for Accepted<'_> {
-    ghost after = { λ h s place. accepted_at h.active h.request.now s place };
+    ghost after = { λ h s place. taken_from h.request.now place };
 
     fn concerns(&self, _place: &Option<Device>, _index: usize) -> bool {
         true
     }
 
-    fn happen(&self, place: &mut Option<Device>, index: usize) {
-        accept(place, index, self.active, self.request);
+    fn happen(&self, place: &mut Option<Device>, _index: usize) {
+        accept(place, self.request);
     }
 }
 
@@ -139,21 +138,6 @@ pub(crate) trait Sought {
     /// Whether it stands in this slot.
     fn is_found(&self, place: &Option<Device>, index: usize) -> bool
         ensures { result ≡ finds self.now index place.now };
-}
-
-/// A device that drives this request.
-#[derive(Drop)]
-pub(crate) struct Driver<'a> {
-    pub active: Slot,
-    pub request: &'a Request,
-}
-
-impl Sought for Driver<'_> {
-    ghost finds = { λ d s place. drives_at d.active s place d.request.now };
-
-    fn is_found(&self, place: &Option<Device>, index: usize) -> bool {
-        drives(place, index, self.active, self.request)
-    }
 }
 
 /// A device that a command reaches, to all or to one address.

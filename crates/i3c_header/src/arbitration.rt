@@ -1,46 +1,17 @@
-ghost use Rattle.std.specs.Prelude.{◌≡◌, ◌^◌, ◌<◌, ◌≤◌, [], length, All, MatchOption};
-ghost use Rattle.i3c_base.specs.declared.range.TheConstants.{SLOTS as SLOT_COUNT};
-ghost use Rattle.i3c_header.specs.Keys.{IsFirstOf, IsLawful};
-ghost use Rattle.i3c_header.specs.Keyed.{keyed};
+ghost use Rattle.std.specs.Prelude.{◌<◌, ◌↔◌, IsTrue};
+ghost use Rattle.i3c_base.specs.Serve.{rank};
+ghost use Rattle.i3c_header.specs.Keys.{IsLawful};
 
 use crate::keys::key;
-use arrayvec::ArrayVec;
-use i3c_base::{Cuts, Request, SLOTS, Slot};
-use i3c_wires::contest;
+use i3c_base::Request;
 
-/// The bits of a header that are contested: seven of the address, and RnW.
-const KEY_BITS: u32 = 8;
-
-/// The key of each request, which contends under its place in the list.
-fn contenders(requests: &[Request]) -> ArrayVec<(Slot, u64), SLOTS>
-    requires { length requests.now ≤ SLOT_COUNT }
-    ensures keys { result.items ≡ keyed 0 requests.now }
-    ensures fit { All (λ e. e.1 < 2 ^ 8) result.items }
+/// Whether the first of two requests that are driven into one header wins it alone: a join comes before all else, then
+/// the lower address, then at one address the role request (I3C Basic 5.1.6.2). A 0 on the lines wins over a 1, from the
+/// highest bit on, so the lower key does.
+pub fn comes_before(one: &Request, other: &Request) -> bool
+    requires one { IsLawful one.now }
+    requires other { IsLawful other.now }
+    ensures { IsTrue result ↔ (rank one.now < rank other.now) }
 {
-    let mut keys: ArrayVec<(Slot, u64), SLOTS> = ArrayVec::new();
-    for (index, request) in requests.iter().enumerate() {
-        let place = Slot::new(index as u8).unwrap();
-        keys.push((place, u64::from(key(*request))));
-    }
-    keys
-}
-
-/// The request that wins the header which these drive at once: a join before all else, then the lower address, then at
-/// one address the role request (I3C Basic 5.1.6.2). One that is alone wins without a contest. `None` only where there is
-/// none.
-pub fn arbitrate(requests: &[Request]) -> Option<Request>
-    requires few { length requests.now ≤ SLOT_COUNT }
-    requires lawful { All IsLawful requests.now }
-    ensures { MatchOption result (requests.now ≡ []) (IsFirstOf requests.now) }
-{
-    let [first, others @ ..] = requests else {
-        return None;
-    };
-    if others.is_empty() {
-        return Some(*first);
-    }
-    let keys = contenders(requests);
-    let outcome = contest(&keys, KEY_BITS, &Cuts::new());
-    let winner = outcome.winners[0];
-    Some(requests[winner.index()])
+    key(*one) < key(*other)
 }

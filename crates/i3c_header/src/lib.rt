@@ -4,7 +4,7 @@
 mod arbitration;
 mod keys;
 
-pub use arbitration::arbitrate;
+pub use arbitration::comes_before;
 pub use i3c_base::Request;
 pub use keys::{header, key};
 

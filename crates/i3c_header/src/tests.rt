@@ -1,7 +1,7 @@
 ghost use Rattle.std.specs.Prelude.{◌≡◌, ◌<◌, ◌≤◌};
 ghost use Rattle.i3c_header.specs.Keys.{IsLawful};
 
-use crate::{Request, arbitrate, header, key};
+use crate::{Request, comes_before, header, key};
 use i3c_base::Addr7;
 
 fn address(value: u8) -> Addr7
@@ -42,18 +42,19 @@ fn interrupt(value: u8) -> Request
     Request::Interrupt(address(value))
 }
 
-// A join before all else, then the lower address, then at one address the role request.
+// A join before all else, then the lower address, then at one address the role request; none before itself.
 #[test]
-fn first(rt: HostRuntime) {
-    assert_eq!(rt; arbitrate(&[]), None);
-    assert_eq!(rt; arbitrate(&[interrupt(0x09)]), Some(interrupt(0x09)));
-    assert_eq!(rt; arbitrate(&[interrupt(0x09), role(0x09)]), Some(role(0x09)));
-    assert_eq!(rt;
-        arbitrate(&[role(0x09), interrupt(0x08), interrupt(0x09)]),
-        Some(interrupt(0x08))
-    );
-    assert_eq!(rt;
-        arbitrate(&[interrupt(0x08), Request::Join, role(0x08)]),
-        Some(Request::Join)
-    );
+fn order(rt: HostRuntime) {
+    let requests = [
+        Request::Join,
+        role(0x08),
+        interrupt(0x08),
+        role(0x09),
+        interrupt(0x09),
+    ];
+    for (first, one) in requests.iter().enumerate() {
+        for (second, other) in requests.iter().enumerate() {
+            assert_eq!(rt; comes_before(one, other), first < second);
+        }
+    }
 }

@@ -1,19 +1,22 @@
 -- What is read behind an accepted interrupt.
 use Rattle.std.specs.Int.{bit_at}
-use Rattle.std.specs.Prelude.{IsSomeAnd, MatchOption, IfSome}
+use Rattle.std.specs.Prelude.{IsSomeAnd, MatchOption, IfSome, slice_get}
 use Rattle.std.proofs.lemmas.Bool.{and_parts, both_ways, cases_eq, cond-true, eqb-false, ne_eqb, not-true}
 use Rattle.std.proofs.lemmas.Option.{none-some, same_Some}
 use Rattle.std.proofs.Common.{◌≡◌, ℕ, ◌<◌, Bool, true, false, not, ◌&&◌, ◌==◌, nat_le, if◌then◌else◌, List, [], ◌∷◌, length, get_or, Option, Some, None, is_some, option_map, inl, inr, sym, refl, ap, ◌∙◌, subst, arith}
 use Rattle.std.proofs.lemmas.Bool.Decides.{nat_tests}
+use Rattle.i3c_base.specs.declared.range.TheConstants.{SLOTS}
 use Rattle.i3c_base.specs.declared.requests.Request.{Request}
 use Rattle.i3c_base.specs.declared.requests.Request.TheVariants.{Interrupt}
 use Rattle.i3c_base.specs.declared.device.Waiting.{Waiting}
 use Rattle.i3c_base.specs.declared.requests.Record.{Record}
 use Rattle.i3c_base.specs.Cutting.{CutList, cut_of, is_by, lost_by}
-use Rattle.i3c_base.specs.State.{Device, HasDevices, State, device_at}
-use Rattle.i3c_base.specs.Serve.{DrivesByte, IsFront, drives}
+use Rattle.i3c_base.specs.State.{Device, State, device_at, has_address}
+use Rattle.i3c_base.specs.Serve.{DrivesByte, IsLowestDriver, asks, drives, is_empty}
 use Rattle.i3c_device.specs.Raising.{front_byte}
-use Rattle.i3c_device.specs.Walks.{IsLowest}
+use Rattle.i3c_device.specs.declared.sets.SlotSet.{SlotSet}
+use Rattle.i3c_device.specs.Sets.{IsLowestOf, has}
+use Rattle.i3c_device.specs.Walks.{AreDrivers, drives_at}
 use Rattle.i3c_ibi.specs.Driving.{HaveBytes, IsFrontOf, IsReading, Together, byte_beside, driven, slot_byte}
 use Rattle.i3c_ibi.proofs.Scans.{drives_in}
 
@@ -48,42 +51,42 @@ one_front o v w f g =
     cc
 
 -- the byte beside the lowest slot's, there and back
-beside_of : (st : State) (cuts : CutList) (r : Request) (slot s v : ℕ) (w : Waiting) → (s ≡ slot → ⊥) → drives st r s ≡ true → IsFront st s w → w.byte ≡ Some v
-    → byte_beside cuts st.active r slot s (device_at st s) ≡ Some (driven (cut_of cuts s) v)
-beside_of st cuts r slot s v w ne d f e =
-    cond-true (not (s == slot) && drives st r s) _ None (and_join _ _ (not_false _ (ne_eqb s slot ne)) d) ∙ ap (option_map (driven (cut_of cuts s))) (slot_byte_of (device_at st s) w f ∙ e)
+beside_of : (cuts : CutList) (drivers : SlotSet) (slot s v : ℕ) (o : Option Device) (w : Waiting) → (s ≡ slot → ⊥) → has drivers s ≡ true → IsFrontOf o w → w.byte ≡ Some v
+    → byte_beside cuts drivers slot s o ≡ Some (driven (cut_of cuts s) v)
+beside_of cuts drivers slot s v o w ne d f e =
+    cond-true (not (s == slot) && has drivers s) _ None (and_join _ _ (not_false _ (ne_eqb s slot ne)) d) ∙ ap (option_map (driven (cut_of cuts s))) (slot_byte_of o w f ∙ e)
 
-beside_from : (st : State) (cuts : CutList) (r : Request) (slot s v : ℕ) → byte_beside cuts st.active r slot s (device_at st s) ≡ Some v → (u : ℕ) × DrivesByte st r s u × (driven (cut_of cuts s) u ≡ v)
-beside_from st cuts r slot s v e = go (not (s == slot) && drives st r s) refl e
+beside_from : (cuts : CutList) (drivers : SlotSet) (slot s v : ℕ) (place : Option Device) → byte_beside cuts drivers slot s place ≡ Some v → (u : ℕ) × (has drivers s ≡ true) × (slot_byte place ≡ Some u) × (driven (cut_of cuts s) u ≡ v)
+beside_from cuts drivers slot s v place e = go (not (s == slot) && has drivers s) refl e
   where
-    mapped : (o : Option ℕ) → slot_byte (device_at st s) ≡ o → option_map (driven (cut_of cuts s)) o ≡ Some v → (u : ℕ) × (slot_byte (device_at st s) ≡ Some u) × (driven (cut_of cuts s) u ≡ v)
+    mapped : (o : Option ℕ) → slot_byte place ≡ o → option_map (driven (cut_of cuts s)) o ≡ Some v → (u : ℕ) × (slot_byte place ≡ Some u) × (driven (cut_of cuts s) u ≡ v)
     mapped None is k = absurd (none-some v k)
     mapped (Some u) is k = (u, is, same_Some _ v k)
 
-    go : (b : Bool) → (not (s == slot) && drives st r s) ≡ b → (if b then option_map (driven (cut_of cuts s)) (slot_byte (device_at st s)) else None) ≡ Some v
-        → (u : ℕ) × DrivesByte st r s u × (driven (cut_of cuts s) u ≡ v)
-    go true is k = let m = mapped (slot_byte (device_at st s)) refl k in (m.0, ((and_parts (not (s == slot)) (drives st r s) is).1, slot_byte_from (device_at st s) m.0 m.1), m.2)
+    go : (b : Bool) → (not (s == slot) && has drivers s) ≡ b → (if b then option_map (driven (cut_of cuts s)) (slot_byte place) else None) ≡ Some v
+        → (u : ℕ) × (has drivers s ≡ true) × (slot_byte place ≡ Some u) × (driven (cut_of cuts s) u ≡ v)
+    go true is k = let m = mapped (slot_byte place) refl k in (m.0, (and_parts (not (s == slot)) (has drivers s) is).1, m.1, m.2)
     go false is k = absurd (none-some v k)
 
 -- where only the lowest slot drives, there is none beside it
-beside_none : (st : State) (cuts : CutList) (r : Request) (slot s : ℕ) → ((t : ℕ) → drives st r t ≡ true → t ≡ slot) → byte_beside cuts st.active r slot s (device_at st s) ≡ None
-beside_none st cuts r slot s h = go (not (s == slot) && drives st r s) refl
+beside_none : (cuts : CutList) (drivers : SlotSet) (slot s : ℕ) (place : Option Device) → (has drivers s ≡ true → s ≡ slot) → byte_beside cuts drivers slot s place ≡ None
+beside_none cuts drivers slot s place h = go (not (s == slot) && has drivers s) refl
   where
-    go : (b : Bool) → (not (s == slot) && drives st r s) ≡ b → (if b then option_map (driven (cut_of cuts s)) (slot_byte (device_at st s)) else None) ≡ None
-    go true is = let p = and_parts (not (s == slot)) (drives st r s) is in absurd (eqb-false s slot (not-true _ p.0) (h s p.1))
+    go : (b : Bool) → (not (s == slot) && has drivers s) ≡ b → (if b then option_map (driven (cut_of cuts s)) (slot_byte place) else None) ≡ None
+    go true is = let p = and_parts (not (s == slot)) (has drivers s) is in absurd (eqb-false s slot (not-true _ p.0) (h p.1))
     go false is = refl
 
--- the bytes of whom a scan saw
-abbrev BytesRead : State → CutList → ℕ → ℕ → ℕ → ℕ → Type 0
-BytesRead st cuts at slot own both =
-    Together (λ s. byte_beside cuts st.active (Interrupt at) slot s (device_at st s)) (driven (cut_of cuts slot) own) (length st.devices) both
+-- the bytes of the drivers of an interrupt
+abbrev BytesRead : State → CutList → SlotSet → ℕ → ℕ → ℕ → Type 0
+BytesRead st cuts drivers slot own both = Together (λ s. byte_beside cuts drivers slot s (device_at st s)) (driven (cut_of cuts slot) own) SLOTS both
 
 -- each of them isn't lost, and the AND of what they drive is that of their bytes
-reads_to : (st : State) (cuts : CutList) (at slot own both : ℕ) (front : Waiting) → IsFrontOf (device_at st slot) front → front.byte ≡ Some own → BytesRead st cuts at slot own both
-    → ((t : ℕ) → drives st (Interrupt at) t ≡ true → lost_by cuts 9 t ≡ false)
+reads_to : (st : State) (cuts : CutList) (at slot own both : ℕ) (front : Waiting) (drivers : SlotSet) → AreDrivers st.active (Interrupt at) st.devices drivers → length st.devices ≡ SLOTS
+    → IsFrontOf (device_at st slot) front → front.byte ≡ Some own → BytesRead st cuts drivers slot own both → ((t : ℕ) → drives st (Interrupt at) t ≡ true → lost_by cuts 9 t ≡ false)
     → (bit : ℕ) → bit < 8 → bit_at both bit ≡ 1 → (s u : ℕ) → DrivesByte st (Interrupt at) s u → bit_at u bit ≡ 1
-reads_to st cuts at slot own both front fronted e tog left bit l b s u d =
+reads_to st cuts at slot own both front drivers are long fronted e tog left bit l b s u d =
     let k = (tog.bits bit l).0 b in
+    let low : s < SLOTS = let inside = drives_in st (Interrupt at) s d.0 in omega (arith, inside, long) in
     let whole : driven (cut_of cuts s) u ≡ u = driven_left (cut_of cuts s) u (left s d.0) in
     elim (cases_eq s slot) [
       | inl same ↦
@@ -92,33 +95,44 @@ reads_to st cuts at slot own both front fronted e tog left bit l b s u d =
           let byte : own ≡ u = same_Some own u (sym e ∙ (ap (λ (w : Waiting). w.byte) (sym one) ∙ d.1.2)) in
           let drove : driven (cut_of cuts slot) own ≡ u = (λ t. driven (cut_of cuts (sym same t)) (byte t)) ∙ whole in
           subst (λ x. bit_at x bit ≡ 1) drove k.0
-      | inr ne ↦ subst (λ x. bit_at x bit ≡ 1) whole (k.1 s _ (drives_in st (Interrupt at) s d.0) (beside_of st cuts (Interrupt at) slot s u d.1.0 ne d.0 d.1.1 d.1.2))
+      | inr ne ↦ subst (λ x. bit_at x bit ≡ 1) whole (k.1 s _ low (beside_of cuts drivers slot s u (device_at st s) d.1.0 ne (are s low ∙ d.0) d.1.1 d.1.2))
     ]
 
-reads_from : (st : State) (cuts : CutList) (at slot own both : ℕ) (front : Waiting) → drives st (Interrupt at) slot ≡ true → IsFrontOf (device_at st slot) front → front.byte ≡ Some own
-    → BytesRead st cuts at slot own both → ((t : ℕ) → drives st (Interrupt at) t ≡ true → lost_by cuts 9 t ≡ false)
+reads_from : (st : State) (cuts : CutList) (at slot own both : ℕ) (front : Waiting) (drivers : SlotSet) → AreDrivers st.active (Interrupt at) st.devices drivers → drives st (Interrupt at) slot ≡ true
+    → IsFrontOf (device_at st slot) front → front.byte ≡ Some own → BytesRead st cuts drivers slot own both → ((t : ℕ) → drives st (Interrupt at) t ≡ true → lost_by cuts 9 t ≡ false)
     → (bit : ℕ) → bit < 8 → ((s u : ℕ) → DrivesByte st (Interrupt at) s u → bit_at u bit ≡ 1) → bit_at both bit ≡ 1
-reads_from st cuts at slot own both front lowest fronted e tog left bit l all =
+reads_from st cuts at slot own both front drivers are lowest fronted e tog left bit l all =
     (tog.bits bit l).1 (
       subst (λ x. bit_at x bit ≡ 1) (sym (driven_left (cut_of cuts slot) own (left slot lowest))) (all slot own (lowest, (front, fronted, e))),
       λ s v m k.
-          let f = beside_from st cuts (Interrupt at) slot s v k in
-          subst (λ x. bit_at x bit ≡ 1) (sym (driven_left (cut_of cuts s) f.0 (left s f.1.0)) ∙ f.2) (all s f.0 f.1),
+          let f = beside_from cuts drivers slot s v (device_at st s) k in
+          let d : drives st (Interrupt at) s ≡ true = sym (are s m) ∙ f.1 in
+          subst (λ x. bit_at x bit ≡ 1) (sym (driven_left (cut_of cuts s) f.0 (left s d)) ∙ f.3) (all s f.0 (d, slot_byte_from (device_at st s) f.0 f.2)),
     )
 
+-- the lowest of the drivers
+lowest_driver : (st : State) (r : Request) (drivers : SlotSet) (slot : ℕ) → AreDrivers st.active r st.devices drivers → IsLowestOf drivers slot → IsLowestDriver st r slot
+lowest_driver st r drivers slot are h = (sym (are slot h.0) ∙ h.1, λ t l. sym (are t (omega (arith, l, h.0))) ∙ h.2 t l)
+
 -- a reading of the bytes
-reading_at : (st : State) (cuts : CutList) (at slot : ℕ) (front : Waiting) (byte : Option ℕ) → IsLowest st.active (Interrupt at) st.devices slot → IsFrontOf (device_at st slot) front
-    → MatchOption (slot_byte (device_at st slot)) (byte ≡ None) (λ own. IsSomeAnd byte (BytesRead st cuts at slot own)) → IfSome byte (λ v. v < 256)
+pub reading_at : (st : State) (cuts : CutList) (at slot : ℕ) (front : Waiting) (byte : Option ℕ) (drivers : SlotSet) → AreDrivers st.active (Interrupt at) st.devices drivers → length st.devices ≡ SLOTS
+    → IsLowestOf drivers slot × IsFrontOf (device_at st slot) front → MatchOption (slot_byte (device_at st slot)) (byte ≡ None) (λ own. IsSomeAnd byte (BytesRead st cuts drivers slot own)) → IfSome byte (λ v. v < 256)
     → IsReading st cuts at (record { slot = slot; number = front.number; at = at; byte = byte })
-reading_at st cuts at slot front byte lowest fronted read small =
-    go front.byte refl byte (subst (λ o. MatchOption o (byte ≡ None) (λ own. IsSomeAnd byte (BytesRead st cuts at slot own))) (slot_byte_of (device_at st slot) front fronted) read) small
+reading_at st cuts at slot front byte drivers are long found read small =
+    go front.byte refl byte (subst (λ o. MatchOption o (byte ≡ None) (λ own. IsSomeAnd byte (BytesRead st cuts drivers slot own))) (slot_byte_of (device_at st slot) front found.1) read) small
   where
-    go : (o : Option ℕ) → front.byte ≡ o → (byte : Option ℕ) → MatchOption o (byte ≡ None) (λ own. IsSomeAnd byte (BytesRead st cuts at slot own)) → IfSome byte (λ v. v < 256)
+    lowest : IsLowestDriver st (Interrupt at) slot
+    lowest = lowest_driver st (Interrupt at) drivers slot are found.0
+
+    one : (s : ℕ) → s < SLOTS → ((t : ℕ) → drives st (Interrupt at) t ≡ true → t ≡ slot) → has drivers s ≡ true → s ≡ slot
+    one s l h t = h s (sym (are s l) ∙ t)
+
+    go : (o : Option ℕ) → front.byte ≡ o → (byte : Option ℕ) → MatchOption o (byte ≡ None) (λ own. IsSomeAnd byte (BytesRead st cuts drivers slot own)) → IfSome byte (λ v. v < 256)
         → IsReading st cuts at (record { slot = slot; number = front.number; at = at; byte = byte })
     go None e byte none small = record {
       front = front;
       lowest = lowest;
-      fronted = fronted;
+      fronted = found.1;
       number = refl;
       address = refl;
       present = ap is_some (none ∙ sym e);
@@ -129,40 +143,73 @@ reading_at st cuts at slot front byte lowest fronted read small =
     go (Some own) e (Some both) tog small = record {
       front = front;
       lowest = lowest;
-      fronted = fronted;
+      fronted = found.1;
       number = refl;
       address = refl;
       present = ap is_some (sym e);
-      alone = λ h l. ap Some (tog.alone (λ s m. beside_none st cuts (Interrupt at) slot s h) ∙ driven_left (cut_of cuts slot) own l) ∙ sym e;
+      alone = λ h l. ap Some (tog.alone (λ s m. beside_none cuts drivers slot s (device_at st s) (one s m h)) ∙ driven_left (cut_of cuts slot) own l) ∙ sym e;
       together = λ h v k.
           let is : both ≡ v = same_Some both v k in (
             subst (λ x. x < 256) is small,
             λ bit l. (
-              λ b s u d. reads_to st cuts at slot own both front fronted e tog h bit l (subst (λ x. bit_at x bit ≡ 1) (sym is) b) s u d,
-              λ all. subst (λ x. bit_at x bit ≡ 1) is (reads_from st cuts at slot own both front lowest.0 fronted e tog h bit l all),
+              λ b s u d. reads_to st cuts at slot own both front drivers are long found.1 e tog h bit l (subst (λ x. bit_at x bit ≡ 1) (sym is) b) s u d,
+              λ all. subst (λ x. bit_at x bit ≡ 1) is (reads_from st cuts at slot own both front drivers are lowest.0 found.1 e tog h bit l all),
             ),
           );
     }
 
--- the same of a bus with the devices that were scanned
-moved_to : (st : State) (devices : List (Option Device)) (active : ℕ) → HasDevices st devices active → record st { devices = devices; active = active } ≡ st
-moved_to st devices active has = λ k. record st { devices = sym has.0 k; active = sym has.1 k }
+-- the byte that was read beside the own one
+pub read_as : (devices : List (Option Device)) (cuts : CutList) (drivers : SlotSet) (lowest own both : ℕ) → slot_byte (get_or devices lowest None) ≡ Some own
+    → Together (λ s. byte_beside cuts drivers lowest s (get_or devices s None)) (driven (cut_of cuts lowest) own) SLOTS both
+    → MatchOption (slot_byte (get_or devices lowest None)) (Some both ≡ None) (λ v. IsSomeAnd (Some both) (Together (λ s. byte_beside cuts drivers lowest s (get_or devices s None)) (driven (cut_of cuts lowest) v) SLOTS))
+read_as devices cuts drivers lowest own both e h =
+    subst (λ o. MatchOption o (Some both ≡ None) (λ v. IsSomeAnd (Some both) (Together (λ s. byte_beside cuts drivers lowest s (get_or devices s None)) (driven (cut_of cuts lowest) v) SLOTS))) (sym e) h
 
-pub reading_of : (st : State) (devices : List (Option Device)) (active : ℕ) (cuts : CutList) (at slot : ℕ) (front : Waiting) (byte : Option ℕ) → HasDevices st devices active
-    → IsLowest active (Interrupt at) devices slot × IsFrontOf (get_or devices slot None) front
-    → MatchOption (slot_byte (get_or devices slot None)) (byte ≡ None)
-    (λ own. IsSomeAnd byte (Together (λ s. byte_beside cuts active (Interrupt at) slot s (get_or devices s None)) (driven (cut_of cuts slot) own) (length devices)))
+-- the same of devices that a bus has
+pub reading_of : (st : State) (devices : List (Option Device)) (cuts : CutList) (at slot : ℕ) (front : Waiting) (byte : Option ℕ) (drivers : SlotSet) → st.devices ≡ devices → AreDrivers st.active (Interrupt at) devices drivers
+    → length devices ≡ SLOTS → IsLowestOf drivers slot × IsFrontOf (get_or devices slot None) front
+    → MatchOption (slot_byte (get_or devices slot None)) (byte ≡ None) (λ own. IsSomeAnd byte (Together (λ s. byte_beside cuts drivers slot s (get_or devices s None)) (driven (cut_of cuts slot) own) SLOTS))
     → IfSome byte (λ v. v < 256) → IsReading st cuts at (record { slot = slot; number = front.number; at = at; byte = byte })
-reading_of st devices active cuts at slot front byte has h read small =
-    subst (λ s. IsReading s cuts at (record { slot = slot; number = front.number; at = at; byte = byte })) (moved_to st devices active has)
-    (reading_at (record st { devices = devices; active = active }) cuts at slot front byte h.0 h.1 read small)
+reading_of st devices cuts at slot front byte drivers same are long found read small =
+    subst (λ s. IsReading s cuts at (record { slot = slot; number = front.number; at = at; byte = byte })) (λ k. record st { devices = sym same k })
+    (reading_at (record st { devices = devices }) cuts at slot front byte drivers are long found read small)
+
+-- whoever drives an interrupt has a front
+driver_front : (active s at : ℕ) (o : Option Device) → drives_at active s o (Interrupt at) ≡ true → (w : Waiting) × IsFrontOf o w
+driver_front active s at None d = absurd (both_ways _ refl (and_parts (not (s == active)) false d).1)
+driver_front active s at (Some d) asked = go d.waiting refl
+  where
+    parts : is_empty d.waiting ≡ true → ⊥
+    parts e =
+        let a = (and_parts (not (s == active)) (asks d (Interrupt at)) asked).1 in
+        let b = (and_parts (has_address at d) (not d.role_wish && (not (is_empty d.waiting) && d.kinds.interrupt)) a).1 in
+        let c = (and_parts (not d.role_wish) (not (is_empty d.waiting) && d.kinds.interrupt) b).1 in
+        both_ways _ (ap not e) (and_parts (not (is_empty d.waiting)) d.kinds.interrupt c).0
+
+    go : (ws : List Waiting) → d.waiting ≡ ws → (w : Waiting) × IsFrontOf (Some d) w
+    go [] e = absurd (parts (ap is_empty e))
+    go (w ∷ ws) e = (w, (d, ws, refl, e))
+
+-- the front that is found first in a list
+pub front_at : (place : Option Device) (d : Device) (w : Waiting) → Some d ≡ place → slice_get d.waiting 0 ≡ Some w → IsFrontOf place w
+front_at place d w there first = go d.waiting refl first
+  where
+    go : (ws : List Waiting) → d.waiting ≡ ws → slice_get ws 0 ≡ Some w → IsFrontOf place w
+    go [] e k = absurd (none-some w k)
+    go (v ∷ ws) e k = (d, ws, sym there, e ∙ ap (λ x. x ∷ ws) (same_Some v w k))
+
+-- where the lowest of the drivers has no front, there is none
+pub no_driver : (active at : ℕ) (devices : List (Option Device)) (drivers : SlotSet) (slot : ℕ) → AreDrivers active (Interrupt at) devices drivers → IsLowestOf drivers slot
+    → ((w : Waiting) → IsFrontOf (get_or devices slot None) w → ⊥) → ⊥
+no_driver active at devices drivers slot are h none =
+    let f = driver_front active slot at (get_or devices slot None) (sym (are slot h.0) ∙ h.1) in none f.0 f.1
 
 -- the byte that was read is there exactly where one is due
 pub due_byte : (devices : List (Option Device)) (active : ℕ) (cuts : CutList) (at : ℕ) (due : Bool) (r : Record) → HaveBytes active devices at due
-    → ((st : State) → HasDevices st devices active → IsReading st cuts at r) → is_some r.byte ≡ due
+    → ((st : State) → st.devices ≡ devices → st.active ≡ active → IsReading st cuts at r) → is_some r.byte ≡ due
 due_byte devices active cuts at due r fitting read =
     let st : State = record { devices = devices; raised = []; active = active; legacy = []; given = []; in_session = false; listed = false; records = [] } in
-    let h : IsReading st cuts at r = read st (refl, refl) in
+    let h : IsReading st cuts at r = read st refl refl in
     h.present ∙ fitting r.slot h.front h.lowest.0 h.fronted
 
 pub no_byte : (o : Option ℕ) → is_some o ≡ false → o ≡ None

@@ -1,20 +1,22 @@
 -- The scans over the devices.
-use Rattle.std.proofs.lemmas.Bool.{cases_eq, cases_lt}
+use Rattle.std.proofs.lemmas.Bool.{both_ways, cases_eq, cases_lt, cond-true, eq-eqb}
 use Rattle.std.proofs.lemmas.List.{get_or_past}
 use Rattle.std.proofs.lemmas.Nat.Bits.{bit_at-lt, bit_at_and}
 use Rattle.std.proofs.lemmas.Option.{none-some, same_Some}
 use Rattle.std.specs.Int.{bit_at}
 use Rattle.std.specs.Int.Bits.{bit_and}
-use Rattle.std.proofs.Common.{◌≡◌, ℕ, ◌+◌, ◌<◌, ◌≤◌, Bool, true, false, List, [], length, Option, Some, None, MatchOption, inl, inr, sym, refl, ap, ◌∙◌, subst, arith}
+use Rattle.std.proofs.Common.{◌≡◌, ℕ, ◌<◌, ◌↔◌, ◌⊎◌, ◌==◌, ◌&&◌, not, Bool, true, false, if◌then◌else◌, List, length, Option, Some, None, option_map, inl, inr, sym, refl, ap, ◌∙◌, subst, arith}
+use Rattle.i3c_base.specs.declared.range.TheConstants.{SLOTS}
 use Rattle.i3c_base.specs.declared.requests.Request.{Request}
+use Rattle.i3c_base.specs.Cutting.{CutList, cut_of}
 use Rattle.i3c_base.specs.State.{Device, HasDevices, State, device_at}
-use Rattle.i3c_base.specs.Serve.{IsFirstRequest, drives, rank}
-use Rattle.std.specs.List.{Contains}
-use Rattle.std.proofs.lemmas.List.Elements.{All-contains, All-nil}
-use Rattle.i3c_header.specs.Keys.{IsFirstOf as IsFirstIn}
-use Rattle.i3c_device.specs.Walks.{AreDriven}
+use Rattle.i3c_base.specs.Serve.{IsFirst, NoneAsks, drives}
+use Rattle.i3c_device.specs.declared.sets.SlotSet.{SlotSet}
+use Rattle.i3c_device.specs.Sets.{has}
+use Rattle.i3c_device.specs.Walks.{AreDrivers, IsFirstDriven, NobodyDrives}
+use Rattle.i3c_device.proofs.FindLaws.{TakesOut, not_taken, still_in}
 use Rattle.i3c_device.proofs.MarkLaws.{undriven_past}
-use Rattle.i3c_ibi.specs.Driving.{Together}
+use Rattle.i3c_ibi.specs.Driving.{Together, byte_beside, driven, slot_byte}
 
 -- past the last slot nobody drives
 pub drives_in : (st : State) (q : Request) (s : ℕ) → drives st q s ≡ true → s < length st.devices
@@ -23,37 +25,48 @@ drives_in st q s d = elim (cases_lt s (length st.devices)) [
   | inr past ↦ absurd (undriven_past st.active s (device_at st s) q (get_or_past st.devices s None past) d)
 ]
 
-not_true : (b : Bool) → (b ≡ true → ⊥) → b ≡ false
-not_true true h = absurd (h refl)
-not_true false h = refl
+-- the first of the requests that the devices drive is the first on a bus with these devices
+pub first_on : (st : State) (devices : List (Option Device)) (active : ℕ) (r : Request) (drivers : SlotSet) → HasDevices st devices active → IsFirstDriven active devices (r, drivers) → IsFirst st r
+first_on st devices active r drivers has first =
+    go (subst (λ ds. IsFirstDriven st.active ds (r, drivers)) (sym has.0) (subst (λ a. IsFirstDriven a devices (r, drivers)) (sym has.1) first))
+  where
+    go : IsFirstDriven st.active st.devices (r, drivers) → IsFirst st r
+    go h = record { driven = h.driven; first = h.least }
 
--- the first of the requests is first on the bus
-first_of : (st : State) (requests : List Request) (first : Option Request) → AreDriven st.active st.devices (length st.devices) requests → MatchOption first (requests ≡ []) (IsFirstIn requests) → IsFirstRequest st first
-first_of st requests None h none = λ s q. not_true _ (λ d. All-contains (λ (x : Request). ⊥) [] q (All-nil (λ (x : Request). ⊥)) (subst (λ rs. Contains rs q) none (h.among s q (drives_in st q s d) d)))
-first_of st requests (Some r) h first = record {
-  driven = All-contains (λ q. (s : ℕ) × (drives st q s ≡ true)) requests r h.driven first.0;
-  first = λ s q d. All-contains (λ q. rank r ≤ rank q) requests q first.1 (h.among s q (drives_in st q s d) d);
-}
+pub none_on : (st : State) (devices : List (Option Device)) (active : ℕ) → HasDevices st devices active → NobodyDrives active devices → NoneAsks st
+none_on st devices active has none = subst (λ ds. NobodyDrives st.active ds) (sym has.0) (subst (λ a. NobodyDrives a devices) (sym has.1) none)
 
-pub first_seen : (st : State) (devices : List (Option Device)) (active : ℕ) (requests now : List Request) (first : Option Request) → HasDevices st devices active
-    → AreDriven active devices (length devices) requests → now ≡ requests → MatchOption first (now ≡ []) (IsFirstIn now) → IsFirstRequest st first
-first_seen st devices active requests now first has h n m =
-    first_of st requests first
-    (subst (λ ds. AreDriven st.active ds (length ds) requests) (sym has.0) (subst (λ k. AreDriven k devices (length devices) requests) (sym has.1) h))
-    (subst (λ rs. MatchOption first (rs ≡ []) (IsFirstIn rs)) n m)
+pub drivers_on : (st : State) (devices : List (Option Device)) (active : ℕ) (r : Request) (drivers : SlotSet) → HasDevices st devices active → AreDrivers active r devices drivers → AreDrivers st.active r devices drivers
+drivers_on st devices active r drivers has are = subst (λ a. AreDrivers a r devices drivers) (sym has.1) are
 
--- the AND of bytes
-pub together_none : (bytes : ℕ → Option ℕ) (own : ℕ) → Together bytes own 0 own
-together_none bytes own = record { bits = λ bit l. (λ h. (h, λ s v k. absurd (omega arith)), λ h. h.0); alone = λ h. refl }
+-- `both` is the AND of `own` and the bytes of the slots that aren't left
+pub record TogetherSoFar (bytes : ℕ → Option ℕ) (own : ℕ) (left : SlotSet) (both : ℕ) : Type 0 where
+  pub bits : (bit : ℕ) → bit < 8 → ((bit_at both bit ≡ 1) ↔ ((bit_at own bit ≡ 1) × ((s v : ℕ) → s < SLOTS → has left s ≡ false → bytes s ≡ Some v → bit_at v bit ≡ 1)))
+  pub alone : ((s : ℕ) → s < SLOTS → has left s ≡ false → bytes s ≡ None) → both ≡ own
 
-pub together_skip : (bytes : ℕ → Option ℕ) (own n both : ℕ) → Together bytes own n both → bytes n ≡ None → Together bytes own (n + 1) both
-together_skip bytes own n both h none = record {
+pub together_none : (bytes : ℕ → Option ℕ) (own : ℕ) (left : SlotSet) → ((s : ℕ) → s < SLOTS → has left s ≡ false → bytes s ≡ None) → TogetherSoFar bytes own left own
+together_none bytes own left none = record { bits = λ bit l. (λ h. (h, λ s v low n k. absurd (none-some v (sym (none s low n) ∙ k))), λ h. h.0); alone = λ h. refl }
+
+-- a slot that isn't left any more
+gone : (left next : SlotSet) (i s : ℕ) → TakesOut i left next → i < SLOTS → s ≡ i → has next s ≡ false
+gone left next i s out low e = ap (has next) e ∙ (out i low ∙ cond-true (i == i) false (has left i) (eq-eqb i i (λ t. i)))
+
+-- whichever slot isn't left after it is this one, or wasn't left before
+before : (left next : SlotSet) (i s : ℕ) → TakesOut i left next → s < SLOTS → has next s ≡ false → (s ≡ i) ⊎ (has left s ≡ false)
+before left next i s out l n = elim (cases_eq s i) [ inl e ↦ inl e | inr ne ↦ inr (sym (still_in i left next out s l ne) ∙ n) ]
+
+-- which of them was left before, and is still gone
+after : (left next : SlotSet) (i s : ℕ) → TakesOut i left next → i < SLOTS → s < SLOTS → has left s ≡ false → has next s ≡ false
+after left next i s out low l n = elim (cases_eq s i) [ inl e ↦ gone left next i s out low e | inr ne ↦ still_in i left next out s l ne ∙ n ]
+
+pub together_skip : (bytes : ℕ → Option ℕ) (own i both : ℕ) (left next : SlotSet) → TogetherSoFar bytes own left both → i < SLOTS → TakesOut i left next → bytes i ≡ None → TogetherSoFar bytes own next both
+together_skip bytes own i both left next h low out none = record {
   bits = λ bit l. (
     λ b. let k = (h.bits bit l).0 b in
-        (k.0, λ s v m e. elim (cases_eq s n) [ inl same ↦ absurd (none-some v (sym none ∙ (ap bytes (sym same) ∙ e))) | inr ne ↦ k.1 s v (omega arith) e ]),
-    λ k. (h.bits bit l).1 (k.0, λ s v m e. k.1 s v (omega arith) e),
+        (k.0, λ s v m n e. elim (before left next i s out m n) [ inl same ↦ absurd (none-some v (sym none ∙ (ap bytes (sym same) ∙ e))) | inr was ↦ k.1 s v m was e ]),
+    λ k. (h.bits bit l).1 (k.0, λ s v m n e. k.1 s v m (after left next i s out low m n) e),
   );
-  alone = λ k. h.alone (λ s m. k s (omega arith));
+  alone = λ k. h.alone (λ s m n. k s m (after left next i s out low m n));
 }
 
 bits_both : (a b bit : ℕ) → bit_at (bit_and a b) bit ≡ 1 → (bit_at a bit ≡ 1) × (bit_at b bit ≡ 1)
@@ -64,17 +77,54 @@ bits_both a b bit h =
 both_bits : (a b bit : ℕ) → bit_at a bit ≡ 1 → bit_at b bit ≡ 1 → bit_at (bit_and a b) bit ≡ 1
 both_bits a b bit p q = let m = bit_at_and a b bit in omega (arith, m, p, q)
 
-pub together_and : (bytes : ℕ → Option ℕ) (own n both byte : ℕ) → Together bytes own n both → bytes n ≡ Some byte → Together bytes own (n + 1) (bit_and both byte)
-together_and bytes own n both byte h some = record {
+pub together_and : (bytes : ℕ → Option ℕ) (own i both byte : ℕ) (left next : SlotSet) → TogetherSoFar bytes own left both → i < SLOTS → TakesOut i left next → bytes i ≡ Some byte → TogetherSoFar bytes own next (bit_and both byte)
+together_and bytes own i both byte left next h low out some = record {
   bits = λ bit l. (
     λ b. let p = bits_both both byte bit b in let k = (h.bits bit l).0 p.0 in (
       k.0,
-      λ s v m e. elim (cases_eq s n) [
+      λ s v m n e. elim (before left next i s out m n) [
         | inl same ↦ let is : byte ≡ v = same_Some byte v (sym some ∙ (ap bytes (sym same) ∙ e)) in subst (λ x. bit_at x bit ≡ 1) is p.1
-        | inr ne ↦ k.1 s v (omega arith) e
+        | inr was ↦ k.1 s v m was e
       ],
     ),
-    λ k. both_bits both byte bit ((h.bits bit l).1 (k.0, λ s v m e. k.1 s v (omega arith) e)) (k.1 n byte (omega arith) some),
+    λ k. both_bits both byte bit ((h.bits bit l).1 (k.0, λ s v m n e. k.1 s v m (after left next i s out low m n) e)) (k.1 i byte low (gone left next i i out low refl) some),
   );
-  alone = λ k. absurd (none-some byte (sym (k n (omega arith)) ∙ some));
+  alone = λ k. absurd (none-some byte (sym (k i low (gone left next i i out low refl)) ∙ some));
 }
+
+pub together_all : (bytes : ℕ → Option ℕ) (own both : ℕ) (left : SlotSet) → TogetherSoFar bytes own left both → ((s : ℕ) → s < SLOTS → has left s ≡ false) → Together bytes own SLOTS both
+together_all bytes own both left h none = record {
+  bits = λ bit l. (
+    λ b. let k = (h.bits bit l).0 b in (k.0, λ s v m e. k.1 s v m (none s m) e),
+    λ k. (h.bits bit l).1 (k.0, λ s v m n e. k.1 s v m e),
+  );
+  alone = λ k. h.alone (λ s m n. k s m);
+}
+
+-- beside the lowest of the drivers are the others
+pub others_none : (cuts : CutList) (drivers others : SlotSet) (lowest s : ℕ) (o : Option Device) → has others s ≡ (if s == lowest then false else has drivers s) → has others s ≡ false → byte_beside cuts drivers lowest s o ≡ None
+others_none cuts drivers others lowest s o is n = go (s == lowest) (has drivers s) (sym is ∙ n)
+  where
+    go : (b d : Bool) → (if b then false else d) ≡ false → (if not b && d then option_map (driven (cut_of cuts s)) (slot_byte o) else None) ≡ None
+    go true d e = refl
+    go false true e = absurd (both_ways _ e refl)
+    go false false e = refl
+
+-- the slots that are left are others
+pub record Others (drivers left : SlotSet) (lowest : ℕ) : Type 0 where
+  pub each : (s : ℕ) → s < SLOTS → has left s ≡ true → (not (s == lowest) && has drivers s) ≡ true
+
+pub others_all : (drivers others : SlotSet) (lowest : ℕ) → ((s : ℕ) → s < SLOTS → has others s ≡ (if s == lowest then false else has drivers s)) → Others drivers others lowest
+others_all drivers others lowest is = record { each = λ s l h. go (s == lowest) (has drivers s) (sym (is s l) ∙ h) }
+  where
+    go : (b d : Bool) → (if b then false else d) ≡ true → (not b && d) ≡ true
+    go true d e = absurd (both_ways _ refl e)
+    go false d e = e
+
+pub others_less : (drivers left next : SlotSet) (lowest i : ℕ) → Others drivers left lowest → TakesOut i left next → Others drivers next lowest
+others_less drivers left next lowest i h out = record { each = λ s l t. h.each s l (sym (still_in i left next out s l (not_taken i left next out s l t)) ∙ t) }
+
+pub other_byte : (cuts : CutList) (drivers : SlotSet) (lowest s : ℕ) (place : Option Device) (byte : Option ℕ) → (not (s == lowest) && has drivers s) ≡ true → byte ≡ slot_byte place
+    → byte_beside cuts drivers lowest s place ≡ option_map (driven (cut_of cuts s)) byte
+other_byte cuts drivers lowest s place byte is e =
+    ap (λ b. if b then option_map (driven (cut_of cuts s)) (slot_byte place) else None) is ∙ ap (option_map (driven (cut_of cuts s))) (sym e)

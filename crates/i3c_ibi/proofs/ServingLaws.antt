@@ -1,8 +1,9 @@
 -- What serving a first request does to a bus.
-use Rattle.std.proofs.Common.{◌≡◌, ℕ, ◌+◌, Bool, true, false, List, length, Option, Some, None, option_map, is_some, if◌then◌else◌, inl, inr, sym, refl, ap, subst, ◌∙◌, arith}
+use Rattle.std.proofs.Common.{◌≡◌, ℕ, ◌+◌, ◌<◌, Bool, true, false, List, length, Option, Some, None, option_map, is_some, if◌then◌else◌, inl, inr, sym, refl, ap, subst, ◌∙◌, arith}
 use Rattle.std.proofs.lemmas.Bool.{both_ways}
 use Rattle.std.proofs.lemmas.Bool.Decides.{nat_tests}
 use Rattle.std.proofs.lemmas.Option.{none-some}
+use Rattle.i3c_base.specs.declared.range.TheConstants.{SLOTS}
 use Rattle.i3c_base.specs.declared.requests.Fixed.{Fixed}
 use Rattle.i3c_base.specs.declared.requests.Record.{Record}
 use Rattle.i3c_base.specs.declared.requests.Request.{Request}
@@ -14,11 +15,14 @@ use Rattle.i3c_base.specs.Places.{changed}
 use Rattle.i3c_base.specs.State.{Device, Entry, HasDevices, State, device_at, entry_at, entry_in}
 use Rattle.i3c_base.specs.Serve.{IsFirst, IsRead, NoneAsks, byte_due, drives, each_driver, given_for, recorded, refuse_all, verdict, without, without_front}
 use Rattle.i3c_base.proofs.Lookups.{changed_same}
-use Rattle.i3c_device.specs.Walks.{AnyDrives, SomeDrives, accepted_at, drives_at}
+use Rattle.i3c_device.specs.declared.sets.SlotSet.{SlotSet}
+use Rattle.i3c_device.specs.Sets.{SomeLeft}
+use Rattle.i3c_device.specs.Walks.{AreDrivers, accepted_at, drives_at}
 use Rattle.i3c_ibi.specs.declared.serving.Reading.{Reading}
 use Rattle.i3c_ibi.specs.declared.serving.Reading.TheVariants.{Quiet, Refused, Joined, WantsRole, Due, Torn}
-use Rattle.i3c_ibi.specs.Driving.{HaveBytes, IsReading}
+use Rattle.i3c_ibi.specs.Driving.{HaveBytes, IsReading, SomeDrives}
 use Rattle.i3c_ibi.proofs.ReadingLaws.{no_byte}
+use Rattle.i3c_ibi.proofs.Scans.{drives_in}
 use Rattle.i3c_ibi.specs.Policies.{Decides, is_known, verdict_in}
 use Rattle.i3c_ibi.specs.Serving.{FitsTable, IsServing, served_as}
 
@@ -132,21 +136,17 @@ torn_served st cuts at byte r old new active has fits first known h b none e = r
     gone s d false l = absurd (none (s, d, l))
 
 -- the drivers of a bus, as the walks see them
-pub seen_drives : (st : State) (r : Request) (lost : Lost) (old : List (Option Device)) (active : ℕ) → HasDevices st old active → SomeDrives active r lost old → SomeDrives st.active r lost st.devices
-seen_drives st r lost old active has some =
-    subst (λ ds. SomeDrives st.active r lost ds) (sym has.0) (subst (λ a. SomeDrives a r lost old) (sym has.1) some)
+pub seen_drives : (st : State) (r : Request) (lost : Lost) (drivers : SlotSet) → AreDrivers st.active r st.devices drivers → SomeLeft drivers lost → SomeDrives st.active r lost st.devices
+seen_drives st r lost drivers are some = (some.0, sym (are some.0 some.1) ∙ some.2, some.3)
 
-pub unseen_drives : (st : State) (r : Request) (lost : Lost) (old : List (Option Device)) (active : ℕ) → HasDevices st old active → SomeDrives st.active r lost st.devices → SomeDrives active r lost old
-unseen_drives st r lost old active has some = subst (λ ds. SomeDrives active r lost ds) has.0 (subst (λ a. SomeDrives a r lost st.devices) has.1 some)
+pub unseen_drives : (st : State) (r : Request) (lost : Lost) (drivers : SlotSet) → AreDrivers st.active r st.devices drivers → length st.devices ≡ SLOTS → SomeDrives st.active r lost st.devices → SomeLeft drivers lost
+unseen_drives st r lost drivers are long some =
+    let low : some.0 < SLOTS = let inside = drives_in st r some.0 some.1 in omega (arith, inside, long) in (some.0, low, are some.0 low ∙ some.1, some.2)
 
 pub have_bytes : (st : State) (old : List (Option Device)) (active at : ℕ) (given : List (Option Entry)) → HasDevices st old active → st.given ≡ given → FitsTable st → HaveBytes active old at (byte_due (entry_in given at))
 have_bytes st old active at given has same fits =
     subst (λ g. HaveBytes active old at (byte_due (entry_in g at))) same
     (subst (λ ds. HaveBytes active ds at (byte_due (entry_at st at))) has.0 (subst (λ a. HaveBytes a st.devices at (byte_due (entry_at st at))) has.1 (fits at)))
-
--- someone drives the first request
-pub any_drives : (st : State) (r : Request) (old : List (Option Device)) (active : ℕ) → HasDevices st old active → IsFirst st r → AnyDrives active r old
-any_drives st r old active has first = subst (λ ds. AnyDrives active r ds) has.0 (subst (λ a. AnyDrives a r st.devices) has.1 first.driven)
 
 -- nobody asks
 pub quiet_served : (st : State) (cuts : CutList) (old : List (Option Device)) (active : ℕ) → HasDevices st old active → NoneAsks st → IsServing st cuts Quiet old

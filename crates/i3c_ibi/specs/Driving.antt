@@ -1,16 +1,30 @@
 -- Who drives an interrupt, and what is read behind it. `active` is the active controller's slot.
-use Rattle.std.specs.Prelude.{◌≡◌, ℕ, ◌-◌, ◌/◌, ◌^◌, ◌<◌, ◌↔◌, Bool, true, false, not, ◌&&◌, ◌==◌, nat_le, if◌then◌else◌, List, ◌∷◌, Option, Some, None, option_and_then, option_map, slice_index_or, is_some}
+use Rattle.std.specs.Prelude.{◌≡◌, ℕ, ◌-◌, ◌/◌, ◌^◌, ◌<◌, ◌↔◌, Bool, true, false, not, ◌&&◌, ◌==◌, nat_le, if◌then◌else◌, List, ◌∷◌, Option, Some, None, option_and_then, option_map, slice_index_or, is_some, length}
 use Rattle.std.specs.Int.{bit_at}
 use Rattle.std.specs.Int.RustNames.{bit_or}
+use Rattle.i3c_base.specs.declared.range.TheConstants.{SLOTS}
 use Rattle.i3c_base.specs.declared.requests.Record.{Record}
 use Rattle.i3c_base.specs.declared.device.Waiting.{Waiting}
 use Rattle.i3c_base.specs.declared.requests.Request.{Request}
 use Rattle.i3c_base.specs.declared.requests.Request.TheVariants.{Interrupt}
-use Rattle.i3c_base.specs.Cutting.{CutList, cut_of, lost_by}
+use Rattle.i3c_base.specs.Cutting.{CutList, Lost, cut_of, lost_by}
 use Rattle.i3c_base.specs.State.{Device, State}
 use Rattle.i3c_base.specs.Serve.{DrivesByte, IsAnd, IsFront, IsLowestDriver, drives}
 use Rattle.i3c_device.specs.Raising.{front_byte}
-use Rattle.i3c_device.specs.Walks.{drives_at}
+use Rattle.i3c_device.specs.declared.sets.SlotSet.{SlotSet}
+use Rattle.i3c_device.specs.Sets.{has}
+use Rattle.i3c_device.specs.Walks.{AnyDrives, AreDrivers, drives_at}
+
+-- a device of these that isn't lost drives the request
+abbrev pub SomeDrives : ℕ → Request → Lost → List (Option Device) → Type 0
+SomeDrives active r lost devices = (s : ℕ) × (drives_at active s (slice_index_or devices s None) r ≡ true) × (lost s ≡ false)
+
+-- devices of these drive the request, in these slots
+pub record IsDriven (devices : List (Option Device)) (r : Request) (drivers : SlotSet) : Type 0 where
+  pub active : ℕ
+  pub long : length devices ≡ SLOTS
+  pub are : AreDrivers active r devices drivers
+  pub driven : AnyDrives active r devices
 
 -- w waits at the front of what stands in a slot
 abbrev pub IsFrontOf : Option Device → Waiting → Type 0
@@ -30,10 +44,10 @@ driven (Some bit) byte = if nat_le 9 bit then byte else (if nat_le bit 1 then 25
 abbrev pub slot_byte : Option Device → Option ℕ
 slot_byte place = option_and_then (λ d. front_byte d.waiting) place
 
--- the byte that slot s drives behind the request r, beside the one of slot `lowest`
-abbrev pub byte_beside : CutList → ℕ → Request → ℕ → ℕ → Option Device → Option ℕ
-byte_beside cuts active r lowest s place =
-    if not (s == lowest) && drives_at active s place r then option_map (driven (cut_of cuts s)) (slot_byte place) else None
+-- the byte that slot s drives beside the one of slot `lowest`, if it is one of these
+abbrev pub byte_beside : CutList → SlotSet → ℕ → ℕ → Option Device → Option ℕ
+byte_beside cuts drivers lowest s place =
+    if not (s == lowest) && has drivers s then option_map (driven (cut_of cuts s)) (slot_byte place) else None
 
 -- `both` is the AND of `own` and the bytes of the slots below n
 pub record Together (bytes : ℕ → Option ℕ) (own n both : ℕ) : Type 0 where

@@ -3,15 +3,15 @@ ghost use Rattle.i3c_base.specs.declared.requests.Request.{Request as RequestVal
 ghost use Rattle.i3c_base.specs.declared.requests.Verdict.{Verdict as VerdictValue};
 ghost use Rattle.i3c_base.specs.State.{HasDevices, State};
 ghost use Rattle.i3c_base.specs.Serve.{IsFirst, given_for};
-ghost use Rattle.i3c_device.specs.Walks.{AnyDrives};
+ghost use Rattle.i3c_device.specs.Walks.{AreDrivers};
+ghost use Rattle.i3c_ibi.specs.Driving.{IsDriven};
 ghost use Rattle.i3c_ibi.specs.Policies.{Decides, is_known, verdict_in};
 ghost use Rattle.i3c_ibi.specs.Serving.{FitsTable, IsServing, served_as};
 
-use crate::first::first_request;
 use crate::policies::{Policy, decide};
 use crate::readings::{END_BIT, byte_is_due, reading};
 use i3c_base::{Addr7, Cuts, Record, Request, Slot, Verdict};
-use i3c_device::Devices;
+use i3c_device::{Devices, SlotSet};
 use i3c_table::Table;
 
 /// The bits of a word.
@@ -50,46 +50,51 @@ impl Reading {
     }
 }
 
-/// Reads the accepted interrupt at this address, which some device drives.
-fn interrupt(devices: &mut Devices, active: Slot, table: &Table, at: Addr7, cuts: &Cuts) -> Reading
-    requires driven { AnyDrives active (RequestValue.Interrupt at) devices.old }
-    ensures served { (st : State) → HasDevices st devices.old active → st.given ≡ table.now.given → FitsTable st → IsFirst st (RequestValue.Interrupt at)
-        → is_known st.given (RequestValue.Interrupt at) ≡ true → IsServing st cuts.now result devices.new }
+/// Reads the accepted interrupt at this address, which these slots drive.
+fn interrupt(
+    devices: &mut Devices,
+    drivers: SlotSet,
+    table: &Table,
+    at: Addr7,
+    cuts: &Cuts,
+) -> Reading
+    requires driven { IsDriven devices.old (RequestValue.Interrupt at) drivers }
+    ensures served { (st : State) → st.devices ≡ devices.old → AreDrivers st.active (RequestValue.Interrupt at) devices.old drivers → st.given ≡ table.now.given → FitsTable st
+        → IsFirst st (RequestValue.Interrupt at) → is_known st.given (RequestValue.Interrupt at) ≡ true → IsServing st cuts.now result devices.new }
     ensures accepted { (count : ℕ) → (given_for (served_as count result)).interrupt ≡ VerdictValue.Accept }
 {
-    let request = Request::Interrupt(at);
-    let record = reading(devices, active, at, byte_is_due(table, at), cuts);
-    let ended = devices.is_driven(active, &request, cuts, END_BIT);
-    devices.accept(active, &request);
+    let record = reading(devices, drivers, at, byte_is_due(table, at), cuts);
+    let ended = drivers.outlasts(cuts, END_BIT);
+    devices.accept(drivers, &Request::Interrupt(at));
     match record.byte {
         Some(byte) if !ended => Reading::Torn(at, byte),
         _ => Reading::Due(record),
     }
 }
 
-/// Accepts this request, which comes first.
+/// Accepts this request, which comes first and which these slots drive.
 fn accept(
     devices: &mut Devices,
-    active: Slot,
+    drivers: SlotSet,
     table: &Table,
     request: &Request,
     cuts: &Cuts,
 ) -> Reading
-    requires driven { AnyDrives active request.now devices.old }
-    ensures served { (st : State) → HasDevices st devices.old active → st.given ≡ table.now.given → FitsTable st → IsFirst st request.now
+    requires driven { IsDriven devices.old request.now drivers }
+    ensures served { (st : State) → st.devices ≡ devices.old → AreDrivers st.active request.now devices.old drivers → st.given ≡ table.now.given → FitsTable st → IsFirst st request.now
         → is_known st.given request.now ≡ true → IsServing st cuts.now result devices.new }
     ensures accepted { (count : ℕ) → verdict_in (given_for (served_as count result)) request.now ≡ VerdictValue.Accept }
 {
     match request {
         Request::Join => {
-            devices.accept(active, request);
+            devices.accept(drivers, request);
             Reading::Joined
         }
         Request::Role(at) => {
-            devices.accept(active, request);
+            devices.accept(drivers, request);
             Reading::WantsRole(*at)
         }
-        Request::Interrupt(at) => interrupt(devices, active, table, *at, cuts),
+        Request::Interrupt(at) => interrupt(devices, drivers, table, *at, cuts),
     }
 }
 
@@ -107,11 +112,11 @@ pub fn serve<P: Policy>(
     ensures asks { (st : State) → HasDevices st devices.old active → st.given ≡ table.now.given
         → Decides P.verdict_gives policy.old policy.new st (given_for (served_as (length st.records) result)) }
 {
-    let Some(request) = first_request(devices, active) else {
+    let Some((request, drivers)) = devices.first_request(active) else {
         return Reading::Quiet;
     };
     match decide(table, policy, &request) {
         Verdict::Refuse => Reading::Refused(request),
-        Verdict::Accept => accept(devices, active, table, &request, cuts),
+        Verdict::Accept => accept(devices, drivers, table, &request, cuts),
     }
 }
