@@ -1,5 +1,5 @@
-use crate::pick;
 use i3c_base::{Addr7, Bcr, Dcr, Lvr};
+use i3c_picker::pick;
 use i3c_table::{Legacies, ROWS, Row, Table};
 use std::test::Fail;
 

@@ -1,5 +1,5 @@
-use crate::{LEGACIES, Legacies, LegacyFault, LegacyTargets};
 use i3c_base::{Addr7, LegacyTarget, Lvr};
+use i3c_legacy::{LEGACIES, Legacies, LegacyFault, LegacyTargets};
 use std::test::Fail;
 
 #[test]

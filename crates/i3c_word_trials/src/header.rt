@@ -1,8 +1,8 @@
 ghost use Rattle.std.specs.Prelude.{◌≡◌, ◌<◌, ◌≤◌};
 ghost use Rattle.i3c_header.specs.Keys.{IsLawful};
 
-use crate::{Request, arbitrate, header, key};
 use i3c_base::Addr7;
+use i3c_header::{Request, arbitrate, header, key};
 
 fn address(value: u8) -> Addr7
     requires { value < 128 }

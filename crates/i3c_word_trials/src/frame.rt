@@ -1,8 +1,8 @@
 ghost use Rattle.std.specs.Prelude.{[], ◌∷◌};
 ghost use Rattle.i3c_frame.specs.Taps.{NotesAll};
 
-use crate::{Silent, Symbol, Tap, TraceFault, read_trace};
 use i3c_base::Addr7;
+use i3c_frame::{Silent, Symbol, Tap, TraceFault, read_trace};
 use i3c_word::Word;
 use std::alloc::Global;
 use std::process::Abort;

@@ -1,4 +1,4 @@
-use crate::{CccFault, Code, Command, byte_of, code_of, read_command};
+use i3c_ccc::{CccFault, Code, Command, byte_of, code_of, read_command};
 use i3c_word::{Word, write_word};
 
 #[test]

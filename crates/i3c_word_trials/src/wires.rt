@@ -1,6 +1,6 @@
-use crate::{Lines, contest};
 use arrayvec::ArrayVec;
 use i3c_base::{Cuts, SLOTS, Slot};
+use i3c_wires::{Lines, contest};
 use std::test::Fail;
 
 #[test]

@@ -1,5 +1,5 @@
-use crate::{Legacies, ROWS, Row, Table};
 use i3c_base::{Addr7, Bcr, Dcr, Identity, Lvr, Pid};
+use i3c_table::{Legacies, ROWS, Row, Table};
 use std::process::Abort;
 use std::test::Fail;
 

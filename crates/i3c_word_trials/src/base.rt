@@ -1,8 +1,8 @@
-use crate::{
+use bitflags::Flags;
+use i3c_base::{
     Addr7, Bcr, Cuts, Dcr, Fixed, Identity, Kinds, LegacyTarget, Pid, REGISTERS, Record, Request,
     SLOTS, Served, Setup, Slot, WAITING, Waiting,
 };
-use bitflags::Flags;
 use std::mem::size_of;
 use std::test::Fail;
 

@@ -1,5 +1,5 @@
-use crate::{Parity, Word, address_byte, end_bit, read_address_byte, read_word, write_word};
 use i3c_base::Addr7;
+use i3c_word::{Parity, Word, address_byte, end_bit, read_address_byte, read_word, write_word};
 use std::test::Fail;
 
 #[test]
