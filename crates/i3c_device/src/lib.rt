@@ -12,6 +12,3 @@ mod walks;
 
 pub use attached::Device;
 pub use slots::Devices;
-
-#[cfg(test)]
-mod tests;

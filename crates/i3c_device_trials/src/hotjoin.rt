@@ -1,7 +1,7 @@
-use crate::{JoinRefusal, ask};
 use i3c_base::{Addr7, Bcr, Dcr, Identity, Pid, Setup, Slot};
 use i3c_ccc::Code;
 use i3c_device::{Device, Devices};
+use i3c_hotjoin::{JoinRefusal, ask};
 use i3c_word::write_word;
 use std::test::Fail;
 

@@ -1,10 +1,10 @@
 ghost use Rattle.std.specs.Prelude.{◌≡◌, ◌≤◌, ◌⊎◌, [], ◌∷◌, ◌++◌};
 
-use crate::{Active, Offer, RoleRefusal, ask, give, offer, offer_bits, retire, tell_offer};
 use i3c_base::{Addr7, Bcr, Cuts, Dcr, Identity, Pid, Request, Setup, Slot};
 use i3c_ccc::Code;
 use i3c_device::{Device, Devices};
 use i3c_frame::{Symbol, Tap, read_trace};
+use i3c_handoff::{Active, Offer, RoleRefusal, ask, give, offer, offer_bits, retire, tell_offer};
 use i3c_word::write_word;
 use std::alloc::Global;
 use std::process::Abort;

@@ -1,8 +1,8 @@
 ghost use Rattle.std.specs.Prelude.{◌≤◌};
 
-use crate::{Device, Devices};
 use i3c_base::{Addr7, Bcr, Cuts, Dcr, Identity, Pid, RaiseRefusal, Request, Setup, Slot, Waiting};
 use i3c_ccc::Code;
+use i3c_device::{Device, Devices};
 use i3c_word::write_word;
 use std::test::Fail;
 

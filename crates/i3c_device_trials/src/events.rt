@@ -1,9 +1,9 @@
 ghost use Rattle.std.specs.Prelude.{◌≤◌};
 
-use crate::{Change, Kinds, NoAnswer, code_word, hear_kinds, kinds_word};
 use bitflags::Flags;
 use i3c_base::{Addr7, Bcr, Cuts, Dcr, Identity, Pid, Request, Setup, Slot};
 use i3c_device::{Device, Devices};
+use i3c_events::{Change, Kinds, NoAnswer, code_word, hear_kinds, kinds_word};
 use i3c_word::Word;
 use std::test::Fail;
 
