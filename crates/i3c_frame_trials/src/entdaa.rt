@@ -1,6 +1,6 @@
-use crate::{Round, RoundReply, round};
 use i3c_base::{Addr7, Bcr, Cuts, Dcr, Identity, Pid, Setup, Slot};
 use i3c_device::{Device, Devices};
+use i3c_entdaa::{Round, RoundReply, round};
 use i3c_table::{Legacies, Table};
 use std::process::Abort;
 use std::test::Fail;

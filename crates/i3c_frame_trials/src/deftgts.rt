@@ -1,6 +1,6 @@
-use crate::{ENTRIES, Entry, List, ListFault, WORDS, read_list, write_list};
 use arrayvec::ArrayVec;
 use i3c_base::{Addr7, Bcr, Dcr, Identity, Lvr, Pid};
+use i3c_deftgts::{ENTRIES, Entry, List, ListFault, WORDS, read_list, write_list};
 use i3c_table::{Legacies, Row, Table};
 use i3c_word::{Word, write_word};
 use std::alloc::Global;

@@ -1,8 +1,8 @@
 ghost use Rattle.std.specs.Prelude.{⊤, ◌≤◌};
 
-use crate::{Fixed, Policy, Reading, Record, Verdict, decide, first_request, serve};
 use i3c_base::{Addr7, Bcr, Cuts, Dcr, Identity, Pid, Request, Setup, Slot};
 use i3c_device::{Device, Devices};
+use i3c_ibi::{Fixed, Policy, Reading, Record, Verdict, decide, first_request, serve};
 use i3c_table::{Legacies, Row, Table};
 use std::process::Abort;
 use std::test::Fail;

@@ -1,10 +1,10 @@
 ghost use Rattle.std.specs.Prelude.{◌≡◌, ◌≤◌, ◌<◌, ◌⊎◌, [], ◌∷◌, ◌++◌, length};
 
-use crate::{Read, Write, read, read_bits, tell_read, tell_write, write, write_bits};
 use i3c_base::{Addr7, Answer, Bcr, Cuts, Dcr, Identity, LegacyTarget, Lvr, Pid, Setup, Slot};
 use i3c_device::{Device, Devices};
 use i3c_frame::{Symbol, Tap, read_trace};
 use i3c_legacy::{Legacies, LegacyTargets};
+use i3c_xfer::{Read, Write, read, read_bits, tell_read, tell_write, write, write_bits};
 use std::alloc::Global;
 use std::process::Abort;
 use std::test::Fail;
