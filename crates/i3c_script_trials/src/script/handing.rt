@@ -1,6 +1,6 @@
 //! Wishes for the role, resets, lists of devices and handovers.
 
-use crate::tests::{TARGET, goes_on, prints};
+use crate::script::{TARGET, goes_on, prints};
 use std::alloc::Global;
 use std::process::Abort;
 use std::test::Fail;

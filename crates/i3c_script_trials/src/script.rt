@@ -1,10 +1,5 @@
-use crate::faults::Stop;
-use crate::telling::{Origin, tell};
-use crate::{ScriptFault, Tally, run_script};
-use i3c_base::{Addr7, Answer, RoundReply, Served};
-use i3c_bus::{Event, Framed, Reply};
 use i3c_frame::read_trace;
-use i3c_lines::{Names, Refusal, Text};
+use i3c_script::{ScriptFault, Tally, run_script};
 use std::alloc::Global;
 use std::io::{ErrorKind, Read, Write};
 use std::process::Abort;
@@ -624,68 +619,50 @@ fn symbols_are_a_trace(rt: HostRuntime) -> Result<(), Fail> {
     Ok(())
 }
 
-// What is printed for replies that hardly a line gets today, and what stops their lines.
+// What is printed for replies that few lines get, and what stops their lines: of a line that is the event, and of `daa`,
+// which prints nothing of its opening and end but who was turned down. A session's `daa` that is short of an address is
+// in `addresses_run_out`.
 #[test]
 fn texts_of_replies(rt: HostRuntime) -> Result<(), Fail> {
-    let nine = Addr7::new(9)?;
-    let unanswered = Framed {
-        served: Served::Torn,
-        answer: Answer::NoEnd,
-    };
-    let read = Framed {
-        served: Served::Quiet,
-        answer: Answer::Bytes([0, 1, 2, 3, 4, 5, 6, 7, 8, 9, 10, 11, 12, 13, 14, 255]),
-    };
-    let silent = Stop::Refused(Refusal::NoEnd);
-    let none_left = Stop::Refused(Refusal::NoAddress);
-    let (line, daa) = (Origin::Line, Origin::Daa);
+    let alloc = rt.alloc();
     let cases = [
-        (line, Reply::Served(Served::Torn), "torn\n", None),
-        (line, Reply::Served(Served::Joining), "joining\n", None),
+        ("raise t 11\ncut t 9\nserve\n", "raised 1\ntorn\n", 0),
         (
-            line,
-            Reply::Served(Served::WantsRole(nine)),
-            "wants role 09\n",
-            None,
-        ),
-        (line, Reply::Opened(Served::Quiet), "open\n", None),
-        (daa, Reply::Opened(Served::Quiet), "", None),
-        (
-            line,
-            Reply::Opened(Served::Recorded(3)),
-            "recorded 3\nopen\n",
-            None,
+            "attach u 020400000011 06 44\nask-join u\nserve\n",
+            "u slot 2\nasked\njoining\n",
+            0,
         ),
         (
-            daa,
-            Reply::Opened(Served::Recorded(3)),
-            "recorded 3\n",
-            None,
+            "attach c 020400000020 46 C1\ndaa\nask-role c\nserve\n",
+            "c slot 2\nassigned 0A 020400000020 46 C1\ndone\nasked\nwants role 0A\n",
+            0,
         ),
-        (line, Reply::Framed(unanswered), "torn\n", Some(silent)),
+        ("open\n", "open\n", 0),
+        ("daa\n", "done\n", 0),
+        ("raise t 11\nopen\n", "raised 1\nturned down\nopen\n", 0),
+        ("raise t 11\ndaa\n", "raised 1\nturned down\ndone\n", 0),
+        // the byte of the first request is torn, and nobody ends the read of another
         (
-            line,
-            Reply::Framed(read),
-            "bytes 000102030405060708090A0B0C0D0EFF\n",
-            None,
+            "attach u 020400000011 06 44\ndaa\nraise t 11\ncut t 9\ncut u 40\nread 0A\n",
+            "u slot 2\nassigned 0A 020400000011 06 44\ndone\nraised 1\ntorn\nrefused NoEnd\n",
+            1,
         ),
-        (line, Reply::Round(RoundReply::Nobody), "nobody\n", None),
         (
-            daa,
-            Reply::Round(RoundReply::NoAddress),
-            "",
-            Some(none_left),
+            "write 09 000102030405060708090A0B0C0D0EFF\nread 09\n",
+            "done\nbytes 000102030405060708090A0B0C0D0EFF\n",
+            0,
         ),
-        (line, Reply::OutOfMemory, "", Some(Stop::Memory)),
-        (line, Reply::Ended, "ended\n", None),
-        (daa, Reply::Ended, "", None),
+        (
+            "attach u 020400000011 06 44\nopen\ncut u 65\nround\n",
+            "u slot 2\nopen\nnobody\n",
+            0,
+        ),
+        ("open\nround\nend\n", "open\ndone\nended\n", 0),
     ];
-    let names = Names::new(rt.alloc());
-    for (origin, reply, wanted, stop) in cases {
-        let mut printed = Text::new(rt.alloc());
-        let told = tell(&names, origin, &Event::EndDaa, &reply, &mut printed);
-        assert_eq!(rt; printed.as_bytes(), wanted.as_bytes());
-        assert_eq!(rt; told.err(), stop);
+    for (script, wanted, refused) in cases {
+        let script = format!(in alloc; "{TARGET}daa\n{script}")?;
+        let wanted = format!(in alloc; "{TARGET_LINES}{wanted}")?;
+        goes_on(&rt, alloc, script.as_str(), wanted.as_str(), refused)?;
     }
     Ok(())
 }

@@ -1,5 +1,5 @@
-use crate::{Name, Names, Refusal, Text};
 use i3c_base::{Addr7, Slot};
+use i3c_lines::{Name, Names, Refusal, Text};
 use std::test::Fail;
 
 // A name stays known where another device takes its slot, and may be given again. A slot knows its name.

@@ -1,5 +1,5 @@
 use super::{FailingReader, Flaky, FullWriter};
-use crate::{ScriptFault, Tally, run_trace};
+use i3c_script::{ScriptFault, Tally, run_trace};
 use std::io::ErrorKind;
 
 /// A trace of two frames.

@@ -2,7 +2,7 @@
 
 ghost use Rattle.std.specs.Prelude.{◌<◌};
 
-use crate::tests::{HUB, HUB_LINE, TARGET, goes_on, prints, run, target_goes_on};
+use crate::script::{HUB, HUB_LINE, TARGET, goes_on, prints, run, target_goes_on};
 use std::io::Write;
 use std::str;
 use std::test::Fail;
