@@ -21,6 +21,3 @@ pub use kinds::{Change, Kinds};
 pub use range::{ADDRESSES, Addr7, OutOfRange, Pid, SLOTS, Slot};
 pub use refusals::{JoinRefusal, RaiseRefusal, RoleRefusal};
 pub use requests::{Fixed, Record, Request, Served, Verdict};
-
-#[cfg(test)]
-mod tests;

@@ -6,6 +6,3 @@ mod commands;
 
 pub use codes::{Code, byte_of, code_of};
 pub use commands::{CccFault, Command, read_command};
-
-#[cfg(test)]
-mod tests;

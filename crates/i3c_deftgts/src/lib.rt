@@ -20,6 +20,3 @@ pub use entries::{ENTRIES, Entry, List};
 pub use faults::ListFault;
 pub use reading::read_list;
 pub use writing::{WORDS, write_list};
-
-#[cfg(test)]
-mod tests;

@@ -14,6 +14,3 @@ mod walks;
 pub use attached::Device;
 pub use sets::SlotSet;
 pub use slots::Devices;
-
-#[cfg(test)]
-mod tests;

@@ -12,6 +12,3 @@ pub use assignment::round;
 pub use i3c_base::RoundReply;
 pub use outcome::Round;
 pub use telling::tell_round;
-
-#[cfg(test)]
-mod tests;

@@ -10,6 +10,3 @@ pub use hearing::{NoAnswer, answer_of, hear_kinds, kinds_bits};
 pub use i3c_base::{Answer, Change, Kinds};
 pub use telling::tell_kinds;
 pub use words::{code_word, kinds_word};
-
-#[cfg(test)]
-mod tests;

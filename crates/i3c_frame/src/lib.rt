@@ -12,6 +12,3 @@ pub use laws::{printed_is_read_back, texts_differ};
 pub use symbols::Symbol;
 pub use taps::{Silent, Tap};
 pub use traces::{TraceFault, read_trace};
-
-#[cfg(test)]
-mod tests;

@@ -17,6 +17,3 @@ pub use outcome::Offer;
 pub use roles::{Active, Role, give, retire};
 pub use telling::tell_offer;
 pub use wishes::ask;
-
-#[cfg(test)]
-mod tests;

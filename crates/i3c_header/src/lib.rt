@@ -7,6 +7,3 @@ mod keys;
 pub use arbitration::comes_before;
 pub use i3c_base::Request;
 pub use keys::{header, key};
-
-#[cfg(test)]
-mod tests;

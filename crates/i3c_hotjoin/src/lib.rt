@@ -8,6 +8,3 @@ mod wishes;
 
 pub use i3c_base::JoinRefusal;
 pub use wishes::ask;
-
-#[cfg(test)]
-mod tests;

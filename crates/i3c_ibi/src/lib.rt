@@ -13,6 +13,3 @@ pub use i3c_base::{Fixed, Record, Request, Served, Verdict};
 pub use policies::{Policy, decide};
 pub use serving::{Reading, serve};
 pub use telling::{tell_broadcast, tell_reading, tell_repeated, tell_request};
-
-#[cfg(test)]
-mod tests;

@@ -9,6 +9,3 @@ pub use faults::LegacyFault;
 pub use i3c_base::LegacyTarget;
 pub use legacies::{LEGACIES, Legacies};
 pub use targets::LegacyTargets;
-
-#[cfg(test)]
-mod tests;

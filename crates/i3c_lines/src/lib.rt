@@ -20,6 +20,3 @@ pub use names::{Name, Names, Place};
 pub use policies::ACCEPT_ALL;
 pub use refusals::Refusal;
 pub use text::Text;
-
-#[cfg(test)]
-mod tests;

@@ -7,9 +7,6 @@ ghost use Rattle.i3c_base.specs.State.{IsPickIn, IsPickableIn};
 use i3c_base::Addr7;
 use i3c_table::Table;
 
-#[cfg(test)]
-mod tests;
-
 /// The least address that may be given: a usable one that was not given, and that is no legacy target's
 /// (I3C Basic 5.1.4). `None` only where there is none.
 pub fn pick(table: &Table) -> Option<Addr7>

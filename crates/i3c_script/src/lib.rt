@@ -22,8 +22,3 @@ mod wires;
 pub use faults::ScriptFault;
 pub use script::{Tally, run_script};
 pub use trace::run_trace;
-
-#[cfg(test)]
-mod library;
-#[cfg(test)]
-mod tests;

@@ -7,6 +7,3 @@ mod table;
 pub use i3c_legacy::Legacies;
 pub use row::Row;
 pub use table::{ROWS, Table};
-
-#[cfg(test)]
-mod tests;

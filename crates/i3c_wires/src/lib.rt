@@ -14,6 +14,3 @@ mod turns;
 pub use arbitration::contest;
 pub use lines::Lines;
 pub use outcome::Contest;
-
-#[cfg(test)]
-mod tests;

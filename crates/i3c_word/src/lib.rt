@@ -80,6 +80,3 @@ fn is_even(byte: u8) -> bool
 {
     byte.count_ones() % 2 == 0
 }
-
-#[cfg(test)]
-mod tests;

@@ -11,6 +11,3 @@ pub use outcome::{Read, Write, read_bits, write_bits};
 pub use reading::read;
 pub use telling::{tell_read, tell_write};
 pub use writing::write;
-
-#[cfg(test)]
-mod tests;

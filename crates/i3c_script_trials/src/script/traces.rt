@@ -1,0 +1,83 @@
+use super::{FailingReader, Flaky, FullWriter};
+use i3c_script::{ScriptFault, Tally, run_trace};
+use std::io::ErrorKind;
+
+/// A trace of two frames.
+const TRACE: &[u8] = b"S 7E/W+ 07.0 Sr 7E/R+ =0204000000100644 @13+ Sr 7E/R- P\nS 09/R+ 11.0 P\n";
+
+/// What it tells.
+const TOLD: &[u8] = b"frame 1\nENTDAA\nround 0204000000100644 13 taken\nround done\n\
+    frame 2\nrequest interrupt 09 accepted 11\n";
+
+// A reader that fails tells nothing, wherever it does. An interrupted read is a failure too.
+#[test]
+fn a_trace_is_not_read(rt: HostRuntime) {
+    for kind in [ErrorKind::Other, ErrorKind::Interrupted] {
+        let mut reader = FailingReader { rest: TRACE, kind };
+        let mut printed = Vec::new(rt.alloc());
+        let outcome = run_trace(rt.alloc(), &mut reader, &mut printed);
+        assert_eq!(rt; outcome, Err(ScriptFault::Read));
+        assert_eq!(rt; printed.len(), 0);
+    }
+}
+
+// With room for a beginning of what is told, this is what goes out.
+#[test]
+fn a_trace_is_not_written(rt: HostRuntime) {
+    for room in 0..TOLD.len() {
+        for fails in [false, true] {
+            let mut reader = TRACE;
+            let mut writer = FullWriter {
+                printed: Vec::new(rt.alloc()),
+                room,
+                fails,
+            };
+            let outcome = run_trace(rt.alloc(), &mut reader, &mut writer);
+            assert_eq!(rt; outcome, Err(ScriptFault::Write), "with room for {room}");
+            assert_eq!(rt; writer.printed.as_slice(), &TOLD[..room]);
+        }
+    }
+}
+
+// A read that fails alone tells nothing, though later ones would go on.
+#[test]
+fn one_read_of_a_trace_fails(rt: HostRuntime) {
+    let mut failures = 0u64;
+    for before in 0..1_000 {
+        let mut reader = Flaky::new(rt.alloc(), TRACE, before);
+        let mut printed = Vec::new(rt.alloc());
+        let outcome = run_trace(rt.alloc(), &mut reader, &mut printed);
+        if !reader.has_failed {
+            assert_eq!(rt; outcome, Ok(Tally { refused: 0 }));
+            assert_eq!(rt; printed.as_slice(), TOLD);
+            break;
+        }
+        failures = before + 1;
+        assert_eq!(rt; outcome, Err(ScriptFault::Read), "after {before} reads");
+        assert_eq!(rt; printed.len(), 0);
+    }
+    // seven bytes at once, and the end
+    assert_eq!(rt; failures, TRACE.len() as u64 / 7 + 2);
+}
+
+// A write that fails alone ends it, though later ones would go on; there is one for each line.
+#[test]
+fn one_write_of_a_trace_fails(rt: HostRuntime) {
+    let mut failures = 0u64;
+    for before in 0..1_000 {
+        let mut reader = TRACE;
+        let mut writer = Flaky::new(rt.alloc(), b"", before);
+        let outcome = run_trace(rt.alloc(), &mut reader, &mut writer);
+        if !writer.has_failed {
+            assert_eq!(rt; outcome, Ok(Tally { refused: 0 }));
+            assert_eq!(rt; writer.printed.as_slice(), TOLD);
+            break;
+        }
+        failures = before + 1;
+        assert_eq!(rt; outcome, Err(ScriptFault::Write), "after {before} writes");
+        let count = writer.printed.len();
+        assert!(rt; count < TOLD.len());
+        assert_eq!(rt; writer.printed.as_slice(), &TOLD[..count]);
+    }
+    assert_eq!(rt; failures, 6);
+}
