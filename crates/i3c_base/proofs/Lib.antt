@@ -3,3 +3,5 @@ pub mod CutLaws
 pub mod CutTests
 pub mod NumberLaws
 pub mod LostLaws
+pub mod Verdicts
+pub mod BitLaws

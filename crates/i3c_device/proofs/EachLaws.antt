@@ -1,6 +1,6 @@
 -- A change that happens in some slots, one after another, lowest first.
 use Rattle.std.proofs.Common.{◌≡◌, ℕ, zero, suc, ◌+◌, ◌<◌, Bool, true, false, not, ◌&&◌, ◌==◌, if◌then◌else◌, List, [], ◌∷◌, length, get_or, set, Option, Some, None, is_none, option_map, inl, inr, refl, sym, ap, subst, ◌∙◌, arith, length-set, zero-add}
-use Rattle.std.proofs.lemmas.Bool.{both_ways, cases_Bool, cases_eq, cond-true, cond-false, eq-eqb, false_from_ne_true, ne_eqb}
+use Rattle.std.proofs.lemmas.Bool.{cases_Bool, cases_eq, cond-true, cond-false, eq-eqb, ne_eqb}
 use Rattle.std.proofs.lemmas.List.{ext_get_or, get_or_default, get_or-set_other, get_or-set_same, set-get_or}
 use Rattle.i3c_base.specs.declared.range.TheConstants.{SLOTS}
 use Rattle.i3c_base.specs.declared.identity.Identity.{Identity}
@@ -18,8 +18,6 @@ use Rattle.i3c_device.specs.Finding.{within}
 use Rattle.i3c_device.specs.Marks.{AreMarks, IsSetOf}
 use Rattle.i3c_device.specs.Sets.{has}
 use Rattle.i3c_device.specs.Walks.{accepted_at, assigned_at, drives_at, taken_from}
-use Rattle.i3c_device.specs.Wishing.{wishes}
-use Rattle.i3c_device.proofs.MarkLaws.{driver_wishes}
 
 -- of `changed`, within the list
 changed_from_in : (f : ℕ → Option Device → Option Device) (n : ℕ) (xs : List (Option Device)) (k : ℕ) → k < length xs → get_or (changed_from n f xs) k None ≡ f (k + n) (get_or xs k None)

@@ -1,5 +1,5 @@
 -- The first of the requests that are driven in some slots, looked through one after another.
-use Rattle.std.proofs.Common.{◌≡◌, ℕ, ◌<◌, ◌≤◌, Bool, true, false, not, ◌&&◌, ◌==◌, ◌⊎◌, if◌then◌else◌, List, length, get_or, Option, Some, None, MatchOption, inl, inr, sym, ap, subst, ◌∙◌, arith}
+use Rattle.std.proofs.Common.{◌≡◌, ℕ, ◌<◌, ◌≤◌, Bool, true, false, not, ◌&&◌, ◌==◌, ◌⊎◌, List, length, get_or, Option, Some, None, MatchOption, inl, inr, sym, ap, subst, ◌∙◌, arith}
 use Rattle.std.proofs.lemmas.Bool.{and_left, and_right, both_ways, cases_Bool, cases_eq, cases_lt, cond-true, cond-false, eq-eqb, false_from_ne_true, ne_eqb}
 use Rattle.std.proofs.lemmas.List.{get_or_past}
 use Rattle.i3c_base.specs.declared.range.TheConstants.{SLOTS}
@@ -11,7 +11,7 @@ use Rattle.i3c_device.specs.declared.sets.SlotSet.{SlotSet}
 use Rattle.i3c_device.specs.First.{IsAlone, IsShared, Precedes}
 use Rattle.i3c_device.specs.Sets.{has}
 use Rattle.i3c_device.specs.Walks.{AnyDrives, IsFirstDriven, NobodyDrives, drives_at}
-use Rattle.i3c_device.proofs.FindLaws.{TakesOut, not_taken, still_in}
+use Rattle.i3c_device.proofs.FindLaws.{TakesOut, still_in}
 use Rattle.i3c_device.proofs.MarkLaws.{undriven_past}
 
 -- what a slot drives

@@ -1,11 +1,11 @@
 -- The scans over the devices.
 use Rattle.std.proofs.lemmas.Bool.{both_ways, cases_eq, cases_lt, cond-true, eq-eqb}
 use Rattle.std.proofs.lemmas.List.{get_or_past}
-use Rattle.std.proofs.lemmas.Nat.Bits.{bit_at-lt, bit_at_and}
 use Rattle.std.proofs.lemmas.Option.{none-some, same_Some}
 use Rattle.std.specs.Int.{bit_at}
 use Rattle.std.specs.Int.Bits.{bit_and}
-use Rattle.std.proofs.Common.{◌≡◌, ℕ, ◌<◌, ◌↔◌, ◌⊎◌, ◌==◌, ◌&&◌, not, Bool, true, false, if◌then◌else◌, List, length, Option, Some, None, option_map, inl, inr, sym, refl, ap, ◌∙◌, subst, arith}
+use Rattle.std.proofs.Common.{◌≡◌, ℕ, ◌<◌, ◌↔◌, ◌⊎◌, ◌==◌, ◌&&◌, not, Bool, true, false, if◌then◌else◌, List, length, Option, Some, None, option_map, inl, inr, sym, refl, ap, ◌∙◌, subst}
+use Rattle.i3c_base.proofs.BitLaws.{bits_both, both_bits}
 use Rattle.i3c_base.specs.declared.range.TheConstants.{SLOTS}
 use Rattle.i3c_base.specs.declared.requests.Request.{Request}
 use Rattle.i3c_base.specs.Cutting.{CutList, cut_of}
@@ -68,14 +68,6 @@ together_skip bytes own i both left next h low out none = record {
   );
   alone = λ k. h.alone (λ s m n. k s m (after left next i s out low m n));
 }
-
-bits_both : (a b bit : ℕ) → bit_at (bit_and a b) bit ≡ 1 → (bit_at a bit ≡ 1) × (bit_at b bit ≡ 1)
-bits_both a b bit h =
-    let m = bit_at_and a b bit in let la = bit_at-lt a bit in let lb = bit_at-lt b bit in
-    (omega (arith, h, m, la, lb), omega (arith, h, m, la, lb))
-
-both_bits : (a b bit : ℕ) → bit_at a bit ≡ 1 → bit_at b bit ≡ 1 → bit_at (bit_and a b) bit ≡ 1
-both_bits a b bit p q = let m = bit_at_and a b bit in omega (arith, m, p, q)
 
 pub together_and : (bytes : ℕ → Option ℕ) (own i both byte : ℕ) (left next : SlotSet) → TogetherSoFar bytes own left both → i < SLOTS → TakesOut i left next → bytes i ≡ Some byte → TogetherSoFar bytes own next (bit_and both byte)
 together_and bytes own i both byte left next h low out some = record {

@@ -13,8 +13,9 @@ use Rattle.i3c_base.specs.declared.requests.Verdict.TheVariants.{Accept, Refuse}
 use Rattle.i3c_base.specs.Cutting.{CutList, Lost, cut_of, is_by, lost_by}
 use Rattle.i3c_base.specs.Places.{changed}
 use Rattle.i3c_base.specs.State.{Device, Entry, HasDevices, State, device_at, entry_at, entry_in}
-use Rattle.i3c_base.specs.Serve.{IsFirst, IsRead, NoneAsks, byte_due, drives, each_driver, given_for, recorded, refuse_all, verdict, without, without_front}
+use Rattle.i3c_base.specs.Serve.{IsFirst, IsRead, NoneAsks, byte_due, drives, each_driver, given_for, recorded, refuse_all, without, without_front}
 use Rattle.i3c_base.proofs.Lookups.{changed_same}
+use Rattle.i3c_base.proofs.Verdicts.{refuses}
 use Rattle.i3c_device.specs.declared.sets.SlotSet.{SlotSet}
 use Rattle.i3c_device.specs.Sets.{SomeLeft}
 use Rattle.i3c_device.specs.Walks.{AreDrivers, accepted_at, drives_at}
@@ -153,15 +154,6 @@ pub quiet_served : (st : State) (cuts : CutList) (old : List (Option Device)) (a
 quiet_served st cuts old active has none = record { serves = λ rest. (none, unchanged st old active has); word = refl; first = none; ended = tt }
 
 -- the first request is turned down
-refuse_either : (b : Bool) → (if b then Refuse else Refuse) ≡ Refuse
-refuse_either true = refl
-refuse_either false = refl
-
-pub refuses : (st : State) (r : Request) → verdict st refuse_all r ≡ Refuse
-refuses st Join = refl
-refuses st (Role a) = refuse_either (is_some (entry_at st a))
-refuses st (Interrupt a) = refuse_either (is_some (entry_at st a))
-
 pub refused_served : (st : State) (cuts : CutList) (r : Request) (old : List (Option Device)) (active : ℕ) → HasDevices st old active → IsFirst st r → IsServing st cuts (Refused r) old
 refused_served st cuts r old active has first =
     record { serves = λ rest. ((r, first, refuses st r), unchanged st old active has); word = refl; first = first; ended = tt }

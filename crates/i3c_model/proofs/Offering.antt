@@ -16,7 +16,7 @@ use Rattle.i3c_base.specs.State.{State}
 use Rattle.i3c_step.specs.declared.events.Event.TheVariants.{HandOver}
 use Rattle.i3c_step.specs.declared.replies.Reply.{Reply}
 use Rattle.i3c_step.specs.Step.{Acts}
-use Rattle.i3c_step.proofs.Given.{refuses}
+use Rattle.i3c_base.proofs.Verdicts.{refuses}
 use Rattle.i3c_step.proofs.Uniqueness.{accept≢refuse}
 use Rattle.i3c_model.specs.declared.plain.Choice.{Choice}
 use Rattle.i3c_model.specs.declared.plain.Choice.TheVariants.{Heard, Lost, Silent}

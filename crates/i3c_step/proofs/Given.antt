@@ -1,15 +1,14 @@
 -- The policy that a reply gives serves as the one that was asked.
 use Rattle.std.proofs.Common.{◌≡◌, ℕ, ◌+◌, Bool, true, false, Option, Some, None, is_some, MatchOption, if◌then◌else◌, ◌⊎◌, inl, inr, sym, refl, ap, subst}
 use Rattle.i3c_base.specs.declared.requests.Fixed.{Fixed}
-use Rattle.i3c_base.specs.declared.requests.Request.{Request}
-use Rattle.i3c_base.specs.declared.requests.Request.TheVariants.{Join, Role, Interrupt}
 use Rattle.i3c_base.specs.declared.requests.Served.{Served}
 use Rattle.i3c_base.specs.declared.requests.Served.TheVariants.{Quiet, Recorded, Refused, Torn, Joining, WantsRole}
 use Rattle.i3c_base.specs.declared.requests.Verdict.{Verdict}
 use Rattle.i3c_base.specs.declared.requests.Verdict.TheVariants.{Accept, Refuse}
 use Rattle.i3c_base.specs.Cutting.{CutList, Lost, lost_by}
-use Rattle.i3c_base.specs.Serve.{Frame, Serves, given_for, refuse_all, verdict}
+use Rattle.i3c_base.specs.Serve.{Frame, Serves, given_for}
 use Rattle.i3c_base.specs.State.{State, entry_at}
+use Rattle.i3c_base.proofs.Verdicts.{refuses}
 use Rattle.i3c_step.specs.declared.events.Event.{Event}
 use Rattle.i3c_step.specs.declared.events.Event.TheVariants.{Attach, DropOff, Raise, AskJoin, AskRole, Serve, Enec, Disec, Reset, SendList, ReadFrom, WriteTo, OpenDaa, Round, EndDaa, HandOver}
 use Rattle.i3c_step.specs.declared.replies.Refusal.{Refusal}
@@ -17,16 +16,6 @@ use Rattle.i3c_step.specs.declared.replies.Reply.{Reply}
 use Rattle.i3c_step.specs.Giving.{given_by, under}
 use Rattle.i3c_step.specs.Step.{Acts, IsShort, Step, checks, first_refusal}
 use Rattle.i3c_step.proofs.Uniqueness.{accept≢refuse}
-
-refuse_either : (b : Bool) → (if b then Refuse else Refuse) ≡ Refuse
-refuse_either true = refl
-refuse_either false = refl
-
--- a frame that refuses each request refuses the first
-pub refuses : (st : State) (r : Request) → verdict st refuse_all r ≡ Refuse
-refuses st Join = refl
-refuses st (Role a) = refuse_either (is_some (entry_at st a))
-refuses st (Interrupt a) = refuse_either (is_some (entry_at st a))
 
 -- whatever accepts where the table has an entry, the entry is there
 accepted_known : (b : Bool) (v : Verdict) → (if b then v else Refuse) ≡ Accept → (if b then Accept else Refuse) ≡ Accept

@@ -9,7 +9,7 @@ use Rattle.i3c_base.specs.Serve.{Serves, emptied, header_bits, refuse_all}
 use Rattle.i3c_base.specs.State.{State}
 use Rattle.i3c_step.specs.declared.replies.Reply.{Reply}
 use Rattle.i3c_step.specs.Step.{IsDeclined, IsGranted}
-use Rattle.i3c_step.proofs.Given.{refuses}
+use Rattle.i3c_base.proofs.Verdicts.{refuses}
 use Rattle.i3c_step.proofs.Uniqueness.{accept≢refuse}
 
 -- a frame that refuses each request serves nothing

@@ -9,7 +9,7 @@ use Rattle.i3c_frame.specs.Taps.{NotesAll}
 use Rattle.i3c_frame.specs.declared.symbols.Symbol.TheVariants.{Header, Start}
 use Rattle.i3c_ibi.specs.Telling.{request_header}
 use Rattle.i3c_bus.specs.Wire.{IsAck, IsBegun}
-use Rattle.i3c_step.proofs.Given.{refuses}
+use Rattle.i3c_base.proofs.Verdicts.{refuses}
 use Rattle.i3c_bus.proofs.Heard.{is_ack}
 use Rattle.i3c_bus.proofs.Seen.{has_devices, seen}
 use Rattle.i3c_bus.proofs.parts.Bus.begin_refusing.Goals as goal
