@@ -1,7 +1,7 @@
 use crate::fault::Fault;
 use crate::words::Stress;
 use i3c_base::{Fixed, Slot, Verdict};
-use i3c_scenario::{Gate, StressFault, Tally, stress};
+use i3c_scenario::{Gate, MOST_DEVICES, MOST_POSTS, StressFault, Tally, stress};
 use std::sync::Wait;
 use std::thread::Threads;
 
@@ -19,7 +19,7 @@ pub(crate) fn run_stress<R: Threads + Wait + Sync + Print + AllocGlobal>(
 ) -> Result<Tally, Fault> {
     let Stress { devices, posts } = *asked;
     // the parser's limits
-    if devices < 1 || devices > 15 || posts < 1 || posts > 100_000 {
+    if devices < 1 || devices > MOST_DEVICES || posts < 1 || posts > u64::from(MOST_POSTS) {
         return Err(Fault::NotBalanced);
     }
     let mut policy = Fixed {
