@@ -36,6 +36,11 @@ pub(crate) fn run_stress<R: Threads + Wait + Sync + Print + AllocGlobal>(
 }
 
 impl From<StressFault> for Fault {
+    ghost use Rattle.std.specs.Prelude.{◌≡◌};
+    ghost use Rattle.i3cbus.specs.Endings.{stress_told_as};
+
+    ghost from_gives = { λ fault told. told ≡ stress_told_as fault };
+
     fn from(fault: StressFault) -> Fault {
         match fault {
             StressFault::Memory => Fault::Memory,
