@@ -7,6 +7,7 @@ mod faults;
 mod held;
 mod intake;
 mod kept;
+mod laws;
 mod packing;
 mod port;
 mod recorder;
@@ -21,6 +22,7 @@ pub use faults::{
 };
 pub use held::{HeldRole, HeldSession};
 pub use kept::{Closed, Kept, Unclosed};
+pub use laws::posts_are_accounted_for;
 pub use port::{Full, POSTS, Port, spend_ports};
 pub use recorder::Recorder;
 pub use run::Run;
