@@ -5,9 +5,8 @@ ghost use Rattle.i3c_header.specs.Keys.{IsLawful};
 use crate::keys::key;
 use i3c_base::Request;
 
-/// Whether the first of two requests that are driven into one header wins it alone: a join comes before all else, then
-/// the lower address, then at one address the role request (I3C Basic 5.1.6.2). A 0 on the lines wins over a 1, from the
-/// highest bit on, so the lower key does.
+/// Whether the first of two requests wins a header that both drive (I3C Basic 5.1.6.2). A line is low as soon as one
+/// pulls it low, and who reads another bit than its own gives up: so the lower key stays, and of equal keys neither wins.
 pub fn comes_before(one: &Request, other: &Request) -> bool
     requires one { IsLawful one.now }
     requires other { IsLawful other.now }

@@ -2,4 +2,4 @@
 #![tactic(auto)]
 
 pub use i3c_script::{ScriptFault, Tally, run_script, run_trace};
-pub use i3c_shared::{Gate, StressFault, StressReport, stress};
+pub use i3c_stress::{Gate, MOST_DEVICES, MOST_POSTS, StressFault, StressReport, stress};

@@ -172,43 +172,32 @@ Moves ran names (Command.Policy policy) result new = (new ≡ ran.state) × (res
 Moves ran names Command.Show result new = (new ≡ ran.state) × IfErr result (λ stop. stop ≡ Stop.Memory)
 Moves ran names Command.Symbols result new = (new ≡ ran.state) × IfErr result (λ stop. stop ≡ Stop.Memory)
 
--- the cuts that wait after an event's line: a frame uses them up
-abbrev pub cuts_left : Wish → CutList → CutList
-cuts_left (Wish.Attach name setup) cuts = cuts
-cuts_left (Wish.DropOff name) cuts = cuts
-cuts_left (Wish.Raise name byte) cuts = cuts
-cuts_left (Wish.AskJoin name) cuts = cuts
-cuts_left (Wish.AskRole name) cuts = cuts
-cuts_left Wish.Reset cuts = no_cuts
-cuts_left Wish.List cuts = no_cuts
-cuts_left (Wish.Read at) cuts = no_cuts
-cuts_left (Wish.Write at bytes) cuts = no_cuts
-cuts_left (Wish.HandOver to) cuts = no_cuts
-cuts_left Wish.Serve cuts = no_cuts
-cuts_left (Wish.Enec choice) cuts = no_cuts
-cuts_left (Wish.Disec choice) cuts = no_cuts
-cuts_left Wish.Open cuts = no_cuts
-cuts_left Wish.Round cuts = no_cuts
-cuts_left Wish.End cuts = cuts
+-- an event's line sends a frame for which cuts may wait
+abbrev pub sends_frame : Wish → Bool
+sends_frame (Wish.Attach name setup) = false
+sends_frame (Wish.DropOff name) = false
+sends_frame (Wish.Raise name byte) = false
+sends_frame (Wish.AskJoin name) = false
+sends_frame (Wish.AskRole name) = false
+sends_frame Wish.Reset = true
+sends_frame Wish.List = true
+sends_frame (Wish.Read at) = true
+sends_frame (Wish.Write at bytes) = true
+sends_frame (Wish.HandOver to) = true
+sends_frame Wish.Serve = true
+sends_frame (Wish.Enec choice) = true
+sends_frame (Wish.Disec choice) = true
+sends_frame Wish.Open = true
+sends_frame Wish.Round = true
+sends_frame Wish.End = false
 
 -- the cuts that an event's line takes with it: those that wait, if it sends a frame
 abbrev pub cuts_taken : Wish → CutList → CutList
-cuts_taken (Wish.Attach name setup) cuts = no_cuts
-cuts_taken (Wish.DropOff name) cuts = no_cuts
-cuts_taken (Wish.Raise name byte) cuts = no_cuts
-cuts_taken (Wish.AskJoin name) cuts = no_cuts
-cuts_taken (Wish.AskRole name) cuts = no_cuts
-cuts_taken Wish.Reset cuts = cuts
-cuts_taken Wish.List cuts = cuts
-cuts_taken (Wish.Read at) cuts = cuts
-cuts_taken (Wish.Write at bytes) cuts = cuts
-cuts_taken (Wish.HandOver to) cuts = cuts
-cuts_taken Wish.Serve cuts = cuts
-cuts_taken (Wish.Enec choice) cuts = cuts
-cuts_taken (Wish.Disec choice) cuts = cuts
-cuts_taken Wish.Open cuts = cuts
-cuts_taken Wish.Round cuts = cuts
-cuts_taken Wish.End cuts = no_cuts
+cuts_taken wish cuts = if sends_frame wish then cuts else no_cuts
+
+-- the cuts that wait after it: a frame uses them up
+abbrev pub cuts_left : Wish → CutList → CutList
+cuts_left wish cuts = if sends_frame wish then no_cuts else cuts
 
 -- the same cuts, and one more, if the name stands for a device
 abbrev pub cut_named : Result ℕ Refusal → ℕ → CutList → CutList

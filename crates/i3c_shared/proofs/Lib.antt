@@ -12,3 +12,4 @@ pub mod Covering
 mod Growing
 mod Missing
 mod Started
+mod Balanced

@@ -10,3 +10,4 @@ pub mod Calls
 pub mod Closing
 pub mod Replying
 pub mod Beginning
+pub mod Balance

@@ -7,13 +7,13 @@ mod faults;
 mod held;
 mod intake;
 mod kept;
+mod laws;
 mod packing;
 mod port;
 mod recorder;
 mod replying;
 mod run;
 mod shared;
-mod stressing;
 
 pub use entry::Entry;
 pub use faults::{
@@ -22,11 +22,8 @@ pub use faults::{
 };
 pub use held::{HeldRole, HeldSession};
 pub use kept::{Closed, Kept, Unclosed};
-pub use port::{Full, POSTS, Port};
+pub use laws::posts_are_accounted_for;
+pub use port::{Full, POSTS, Port, spend_ports};
 pub use recorder::Recorder;
 pub use run::Run;
 pub use shared::SharedBus;
-pub use stressing::{Gate, StressFault, StressReport, stress};
-
-#[cfg(test)]
-mod tests;

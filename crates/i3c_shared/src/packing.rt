@@ -8,6 +8,7 @@ use i3c_base::{
 };
 use i3c_step::{Event, Framed, Refusal, Reply};
 use std::alloc::AllocError;
+use std::mem::size_of;
 
 /// An event that cuts nobody and writes nothing, without its cuts.
 #[derive(Clone, Copy)]
@@ -54,6 +55,9 @@ pub(crate) enum Packed {
     Short(Brief, Said),
     Wide(usize),
 }
+
+// Runs are kept by the million.
+const _: () = prove!(size_of::<Packed>() <= 64);
 
 /// Whether nobody is cut.
 fn cuts_nobody(cuts: &Cuts) -> bool

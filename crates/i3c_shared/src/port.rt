@@ -109,8 +109,8 @@ fn covers(ring: &mut Consumer<Option<u8>>, producer: &mut Producer<Option<u8>>) 
     seen <= capacity && free == capacity - seen
 }
 
-/// Spends the ports.
-pub(crate) fn spend_ports(ports: Vec<Port>) {
+/// Spends the ports: no event, no lock, no memory, and nothing is taken up.
+pub fn spend_ports(ports: Vec<Port>) {
     let mut ports = ports;
     while let Some(port) = ports.pop() {
         port.let_go();

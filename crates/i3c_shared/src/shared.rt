@@ -2,9 +2,9 @@ use crate::faults::{
     AskFault, AttachFault, DropFault, HandOverFault, Left, OpenFault, SessionFault, StaleRole,
     StartFault,
 };
-use crate::held::{HeldRole, HeldSession};
+use crate::held::{HeldRole, HeldSession, spend_role};
 use crate::kept::{Closed, Kept, Unclosed};
-use crate::port::Port;
+use crate::port::{Port, spend_ports};
 use i3c_base::{Addr7, Cuts, RoundReply, Served, Setup, Slot};
 use i3c_bus::Policy;
 use i3c_frame::Tap;
@@ -185,5 +185,20 @@ impl SharedBus {
     pub fn let_go(self) {
         let SharedBus { kept } = self;
         kept.into_inner().let_go();
+    }
+}
+
+impl Unclosed<SharedBus> {
+    /// Spends all that came back: no event, no lock, no memory, and nothing is taken up.
+    pub fn let_go(self) {
+        let Unclosed {
+            bus,
+            role,
+            ports,
+            fault: _,
+        } = self;
+        bus.let_go();
+        spend_role(role);
+        spend_ports(ports);
     }
 }

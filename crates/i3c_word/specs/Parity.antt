@@ -7,7 +7,7 @@ abbrev pub bit_of : Bool → ℕ
 bit_of true = 1
 bit_of false = 0
 
--- the ones among a word's eight bits and its T bit are odd in number
+-- T makes the count of ones in a word odd
 abbrev pub HasOddParity : Word → Type 0
 HasOddParity word = (count_ones word.byte + bit_of word.t) % 2 ≡ 1
 

@@ -42,7 +42,7 @@ fn interrupt(value: u8) -> Request
     Request::Interrupt(address(value))
 }
 
-// A join before all else, then the lower address, then at one address the role request; none before itself.
+// Joins win over all others, low addresses over high ones, and over an interrupt its own device's role request.
 #[test]
 fn order(rt: HostRuntime) {
     assert!(rt; comes_before(&Request::Join, &role(0x08)));

@@ -2,6 +2,7 @@
 use Rattle.std.specs.Prelude.{ℕ, ◌==◌, Bool, true, false, Result, Ok, Err, if◌then◌else◌}
 use Rattle.i3c_script.specs.declared.faults.ScriptFault.{ScriptFault}
 use Rattle.i3c_script.specs.declared.script.Tally.{Tally}
+use Rattle.i3c_stress.specs.declared.report.StressFault.{StressFault}
 use Rattle.i3cbus.specs.declared.fault.Fault.{Fault}
 
 -- a script's fault, as standard error is told
@@ -10,6 +11,11 @@ told_as ScriptFault.Memory = Fault.Memory
 told_as ScriptFault.Read = Fault.Read
 told_as ScriptFault.Write = Fault.Write
 told_as ScriptFault.TooLarge = Fault.TooLarge
+
+-- that of devices on threads
+abbrev pub stress_told_as : StressFault → Fault
+stress_told_as StressFault.Memory = Fault.Memory
+stress_told_as StressFault.NotBalanced = Fault.NotBalanced
 
 -- a fault of the command line is want of memory, or told in the parser's own words
 abbrev pub IsOfWords : Fault → Type 0

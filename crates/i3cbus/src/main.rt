@@ -11,8 +11,9 @@ mod status;
 mod stressing;
 mod words;
 
+use std::io::IsTerminal;
 use std::process::ExitCode;
 
 fn main(rt: HostRuntime) -> ExitCode {
-    ExitCode::from(run::run(&rt))
+    ExitCode::from(run::run(&rt, rt.stderr().is_terminal()))
 }

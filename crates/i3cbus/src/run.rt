@@ -9,12 +9,13 @@ use std::sync::Wait;
 use std::thread::Threads;
 use std::{env, fs, io};
 
-/// Runs the program, tells standard error why it gave up, if it did, and gives its exit status.
-pub(crate) fn run<R>(rt: &R) -> u8
+/// Runs the program, tells standard error why it gave up, if it did, and gives its exit status. Somebody may watch
+/// standard error on a terminal.
+pub(crate) fn run<R>(rt: &R, is_watched: bool) -> u8
 where
     R: Env + Files + Input + Print + Eprint + AllocGlobal + Threads + Wait + Sync,
 {
-    let outcome = run_named(rt);
+    let outcome = run_named(rt, is_watched);
     if let Err(fault) = &outcome {
         let _ = rt.eprint(fault);
     }
@@ -22,13 +23,13 @@ where
 }
 
 /// Does what the command line asks for. Its words are judged before its file is opened.
-fn run_named<R>(rt: &R) -> Result<Tally, Fault>
+fn run_named<R>(rt: &R, is_watched: bool) -> Result<Tally, Fault>
 where
-    R: Env + Files + Input + Print + AllocGlobal + Threads + Wait + Sync,
+    R: Env + Files + Input + Print + Eprint + AllocGlobal + Threads + Wait + Sync,
 {
     let words = words_given(rt)?;
     if let Some(stress) = stress_named(rt.alloc(), &words)? {
-        return run_stress(rt, &stress);
+        return run_stress(rt, &stress, is_watched);
     }
     let Task { work, file } = task_named(rt.alloc(), &words)?;
     if file == STANDARD_INPUT {

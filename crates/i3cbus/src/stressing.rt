@@ -1,25 +1,40 @@
 use crate::fault::Fault;
 use crate::words::Stress;
 use i3c_base::{Fixed, Slot, Verdict};
-use i3c_scenario::{Gate, StressFault, Tally, stress};
+use i3c_scenario::{Gate, MOST_DEVICES, MOST_POSTS, StressFault, Tally, stress};
 use std::sync::Wait;
 use std::thread::Threads;
 
-/// A gate that lets each device go on at once.
-struct Open;
+/// After so many tries of the device in slot 1 a watcher is told.
+const TOLD_EVERY: u64 = 10_000;
 
-impl Gate for Open {
-    fn answered(&self, _slot: Slot, _n: u64) {}
+/// A gate that lets each device go on at once, and tells who watches how far that in slot 1 is.
+struct Progress<'a, R> {
+    rt: &'a R,
+    is_watched: bool,
+    posts: u64,
 }
 
-/// Lets devices post from threads of their own, and prints that each post is accounted for.
-pub(crate) fn run_stress<R: Threads + Wait + Sync + Print + AllocGlobal>(
+impl<R: Eprint> Gate for Progress<'_, R> {
+    fn answered(&self, slot: Slot, n: u64) {
+        if self.is_watched && slot.index() == 1 && n % TOLD_EVERY == 0 {
+            let posts = self.posts;
+            // what can't be told isn't missed
+            let _ = eprintln!(self.rt; "{n} of {posts}");
+        }
+    }
+}
+
+/// Lets devices post from threads of their own, and prints that each post is accounted for. Who watches on a terminal
+/// is told how far it is.
+pub(crate) fn run_stress<R: Threads + Wait + Sync + Print + Eprint + AllocGlobal>(
     rt: &R,
     asked: &Stress,
+    is_watched: bool,
 ) -> Result<Tally, Fault> {
     let Stress { devices, posts } = *asked;
     // the parser's limits
-    if devices < 1 || devices > 15 || posts < 1 || posts > 100_000 {
+    if devices < 1 || devices > MOST_DEVICES || posts < 1 || posts > u64::from(MOST_POSTS) {
         return Err(Fault::NotBalanced);
     }
     let mut policy = Fixed {
@@ -27,7 +42,12 @@ pub(crate) fn run_stress<R: Threads + Wait + Sync + Print + AllocGlobal>(
         role: Verdict::Accept,
         interrupt: Verdict::Accept,
     };
-    let report = stress(rt, rt.alloc(), devices, posts, &mut policy, &Open)?;
+    let gate = Progress {
+        rt,
+        is_watched,
+        posts,
+    };
+    let report = stress(rt, rt.alloc(), devices, posts, &mut policy, &gate)?;
     let tried = report.tried;
     match println!(rt; "devices {devices}\ntried {tried}\nbalanced") {
         Ok(()) => Ok(Tally { refused: 0 }),
@@ -36,6 +56,11 @@ pub(crate) fn run_stress<R: Threads + Wait + Sync + Print + AllocGlobal>(
 }
 
 impl From<StressFault> for Fault {
+    ghost use Rattle.std.specs.Prelude.{◌≡◌};
+    ghost use Rattle.i3cbus.specs.Endings.{stress_told_as};
+
+    ghost from_gives = { λ fault told. told ≡ stress_told_as fault };
+
     fn from(fault: StressFault) -> Fault {
         match fault {
             StressFault::Memory => Fault::Memory,

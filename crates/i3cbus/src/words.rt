@@ -2,6 +2,7 @@ ghost use Rattle.std.specs.Prelude.{◌≡◌, length, codes, None, IsOkAnd};
 
 use crate::fault::Fault;
 use clap::{Arg, ArgMatches, Command, value_parser};
+use i3c_scenario::{MOST_DEVICES, MOST_POSTS};
 use std::alloc::Global;
 
 /// The program's name.
@@ -151,13 +152,13 @@ fn stress_command<'a>(alloc: Global) -> Result<Command<'a>, Fault> {
         .required(true)
         .value_name("N")
         .help("How many devices post, 1 to 15")
-        .value_parser(value_parser!(u8).range(1..=15));
+        .value_parser(value_parser!(u8).range(1..=i64::from(MOST_DEVICES)));
     let posts = Arg::new(alloc, POSTS)
         .long(POSTS)
         .required(true)
         .value_name("M")
         .help("How often each tries to, 1 to 100000")
-        .value_parser(value_parser!(u32).range(1..=100_000));
+        .value_parser(value_parser!(u32).range(1..=i64::from(MOST_POSTS)));
     let stress = Command::new(alloc, STRESS)
         .about(
             "Lets devices post from threads of their own, and checks that each post is accounted for",

@@ -1,0 +1,86 @@
+ghost use Rattle.std.specs.Prelude.{◌≡◌, ◌+◌, ◌≤◌, IfOk};
+
+use i3c_shared::Closed;
+use i3c_step::{Event, Reply};
+use thiserror::Error;
+
+/// What became of the raises that were tried: over the slots of the devices, how many were posted, turned away by the
+/// bus, recorded, and waited at the end.
+#[derive(Clone, Copy, Debug, PartialEq, Eq, Drop)]
+pub struct StressReport {
+    pub tried: u64,
+    pub posted: u64,
+    pub turned_away: u64,
+    pub recorded: u64,
+    pub waiting: u64,
+}
+
+/// Why there is no report.
+#[derive(Clone, Copy, Debug, PartialEq, Eq, Drop, Error)]
+pub enum StressFault {
+    /// There was no memory, or no thread could be started.
+    #[error("out of memory")]
+    Memory,
+    /// The bus refused what it never refuses where nobody else uses it, or its counts disagree.
+    #[error("not balanced")]
+    NotBalanced,
+}
+
+/// What a run says of the devices' raises.
+#[derive(Clone, Copy)]
+pub(crate) struct Counted {
+    accepted: u64,
+    refused: u64,
+    recorded: u64,
+}
+
+/// The report, where the counts agree: what was posted was accepted or refused, and what was accepted is recorded or
+/// waits.
+pub(crate) fn report(tried: u64, posted: u64, counted: Counted) -> Result<StressReport, StressFault>
+    ensures tried { IfOk result (λ r. r.tried ≡ tried) }
+    ensures posted { IfOk result (λ r. r.posted ≤ r.tried) }
+    ensures balanced { IfOk result (λ r. r.posted ≡ r.turned_away + r.recorded + r.waiting) }
+{
+    let Counted {
+        accepted,
+        refused,
+        recorded,
+    } = counted;
+    let Some(taken) = accepted.checked_add(refused) else {
+        return Err(StressFault::NotBalanced);
+    };
+    let Some(waiting) = accepted.checked_sub(recorded) else {
+        return Err(StressFault::NotBalanced);
+    };
+    if posted > tried || posted != taken {
+        return Err(StressFault::NotBalanced);
+    }
+    Ok(StressReport {
+        tried,
+        posted,
+        turned_away: refused,
+        recorded,
+        waiting,
+    })
+}
+
+/// Counts the devices' raises in a run, and their records.
+pub(crate) fn count(closed: &Closed) -> Result<Counted, StressFault> {
+    let mut counted = Counted {
+        accepted: 0,
+        refused: 0,
+        recorded: closed.records.as_slice().len() as u64,
+    };
+    for place in 0..closed.run.len() {
+        let Ok(Some(entry)) = closed.run.get(place) else {
+            return Err(StressFault::Memory);
+        };
+        if let Event::Raise(_, _) = entry.event {
+            match entry.reply {
+                Reply::Raised(_) => counted.accepted = counted.accepted.saturating_add(1),
+                _ => counted.refused = counted.refused.saturating_add(1),
+            }
+        }
+    }
+    Ok(counted)
+}

@@ -1,0 +1,118 @@
+use super::setting::{
+    address, assigned, attached, begun, closed, commanded, ended, ends_with, entry, is_none, only,
+    opened, other_target, slot, target, unclosed, with,
+};
+use i3c_base::Cuts;
+use i3c_shared::{CloseFault, Full, spend_ports};
+use i3c_step::{Command, Event, Refusal, Reply};
+use std::test::Fail;
+
+// The port that is told is the lowest that is out and isn't handed in, in whatever order the others are.
+#[test]
+fn the_lowest_port_is_told(rt: HostRuntime) -> Result<(), Fail> {
+    let (one, three) = (slot(&rt, 1), slot(&rt, 3));
+    let (bus, role, main) = begun(&rt, rt.alloc());
+    let first = attached(&rt, &bus, one, target(&rt));
+    let third = attached(&rt, &bus, three, other_target(&rt));
+    let (zero_out, none) = (CloseFault::PortOut(slot(&rt, 0)), Vec::new(rt.alloc()));
+    let (bus, role, ports) = unclosed(&rt, bus, Some(role), none, zero_out);
+    let ports = with(&rt, ports, third);
+    let (bus, role, ports) = unclosed(&rt, bus, role, ports, zero_out);
+    let ports = with(&rt, ports, main);
+    let (bus, role, ports) = unclosed(&rt, bus, role, ports, CloseFault::PortOut(one));
+    let closed = closed(&rt, bus, role, with(&rt, ports, first));
+    assert!(rt; closed.run.len() == 2 && closed.records.as_slice().len() == 0);
+    Ok(())
+}
+
+// Of two ports that are out the lower is told, and then the other.
+#[test]
+fn the_next_port_is_told(rt: HostRuntime) -> Result<(), Fail> {
+    let (two, three) = (slot(&rt, 2), slot(&rt, 3));
+    let (bus, role, main) = begun(&rt, rt.alloc());
+    let second = attached(&rt, &bus, two, target(&rt));
+    let third = attached(&rt, &bus, three, other_target(&rt));
+    let ports = only(&rt, rt.alloc(), main);
+    let (bus, role, ports) = unclosed(&rt, bus, Some(role), ports, CloseFault::PortOut(two));
+    let ports = with(&rt, ports, second);
+    let (bus, role, ports) = unclosed(&rt, bus, role, ports, CloseFault::PortOut(three));
+    let closed = closed(&rt, bus, role, with(&rt, ports, third));
+    assert!(rt; closed.run.len() == 2);
+    Ok(())
+}
+
+// A port that was let go is out for good, and so is that of a device that a cut took away, until it is handed in.
+#[test]
+fn ports_of_nobody_are_out(rt: HostRuntime) -> Result<(), Fail> {
+    let (one, two) = (slot(&rt, 1), slot(&rt, 2));
+    let (bus, role, main) = begun(&rt, rt.alloc());
+    let first = attached(&rt, &bus, one, target(&rt));
+    attached(&rt, &bus, two, other_target(&rt)).let_go();
+    let mut role = assigned(&rt, &bus, role);
+    let mut cuts = Cuts::new();
+    cuts.add(one, 20);
+    let from = Command::ReadFrom(address(&rt, 0x09));
+    assert!(rt; commanded(&rt, &bus, &mut role, from, cuts).is_ok());
+    let ports = only(&rt, rt.alloc(), main);
+    let (bus, role, ports) = unclosed(&rt, bus, Some(role), ports, CloseFault::PortOut(one));
+    let ports = with(&rt, ports, first);
+    let (bus, role, ports) = unclosed(&rt, bus, role, ports, CloseFault::PortOut(two));
+    bus.let_go();
+    assert!(rt; !is_none(role));
+    spend_ports(ports);
+    Ok(())
+}
+
+// With no role handed in, and none parked, the role is out, whatever ports are.
+#[test]
+fn a_role_is_due(rt: HostRuntime) -> Result<(), Fail> {
+    let (bus, role, main) = begun(&rt, rt.alloc());
+    let none = Vec::new(rt.alloc());
+    let (bus, nobody, ports) = unclosed(&rt, bus, None, none, CloseFault::RoleOut);
+    let ports = with(&rt, ports, main);
+    let (bus, nobody, ports) = unclosed(&rt, bus, nobody, ports, CloseFault::RoleOut);
+    assert!(rt; is_none(nobody));
+    let closed = closed(&rt, bus, Some(role), ports);
+    assert!(rt; closed.run.is_empty());
+    Ok(())
+}
+
+// While a session is open the role is out, even where another bus's role is handed in.
+#[test]
+fn a_session_has_the_role(rt: HostRuntime) -> Result<(), Fail> {
+    let (bus, role, main) = begun(&rt, rt.alloc());
+    let (other, foreign, idle) = begun(&rt, rt.alloc());
+    let session = opened(&rt, &bus, role);
+    let ports = only(&rt, rt.alloc(), main);
+    let (bus, nobody, ports) = unclosed(&rt, bus, None, ports, CloseFault::RoleOut);
+    assert!(rt; is_none(nobody));
+    let (bus, back, ports) = unclosed(&rt, bus, Some(foreign), ports, CloseFault::RoleOut);
+    assert!(rt; !is_none(back));
+    let role = ended(&rt, &bus, session);
+    let closed = closed(&rt, bus, Some(role), ports);
+    assert!(rt; closed.run.len() == 2);
+    other.let_go();
+    idle.let_go();
+    Ok(())
+}
+
+// A refused close takes nothing up: a port with eight untaken posts stays full. The accepted one takes them all.
+#[test]
+fn a_refused_close_takes_nothing_up(rt: HostRuntime) -> Result<(), Fail> {
+    let at = slot(&rt, 0);
+    let (bus, role, main) = begun(&rt, rt.alloc());
+    let mut main = main;
+    for byte in 1..9 {
+        assert!(rt; main.post(Some(byte)) == Ok(()));
+    }
+    let none = Vec::new(rt.alloc());
+    let (bus, nobody, none) = unclosed(&rt, bus, None, none, CloseFault::RoleOut);
+    assert!(rt; is_none(nobody) && main.post(Some(9)) == Err(Full(Some(9))));
+    let (bus, role, none) = unclosed(&rt, bus, Some(role), none, CloseFault::PortOut(at));
+    assert!(rt; main.post(Some(9)) == Err(Full(Some(9))));
+    let closed = closed(&rt, bus, role, with(&rt, none, main));
+    assert!(rt; closed.run.len() == 8);
+    let last = entry(Event::Raise(at, Some(8)), Reply::Refused(Refusal::IsActive));
+    assert!(rt; ends_with(&closed.run, &[last]));
+    Ok(())
+}

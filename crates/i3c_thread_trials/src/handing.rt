@@ -1,0 +1,96 @@
+use super::setting::{
+    closed, ends_with, entry, handed, is_none, only, served, slot, target, unclosed, with,
+};
+use i3c_base::Served;
+use i3c_shared::{
+    AskFault, AttachFault, CloseFault, DropFault, HeldRole, Port, SharedBus, spend_ports,
+};
+use i3c_step::{Event, Refusal, Reply};
+use std::process::Abort;
+use std::sync::Wait;
+use std::test::Fail;
+
+/// The role, which the new holder's port alone is given, and once.
+fn taken<R: Wait + Abort>(rt: &R, bus: &SharedBus, main: &Port, port: &Port) -> HeldRole {
+    assert!(rt; is_none(bus.take_role(rt, main)));
+    let role = bus.take_role(rt, port).expect(rt, "the role");
+    assert!(rt; is_none(bus.take_role(rt, port)));
+    assert!(rt; role.holder() == slot(rt, 1));
+    role
+}
+
+/// The port of the new holder, which doesn't drop off.
+fn stays<R: Wait + Abort>(rt: &R, bus: &SharedBus, port: Port) -> Port {
+    match bus.drop_off(rt, port) {
+        Ok(_) => panic!(rt; "the active controller is gone"),
+        Err((port, why)) => {
+            assert!(rt; why == DropFault::ActiveStays);
+            port
+        }
+    }
+}
+
+// A handover: the new holder alone takes the role, once, and serves. It stays on the bus, which isn't closed while its
+// role or its port is out.
+#[test]
+fn the_new_holder_takes_the_role(rt: HostRuntime) -> Result<(), Fail> {
+    let (alloc, at) = (rt.alloc(), slot(&rt, 1));
+    let (bus, main, port) = handed(&rt, alloc);
+    let mut main = main;
+    let mut role = taken(&rt, &bus, &main, &port);
+    assert!(rt; served(&rt, &bus, &mut role) == Ok(Reply::Served(Served::Quiet)));
+    assert!(rt; bus.ask_role(&rt, &mut main) == Ok(()));
+    match bus.attach(&rt, at, target(&rt)) {
+        Ok(port) => {
+            port.let_go();
+            assert!(rt; false);
+        }
+        Err(why) => assert!(rt; why == AttachFault::SlotTaken),
+    }
+    let port = stays(&rt, &bus, port);
+    let ports = only(&rt, alloc, main);
+    let (bus, none, ports) = unclosed(&rt, bus, None, ports, CloseFault::RoleOut);
+    assert!(rt; is_none(none));
+    let (bus, role, ports) = unclosed(&rt, bus, Some(role), ports, CloseFault::PortOut(at));
+    let closed = closed(&rt, bus, role, with(&rt, ports, port));
+    let due = [
+        entry(Event::AskRole(slot(&rt, 0)), Reply::Asked),
+        entry(
+            Event::Attach(at, target(&rt)),
+            Reply::Refused(Refusal::SlotTaken),
+        ),
+        entry(Event::DropOff(at), Reply::Refused(Refusal::ActiveStays)),
+    ];
+    assert!(rt; ends_with(&closed.run, &due));
+    Ok(())
+}
+
+// Who holds the role doesn't wish for it.
+#[test]
+fn the_new_holder_does_not_ask(rt: HostRuntime) -> Result<(), Fail> {
+    let (bus, main, port) = handed(&rt, rt.alloc());
+    let mut port = port;
+    assert!(rt; bus.ask_role(&rt, &mut port) == Err(AskFault::Refused(Refusal::IsActive)));
+    // the role is parked: it is in
+    let ports = with(&rt, only(&rt, rt.alloc(), main), port);
+    let closed = closed(&rt, bus, None, ports);
+    let due = [entry(
+        Event::AskRole(slot(&rt, 1)),
+        Reply::Refused(Refusal::IsActive),
+    )];
+    assert!(rt; ends_with(&closed.run, &due));
+    Ok(())
+}
+
+// A role that was taken and let go is out, and isn't parked again.
+#[test]
+fn a_role_that_was_let_go_is_out(rt: HostRuntime) -> Result<(), Fail> {
+    let (bus, main, port) = handed(&rt, rt.alloc());
+    taken(&rt, &bus, &main, &port).let_go();
+    let ports = with(&rt, only(&rt, rt.alloc(), main), port);
+    let (bus, none, ports) = unclosed(&rt, bus, None, ports, CloseFault::RoleOut);
+    assert!(rt; is_none(none));
+    bus.let_go();
+    spend_ports(ports);
+    Ok(())
+}

@@ -1,0 +1,20 @@
+//! Trials of the bus that threads share, and of devices that post from threads, by their public calls alone, in a crate
+//! of their own: what a crate's own tests are proved with is the crate once more.
+//!
+//! `runs` has whole runs with each of their events, `handing` the role that is parked for its new holder, `closing` when
+//! a bus may be closed, `foreign` ports and roles of another bus, and `threads` what needs more than one thread.
+//! `setting` has what they share.
+#![tactic(auto)]
+
+#[cfg(test)]
+mod closing;
+#[cfg(test)]
+mod foreign;
+#[cfg(test)]
+mod handing;
+#[cfg(test)]
+mod runs;
+#[cfg(test)]
+mod setting;
+#[cfg(test)]
+mod threads;

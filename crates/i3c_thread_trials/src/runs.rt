@@ -1,0 +1,201 @@
+use super::setting::{
+    NONE, address, assigned, attached, begun, closed, commanded, ended, ends_with, entry, is_run,
+    left, only, opened, served, slot, target, with,
+};
+use i3c_base::{Answer, Cuts, Fixed, Record, RoundReply, Served, Slot, Verdict};
+use i3c_frame::Silent;
+use i3c_shared::{AttachFault, Entry, Full, HeldRole, Left, SharedBus};
+use i3c_step::{Command, Event, Framed, Refusal, Reply};
+use std::process::Abort;
+use std::sync::Wait;
+use std::test::Fail;
+
+/// The policy that a serve is kept with which accepted a request to join.
+const JOIN: Fixed = Fixed {
+    join: Verdict::Accept,
+    role: Verdict::Refuse,
+    interrupt: Verdict::Refuse,
+};
+
+/// The policy that a serve is kept with which accepted an interrupt.
+const INTERRUPT: Fixed = Fixed {
+    join: Verdict::Refuse,
+    role: Verdict::Refuse,
+    interrupt: Verdict::Accept,
+};
+
+/// A session in which a target gets the address 09, and the next round finds that nobody hears any more.
+fn one_assigned<R: Wait + Abort>(rt: &R, bus: &SharedBus, role: HeldRole) -> HeldRole {
+    let mut session = opened(rt, bus, role);
+    let given = RoundReply::Assigned(address(rt, 0x09), target(rt).identity);
+    let first = bus.round(rt, &mut session, &mut Silent, Cuts::new());
+    let second = bus.round(rt, &mut session, &mut Silent, Cuts::new());
+    assert!(rt; first == Ok(given) && second == Ok(RoundReply::Done));
+    ended(rt, bus, session)
+}
+
+/// What a target's join, its interrupt and its drop-off leave in the run, with those of its assignment.
+fn eleven<R: Abort>(rt: &R, at: Slot) -> [Entry; 11] {
+    let given = RoundReply::Assigned(address(rt, 0x09), target(rt).identity);
+    [
+        entry(Event::Attach(at, target(rt)), Reply::Attached),
+        entry(Event::AskJoin(at), Reply::Asked),
+        entry(
+            Event::Serve(JOIN, Cuts::new()),
+            Reply::Served(Served::Joining),
+        ),
+        entry(Event::OpenDaa(Cuts::new()), Reply::Opened(Served::Quiet)),
+        entry(Event::Round(Cuts::new()), Reply::Round(given)),
+        entry(Event::Round(Cuts::new()), Reply::Round(RoundReply::Done)),
+        entry(Event::EndDaa, Reply::Ended),
+        entry(Event::Raise(at, Some(0x11)), Reply::Raised(1)),
+        entry(
+            Event::Serve(INTERRUPT, Cuts::new()),
+            Reply::Served(Served::Recorded(1)),
+        ),
+        entry(Event::DropOff(at), Reply::Dropped),
+        entry(Event::Attach(at, target(rt)), Reply::Attached),
+    ]
+}
+
+// From a join to a drop-off and the next attachment: eleven events, one of them a raise that the serve after it took up.
+#[test]
+fn from_a_join_to_a_drop_off(rt: HostRuntime) -> Result<(), Fail> {
+    let (alloc, at) = (rt.alloc(), slot(&rt, 1));
+    let (bus, role, main) = begun(&rt, alloc);
+    let mut role = role;
+    let mut port = attached(&rt, &bus, at, target(&rt));
+    assert!(rt; bus.ask_join(&rt, &mut port) == Ok(()));
+    assert!(rt; served(&rt, &bus, &mut role) == Ok(Reply::Served(Served::Joining)));
+    role = one_assigned(&rt, &bus, role);
+    assert!(rt; port.post(Some(0x11)) == Ok(()));
+    assert!(rt; served(&rt, &bus, &mut role) == Ok(Reply::Served(Served::Recorded(1))));
+    assert!(rt; left(&rt, &bus, port) == Some(Left::Now));
+    let again = attached(&rt, &bus, at, target(&rt));
+    let closed = closed(
+        &rt,
+        bus,
+        Some(role),
+        with(&rt, only(&rt, alloc, main), again),
+    );
+    assert!(rt; is_run(&closed.run, &eleven(&rt, at)));
+    let record = Record {
+        slot: at,
+        number: 1,
+        at: address(&rt, 0x09),
+        byte: Some(0x11),
+    };
+    assert!(rt; closed.records.as_slice() == &[record][..]);
+    Ok(())
+}
+
+// The active controller's post is a raise that the run has as refused.
+#[test]
+fn the_active_controller_posts(rt: HostRuntime) -> Result<(), Fail> {
+    let (bus, role, main) = begun(&rt, rt.alloc());
+    let (mut role, mut main) = (role, main);
+    assert!(rt; main.post(Some(1)) == Ok(()));
+    assert!(rt; served(&rt, &bus, &mut role) == Ok(Reply::Served(Served::Quiet)));
+    let closed = closed(&rt, bus, Some(role), only(&rt, rt.alloc(), main));
+    let due = [
+        entry(
+            Event::Raise(slot(&rt, 0), Some(1)),
+            Reply::Refused(Refusal::IsActive),
+        ),
+        entry(
+            Event::Serve(NONE, Cuts::new()),
+            Reply::Served(Served::Quiet),
+        ),
+    ];
+    assert!(rt; is_run(&closed.run, &due));
+    assert!(rt; closed.records.as_slice().len() == 0);
+    Ok(())
+}
+
+// A drop-off takes up the last two posts first; the ring was free again after the first seven.
+#[test]
+fn a_drop_off_takes_up_the_last_posts(rt: HostRuntime) -> Result<(), Fail> {
+    let at = slot(&rt, 1);
+    let (bus, role, main) = begun(&rt, rt.alloc());
+    let mut port = attached(&rt, &bus, at, target(&rt));
+    let mut role = assigned(&rt, &bus, role);
+    for byte in 1..8 {
+        assert!(rt; port.post(Some(byte)) == Ok(()));
+    }
+    assert!(rt; served(&rt, &bus, &mut role) == Ok(Reply::Served(Served::Recorded(1))));
+    assert!(rt; port.post(Some(8)) == Ok(()));
+    assert!(rt; port.post(Some(9)) == Ok(()));
+    assert!(rt; left(&rt, &bus, port) == Some(Left::Now));
+    let closed = closed(&rt, bus, Some(role), only(&rt, rt.alloc(), main));
+    let due = [
+        entry(Event::Raise(at, Some(8)), Reply::Raised(8)),
+        entry(Event::Raise(at, Some(9)), Reply::Raised(9)),
+        entry(Event::DropOff(at), Reply::Dropped),
+    ];
+    assert!(rt; ends_with(&closed.run, &due));
+    Ok(())
+}
+
+// Eight posts may be untaken, and no more; the byte comes back.
+#[test]
+fn the_ninth_post_is_full(rt: HostRuntime) -> Result<(), Fail> {
+    let (bus, role, main) = begun(&rt, rt.alloc());
+    let mut main = main;
+    for byte in 1..9 {
+        assert!(rt; main.post(Some(byte)) == Ok(()));
+    }
+    assert!(rt; main.post(Some(9)) == Err(Full(Some(9))));
+    bus.let_go();
+    role.let_go();
+    main.let_go();
+    Ok(())
+}
+
+/// A slot's device is cut in the first byte that is read of it.
+fn cut(at: Slot) -> Cuts {
+    let mut cuts = Cuts::new();
+    cuts.add(at, 20);
+    cuts
+}
+
+/// The reply to a read whose last byte doesn't end.
+fn torn() -> Reply {
+    Reply::Framed(Framed {
+        served: Served::Quiet,
+        answer: Answer::NoEnd,
+    })
+}
+
+// A device that a cut took away leaves its port out: its slot is free once that port came back. The attachment that is
+// refused before is no event.
+#[test]
+fn a_cut_device_leaves_its_port_out(rt: HostRuntime) -> Result<(), Fail> {
+    let (alloc, at, from) = (rt.alloc(), slot(&rt, 1), address(&rt, 0x09));
+    let (bus, role, main) = begun(&rt, alloc);
+    let port = attached(&rt, &bus, at, target(&rt));
+    let mut role = assigned(&rt, &bus, role);
+    assert!(rt; commanded(&rt, &bus, &mut role, Command::ReadFrom(from), cut(at)) == Ok(torn()));
+    match bus.attach(&rt, at, target(&rt)) {
+        Ok(port) => {
+            port.let_go();
+            assert!(rt; false);
+        }
+        Err(why) => assert!(rt; why == AttachFault::SlotTaken),
+    }
+    assert!(rt; left(&rt, &bus, port) == Some(Left::WasGone));
+    let again = attached(&rt, &bus, at, target(&rt));
+    let closed = closed(
+        &rt,
+        bus,
+        Some(role),
+        with(&rt, only(&rt, alloc, main), again),
+    );
+    let due = [
+        entry(Event::EndDaa, Reply::Ended),
+        entry(Event::ReadFrom(from, NONE, cut(at)), torn()),
+        entry(Event::DropOff(at), Reply::Refused(Refusal::NoDevice)),
+        entry(Event::Attach(at, target(&rt)), Reply::Attached),
+    ];
+    assert!(rt; ends_with(&closed.run, &due));
+    Ok(())
+}

@@ -1,0 +1,231 @@
+ghost use Rattle.std.specs.Prelude.{⊤};
+
+use super::setting::{
+    ALL, address, assigned, attached, begun, closed, ends_with, entry, only, other_target, slot,
+    target, with,
+};
+use i3c_base::{Addr7, Cuts, Request, Served, Slot, Verdict};
+use i3c_bus::Policy;
+use i3c_frame::Silent;
+use i3c_shared::{Entry, Full, HeldRole, Port, SharedBus, StaleRole};
+use i3c_step::{Command, Event, Reply};
+use i3c_stress::{Gate, stress};
+use std::alloc::Global;
+use std::process::Abort;
+use std::sync::Wait;
+use std::sync::atomic::{AtomicU64, Ordering};
+use std::test::Fail;
+use std::thread;
+use std::time::{Clock, Duration};
+
+/// How many turns of a millisecond a thread waits for another before its test fails.
+const TURNS: u64 = 2000;
+
+/// Waits until the count is reached. False at the limit of turns.
+fn reached<R: Clock>(rt: &R, count: &AtomicU64, least: u64) -> bool {
+    for _ in 0..TURNS {
+        if count.load(Ordering::SeqCst) >= least {
+            return true;
+        }
+        thread::sleep(rt, Duration::from_millis(1));
+    }
+    false
+}
+
+/// A gate at which the first call of each of two devices waits until the other's has begun.
+#[derive(Drop)]
+struct Meeting<'a, R> {
+    rt: &'a R,
+    first: AtomicU64,
+    second: AtomicU64,
+    late: AtomicU64,
+}
+
+impl<'a, R: Clock> Gate for Meeting<'a, R> {
+    fn answered(&self, slot: Slot, n: u64) {
+        if n == 1 {
+            let (own, other) = if slot.index() == 1 {
+                (&self.first, &self.second)
+            } else {
+                (&self.second, &self.first)
+            };
+            own.fetch_add(1, Ordering::SeqCst);
+            if !reached(self.rt, other, 1) {
+                self.late.fetch_add(1, Ordering::SeqCst);
+            }
+        }
+    }
+}
+
+// Two devices that wait for each other's first answer run at once, and each of their four posts is accounted for.
+#[test]
+fn devices_post_at_once(rt: HostRuntime) -> Result<(), Fail> {
+    let gate = Meeting {
+        rt: &rt,
+        first: AtomicU64::new(0),
+        second: AtomicU64::new(0),
+        late: AtomicU64::new(0),
+    };
+    let mut policy = ALL;
+    let report = stress(&rt, rt.alloc(), 2, 2, &mut policy, &gate);
+    assert!(rt; gate.late.load(Ordering::SeqCst) == 0);
+    match report {
+        Ok(report) => {
+            assert!(rt; report.tried == 4);
+            assert!(rt; report.posted == 4);
+            assert!(rt; report.turned_away == 0);
+            assert!(rt; report.recorded + report.waiting == 4);
+        }
+        Err(_) => assert!(rt; false),
+    }
+    Ok(())
+}
+
+/// What two threads have counted: how often the policy was asked as it should be, how many answers the poster had, how
+/// many of them were that its post is in, and how often one of them waited for too long.
+#[derive(Drop)]
+struct Counts {
+    asked: AtomicU64,
+    answers: AtomicU64,
+    posted: AtomicU64,
+    late: AtomicU64,
+}
+
+fn none_counted() -> Counts {
+    Counts {
+        asked: AtomicU64::new(0),
+        answers: AtomicU64::new(0),
+        posted: AtomicU64::new(0),
+        late: AtomicU64::new(0),
+    }
+}
+
+/// A policy that accepts one device's interrupt after another device's thread had nine answers.
+#[derive(Drop)]
+struct Patient<'a, R> {
+    rt: &'a R,
+    from: Addr7,
+    counts: &'a Counts,
+}
+
+impl<'a, R: Clock> Policy for Patient<'a, R> {
+    ghost verdict_gives = { λ old request verdict new. ⊤ };
+
+    fn verdict(&mut self, request: Request) -> Verdict {
+        if request != Request::Interrupt(self.from) {
+            return Verdict::Refuse;
+        }
+        self.counts.asked.fetch_add(1, Ordering::SeqCst);
+        if !reached(self.rt, &self.counts.answers, 9) {
+            self.counts.late.fetch_add(1, Ordering::SeqCst);
+        }
+        Verdict::Accept
+    }
+}
+
+/// What the serve under such a policy answers.
+fn serve_patiently<R: Wait + Clock>(
+    rt: &R,
+    bus: &SharedBus,
+    role: &mut HeldRole,
+    counts: &Counts,
+    from: Addr7,
+) -> Result<Reply, StaleRole> {
+    let mut policy = Patient { rt, from, counts };
+    bus.command(
+        rt,
+        role,
+        Command::Serve,
+        &mut policy,
+        &mut Silent,
+        Cuts::new(),
+    )
+}
+
+/// Nine posts of the bytes 1 to 9, once the policy was asked. It answers what the ninth came to.
+fn post_nine<R: Clock>(rt: &R, port: &mut Port, counts: &Counts) -> Result<(), Full> {
+    if !reached(rt, &counts.asked, 1) {
+        counts.late.fetch_add(1, Ordering::SeqCst);
+    }
+    for byte in 1..9 {
+        if port.post(Some(byte)).is_ok() {
+            counts.posted.fetch_add(1, Ordering::SeqCst);
+        }
+        counts.answers.fetch_add(1, Ordering::SeqCst);
+    }
+    let last = port.post(Some(9));
+    counts.answers.fetch_add(1, Ordering::SeqCst);
+    last
+}
+
+/// The raise of a slot with a byte that is its number, accepted.
+fn raised(at: Slot, byte: u8) -> Entry {
+    entry(Event::Raise(at, Some(byte)), Reply::Raised(u64::from(byte)))
+}
+
+/// The first eight raises of a slot.
+fn eight(at: Slot) -> [Entry; 8] {
+    [
+        raised(at, 1),
+        raised(at, 2),
+        raised(at, 3),
+        raised(at, 4),
+        raised(at, 5),
+        raised(at, 6),
+        raised(at, 7),
+        raised(at, 8),
+    ]
+}
+
+/// A bus with its role, its main controller's port, and the ports of two targets with addresses, the second of which
+/// has an untaken post.
+struct Party {
+    bus: SharedBus,
+    role: HeldRole,
+    main: Port,
+    first: Port,
+    second: Port,
+}
+
+fn gathered<R: Wait + Abort>(rt: &R, alloc: Global) -> Party {
+    let (bus, role, main) = begun(rt, alloc);
+    let first = attached(rt, &bus, slot(rt, 1), target(rt));
+    let mut second = attached(rt, &bus, slot(rt, 2), other_target(rt));
+    let role = assigned(rt, &bus, role);
+    assert!(rt; second.post(Some(1)) == Ok(()));
+    Party {
+        bus,
+        role,
+        main,
+        first,
+        second,
+    }
+}
+
+// While a serve waits under the lock, another device's thread posts: eight posts are taken, and the ninth is told to be
+// one too many. All eight come into the run, in order.
+#[test]
+fn posts_do_not_wait_for_a_serve(rt: HostRuntime) -> Result<(), Fail> {
+    let counts = none_counted();
+    let Party {
+        bus,
+        mut role,
+        main,
+        mut first,
+        second,
+    } = gathered(&rt, rt.alloc());
+    let from = address(&rt, 0x0A);
+    let (ninth, served) = thread::join(
+        &rt,
+        || post_nine(&rt, &mut first, &counts),
+        || serve_patiently(&rt, &bus, &mut role, &counts, from),
+    );
+    assert!(rt; counts.late.load(Ordering::SeqCst) == 0);
+    assert!(rt; counts.posted.load(Ordering::SeqCst) == 8 && ninth == Err(Full(Some(9))));
+    assert!(rt; served == Ok(Reply::Served(Served::Recorded(1))));
+    let ports = with(&rt, only(&rt, rt.alloc(), main), first);
+    let closed = closed(&rt, bus, Some(role), with(&rt, ports, second));
+    // two attachments, a session of five events, the other's raise, and the serve, come before
+    assert!(rt; closed.run.len() == 17 && ends_with(&closed.run, &eight(slot(&rt, 1))));
+    Ok(())
+}
