@@ -6,7 +6,6 @@ use std::process::Abort;
 use std::test::Fail;
 use std::{io, str};
 
-mod handing;
 mod joining;
 mod traces;
 
@@ -49,272 +48,20 @@ fn goes_on(
     Ok(())
 }
 
-// The wire of a session that nobody hears is six symbols; of 43 of them the last 256 are kept.
-#[test]
-fn the_last_symbols_are_kept(rt: HostRuntime) -> Result<(), Fail> {
-    let alloc = rt.alloc();
-    let mut script = String::new(alloc);
-    let mut wanted = String::new(alloc);
-    for _ in 0..43 {
-        script.push_str("daa\n")?;
-        wanted.push_str("done\n")?;
-    }
-    script.push_str("symbols\n")?;
-    wanted.push_str("07.0 Sr 7E/R- P")?;
-    for _ in 0..42 {
-        wanted.push_str(" S 7E/W- 07.0 Sr 7E/R- P")?;
-    }
-    wanted.push_str("\n")?;
-    goes_on(&rt, alloc, script.as_str(), wanted.as_str(), 0)
-}
-
-// There are 16 slots and 16 legacy targets, and a name that is taken is told first.
-#[test]
-fn places_are_limited(rt: HostRuntime) -> Result<(), Fail> {
-    let alloc = rt.alloc();
-    let mut script = String::new(alloc);
-    let mut wanted = String::new(alloc);
-    for number in 0..16 {
-        writeln!(script, "legacy l{number} {:02X} 00", number + 16)?;
-        writeln!(wanted, "l{number} legacy at {:02X}", number + 16)?;
-    }
-    writeln!(script, "legacy l16 20 00")?;
-    writeln!(wanted, "refused TooManyLegacy")?;
-    script.push_str(HUB)?;
-    wanted.push_str(HUB_LINE)?;
-    for number in 1..16 {
-        writeln!(script, "attach d{number} 0204000000{number:02X} 00 00")?;
-        writeln!(wanted, "d{number} slot {number}")?;
-    }
-    script.push_str("attach d16 020400000010 00 00\nattach l3 020400000010 00 00\ndaa\n")?;
-    wanted.push_str("refused SlotTaken\nrefused NameTaken\n")?;
-    // the addresses from 09 on, but those of the legacy targets, 10 to 1F
-    for number in 1..16 {
-        let address = if number < 8 { number + 8 } else { number + 24 };
-        writeln!(
-            wanted,
-            "assigned {address:02X} 0204000000{number:02X} 00 00"
-        )?;
-    }
-    wanted.push_str("done\n")?;
-    prints(&rt, alloc, script.as_str(), wanted.as_str(), 3);
-    Ok(())
-}
-
-#[test]
-fn lines_without_a_form(rt: HostRuntime) -> Result<(), Fail> {
-    let lines = [
-        // words
-        "attach",
-        "attach t",
-        "dab",
-        "DAA",
-        "daa daa",
-        "show t",
-        "main",
-        "legacy eep 09",
-        "legacy eep 09 20 00",
-        "attach t 020400000010 06",
-        "attach t 020400000010 06 44 44",
-        "attach t 020400000010 06 44 declined",
-        "attach t 020400000010 06 44 decline decline",
-        "raise",
-        "raise hub 11 11",
-        "policy",
-        "policy some",
-        "policy ALL",
-        "policy all none",
-        "serve now",
-        "enec",
-        "disec",
-        "enec 01 09 09",
-        "disec 01 09 09",
-        "drop",
-        "drop hub hub",
-        "ask-join",
-        "ask-join hub hub",
-        "ask join hub",
-        "open now",
-        "round 1",
-        "end end",
-        "cut",
-        "cut hub",
-        "cut 3",
-        "cut hub 3 3",
-        "ask-role",
-        "ask-role hub hub",
-        "ask role hub",
-        "reset 09",
-        "list 09",
-        "handover",
-        "handover hub",
-        "handover 09 0A",
-        "read",
-        "read hub",
-        "read 09 0A",
-        "write",
-        "write hub 01",
-        "write 09 01 02",
-        // spaces
-        " ",
-        " daa",
-        "daa ",
-        "attach  t 020400000010 06 44",
-        "attach t 020400000010 06 44 ",
-        "raise hub ",
-        "raise  hub",
-        "cut hub ",
-        "cut hub  3",
-        "cut hub 3 ",
-        "open ",
-        "policy all ",
-        "enec 01 ",
-        "read 09 ",
-        "write 09 ",
-        "write 09  01",
-        "write 09 01 ",
-        "attach\tt 020400000010 06 44",
-        "attach t\t020400000010 06 44",
-        "daa\r",
-        "attach t 020400000010 06 44\r",
-        " # no comment",
-        // numbers
-        "attach t 02040000001a 06 44",
-        "attach t 020400000010 0a 44",
-        "attach t 020400000010 06 4",
-        "attach t 020400000010 006 44",
-        "attach t 02040000001 06 44",
-        "attach t 0204000000100 06 44",
-        "attach t 02040000001G 06 44",
-        "attach t 02040000001: 06 44",
-        "attach t 02040000001@ 06 44",
-        "attach t +20400000010 06 44",
-        "attach t 020400000010 06 4/",
-        "attach t 0x0400000010 06 44",
-        "raise hub 1",
-        "raise hub 111",
-        "raise hub 1g",
-        "enec 1",
-        "disec 011",
-        "enec 0b",
-        "write 09 0",
-        "write 09 012",
-        "write 09 0g",
-        "write 09 ab",
-        "write 09 0x01",
-        "write 09 +1",
-        "cut hub +3",
-        "cut hub -3",
-        "cut hub 65536",
-        "cut hub 0065536",
-        "cut hub 4294967296",
-        "cut hub 99999999999999999999999999",
-        "cut hub A",
-        "cut hub 1A",
-        "cut hub 0x3",
-        "cut hub 3.0",
-        "cut hub 3/",
-        "cut hub 3:",
-        // addresses
-        "enec 01 80",
-        "disec 01 FF",
-        "handover 80",
-        "handover 9",
-        "enec 01 9",
-        "read 80",
-        "read 9",
-        "write 80 01",
-        "write 009 01",
-        "legacy eep 80 20",
-        "legacy eep FF 20",
-        "legacy eep 9 20",
-        "legacy eep 009 20",
-        "legacy eep 09 2g",
-        // names
-        "attach T 020400000010 06 44",
-        "attach t_u 020400000010 06 44",
-        "attach  020400000010 06 44",
-        "raise HUB",
-        "drop HUB",
-        "ask-join HUB",
-        "cut HUB 3",
-        "raise abcdefghijklmnopq",
-        "attach abcdefghijklmnopq 020400000010 06 44",
-        "attach é 020400000010 06 44",
-        "attach t` 020400000010 06 44",
-        "attach t{ 020400000010 06 44",
-        "attach t: 020400000010 06 44",
-        "daa\0",
-        "é",
-    ];
-    for line in lines {
-        let script = format!(in rt.alloc(); "{line}\ndaa\n")?;
-        goes_on(
-            &rt,
-            rt.alloc(),
-            script.as_str(),
-            "refused BadLine\ndone\n",
-            1,
-        )?;
-    }
-    Ok(())
-}
-
 /// A device that interrupts with a mandatory byte.
 const TARGET: &str = "attach t 020400000010 06 44\n";
 
 /// What it prints as the first device after the main controller, and what `daa` prints then.
 const TARGET_LINES: &str = "t slot 1\nassigned 09 020400000010 06 44\ndone\n";
 
-/// The wire of that session.
-const TARGET_WIRE: &str = "S 7E/W+ 07.0 Sr 7E/R+ =0204000000100644 @13+ Sr 7E/R- P";
-
-/// A script that follows the assignment of that device prints this, and then this wire.
-fn target_goes_on(
-    rt: &impl Abort,
-    alloc: Global,
-    script: &str,
-    wanted: &str,
-    wire: &str,
-    refused: u64,
-) -> Result<(), Fail> {
-    let script = format!(in alloc; "{TARGET}daa\n{script}symbols\n")?;
-    let wanted = format!(in alloc; "{TARGET_LINES}{wanted}{TARGET_WIRE}{wire}\n")?;
-    goes_on(rt, alloc, script.as_str(), wanted.as_str(), refused)
-}
-
-// Why a raise is refused. At most eight wait, and a session turns down who asks while it is opened.
-#[test]
-fn raises_are_refused(rt: HostRuntime) -> Result<(), Fail> {
-    let mut script = String::from_str(rt.alloc(), "raise t\nraise hub 01\nraise x 01\n")?;
-    let mut wanted = String::from_str(
-        rt.alloc(),
-        "refused ByteMismatch\nrefused IsActive\nrefused NoName\n",
-    )?;
-    for number in 1..9 {
-        writeln!(script, "raise t 01")?;
-        writeln!(wanted, "raised {number}")?;
-    }
-    script.push_str(
-        "raise t 01\nattach p 020400000030 00 44\nraise p\ndaa\nraise p\nshow\nserve\n",
-    )?;
-    wanted.push_str(
-        "refused Full\np slot 2\nrefused NoAddress\n\
-        turned down\nassigned 0A 020400000030 00 44\ndone\nrefused NotCapable\n\
-        active 08\nhub 08 waiting 0\nt 09 waiting 8\np 0A waiting 0\nrecords 0\nrecorded 1\n",
-    )?;
-    let wire = " S 09/R- Sr 7E/W+ 07.0 Sr 7E/R+ =0204000000300044 @15+ Sr 7E/R- P S 09/R+ 01.0 P";
-    target_goes_on(&rt, rt.alloc(), script.as_str(), wanted.as_str(), wire, 6)
-}
-
 // Its form comes first: a line without one is told so before there is a bus, and after.
 #[test]
 fn skipped_lines(rt: HostRuntime) {
     let alloc = rt.alloc();
     let script =
-        "\n# é\t\r\0\n#\n\n\nattach t\nmain abcdefghijklm012 020400000001 46 C0\n#daa\ndaa";
-    let wanted = "refused BadLine\nabcdefghijklm012 slot 0 at 08\ndone\n";
-    prints(&rt, alloc, script, wanted, 1);
+        "\n# é\t\r\0\n#\n\n\nattach t\nmain abcdefghijklm012 020400000001 46 C0\n#daa\ndaa\0\ndaa";
+    let wanted = "refused BadLine\nabcdefghijklm012 slot 0 at 08\nrefused BadLine\ndone\n";
+    prints(&rt, alloc, script, wanted, 2);
     prints(&rt, alloc, "", "", 0);
     let (printed, outcome) = run(alloc, b"#\xFF\x80\ndaa\xFF\n\xC0");
     assert_eq!(rt;
@@ -616,53 +363,5 @@ fn symbols_are_a_trace(rt: HostRuntime) -> Result<(), Fail> {
     let wire = text.lines().last().ok_or("a line")?;
     let symbols = read_trace(alloc, wire)?;
     assert_eq!(rt; symbols.len(), 252);
-    Ok(())
-}
-
-// What is printed for replies that few lines get, and what stops their lines: of a line that is the event, and of `daa`,
-// which prints nothing of its opening and end but who was turned down. A session's `daa` that is short of an address is
-// in `addresses_run_out`.
-#[test]
-fn texts_of_replies(rt: HostRuntime) -> Result<(), Fail> {
-    let alloc = rt.alloc();
-    let cases = [
-        ("raise t 11\ncut t 9\nserve\n", "raised 1\ntorn\n", 0),
-        (
-            "attach u 020400000011 06 44\nask-join u\nserve\n",
-            "u slot 2\nasked\njoining\n",
-            0,
-        ),
-        (
-            "attach c 020400000020 46 C1\ndaa\nask-role c\nserve\n",
-            "c slot 2\nassigned 0A 020400000020 46 C1\ndone\nasked\nwants role 0A\n",
-            0,
-        ),
-        ("open\n", "open\n", 0),
-        ("daa\n", "done\n", 0),
-        ("raise t 11\nopen\n", "raised 1\nturned down\nopen\n", 0),
-        ("raise t 11\ndaa\n", "raised 1\nturned down\ndone\n", 0),
-        // the byte of the first request is torn, and nobody ends the read of another
-        (
-            "attach u 020400000011 06 44\ndaa\nraise t 11\ncut t 9\ncut u 40\nread 0A\n",
-            "u slot 2\nassigned 0A 020400000011 06 44\ndone\nraised 1\ntorn\nrefused NoEnd\n",
-            1,
-        ),
-        (
-            "write 09 000102030405060708090A0B0C0D0EFF\nread 09\n",
-            "done\nbytes 000102030405060708090A0B0C0D0EFF\n",
-            0,
-        ),
-        (
-            "attach u 020400000011 06 44\nopen\ncut u 65\nround\n",
-            "u slot 2\nopen\nnobody\n",
-            0,
-        ),
-        ("open\nround\nend\n", "open\ndone\nended\n", 0),
-    ];
-    for (script, wanted, refused) in cases {
-        let script = format!(in alloc; "{TARGET}daa\n{script}")?;
-        let wanted = format!(in alloc; "{TARGET_LINES}{wanted}")?;
-        goes_on(&rt, alloc, script.as_str(), wanted.as_str(), refused)?;
-    }
     Ok(())
 }

@@ -9,6 +9,7 @@ use std::thread::Threads;
 const TOLD_EVERY: u64 = 10_000;
 
 /// A gate that lets each device go on at once, and tells who watches how far that in slot 1 is.
+#[derive(Drop)]
 struct Progress<'a, R> {
     rt: &'a R,
     is_watched: bool,

@@ -1,17 +1,11 @@
-//! Sessions over several lines, joins, drop-offs and cuts.
+//! Addresses, until none is left.
 
 ghost use Rattle.std.specs.Prelude.{◌<◌};
 
-use crate::script::{HUB, HUB_LINE, TARGET, goes_on, prints, run, target_goes_on};
+use crate::script::{HUB, HUB_LINE, prints, run};
 use std::io::Write;
 use std::str;
 use std::test::Fail;
-
-/// A device whose identity is greater than the target's by one bit of its PID.
-const OTHER: &str = "attach u 020400000011 06 44\n";
-
-/// One whose identity differs from the target's in the last bit alone, and is greater.
-const TWIN: &str = "attach v 020400000010 06 45\n";
 
 /// The usable dynamic address that comes after so many others, from `08` on: `3E`, `5E`, `6E` and `76` are left out.
 fn usable_address(before: u8) -> u8
@@ -64,77 +58,4 @@ fn addresses_run_out(rt: HostRuntime) -> Result<(), Fail> {
     writeln!(wanted, "{wire}")?;
     prints(&rt, alloc, script.as_str(), wanted.as_str(), 2);
     Ok(())
-}
-
-// The next frame's line uses the cuts up, also where it is refused. A line without a form is none, nor is `end` or a
-// line that sends no frame.
-#[test]
-fn cuts_are_used_up(rt: HostRuntime) -> Result<(), Fail> {
-    let alloc = rt.alloc();
-    let refused = [
-        ("enec 01 50\n", "refused NoAnswer 50\n"),
-        ("disec 01 08\n", "refused NoAnswer 08\n"),
-        ("cut hub 3\ndisec 01\n", "refused ActiveStays\n"),
-        ("round\n", "refused NoSession\n"),
-    ];
-    for (line, printed) in refused {
-        let script = format!(in alloc; "raise t 11\ncut t 9\n{line}serve\n")?;
-        let wanted = format!(in alloc; "raised 1\n{printed}recorded 1\n")?;
-        target_goes_on(
-            &rt,
-            alloc,
-            script.as_str(),
-            wanted.as_str(),
-            " S 09/R+ 11.0 P",
-            1,
-        )?;
-    }
-    let open = format!(in alloc; "{TARGET}open\ncut t 17\nserve\nround\n")?;
-    let wanted = "t slot 1\nopen\nrefused SessionOpen\nassigned 09 020400000010 06 44\n";
-    goes_on(&rt, alloc, open.as_str(), wanted, 1)?;
-    let kept = [
-        ("serve now\n", "refused BadLine\n", 1),
-        ("end\n", "refused NoSession\n", 1),
-        ("raise t 12\n", "raised 2\n", 0),
-        ("ask-join t\n", "refused HasAddress\n", 1),
-        ("drop hub\n", "refused ActiveStays\n", 1),
-        ("policy all\n", "", 0),
-        ("cut x 3\n", "refused NoName\n", 1),
-        ("# serve\n", "", 0),
-    ];
-    for (line, printed, count) in kept {
-        let script = format!(in alloc; "raise t 11\ncut t 9\n{line}serve\nserve\n")?;
-        let wanted = format!(in alloc; "raised 1\n{printed}torn\nquiet\n")?;
-        let wire = " S 09/R+ 11.1 P S 7E/W- P";
-        target_goes_on(&rt, alloc, script.as_str(), wanted.as_str(), wire, count)?;
-    }
-    Ok(())
-}
-
-// A bit is decimal, up to 65535. Of two cuts of one device the earlier is kept, and two devices have one each.
-#[test]
-fn bits_of_cuts(rt: HostRuntime) -> Result<(), Fail> {
-    let alloc = rt.alloc();
-    let (torn, recorded) = ("raised 1\ntorn\n", "raised 1\nrecorded 1\n");
-    let cases = [
-        ("cut t 0\n", torn, " S 09/R+ FF.1 P"),
-        ("cut t 9\n", torn, " S 09/R+ 11.1 P"),
-        ("cut t 0000000000009\n", torn, " S 09/R+ 11.1 P"),
-        ("cut t 10\n", recorded, " S 09/R+ 11.0 P"),
-        ("cut t 65535\n", recorded, " S 09/R+ 11.0 P"),
-        ("cut t 10\ncut t 9\n", torn, " S 09/R+ 11.1 P"),
-        ("cut t 9\ncut t 10\n", torn, " S 09/R+ 11.1 P"),
-    ];
-    for (cuts, wanted, wire) in cases {
-        let script = format!(in alloc; "raise t 11\n{cuts}serve\n")?;
-        target_goes_on(&rt, alloc, script.as_str(), wanted, wire, 0)?;
-    }
-    for line in ["cut t +9", "cut t -9", "cut t 65536", "cut t 9 "] {
-        let script = format!(in alloc; "raise t 11\n{line}\nserve\n")?;
-        let wanted = "raised 1\nrefused BadLine\nrecorded 1\n";
-        target_goes_on(&rt, alloc, script.as_str(), wanted, " S 09/R+ 11.0 P", 1)?;
-    }
-    let both = format!(in alloc; "{TARGET}{OTHER}open\ncut u 0\ncut t 0\nround\nend\nshow\n")?;
-    let wanted = "t slot 1\nu slot 2\nopen\ndone\nended\nactive 08\nhub 08 waiting 0\nrecords 0\n";
-    goes_on(&rt, alloc, both.as_str(), wanted, 0)
 }
