@@ -13,7 +13,7 @@ use Rattle.i3c_step.specs.Stays.{accepted_at, accepted_in_stay, accepted_since_a
 use Rattle.i3c_shared.specs.declared.entry.Entry.{Entry}
 use Rattle.i3c_shared.specs.Balance.{next_refused, refused_at, refused_from, refused_of}
 use Rattle.i3c_shared.specs.KeptRuns.{events_of, replies_of}
-use Rattle.i3c_shared.specs.Raises.{next_raises, raised_at, raises_of}
+use Rattle.i3c_shared.specs.Raises.{raised_at, raises_of}
 use Rattle.i3c_shared.proofs.Fitting.{raises_append}
 
 abbrev entry_of : Moment → Entry

@@ -12,7 +12,7 @@ use Rattle.i3c_shared.specs.declared.entry.Entry.{Entry}
 use Rattle.i3c_shared.specs.Closing.{Closes}
 use Rattle.i3c_shared.specs.KeptRuns.{events_of, replies_of}
 use Rattle.i3c_shared.specs.Ports.{IsAt}
-use Rattle.i3c_shared.specs.Raises.{raised_at, raises_of}
+use Rattle.i3c_shared.specs.Raises.{raised_at}
 use Rattle.i3c_shared.specs.Rings.{IsEndOf, ring_at}
 use Rattle.i3c_shared.specs.Values.{KeptValue, PortValue}
 
