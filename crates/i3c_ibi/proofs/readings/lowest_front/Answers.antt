@@ -8,8 +8,8 @@ use Rattle.i3c_ibi.proofs.readings.lowest_front.Goals as goal
 
 pub returns-in_err-slot : goal.returns-in_err-slot
 returns-in_err-slot c = rw c.from_residual.ensures (λ at d.
-  let low = driven_below d.active c.args.devices.now d.driven.0 (Interrupt at) d.long d.driven.1 in
-  both_ways _ (c.in_err-slot.ensures d.driven.0 low) (d.are d.driven.0 low ∙ d.driven.1))
+    let low = driven_below d.active c.args.devices.now d.driven.0 (Interrupt at) d.long d.driven.1 in
+    both_ways _ (c.in_err-slot.ensures d.driven.0 low) (d.are d.driven.0 low ∙ d.driven.1))
 
 pub returns : goal.returns
 returns c = (c.in_ok-slot.ensures, front_at _ c.in_ok-get.field-0.now c.in_ok-front.front c.in_ok-get.ensures.device (sym c.in_ok-front.ensures))

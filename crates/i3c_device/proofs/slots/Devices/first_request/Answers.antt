@@ -10,7 +10,7 @@ pub loop-index-preserved-in-Some-driven : goal.loop-index-preserved-in-Some-driv
 loop-index-preserved-in-Some-driven c =
     let taken = c.in-Some.ensures.taken in
     let seen : get_or c.self.inside.places c.in-Some.index c.index-self-index.result ≡ get_or c.self.inside.places c.in-Some.index None =
-      get_or_default c.self.inside.places c.in-Some.index c.index-self-index.result None (omega (arith, c.self.invariant.0, taken.0)) in
+    get_or_default c.self.inside.places c.in-Some.index c.index-self-index.result None (omega (arith, c.self.invariant.0, taken.0)) in
     leads_joined c.args.active c.loop-index.left c.take_lowest.new.self c.self.inside.places c.loop-index.first c.in-Some-driven.request c.in-Some.index c.joined.result c.loop-index.invariant
     taken.0 taken.1 taken.3
     (subst (λ o. drives_at c.args.active c.in-Some.index o c.in-Some-driven.request ≡ true) seen c.in-Some-driven.ensures.asked)
