@@ -1,5 +1,5 @@
 use crate::faults::Fault;
-use crate::script::{KNOWN, Script};
+use crate::script::{KNOWN, Script, legacies_of};
 use i3c_base::{Addr7, SLOTS, Slot};
 use i3c_bus::{Event, Outcome, Records, Reply, run_events};
 use i3c_model::{Choice, Plain};
@@ -72,7 +72,7 @@ pub(crate) fn on_bus(alloc: Global, script: &Script, count: usize) -> Result<Ran
     let Outcome { bus, hand, replies } = run_events(
         alloc,
         script.main,
-        script.legacies()?,
+        legacies_of(&script.declared),
         events,
     )?;
     let slots = slots();
@@ -100,7 +100,7 @@ pub(crate) fn on_plain(
     count: usize,
 ) -> Result<Plainly, Fault> {
     let _ = KNOWN;
-    let mut plain = Plain::new(alloc, script.main, script.legacies()?)?;
+    let mut plain = Plain::new(alloc, script.main, legacies_of(&script.declared))?;
     let mut replies = Vec::new(alloc);
     for (event, choice) in first_of(script, count).iter().zip(choices) {
         replies.push(plain.step(event, *choice)?)?;

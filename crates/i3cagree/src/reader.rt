@@ -1,5 +1,5 @@
 use crate::faults::Fault;
-use crate::script::{KNOWN, Script};
+use crate::script::{KNOWN, Script, legacies_of};
 use i3c_base::{Addr7, Cuts, Fixed, Lvr, RoundReply, SLOTS, Setup, Slot};
 use i3c_bus::{Event, Reply, copy_of};
 use i3c_legacy::Legacies;
@@ -55,7 +55,8 @@ fn begin(
     let _ = KNOWN;
     match command {
         Command::Legacy { name, address, lvr } => {
-            if names.place_of(name).is_none() {
+            let mut legacies = legacies_of(declared);
+            if names.place_of(name).is_none() && legacies.add(*address, *lvr).is_ok() {
                 declared.push((*address, *lvr))?;
                 names.give_address(name, *address)?;
             }
@@ -74,7 +75,7 @@ fn begin(
                 replies: Vec::new(alloc),
                 said: Vec::new(alloc),
             };
-            let plain = Plain::new(alloc, script.main, script.legacies()?)?;
+            let plain = Plain::new(alloc, script.main, legacies_of(&script.declared))?;
             Ok(Some(Running {
                 plain,
                 policy: ACCEPT_ALL,

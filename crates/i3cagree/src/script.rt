@@ -1,4 +1,3 @@
-use crate::faults::Fault;
 use i3c_base::{
     Addr7, Answer, Bcr, Cuts, Dcr, Fixed, Identity, Kinds, Lvr, Pid, RoundReply, Served, Setup,
     Slot, Verdict,
@@ -20,17 +19,13 @@ pub(crate) struct Script {
     pub said: Vec<bool>,
 }
 
-impl Script {
-    /// The legacy targets.
-    pub fn legacies(&self) -> Result<Legacies, Fault> {
-        let mut legacies = Legacies::new();
-        for (address, lvr) in &self.declared {
-            if legacies.add(*address, *lvr).is_err() {
-                return Err(Fault::Start);
-            }
-        }
-        Ok(legacies)
+/// The legacy targets of these declarations. One that is refused changes nothing, as in a script.
+pub(crate) fn legacies_of(declared: &[(Addr7, Lvr)]) -> Legacies {
+    let mut legacies = Legacies::new();
+    for (address, lvr) in declared {
+        let _ = legacies.add(*address, *lvr);
     }
+    legacies
 }
 
 /// The types in an event and a reply: the prover wants them named in each function that moves one into a list.
