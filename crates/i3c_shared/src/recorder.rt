@@ -4,7 +4,7 @@ ghost use Rattle.i3c_step.specs.Giving.{given_by};
 
 use crate::entry::Entry;
 use crate::run::Run;
-use i3c_base::{Cuts, Fixed, Served, Setup, Slot, Verdict};
+use i3c_base::{ADDRESSES, Addr7, Cuts, Fixed, Lvr, Served, Setup, Slot, Verdict};
 use i3c_bus::{Bus, Hand, Policy, Records};
 use i3c_frame::Tap;
 use i3c_legacy::Legacies;
@@ -12,14 +12,38 @@ use i3c_step::{Command, Event, OutOfMemory, Reply, StartFault};
 use std::alloc::Global;
 use std::marker::Model;
 use std::mem;
-use std::snapshot::Snapshot;
+
+/// What a bus began with: its main controller with its first address, and the legacy targets by theirs. From this and
+/// from the events of its run the bus could be made again.
+#[derive(Drop)]
+struct Beginning {
+    main: Setup,
+    address: Addr7,
+    legacies: [Option<Lvr>; ADDRESSES],
+}
+
+impl Beginning {
+    ghost use Rattle.std.specs.Prelude.{◌≡◌};
+
+    /// A bus's, whose main controller's address isn't known yet.
+    fn new(main: &Setup, legacies: &Legacies) -> Beginning
+        ensures main { result.main ≡ main.now }
+        ensures legacies { result.legacies ≡ legacies.now }
+    {
+        Beginning {
+            main: *main,
+            address: Addr7::default(),
+            legacies: legacies.by_address(),
+        }
+    }
+}
 
 /// A bus with the run that led to it. It holds the bus's role or session.
 pub struct Recorder {
     bus: Bus,
     hand: Option<Hand>,
     run: Run,
-    start: Snapshot<Bus>,
+    beginning: Beginning,
 }
 
 impl Model for Recorder {
@@ -27,13 +51,14 @@ impl Model for Recorder {
     ghost use Rattle.i3c_base.specs.State.{IsStart};
     ghost use Rattle.i3c_bus.specs.Hands.{HandFits};
     ghost use Rattle.i3c_bus.specs.declared.tokens.Hand.{Hand as HandValue};
+    ghost use Rattle.i3c_shared.specs.Beginning.{first_state};
     ghost use Rattle.i3c_shared.specs.KeptRuns.{Leads};
     ghost use Rattle.i3c_shared.specs.Values.{Recorded};
 
     ghost Value = { Recorded };
 
     ghost view = { λ k. record {
-      start = k.start.value.state;
+      start = first_state k.beginning.main k.beginning.address k.beginning.legacies;
       state = k.bus.state;
       run = k.run.entries;
       room = k.bus.room;
@@ -42,8 +67,8 @@ impl Model for Recorder {
 
     ghost invariant = { λ k. record {
       hand : (h : HandValue) × (k.hand ≡ Some h) × HandFits h k.bus.state;
-      begun : (main : _) × (legacy : _) × IsStart main legacy k.start.value.state;
-      legal : Leads k.start.value.state k.run.entries k.bus.state;
+      begun : (main : _) × (legacy : _) × IsStart main legacy (first_state k.beginning.main k.beginning.address k.beginning.legacies);
+      legal : Leads (first_state k.beginning.main k.beginning.address k.beginning.legacies) k.run.entries k.bus.state;
     } };
 }
 
@@ -63,13 +88,17 @@ impl Recorder {
         ensures start { IfOk result (λ made. IsStart main (legacy_targets_of legacies) made.start × (made.state ≡ made.start)) }
         ensures run { IfOk result (λ made. made.run ≡ []) }
     {
+        let mut beginning = Beginning::new(&main, &legacies);
         let (bus, role) = Bus::new(alloc, main, legacies)?;
-        let start = Snapshot::of(&bus);
+        let Some(address) = bus.address(bus.active()) else {
+            unreachable!()
+        };
+        beginning.address = address;
         Ok(Recorder {
             bus,
             hand: Some(Hand::Role(role)),
             run: Run::new(alloc),
-            start,
+            beginning,
         })
     }
 
@@ -184,7 +213,7 @@ impl Recorder {
             bus,
             hand,
             run,
-            start: _,
+            beginning: _,
         } = self;
         match hand {
             Some(hand) => (run, bus.retire(hand)),
