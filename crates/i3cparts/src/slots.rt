@@ -26,13 +26,7 @@ fn attach(setting: &mut Setting, call: &str, words: &mut Words) -> Result<bool, 
     match call {
         "device" => enter(setting, words, false)?,
         "willing-device" => enter(setting, words, true)?,
-        "put" => {
-            let slot = words.slot()?;
-            let Some(device) = setting.hand.take() else {
-                return Err(Fault::Unknown);
-            };
-            setting.devices.put(slot, device);
-        }
+        "put" => put(setting, words)?,
         "remove" => setting.devices.remove(words.slot()?),
         "drop-lost" => setting.devices.drop_lost(&setting.cuts, words.bit()?),
         _ => return Ok(false),
@@ -48,6 +42,16 @@ fn enter(setting: &mut Setting, words: &mut Words, willing: bool) -> Result<(), 
         Place::Hand => setting.hand = Some(device),
         Place::Slot(slot) => setting.devices.put(slot, device),
     }
+    Ok(())
+}
+
+/// The device in hand goes into a slot.
+fn put(setting: &mut Setting, words: &mut Words) -> Result<(), Fault> {
+    let slot = words.slot()?;
+    let Some(device) = setting.hand.take() else {
+        return Err(Fault::Unknown);
+    };
+    setting.devices.put(slot, device);
     Ok(())
 }
 

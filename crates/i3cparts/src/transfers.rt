@@ -8,6 +8,16 @@ use i3c_base::REGISTERS;
 use i3c_xfer::{Read, Write, read, read_bits, tell_read, tell_write, write, write_bits};
 use std::alloc::Global;
 
+/// What is told of a transfer.
+#[derive(Clone, Copy, Debug, PartialEq, Eq)]
+enum Aspect {
+    /// What it came to.
+    Outcome,
+    Answer,
+    /// How many bits it has.
+    Bits,
+}
+
 /// What is asked of private transfers, if the call is such a question.
 pub(crate) fn ask(
     alloc: Global,
@@ -16,8 +26,12 @@ pub(crate) fn ask(
     words: &mut Words,
 ) -> Result<Option<String>, Fault> {
     Ok(Some(match call {
-        "read" | "read-answer" | "read-bits" => told_read(alloc, setting, call, words)?,
-        "write" | "write-answer" | "write-bits" => told_write(alloc, setting, call, words)?,
+        "read" => told_read(alloc, setting, Aspect::Outcome, words)?,
+        "read-answer" => told_read(alloc, setting, Aspect::Answer, words)?,
+        "read-bits" => told_read(alloc, setting, Aspect::Bits, words)?,
+        "write" => told_write(alloc, setting, Aspect::Outcome, words)?,
+        "write-answer" => told_write(alloc, setting, Aspect::Answer, words)?,
+        "write-bits" => told_write(alloc, setting, Aspect::Bits, words)?,
         "legacy-registers" => legacy_registers(alloc, setting, words)?,
         "tell-read" => trace_of_read(alloc, words)?,
         "tell-write" => trace_of_write(alloc, words)?,
@@ -29,7 +43,7 @@ pub(crate) fn ask(
 fn told_read(
     alloc: Global,
     setting: &Setting,
-    call: &str,
+    aspect: Aspect,
     words: &mut Words,
 ) -> Result<String, Fault> {
     let to = words.address()?;
@@ -45,10 +59,10 @@ fn told_read(
         &setting.cuts,
         begun,
     );
-    match call {
-        "read" => told_hex(alloc, &came),
-        "read-answer" => told_hex(alloc, &came.answer(to)),
-        _ => told(alloc, &read_bits(&came.answer(to))),
+    match aspect {
+        Aspect::Outcome => told_hex(alloc, &came),
+        Aspect::Answer => told_hex(alloc, &came.answer(to)),
+        Aspect::Bits => told(alloc, &read_bits(&came.answer(to))),
     }
 }
 
@@ -56,7 +70,7 @@ fn told_read(
 fn told_write(
     alloc: Global,
     setting: &mut Setting,
-    call: &str,
+    aspect: Aspect,
     words: &mut Words,
 ) -> Result<String, Fault> {
     let to = words.address()?;
@@ -74,10 +88,10 @@ fn told_write(
         &setting.cuts,
         begun,
     );
-    match call {
-        "write" => told_hex(alloc, &wrote),
-        "write-answer" => told_hex(alloc, &wrote.answer(to)),
-        _ => told(alloc, &write_bits(&bytes, &wrote.answer(to))),
+    match aspect {
+        Aspect::Outcome => told_hex(alloc, &wrote),
+        Aspect::Answer => told_hex(alloc, &wrote.answer(to)),
+        Aspect::Bits => told(alloc, &write_bits(&bytes, &wrote.answer(to))),
     }
 }
 
