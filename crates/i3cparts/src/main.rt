@@ -5,7 +5,8 @@
 //! A call has the name of its function, and then its arguments. Slots, bits of frames and counts are decimal; addresses,
 //! bytes, identities and the words of lists are hexadecimal. An identity is a PID, BCR and DCR in sixteen digits, or a BCR
 //! alone in two. For a slot `-` stands for the device in hand, which is in no slot, and for an address `all` for none. What
-//! is cut, who is active, and how many bits of a frame stand before a command, is set by lines of its own, until `new`.
+//! is cut, who is active, and how many bits of a frame stand before a command, is set by lines of its own, until `new`. In
+//! answers too numbers are hexadecimal, but for counts, bits of frames, faults, and slots that stand alone.
 //!
 //! It is a test, and promises nothing: tests/parts/ has the texts with the answers that are wanted. It ends with 2 where it
 //! could not read the text.

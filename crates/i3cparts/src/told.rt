@@ -4,6 +4,12 @@ use i3c_word::Word;
 use std::alloc::Global;
 use std::fmt::{Debug, Display, Write};
 
+/// What stands before the number that an address, a slot or a PID is.
+const BEGINS: [&str; 3] = ["Addr7 { value: ", "Slot { value: ", "Pid { value: "];
+
+/// What stands behind it.
+const END: &str = " }";
+
 /// An answer whose numbers are counts.
 pub(crate) fn told<T: Debug>(alloc: Global, answer: &T) -> Result<String, Fault> {
     Ok(format!(in alloc; "{answer:?}")?)
@@ -11,7 +17,30 @@ pub(crate) fn told<T: Debug>(alloc: Global, answer: &T) -> Result<String, Fault>
 
 /// An answer whose numbers are addresses and bytes, in hex digits.
 pub(crate) fn told_hex<T: Debug>(alloc: Global, answer: &T) -> Result<String, Fault> {
-    in_hex(alloc, &told(alloc, answer)?)
+    let mut text = told(alloc, answer)?;
+    for begin in BEGINS {
+        text = bare(alloc, &text, begin)?;
+    }
+    in_hex(alloc, &text)
+}
+
+/// A text in which a number that stands behind this beginning stands alone.
+fn bare(alloc: Global, text: &str, begin: &str) -> Result<String, Fault> {
+    let mut bare = String::new(alloc);
+    let mut parts = text.split(begin);
+    if let Some(first) = parts.next() {
+        bare.push_str(first)?;
+    }
+    for part in parts {
+        match part.split_once(END) {
+            Some((number, rest)) => {
+                bare.push_str(number)?;
+                bare.push_str(rest)?;
+            }
+            None => bare.push_str(part)?,
+        }
+    }
+    Ok(bare)
 }
 
 /// A text with its decimal numbers in hex digits, two at least. Digits in a name stay.
