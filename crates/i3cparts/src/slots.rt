@@ -1,0 +1,268 @@
+use crate::faults::Fault;
+use crate::hand::{code_of, device_of, words_of};
+use crate::setting::Setting;
+use crate::told::{told, told_hex};
+use crate::words::{Place, Words};
+use i3c_base::{REGISTERS, SLOTS, Slot};
+use i3c_device::{Device, SlotSet};
+use std::alloc::Global;
+
+/// Changes the devices, and says whether the call is one that does.
+pub(crate) fn change(
+    alloc: Global,
+    setting: &mut Setting,
+    call: &str,
+    words: &mut Words,
+) -> Result<bool, Fault> {
+    Ok(
+        attach(setting, call, words)?
+            || wish(setting, call, words)?
+            || happen(alloc, setting, call, words)?,
+    )
+}
+
+/// Devices that come, move and go.
+fn attach(setting: &mut Setting, call: &str, words: &mut Words) -> Result<bool, Fault> {
+    match call {
+        "device" => enter(setting, words, false)?,
+        "willing-device" => enter(setting, words, true)?,
+        "put" => put(setting, words)?,
+        "remove" => setting.devices.remove(words.slot()?),
+        "drop-lost" => setting.devices.drop_lost(&setting.cuts, words.bit()?),
+        _ => return Ok(false),
+    }
+    Ok(true)
+}
+
+/// A new device, in hand or in a slot.
+fn enter(setting: &mut Setting, words: &mut Words, willing: bool) -> Result<(), Fault> {
+    let place = words.place()?;
+    let device = device_of(words, willing)?;
+    match place {
+        Place::Hand => setting.hand = Some(device),
+        Place::Slot(slot) => setting.devices.put(slot, device),
+    }
+    Ok(())
+}
+
+/// The device in hand goes into a slot.
+fn put(setting: &mut Setting, words: &mut Words) -> Result<(), Fault> {
+    let slot = words.slot()?;
+    let Some(device) = setting.hand.take() else {
+        return Err(Fault::Unknown);
+    };
+    setting.devices.put(slot, device);
+    Ok(())
+}
+
+/// Wishes that come and go.
+fn wish(setting: &mut Setting, call: &str, words: &mut Words) -> Result<bool, Fault> {
+    match call {
+        "wish-join" => wish_join(setting, words.place()?)?,
+        "wish-role" => wish_role(setting, words.place()?)?,
+        "lose-role-wish" => lose_role_wish(setting, words.place()?)?,
+        _ => return Ok(false),
+    }
+    Ok(true)
+}
+
+/// The device in hand.
+fn in_hand(setting: &mut Setting) -> Result<&mut Device, Fault> {
+    match &mut setting.hand {
+        Some(device) => Ok(device),
+        None => Err(Fault::Unknown),
+    }
+}
+
+fn wish_join(setting: &mut Setting, place: Place) -> Result<(), Fault> {
+    match place {
+        Place::Hand => in_hand(setting)?.wish_join(),
+        Place::Slot(slot) => setting.devices.wish_join(slot),
+    }
+    Ok(())
+}
+
+fn wish_role(setting: &mut Setting, place: Place) -> Result<(), Fault> {
+    match place {
+        Place::Hand => in_hand(setting)?.wish_role(),
+        Place::Slot(slot) => setting.devices.wish_role(slot),
+    }
+    Ok(())
+}
+
+fn lose_role_wish(setting: &mut Setting, place: Place) -> Result<(), Fault> {
+    match place {
+        Place::Hand => in_hand(setting)?.lose_role_wish(),
+        Place::Slot(slot) => setting.devices.lose_role_wish(slot),
+    }
+    Ok(())
+}
+
+/// What happens in all slots.
+fn happen(
+    alloc: Global,
+    setting: &mut Setting,
+    call: &str,
+    words: &mut Words,
+) -> Result<bool, Fault> {
+    match call {
+        "open" => setting.devices.open(),
+        "silence" => setting.devices.silence(),
+        "accept-first" => accept_first(setting),
+        "command" => command(alloc, setting, words)?,
+        "assign" => assign(setting, words)?,
+        "write-to" => write_to(alloc, setting, words)?,
+        _ => return Ok(false),
+    }
+    Ok(true)
+}
+
+/// The first request is accepted.
+fn accept_first(setting: &mut Setting) {
+    if let Some((request, drivers)) = setting.devices.first_request(setting.active) {
+        setting.devices.accept(drivers, &request);
+    }
+}
+
+/// Those whom it reaches hear a command.
+fn command(alloc: Global, setting: &mut Setting, words: &mut Words) -> Result<(), Fault> {
+    let to = words.target()?;
+    let code = code_of(words)?;
+    let carried = words_of(alloc, &words.bytes(alloc)?)?;
+    setting.devices.hear(setting.active, &to, code, &carried);
+    Ok(())
+}
+
+/// An identity wins a round.
+fn assign(setting: &mut Setting, words: &mut Words) -> Result<(), Fault> {
+    let identity = words.identity()?;
+    let address = words.address()?;
+    let last = words.bit()?;
+    if address.get() < 8 {
+        return Err(Fault::Unknown);
+    }
+    setting
+        .devices
+        .assign(&identity, address, &setting.cuts, last);
+    Ok(())
+}
+
+/// Bytes are written to an address.
+fn write_to(alloc: Global, setting: &mut Setting, words: &mut Words) -> Result<(), Fault> {
+    let address = words.address()?;
+    let bytes = words.bytes(alloc)?;
+    if bytes.len() > REGISTERS {
+        return Err(Fault::Unknown);
+    }
+    setting.devices.write(setting.active, address, &bytes);
+    Ok(())
+}
+
+/// What is asked of all devices, if the call is such a question.
+pub(crate) fn ask(
+    alloc: Global,
+    setting: &mut Setting,
+    call: &str,
+    words: &mut Words,
+) -> Result<Option<String>, Fault> {
+    Ok(Some(match call {
+        "raise" => raise(alloc, setting, words)?,
+        "first" => first(alloc, setting)?,
+        "drivers" => drivers(alloc, setting)?,
+        "outlasts" => outlasts(alloc, setting, words.bit()?)?,
+        "is-heard" => is_heard(alloc, setting, words)?,
+        "lowest-willing" => lowest_willing(alloc, setting, words)?,
+        "hearer-from" => told_slot(alloc, setting.devices.hearer_from(words.index()?))?,
+        "read-from" => read_from(alloc, setting, words)?,
+        _ => return Ok(None),
+    }))
+}
+
+/// A slot's number, if there is one.
+fn told_slot(alloc: Global, slot: Option<Slot>) -> Result<String, Fault> {
+    told(alloc, &slot.map(Slot::index))
+}
+
+/// A device raises an interrupt.
+fn raise(alloc: Global, setting: &mut Setting, words: &mut Words) -> Result<String, Fault> {
+    let place = words.place()?;
+    let raised = words.count()?;
+    let byte = words.maybe_byte()?;
+    let number = match place {
+        Place::Hand => in_hand(setting)?.raise(raised, byte),
+        Place::Slot(slot) => {
+            if setting.devices.get(slot).is_none() {
+                return Err(Fault::Unknown);
+            }
+            setting.devices.raise(slot, raised, byte)
+        }
+    };
+    told(alloc, &number)
+}
+
+/// The first request.
+fn first(alloc: Global, setting: &Setting) -> Result<String, Fault> {
+    match setting.devices.first_request(setting.active) {
+        Some((request, _)) => told_hex(alloc, &Some(request)),
+        None => told(alloc, &None::<u8>),
+    }
+}
+
+/// The slots that drive the first request.
+fn drivers(alloc: Global, setting: &Setting) -> Result<String, Fault> {
+    let mut slots = Vec::new(alloc);
+    let mut left = driving(setting)?;
+    for _ in 0..SLOTS {
+        let Some(index) = left.take_lowest() else {
+            break;
+        };
+        slots.push(index)?;
+    }
+    told(alloc, &slots)
+}
+
+/// Who drives the first request.
+fn driving(setting: &Setting) -> Result<SlotSet, Fault> {
+    match setting.devices.first_request(setting.active) {
+        Some((_, drivers)) => Ok(drivers),
+        None => Err(Fault::Unknown),
+    }
+}
+
+/// Whether one of those who drive the first request isn't cut by a bit.
+fn outlasts(alloc: Global, setting: &Setting, last: u16) -> Result<String, Fault> {
+    told(alloc, &driving(setting)?.outlasts(&setting.cuts, last))
+}
+
+/// Whether a command reaches a device that isn't cut by a bit.
+fn is_heard(alloc: Global, setting: &Setting, words: &mut Words) -> Result<String, Fault> {
+    let to = words.target()?;
+    let last = words.bit()?;
+    let heard = setting
+        .devices
+        .is_heard(setting.active, &to, &setting.cuts, last);
+    told(alloc, &heard)
+}
+
+/// The lowest slot of those who would take the role.
+fn lowest_willing(alloc: Global, setting: &Setting, words: &mut Words) -> Result<String, Fault> {
+    let address = words.address()?;
+    let last = words.bit()?;
+    let lowest = setting
+        .devices
+        .lowest_willing(setting.active, address, &setting.cuts, last);
+    told_slot(alloc, lowest)
+}
+
+/// What the lines give of the registers at an address.
+fn read_from(alloc: Global, setting: &Setting, words: &mut Words) -> Result<String, Fault> {
+    let address = words.address()?;
+    let first = words.bit()?;
+    if first > 1000 {
+        return Err(Fault::Unknown);
+    }
+    let bytes = setting
+        .devices
+        .read(setting.active, address, &setting.cuts, first);
+    told_hex(alloc, &bytes)
+}
