@@ -84,7 +84,10 @@ impl Text {
     pub fn end(&mut self) -> Result<(), AllocError>
         ensures { OnOk result (self.new ≡ self.old ++ 10 ∷ []) }
     {
-        self.bytes.extend_from_slice(b"\n")
+        match self.bytes.push(b'\n') {
+            Ok(()) => Ok(()),
+            Err(_) => Err(AllocError),
+        }
     }
 }
 

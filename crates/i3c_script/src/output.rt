@@ -5,6 +5,7 @@ ghost use Rattle.i3c_script.specs.Outcomes.{HasNoFeed, AppendsSome};
 
 use crate::faults::ScriptFault;
 use i3c_lines::{Refusal, Text};
+use memchr::memchr;
 use std::alloc::AllocError;
 use std::io::{ErrorKind, Write};
 
@@ -15,7 +16,7 @@ const LINE_FEED: u8 = b'\n';
 pub(crate) fn position_of_feed(bytes: &[u8]) -> Option<usize>
     ensures { MatchOption result (HasNoFeed bytes.now) (λ end. (end < length bytes.now) × (slice_get bytes.now end ≡ Some LINE_FEED) × HasNoFeed (take end bytes.now)) }
 {
-    bytes.iter().position(|byte| *byte == LINE_FEED)
+    memchr(LINE_FEED, bytes)
 }
 
 /// Prints that a line is refused, and why.
