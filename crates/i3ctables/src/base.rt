@@ -12,26 +12,44 @@ use i3c_table::ROWS;
 use std::alloc::Global;
 use std::mem::size_of;
 
-/// The calls on numbers with a limit, identities, kinds and sizes.
+/// The calls on numbers with a limit, and all others of this module.
 pub(crate) fn call(first: &str, words: &mut Words<'_>, scene: &mut Scene) -> Answer {
     let alloc = scene.alloc;
     match first {
-        "addr7" => {
-            let address = Addr7::new(words.byte()?);
-            shown(alloc, address.map(|address| Hex::byte(address.get())))
-        }
-        "pid" => {
-            let pid = Pid::new(words.number()?);
-            shown(alloc, pid.map(|pid| Hex(pid.get())))
-        }
-        "slot" => {
-            let slot = Slot::new(words.small()?);
-            shown(alloc, slot.map(|slot| slot.index()))
-        }
-        "constant" => shown(alloc, constant(words.word()?)?),
-        "size" => shown(alloc, size(words.word()?)?),
+        "addr7" => address(alloc, words.byte()?),
+        "pid" => pid(alloc, words.number()?),
+        "slot" => slot(alloc, words.small()?),
+        _ => of_identities(first, words, alloc),
+    }
+}
+
+fn address(alloc: Global, number: u8) -> Answer {
+    let address = Addr7::new(number);
+    shown(alloc, address.map(|address| Hex::byte(address.get())))
+}
+
+fn pid(alloc: Global, number: u64) -> Answer {
+    let pid = Pid::new(number);
+    shown(alloc, pid.map(|pid| Hex(pid.get())))
+}
+
+fn slot(alloc: Global, number: u8) -> Answer {
+    let slot = Slot::new(number);
+    shown(alloc, slot.map(|slot| slot.index()))
+}
+
+/// The calls on an identity.
+fn of_identities(first: &str, words: &mut Words<'_>, alloc: Global) -> Answer {
+    match first {
         "number" => shown(alloc, Hex(words.identity()?.number())),
         "from_number" => identity(alloc, Identity::from_number(words.number()?)),
+        _ => of_kinds(first, words, alloc),
+    }
+}
+
+/// The calls on kinds.
+fn of_kinds(first: &str, words: &mut Words<'_>, alloc: Global) -> Answer {
+    match first {
         "kinds" => shown(alloc, Hex::byte(kinds(words.word()?)?.bits())),
         "from_bits_truncate" => {
             let kinds = Kinds::from_bits_truncate(words.byte()?);
@@ -47,6 +65,15 @@ fn of_bcr(first: &str, words: &mut Words<'_>, alloc: Global) -> Answer {
         "capable" => shown(alloc, Bcr(words.byte()?).capable()),
         "interrupts" => shown(alloc, Bcr(words.byte()?).interrupts()),
         "has_byte" => shown(alloc, Bcr(words.byte()?).has_byte()),
+        _ => of_names(first, words, alloc),
+    }
+}
+
+/// A constant, and the size of a type.
+fn of_names(first: &str, words: &mut Words<'_>, alloc: Global) -> Answer {
+    match first {
+        "constant" => shown(alloc, constant(words.word()?)?),
+        "size" => shown(alloc, size(words.word()?)?),
         _ => Ok(None),
     }
 }

@@ -49,6 +49,11 @@ fn on_wires(first: &str, words: &mut Words<'_>, scene: &mut Scene) -> Answer {
     if let Some(answer) = header::call(first, words, scene)? {
         return Ok(Some(answer));
     }
+    in_bits(first, words, scene)
+}
+
+/// The contest of those who drive the wires, and what is told of them.
+fn in_bits(first: &str, words: &mut Words<'_>, scene: &mut Scene) -> Answer {
     if let Some(answer) = wires::call(first, words, scene)? {
         return Ok(Some(answer));
     }

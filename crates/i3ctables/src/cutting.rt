@@ -25,14 +25,21 @@ fn of_cuts(alloc: Global, words: &mut Words<'_>, cuts: &mut Cuts) -> Answer {
             cuts.add(slot, words.count()?);
             shown(alloc, ())
         }
+        "counted_from" => {
+            *cuts = cuts.counted_from(words.count()?);
+            shown(alloc, ())
+        }
+        method => asked(alloc, method, words, cuts),
+    }
+}
+
+/// What asks cuts.
+fn asked(alloc: Global, method: &str, words: &mut Words<'_>, cuts: &Cuts) -> Answer {
+    match method {
         "at" => shown(alloc, cuts.at(words.slot()?)),
         "is_lost" => {
             let slot = words.slot()?;
             shown(alloc, cuts.is_lost(slot, words.count()?))
-        }
-        "counted_from" => {
-            *cuts = cuts.counted_from(words.count()?);
-            shown(alloc, ())
         }
         "is_empty" => shown(alloc, cuts.is_empty()),
         _ => Err(Fault::NoCall),

@@ -9,24 +9,32 @@ use std::alloc::Global;
 /// The calls on symbols and traces. `read_trace` keeps the trace that it reads, and answers how long that is; `trace` is
 /// one of its symbols, counted from 1, and `printed` the texts of all, each with a space behind it.
 pub(crate) fn call(first: &str, words: &mut Words<'_>, scene: &mut Scene) -> Answer {
-    let alloc = scene.alloc;
     match first {
-        "symbol" => {
-            let symbol = symbol(words)?;
-            Ok(Some(format!(in alloc; "{symbol}")?))
-        }
-        "read_trace" => {
-            let text = quoted(alloc, words.all()?)?;
-            let read = read_trace(alloc, text.as_str());
-            shown(alloc, read.map(|trace| kept(scene, trace)))
-        }
-        "trace" => {
-            let place = usize::from(words.count()?);
-            let symbol = scene.trace.get(place.saturating_sub(1));
-            shown(alloc, symbol.copied().ok_or(Fault::NoCall)?)
-        }
-        "printed" => shown(alloc, printed(alloc, &scene.trace)?),
+        "symbol" => text_of(scene.alloc, symbol(words)?),
+        "read_trace" => read(scene, words.all()?),
+        "trace" => at(scene, usize::from(words.count()?)),
+        "printed" => shown(scene.alloc, printed(scene.alloc, &scene.trace)?),
         _ => Ok(None),
+    }
+}
+
+/// How a symbol is printed.
+fn text_of(alloc: Global, symbol: Symbol) -> Answer {
+    Ok(Some(format!(in alloc; "{symbol}")?))
+}
+
+/// Reads the trace between two quotes.
+fn read(scene: &mut Scene, text: &str) -> Answer {
+    let text = quoted(scene.alloc, text)?;
+    let read = read_trace(scene.alloc, text.as_str());
+    shown(scene.alloc, read.map(|trace| kept(scene, trace)))
+}
+
+/// The symbol of a number, if there is one.
+fn at(scene: &Scene, number: usize) -> Answer {
+    match scene.trace.get(number.saturating_sub(1)) {
+        Some(symbol) => shown(scene.alloc, *symbol),
+        None => Err(Fault::NoCall),
     }
 }
 
@@ -52,23 +60,34 @@ pub(crate) fn symbol(words: &mut Words<'_>) -> Result<Symbol, Fault> {
         "start" => Ok(Symbol::Start),
         "repeated" => Ok(Symbol::Repeated),
         "stop" => Ok(Symbol::Stop),
-        "header" => Ok(Symbol::Header {
-            address: words.address()?,
-            read: is_read(words.word()?)?,
-            ack: is_ack(words.word()?)?,
-        }),
+        "header" => header(words),
         "word" => Ok(Symbol::Word(word_of(words.word()?)?)),
         "identity" => Ok(Symbol::Identity(words.number()?)),
-        "address_byte" => Ok(Symbol::AddressByte {
-            byte: words.byte()?,
-            ack: is_ack(words.word()?)?,
-        }),
-        "legacy_word" => Ok(Symbol::LegacyWord {
-            byte: words.byte()?,
-            ack: is_ack(words.word()?)?,
-        }),
+        "address_byte" => {
+            let (byte, ack) = answered(words)?;
+            Ok(Symbol::AddressByte { byte, ack })
+        }
+        "legacy_word" => {
+            let (byte, ack) = answered(words)?;
+            Ok(Symbol::LegacyWord { byte, ack })
+        }
         _ => Err(Fault::NoCall),
     }
+}
+
+/// A header: its address, its direction and its answer.
+fn header(words: &mut Words<'_>) -> Result<Symbol, Fault> {
+    let address = words.address()?;
+    let read = is_read(words.word()?)?;
+    let ack = is_ack(words.word()?)?;
+    Ok(Symbol::Header { address, read, ack })
+}
+
+/// A byte and its answer.
+fn answered(words: &mut Words<'_>) -> Result<(u8, bool), Fault> {
+    let byte = words.byte()?;
+    let ack = is_ack(words.word()?)?;
+    Ok((byte, ack))
 }
 
 /// Whether a header reads.
@@ -91,8 +110,7 @@ fn is_ack(word: &str) -> Result<bool, Fault> {
 
 /// The text between two quotes, in which a backslash and a letter stand for what can't be seen.
 fn quoted(alloc: Global, text: &str) -> Result<String, Fault> {
-    let inner = text.strip_prefix('"').ok_or(Fault::NoCall)?;
-    let inner = inner.strip_suffix('"').ok_or(Fault::NoCall)?;
+    let inner = unquoted(text).ok_or(Fault::NoCall)?;
     let mut read = String::new(alloc);
     let mut escaped = false;
     for letter in inner.chars() {
@@ -106,6 +124,11 @@ fn quoted(alloc: Global, text: &str) -> Result<String, Fault> {
         }
     }
     Ok(read)
+}
+
+/// What stands between two quotes.
+fn unquoted(text: &str) -> Option<&str> {
+    text.strip_prefix('"')?.strip_suffix('"')
 }
 
 /// What a letter after a backslash stands for.

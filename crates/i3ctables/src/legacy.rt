@@ -2,7 +2,7 @@ use crate::answers::{Answer, Hex, shown};
 use crate::faults::Fault;
 use crate::scene::Scene;
 use crate::words::{HEX, Words};
-use i3c_base::{Lvr, REGISTERS};
+use i3c_base::{Addr7, Lvr, REGISTERS};
 use i3c_legacy::{Legacies, LegacyTargets};
 use std::alloc::Global;
 
@@ -49,15 +49,20 @@ fn of_targets(alloc: Global, words: &mut Words<'_>, targets: &mut LegacyTargets)
         "write" => {
             let address = words.address()?;
             let bytes = bytes(alloc, words)?;
-            if bytes.len() > REGISTERS {
-                return Err(Fault::NoCall);
-            }
-            targets.write(address, &bytes);
-            shown(alloc, ())
+            shown(alloc, written(targets, address, &bytes)?)
         }
         "get" => shown(alloc, targets.get(words.address()?)),
         _ => Err(Fault::NoCall),
     }
+}
+
+/// Writes bytes, of which there may be as many as registers.
+fn written(targets: &mut LegacyTargets, address: Addr7, bytes: &[u8]) -> Result<(), Fault> {
+    if bytes.len() > REGISTERS {
+        return Err(Fault::NoCall);
+    }
+    targets.write(address, bytes);
+    Ok(())
 }
 
 /// All words that are left, as the bytes of a write.

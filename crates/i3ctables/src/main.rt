@@ -2,8 +2,9 @@
 //! prints each line, and after it a line `= ANSWER`. A line that is no call is answered `= ?`. Comments, which begin
 //! with `#`, and empty lines are printed as they are.
 //!
-//! It is a test, and promises nothing. A module has the calls of the crate of its name; `scene` has what stays from one
-//! line to the next.
+//! It is a test, and promises nothing. A module has the calls of the crate of its name, `cutting` those on cuts, and `taps`
+//! those that tell taps. `calls` finds the module of a line, `words` reads what the line says, and `scene` has what stays
+//! from one line to the next.
 #![tactic(auto)]
 
 mod answers;

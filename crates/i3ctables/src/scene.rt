@@ -52,6 +52,14 @@ pub(crate) fn call(first: &str, words: &mut Words<'_>, scene: &mut Scene) -> Ans
         "cuts" => scene.cuts = Cuts::new(),
         "others" => scene.others = Cuts::new(),
         "contenders" => scene.contenders = ArrayVec::new(),
+        name => declare(name, scene)?,
+    }
+    shown(scene.alloc, ())
+}
+
+/// Begins anew what a controller knows.
+fn declare(name: &str, scene: &mut Scene) -> Result<(), Fault> {
+    match name {
         "legacies" => scene.legacies = Legacies::new(),
         "targets" => scene.targets = LegacyTargets::new(&scene.legacies),
         "table" => {
@@ -60,5 +68,5 @@ pub(crate) fn call(first: &str, words: &mut Words<'_>, scene: &mut Scene) -> Ans
         }
         _ => return Err(Fault::NoCall),
     }
-    shown(scene.alloc, ())
+    Ok(())
 }

@@ -17,19 +17,26 @@ pub(crate) fn call(first: &str, words: &mut Words<'_>, scene: &mut Scene) -> Ans
 
 /// What changes a table.
 fn changed(alloc: Global, words: &mut Words<'_>, table: &mut Table) -> Answer {
-    let method = words.word()?;
-    match method {
-        "put" => {
-            let address = words.address()?;
-            shown(alloc, put_new(table, address, words.identity()?)?)
-        }
-        "put_again" => {
-            let identity = words.identity()?;
-            shown(alloc, put_again(table, identity, Bcr(words.byte()?))?)
-        }
+    match words.word()? {
+        "put" => shown(alloc, put(words, table)?),
+        "put_again" => shown(alloc, put_again(words, table)?),
         "clear" => shown(alloc, table.clear(words.address()?)),
-        _ => asked(alloc, method, words, table),
+        method => asked(alloc, method, words, table),
     }
+}
+
+/// The words of `put`: an address and an identity.
+fn put(words: &mut Words<'_>, table: &mut Table) -> Result<(), Fault> {
+    let address = words.address()?;
+    let identity = words.identity()?;
+    put_new(table, address, identity)
+}
+
+/// The words of `put_again`: an identity and another BCR.
+fn put_again(words: &mut Words<'_>, table: &mut Table) -> Result<(), Fault> {
+    let identity = words.identity()?;
+    let bcr = Bcr(words.byte()?);
+    put_known(table, identity, bcr)
 }
 
 /// What asks a table.
@@ -69,7 +76,7 @@ fn put_new(table: &mut Table, address: Addr7, identity: Identity) -> Result<(), 
 }
 
 /// Enters an identity again, with another BCR, at the address that is kept for it.
-fn put_again(table: &mut Table, identity: Identity, bcr: Bcr) -> Result<(), Fault> {
+fn put_known(table: &mut Table, identity: Identity, bcr: Bcr) -> Result<(), Fault> {
     let Some(address) = table.address_known(&identity) else {
         return Err(Fault::NoCall);
     };

@@ -18,20 +18,19 @@ pub(crate) fn call(first: &str, words: &mut Words<'_>, scene: &mut Scene) -> Ans
             let levels = levels(alloc, words)?;
             shown(alloc, Lines::clock(&levels))
         }
-        "contender" => {
-            let contender = (words.slot()?, words.number()?);
-            if scene.contenders.is_full() {
-                return Err(Fault::NoCall);
-            }
-            scene.contenders.push(contender);
-            shown(alloc, ())
-        }
-        "contest" => {
-            let width = u32::from(words.count()?);
-            held(scene, width)
-        }
+        "contender" => entered(scene, words.slot()?, words.number()?),
+        "contest" => held(scene, u32::from(words.count()?)),
         _ => Ok(None),
     }
+}
+
+/// Enters a contender, if there is a place.
+fn entered(scene: &mut Scene, slot: Slot, key: u64) -> Answer {
+    if scene.contenders.is_full() {
+        return Err(Fault::NoCall);
+    }
+    scene.contenders.push((slot, key));
+    shown(scene.alloc, ())
 }
 
 /// All words that are left, as levels that are driven.
