@@ -6,8 +6,8 @@ use i3c_base::{Bcr, Cuts, Dcr, Identity, Pid, RoundReply, SLOTS, Setup, Slot};
 use i3c_frame::Silent;
 use i3c_legacy::Legacies;
 use i3c_shared::{
-    Closed, HeldRole, HeldSession, OpenFault, Port, SessionFault, SharedBus, StartFault,
-    spend_ports,
+    AttachFault, Closed, HeldRole, HeldSession, OpenFault, Port, SessionFault, SharedBus,
+    StartFault, spend_ports,
 };
 use std::alloc::Global;
 use std::sync::Wait;
@@ -55,15 +55,15 @@ pub(crate) fn begin<R: Threads + Wait + Sync>(
     let mut ports = Vec::new(alloc);
     let mut attached = keep(&mut ports, port);
     for index in 1..=devices {
-        if attached {
+        if attached.is_ok() {
             attached = attach(rt, &bus, index, &mut ports);
         }
     }
-    if !attached {
+    if let Err(why) = attached {
         bus.let_go();
         role.let_go();
         spend_ports(ports);
-        return Err(StressFault::Memory);
+        return Err(why);
     }
     match assign(rt, &bus, role) {
         Ok(role) => Ok(Party { bus, role, ports }),
@@ -76,12 +76,12 @@ pub(crate) fn begin<R: Threads + Wait + Sync>(
 }
 
 /// Adds a port, or spends it where there is no memory.
-fn keep(ports: &mut Vec<Port>, port: Port) -> bool {
+fn keep(ports: &mut Vec<Port>, port: Port) -> Result<(), StressFault> {
     match ports.push(port) {
-        Ok(()) => true,
+        Ok(()) => Ok(()),
         Err(refused) => {
             refused.value.let_go();
-            false
+            Err(StressFault::Memory)
         }
     }
 }
@@ -92,16 +92,17 @@ fn attach<R: Threads + Wait + Sync>(
     bus: &SharedBus,
     index: u8,
     ports: &mut Vec<Port>,
-) -> bool {
+) -> Result<(), StressFault> {
     let Ok(slot) = Slot::new(index) else {
-        return false;
+        return Err(StressFault::NotBalanced);
     };
     let Some(setup) = setup_of(0x0204_0000_0100 + u64::from(index), 0x06, 0x44) else {
-        return false;
+        return Err(StressFault::NotBalanced);
     };
     match bus.attach(rt, slot, setup) {
         Ok(port) => keep(ports, port),
-        Err(_) => false,
+        Err(AttachFault::OutOfMemory) => Err(StressFault::Memory),
+        Err(_) => Err(StressFault::NotBalanced),
     }
 }
 
