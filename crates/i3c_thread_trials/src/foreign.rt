@@ -1,6 +1,6 @@
 use super::setting::{
-    address, attached, begun, closed, entry, handed, is_run, only, served, slot, target, unclosed,
-    with,
+    address, ask_join, attached, begun, closed, drop_off, entry, handed, is_run, only, served,
+    slot, target, unclosed, with,
 };
 use i3c_base::{Cuts, Slot};
 use i3c_frame::Silent;
@@ -27,7 +27,7 @@ fn stranger<R: Wait + Abort>(rt: &R, alloc: Global, at: Slot) -> Port {
 
 /// The port, which doesn't drop off for want of memory.
 fn kept<R: Wait + Abort>(rt: &R, bus: &SharedBus, port: Port) -> Port {
-    match bus.drop_off(rt, port) {
+    match drop_off(rt, bus, port) {
         Ok(_) => panic!(rt; "a stranger's device is gone"),
         Err((port, why)) => {
             assert!(rt; why == DropFault::OutOfMemory);
@@ -51,7 +51,7 @@ fn a_strangers_port_is_not_believed(rt: HostRuntime) -> Result<(), Fail> {
     let (bus, role, ports) = unclosed(&rt, bus, Some(role), ports, CloseFault::OutOfMemory);
     let mut ports = ports;
     ports.pop().expect(&rt, "the stranger's port").let_go();
-    assert!(rt; bus.ask_join(&rt, &mut own) == Ok(()));
+    assert!(rt; ask_join(&rt, &bus, &mut own) == Ok(()));
     let closed = closed(&rt, bus, role, with(&rt, ports, own));
     let due = [
         entry(Event::Attach(at, target(&rt)), Reply::Attached),

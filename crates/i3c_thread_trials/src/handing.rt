@@ -1,5 +1,6 @@
 use super::setting::{
-    closed, ends_with, entry, handed, is_none, only, served, slot, target, unclosed, with,
+    ask_role, attach, closed, drop_off, ends_with, entry, handed, is_none, only, served, slot,
+    target, unclosed, with,
 };
 use i3c_base::Served;
 use i3c_shared::{
@@ -21,7 +22,7 @@ fn taken<R: Wait + Abort>(rt: &R, bus: &SharedBus, main: &Port, port: &Port) -> 
 
 /// The port of the new holder, which doesn't drop off.
 fn stays<R: Wait + Abort>(rt: &R, bus: &SharedBus, port: Port) -> Port {
-    match bus.drop_off(rt, port) {
+    match drop_off(rt, bus, port) {
         Ok(_) => panic!(rt; "the active controller is gone"),
         Err((port, why)) => {
             assert!(rt; why == DropFault::ActiveStays);
@@ -39,8 +40,8 @@ fn the_new_holder_takes_the_role(rt: HostRuntime) -> Result<(), Fail> {
     let mut main = main;
     let mut role = taken(&rt, &bus, &main, &port);
     assert!(rt; served(&rt, &bus, &mut role) == Ok(Reply::Served(Served::Quiet)));
-    assert!(rt; bus.ask_role(&rt, &mut main) == Ok(()));
-    match bus.attach(&rt, at, target(&rt)) {
+    assert!(rt; ask_role(&rt, &bus, &mut main) == Ok(()));
+    match attach(&rt, &bus, at, target(&rt)) {
         Ok(port) => {
             port.let_go();
             assert!(rt; false);
@@ -70,7 +71,7 @@ fn the_new_holder_takes_the_role(rt: HostRuntime) -> Result<(), Fail> {
 fn the_new_holder_does_not_ask(rt: HostRuntime) -> Result<(), Fail> {
     let (bus, main, port) = handed(&rt, rt.alloc());
     let mut port = port;
-    assert!(rt; bus.ask_role(&rt, &mut port) == Err(AskFault::Refused(Refusal::IsActive)));
+    assert!(rt; ask_role(&rt, &bus, &mut port) == Err(AskFault::Refused(Refusal::IsActive)));
     // the role is parked: it is in
     let ports = with(&rt, only(&rt, rt.alloc(), main), port);
     let closed = closed(&rt, bus, None, ports);

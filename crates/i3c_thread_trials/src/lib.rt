@@ -2,7 +2,8 @@
 //! of their own: what a crate's own tests are proved with is the crate once more.
 //!
 //! `runs` has whole runs with each of their events, `handing` the role that is parked for its new holder, `closing` when
-//! a bus may be closed, `foreign` ports and roles of another bus, and `threads` what needs more than one thread.
+//! a bus may be closed, `foreign` ports and roles of another bus, `threads` devices that post while the bus is
+//! busy, and `sharing` threads that call on one bus.
 //! `setting` has what they share.
 #![tactic(auto)]
 
@@ -16,5 +17,7 @@ mod handing;
 mod runs;
 #[cfg(test)]
 mod setting;
+#[cfg(test)]
+mod sharing;
 #[cfg(test)]
 mod threads;

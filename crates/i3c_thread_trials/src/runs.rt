@@ -1,6 +1,6 @@
 use super::setting::{
-    NONE, address, assigned, attached, begun, closed, commanded, ended, ends_with, entry, is_run,
-    left, only, opened, served, slot, target, with,
+    INTERRUPT, NONE, address, ask_join, assigned, attach, attached, begun, closed, commanded,
+    ended, ends_with, entry, is_run, left, only, opened, round, served, slot, target, with,
 };
 use i3c_base::{Answer, Cuts, Fixed, Record, RoundReply, Served, Slot, Verdict};
 use i3c_frame::Silent;
@@ -17,19 +17,12 @@ const JOIN: Fixed = Fixed {
     interrupt: Verdict::Refuse,
 };
 
-/// The policy that a serve is kept with which accepted an interrupt.
-const INTERRUPT: Fixed = Fixed {
-    join: Verdict::Refuse,
-    role: Verdict::Refuse,
-    interrupt: Verdict::Accept,
-};
-
 /// A session in which a target gets the address 09, and the next round finds that nobody hears any more.
 fn one_assigned<R: Wait + Abort>(rt: &R, bus: &SharedBus, role: HeldRole) -> HeldRole {
     let mut session = opened(rt, bus, role);
     let given = RoundReply::Assigned(address(rt, 0x09), target(rt).identity);
-    let first = bus.round(rt, &mut session, &mut Silent, Cuts::new());
-    let second = bus.round(rt, &mut session, &mut Silent, Cuts::new());
+    let first = round(rt, bus, &mut session);
+    let second = round(rt, bus, &mut session);
     assert!(rt; first == Ok(given) && second == Ok(RoundReply::Done));
     ended(rt, bus, session)
 }
@@ -65,7 +58,7 @@ fn from_a_join_to_a_drop_off(rt: HostRuntime) -> Result<(), Fail> {
     let (bus, role, main) = begun(&rt, alloc);
     let mut role = role;
     let mut port = attached(&rt, &bus, at, target(&rt));
-    assert!(rt; bus.ask_join(&rt, &mut port) == Ok(()));
+    assert!(rt; ask_join(&rt, &bus, &mut port) == Ok(()));
     assert!(rt; served(&rt, &bus, &mut role) == Ok(Reply::Served(Served::Joining)));
     role = one_assigned(&rt, &bus, role);
     assert!(rt; port.post(Some(0x11)) == Ok(()));
@@ -175,7 +168,7 @@ fn a_cut_device_leaves_its_port_out(rt: HostRuntime) -> Result<(), Fail> {
     let port = attached(&rt, &bus, at, target(&rt));
     let mut role = assigned(&rt, &bus, role);
     assert!(rt; commanded(&rt, &bus, &mut role, Command::ReadFrom(from), cut(at)) == Ok(torn()));
-    match bus.attach(&rt, at, target(&rt)) {
+    match attach(&rt, &bus, at, target(&rt)) {
         Ok(port) => {
             port.let_go();
             assert!(rt; false);

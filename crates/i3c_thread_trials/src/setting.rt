@@ -1,16 +1,23 @@
+//! What the trials share. A call that was short of memory is given again, once: then it does what it would have done, so
+//! each trial ends as it does otherwise, whichever one allocation is refused.
 use i3c_base::{
     Addr7, Bcr, Cuts, Dcr, Fixed, Identity, Pid, RoundReply, Served, Setup, Slot, Verdict,
 };
+use i3c_bus::Policy;
 use i3c_frame::Silent;
 use i3c_legacy::Legacies;
 use i3c_shared::{
-    CloseFault, Closed, Entry, HeldRole, HeldSession, Left, Port, Run, SharedBus, StaleRole,
+    AskFault, AttachFault, CloseFault, Closed, DropFault, Entry, HandOverFault, HeldRole,
+    HeldSession, Left, OpenFault, Port, Run, SessionFault, SharedBus, StaleRole, StartFault,
     Unclosed,
 };
 use i3c_step::{Command, Event, Reply};
-use std::alloc::Global;
+use std::alloc::{AllocError, Global};
 use std::process::Abort;
 use std::sync::Wait;
+use std::sync::atomic::{AtomicU64, Ordering};
+use std::thread;
+use std::time::{Clock, Duration};
 
 /// The setup of these numbers.
 pub(crate) fn setup<R: Abort>(rt: &R, pid: u64, bcr: u8, dcr: u8) -> Setup {
@@ -66,14 +73,89 @@ pub(crate) const NONE: Fixed = Fixed {
     interrupt: Verdict::Refuse,
 };
 
+/// The policy that a serve is kept with which accepted an interrupt.
+pub(crate) const INTERRUPT: Fixed = Fixed {
+    join: Verdict::Refuse,
+    role: Verdict::Refuse,
+    interrupt: Verdict::Accept,
+};
+
+/// How many turns of a millisecond a thread waits for another before its test fails.
+const TURNS: u64 = 2000;
+
+/// Waits until the count is reached. False at the limit of turns.
+pub(crate) fn reached<R: Clock>(rt: &R, count: &AtomicU64, least: u64) -> bool {
+    for _ in 0..TURNS {
+        if count.load(Ordering::SeqCst) >= least {
+            return true;
+        }
+        thread::sleep(rt, Duration::from_millis(1));
+    }
+    false
+}
+
 /// A bus with its main controller, its role and its port.
 pub(crate) fn begun<R: Abort>(rt: &R, alloc: Global) -> (SharedBus, HeldRole, Port) {
-    SharedBus::new(alloc, hub(rt), Legacies::new()).expect(rt, "a bus")
+    match SharedBus::new(alloc, hub(rt), Legacies::new()) {
+        Err(StartFault::OutOfMemory) => SharedBus::new(alloc, hub(rt), Legacies::new()),
+        made => made,
+    }
+    .expect(rt, "a bus")
+}
+
+/// What an attachment answers.
+pub(crate) fn attach<R: Wait>(
+    rt: &R,
+    bus: &SharedBus,
+    at: Slot,
+    setup: Setup,
+) -> Result<Port, AttachFault> {
+    let entering = &setup;
+    match bus.attach(rt, at, *entering) {
+        Err(AttachFault::OutOfMemory) => bus.attach(rt, at, *entering),
+        first => first,
+    }
 }
 
 /// The port of a device that enters a slot.
 pub(crate) fn attached<R: Wait + Abort>(rt: &R, bus: &SharedBus, at: Slot, setup: Setup) -> Port {
-    bus.attach(rt, at, setup).expect(rt, "a port")
+    attach(rt, bus, at, setup).expect(rt, "a port")
+}
+
+/// What a wish to join answers.
+pub(crate) fn ask_join<R: Wait>(rt: &R, bus: &SharedBus, port: &mut Port) -> Result<(), AskFault> {
+    match bus.ask_join(rt, port) {
+        Err(AskFault::OutOfMemory) => bus.ask_join(rt, port),
+        first => first,
+    }
+}
+
+/// What a wish for the role answers.
+pub(crate) fn ask_role<R: Wait>(rt: &R, bus: &SharedBus, port: &mut Port) -> Result<(), AskFault> {
+    match bus.ask_role(rt, port) {
+        Err(AskFault::OutOfMemory) => bus.ask_role(rt, port),
+        first => first,
+    }
+}
+
+/// What a frame answers with this policy.
+pub(crate) fn commanded_by<R: Wait, P: Policy>(
+    rt: &R,
+    bus: &SharedBus,
+    role: &mut HeldRole,
+    command: Command,
+    policy: &mut P,
+    cuts: Cuts,
+) -> Result<Reply, StaleRole> {
+    let again: Result<Command, AllocError> = command.clone();
+    let Ok(again) = again else {
+        return Ok(Reply::OutOfMemory);
+    };
+    let same = cuts.counted_from(0);
+    match bus.command(rt, role, command, policy, &mut Silent, cuts) {
+        Ok(Reply::OutOfMemory) => bus.command(rt, role, again, policy, &mut Silent, same),
+        first => first,
+    }
 }
 
 /// What a frame answers with a policy that accepts all.
@@ -85,7 +167,7 @@ pub(crate) fn commanded<R: Wait>(
     cuts: Cuts,
 ) -> Result<Reply, StaleRole> {
     let mut policy = ALL;
-    bus.command(rt, role, command, &mut policy, &mut Silent, cuts)
+    commanded_by(rt, bus, role, command, &mut policy, cuts)
 }
 
 /// What a serve answers that accepts all.
@@ -99,7 +181,11 @@ pub(crate) fn served<R: Wait>(
 
 /// An opened session.
 pub(crate) fn opened<R: Wait + Abort>(rt: &R, bus: &SharedBus, role: HeldRole) -> HeldSession {
-    match bus.open_daa(rt, role, &mut Silent, Cuts::new()) {
+    let outcome = match bus.open_daa(rt, role, &mut Silent, Cuts::new()) {
+        Err((role, OpenFault::OutOfMemory)) => bus.open_daa(rt, role, &mut Silent, Cuts::new()),
+        first => first,
+    };
+    match outcome {
         Ok((session, _)) => session,
         Err((role, _)) => {
             role.let_go();
@@ -110,7 +196,11 @@ pub(crate) fn opened<R: Wait + Abort>(rt: &R, bus: &SharedBus, role: HeldRole) -
 
 /// The role again, at the session's end.
 pub(crate) fn ended<R: Wait + Abort>(rt: &R, bus: &SharedBus, session: HeldSession) -> HeldRole {
-    match bus.end(rt, session, &mut Silent) {
+    let outcome = match bus.end(rt, session, &mut Silent) {
+        Err((session, SessionFault::OutOfMemory)) => bus.end(rt, session, &mut Silent),
+        first => first,
+    };
+    match outcome {
         Ok(role) => role,
         Err((session, _)) => {
             session.let_go();
@@ -119,11 +209,23 @@ pub(crate) fn ended<R: Wait + Abort>(rt: &R, bus: &SharedBus, session: HeldSessi
     }
 }
 
+/// What a round answers.
+pub(crate) fn round<R: Wait>(
+    rt: &R,
+    bus: &SharedBus,
+    session: &mut HeldSession,
+) -> Result<RoundReply, SessionFault> {
+    match bus.round(rt, session, &mut Silent, Cuts::new()) {
+        Err(SessionFault::OutOfMemory) => bus.round(rt, session, &mut Silent, Cuts::new()),
+        first => first,
+    }
+}
+
 /// Rounds of one session, to the one that nobody hears.
 pub(crate) fn assigned<R: Wait + Abort>(rt: &R, bus: &SharedBus, role: HeldRole) -> HeldRole {
     let mut session = opened(rt, bus, role);
     for _ in 0..16 {
-        match bus.round(rt, &mut session, &mut Silent, Cuts::new()) {
+        match round(rt, bus, &mut session) {
             Ok(RoundReply::Assigned(_, _)) => {}
             _ => break,
         }
@@ -137,7 +239,16 @@ pub(crate) fn handed<R: Wait + Abort>(rt: &R, alloc: Global) -> (SharedBus, Port
     let port = attached(rt, &bus, slot(rt, 1), controller(rt));
     let mut role = assigned(rt, &bus, role);
     assert!(rt; commanded(rt, &bus, &mut role, Command::SendList, Cuts::new()).is_ok());
-    match bus.hand_over(rt, role, address(rt, 0x09), &mut Silent, Cuts::new()) {
+    let to = address(rt, 0x09);
+    let outcome = match bus.hand_over(rt, role, to, &mut Silent, Cuts::new()) {
+        Err((role, HandOverFault::OutOfMemory)) => {
+            // nothing was handed over
+            assert!(rt; is_none(bus.take_role(rt, &port)));
+            bus.hand_over(rt, role, to, &mut Silent, Cuts::new())
+        }
+        first => first,
+    };
+    match outcome {
         Ok(served) => assert!(rt; served == Served::Quiet),
         Err((role, _)) => {
             role.let_go();
@@ -147,9 +258,21 @@ pub(crate) fn handed<R: Wait + Abort>(rt: &R, alloc: Global) -> (SharedBus, Port
     (bus, main, port)
 }
 
+/// What a drop-off answers.
+pub(crate) fn drop_off<R: Wait>(
+    rt: &R,
+    bus: &SharedBus,
+    port: Port,
+) -> Result<Left, (Port, DropFault)> {
+    match bus.drop_off(rt, port) {
+        Err((port, DropFault::OutOfMemory)) => bus.drop_off(rt, port),
+        first => first,
+    }
+}
+
 /// What a drop-off found.
 pub(crate) fn left<R: Wait>(rt: &R, bus: &SharedBus, port: Port) -> Option<Left> {
-    match bus.drop_off(rt, port) {
+    match drop_off(rt, bus, port) {
         Ok(left) => Some(left),
         Err((port, _)) => {
             port.let_go();
@@ -166,11 +289,34 @@ pub(crate) fn only<R: Abort>(rt: &R, alloc: Global, port: Port) -> Vec<Port> {
 /// The ports with one more.
 pub(crate) fn with<R: Abort>(rt: &R, ports: Vec<Port>, port: Port) -> Vec<Port> {
     let mut ports = ports;
-    if let Err(refused) = ports.push(port) {
+    let outcome = match ports.push(port) {
+        Err(refused) => ports.push(refused.value),
+        first => first,
+    };
+    if let Err(refused) = outcome {
         refused.value.let_go();
         panic!(rt; "no memory");
     }
     ports
+}
+
+/// What a close with a role and these ports answers.
+fn close(
+    bus: SharedBus,
+    role: Option<HeldRole>,
+    ports: Vec<Port>,
+) -> Result<Closed, Unclosed<SharedBus>> {
+    match bus.close(role, ports) {
+        Err(
+            Unclosed {
+                bus,
+                role,
+                ports,
+                fault: CloseFault::OutOfMemory,
+            },
+        ) => bus.close(role, ports),
+        first => first,
+    }
 }
 
 /// Closes with the role and these ports.
@@ -180,7 +326,7 @@ pub(crate) fn closed<R: Abort>(
     role: Option<HeldRole>,
     ports: Vec<Port>,
 ) -> Closed {
-    match bus.close(role, ports) {
+    match close(bus, role, ports) {
         Ok(closed) => closed,
         Err(refused) => {
             refused.let_go();
@@ -198,7 +344,7 @@ pub(crate) fn unclosed<R: Abort>(
     why: CloseFault,
 ) -> (SharedBus, Option<HeldRole>, Vec<Port>) {
     let (had_role, count) = (role.is_some(), ports.len());
-    match bus.close(role, ports) {
+    match close(bus, role, ports) {
         Ok(_) => panic!(rt; "the bus is closed"),
         Err(refused) => {
             let Unclosed {
@@ -230,12 +376,20 @@ pub(crate) fn entry(event: Event, reply: Reply) -> Entry {
     Entry { event, reply }
 }
 
+/// The entry at a place of the run.
+pub(crate) fn got(run: &Run, place: usize) -> Option<Entry> {
+    match run.get(place) {
+        Err(_) => run.get(place).unwrap_or(None),
+        Ok(found) => found,
+    }
+}
+
 /// Whether these entries stand in the run from this place on.
 pub(crate) fn has_from(run: &Run, place: usize, due: &[Entry]) -> bool {
     let mut at = place;
     for entry in due {
-        match run.get(at) {
-            Ok(Some(found)) if found == *entry => {}
+        match got(run, at) {
+            Some(found) if found == *entry => {}
             _ => return false,
         }
         at = at.wrapping_add(1);
