@@ -20,7 +20,7 @@ abbrev pub is_session : Hand → Bool
 is_session (Role holder) = false
 is_session (Session holder) = true
 
--- its holder is the active controller, and a session is open exactly where it is a session
+-- the active controller holds it, and it is a session if and only if the bus has one open
 abbrev pub HandFits : Hand → State → Type 0
 HandFits hand st = (holder_of hand ≡ st.active) × (st.in_session ≡ is_session hand)
 

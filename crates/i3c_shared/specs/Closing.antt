@@ -9,7 +9,7 @@ use Rattle.i3c_shared.specs.Rings.{AllLooked}
 use Rattle.i3c_shared.specs.Taking.{Stays, TakesUp}
 use Rattle.i3c_shared.specs.Values.{KeptValue, Log, PortValue, Rings}
 
--- a session is open, or no role is handed in and none is parked
+-- nobody handed a role in and none is parked, or it is away in an open session
 abbrev pub is_role_out : KeptValue → Option ℕ → Bool
 is_role_out k role = k.log.state.in_session || (is_none role && is_none k.parked)
 

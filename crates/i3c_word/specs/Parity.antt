@@ -11,6 +11,6 @@ bit_of false = 0
 abbrev pub HasOddParity : Word → Type 0
 HasOddParity word = (count_ones word.byte + bit_of word.t) % 2 ≡ 1
 
--- the byte has the address in bits 7:1, and in bit 0 the odd parity of the address's seven bits
+-- an address byte: the upper seven bits are the address, and the lowest is 1 where these have an even number of ones
 abbrev pub IsAddressByte : ℕ → ℕ → Type 0
 IsAddressByte address byte = (byte / 2 ≡ address) × ((count_ones address + byte % 2) % 2 ≡ 1)
