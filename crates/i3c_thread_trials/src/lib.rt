@@ -4,7 +4,7 @@
 //! `runs` has whole runs with each of their events, `handing` the role that is parked for its new holder, `closing` when
 //! a bus may be closed, `foreign` ports and roles of another bus, `threads` devices that post while the bus is
 //! busy, and `sharing` threads that call on one bus.
-//! `setting` has what they share.
+//! `setting` has what they share: there a call that was short of memory is given again. `strict` makes each call once.
 #![tactic(auto)]
 
 #[cfg(test)]
@@ -19,5 +19,7 @@ mod runs;
 mod setting;
 #[cfg(test)]
 mod sharing;
+#[cfg(test)]
+mod strict;
 #[cfg(test)]
 mod threads;

@@ -1,0 +1,118 @@
+use super::setting::{ALL, address, controller, entry, hub, is_none, slot};
+use i3c_base::{Cuts, RoundReply, Served};
+use i3c_frame::Silent;
+use i3c_legacy::Legacies;
+use i3c_shared::{Closed, HeldRole, HeldSession, Left, Port, SharedBus};
+use i3c_step::{Command, Event, Reply};
+use std::alloc::Global;
+use std::process::Abort;
+use std::sync::Wait;
+use std::test::Fail;
+
+/// The session that an opening gives at once.
+fn opened_once<R: Wait + Abort>(rt: &R, bus: &SharedBus, role: HeldRole) -> HeldSession {
+    match bus.open_daa(rt, role, &mut Silent, Cuts::new()) {
+        Ok((session, _)) => session,
+        Err((role, _)) => {
+            role.let_go();
+            panic!(rt; "no session is opened")
+        }
+    }
+}
+
+/// The role that a session's end gives back at once.
+fn ended_once<R: Wait + Abort>(rt: &R, bus: &SharedBus, session: HeldSession) -> HeldRole {
+    match bus.end(rt, session, &mut Silent) {
+        Ok(role) => role,
+        Err((session, _)) => {
+            session.let_go();
+            panic!(rt; "the session doesn't end")
+        }
+    }
+}
+
+/// The role that the device at 09 takes at once.
+fn handed_once<R: Wait + Abort>(rt: &R, bus: &SharedBus, role: HeldRole, to: &Port) -> HeldRole {
+    match bus.hand_over(rt, role, address(rt, 0x09), &mut Silent, Cuts::new()) {
+        Ok(served) => assert!(rt; served == Served::Quiet),
+        Err((role, _)) => {
+            role.let_go();
+            panic!(rt; "the role isn't handed over")
+        }
+    }
+    bus.take_role(rt, to).expect(rt, "the role")
+}
+
+/// The port's device drops off at once.
+fn left_once<R: Wait + Abort>(rt: &R, bus: &SharedBus, port: Port) -> Left {
+    match bus.drop_off(rt, port) {
+        Ok(left) => left,
+        Err((port, _)) => {
+            port.let_go();
+            panic!(rt; "the device doesn't drop off")
+        }
+    }
+}
+
+/// What is closed at once with this role and this port.
+fn closed_once<R: Abort>(
+    rt: &R,
+    alloc: Global,
+    bus: SharedBus,
+    role: HeldRole,
+    port: Port,
+) -> Closed {
+    let mut ports = Vec::new(alloc);
+    if let Err(refused) = ports.push(port) {
+        refused.value.let_go();
+        panic!(rt; "no memory");
+    }
+    match bus.close(Some(role), ports) {
+        Ok(closed) => closed,
+        Err(refused) => {
+            refused.let_go();
+            panic!(rt; "the bus isn't closed")
+        }
+    }
+}
+
+/// What a frame answers at once with a policy that accepts all.
+fn commanded_once<R: Wait + Abort>(
+    rt: &R,
+    bus: &SharedBus,
+    role: &mut HeldRole,
+    command: Command,
+) -> Reply {
+    let mut policy = ALL;
+    bus.command(rt, role, command, &mut policy, &mut Silent, Cuts::new())
+        .expect(rt, "a reply")
+}
+
+// Where memory is granted no call is short of it: each call of the shared bus is made here and given once.
+#[test]
+fn no_call_is_short_of_memory(rt: HostRuntime) -> Result<(), Fail> {
+    let (alloc, at) = (rt.alloc(), slot(&rt, 1));
+    let made = SharedBus::new(alloc, hub(&rt), Legacies::new());
+    let (bus, role, main) = made.expect(&rt, "a bus");
+    let (mut role, mut main) = (role, main);
+    let attached = bus.attach(&rt, at, controller(&rt));
+    let mut port = attached.expect(&rt, "a port");
+    assert!(rt; bus.ask_join(&rt, &mut port) == Ok(()));
+    let served = commanded_once(&rt, &bus, &mut role, Command::Serve);
+    assert!(rt; served == Reply::Served(Served::Joining));
+    let mut session = opened_once(&rt, &bus, role);
+    let given = RoundReply::Assigned(address(&rt, 0x09), controller(&rt).identity);
+    assert!(rt; bus.round(&rt, &mut session, &mut Silent, Cuts::new()) == Ok(given));
+    let mut role = ended_once(&rt, &bus, session);
+    let listed = commanded_once(&rt, &bus, &mut role, Command::SendList);
+    assert!(rt; matches!(listed, Reply::Framed(_)));
+    let role = handed_once(&rt, &bus, role, &port);
+    assert!(rt; is_none(bus.take_role(&rt, &port)));
+    assert!(rt; bus.ask_role(&rt, &mut main) == Ok(()));
+    assert!(rt; left_once(&rt, &bus, main) == Left::Now);
+    let closed = closed_once(&rt, alloc, bus, role, port);
+    let first = entry(Event::Attach(at, controller(&rt)), Reply::Attached);
+    assert!(rt; closed.run.get(0) == Ok(Some(first)));
+    assert!(rt; closed.run.len() == 10);
+    Ok(())
+}
