@@ -1,5 +1,5 @@
 -- What devices do by themselves leaves a sound bus.
-use Rattle.std.proofs.Common.{◌≡◌, ℕ, false, [], ◌∷◌, List, Option, Some, None, Result, Ok, Err, OnOk, OnErr, option_map, is_none, is_some, ◌==◌, sym, refl, ap, ◌∙◌, subst}
+use Rattle.std.proofs.Common.{true, ◌≡◌, ℕ, false, [], ◌∷◌, List, Option, Some, None, Result, Ok, Err, OnOk, OnErr, option_map, is_none, is_some, ◌==◌, sym, refl, ap, ◌∙◌, subst}
 use Rattle.std.specs.Prelude.{slice_set}
 use Rattle.std.proofs.lemmas.Bool.{true≢false}
 use Rattle.i3c_base.specs.declared.device.Setup.{Setup}
@@ -17,13 +17,13 @@ use Rattle.i3c_step.proofs.Acting.{acting}
 use Rattle.i3c_step.proofs.Soundness.{sound_role_wishes, sound_step, sound_wishes}
 
 -- what a lookup gave is what stands there
-pub none_there : {A B : Type 0} (f : A → B) (o : Option A) (p : Option B) → option_map f o ≡ p → is_some o ≡ false → p ≡ None
-none_there f None p e h = sym e
-none_there f (Some x) p e h = absurd (true≢false h)
+pub none_there : {A : Type 0} (o : Option A) → is_some o ≡ false → o ≡ None
+none_there None h = refl
+none_there (Some x) h = absurd (true≢false h)
 
-pub some_there : {A B : Type 0} (f : A → B) (o : Option A) (p : Option B) → option_map f o ≡ p → is_none o ≡ false → is_none p ≡ false
-some_there f None p e h = absurd (true≢false h)
-some_there f (Some x) p e h = ap is_none (sym e)
+pub some_there : {A : Type 0} (o : Option A) → is_some o ≡ true → is_none o ≡ false
+some_there None h = absurd (true≢false (sym h))
+some_there (Some x) h = refl
 
 -- a device that enters an empty slot
 pub sound_attached : (s : ℕ) (setup : Setup) (st : State) → device_at st s ≡ None → IsSound st → IsSound (attach s setup st)

@@ -55,10 +55,10 @@ raise_free st s byte d there other none =
         ∷ (in_slot (λ x. not x.kinds.interrupt) o, Masked)
         ∷ (in_slot (λ x. nat_le WAITING (length x.waiting) || nat_le (2 ^ 64 - 1) (raised_at st s)) o, Full) ∷ []
 
--- what a lookup gave, where it gave something
-pub given_there : {A B : Type 0} (f : A → B) (o : Option A) (p : Option B) → option_map f o ≡ p → is_some o ≡ true → (b : B) × (p ≡ Some b)
-given_there f None p e h = absurd (true≢false (sym h))
-given_there f (Some x) p e h = (f x, sym e)
+-- what stands there, where something does
+pub given_there : {A : Type 0} (o : Option A) → is_some o ≡ true → (a : A) × (o ≡ Some a)
+given_there None h = absurd (true≢false (sym h))
+given_there (Some a) h = (a, refl)
 
 -- a bus after a raise is whole
 pub whole_raise : (st : State) (table : Table) (list : Option (List Entry)) (more : List (Option Device)) (s index number : ℕ) (byte : Option ℕ) (d : Device)

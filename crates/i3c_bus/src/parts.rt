@@ -139,7 +139,7 @@ impl Bus {
     pub fn present(&self, slot: Slot) -> bool
         ensures { result ≡ is_some (device_at self.now.state slot) }
     {
-        self.devices.get(slot).is_some()
+        self.devices.holds(slot)
     }
 
     /// The dynamic address of a slot's device, if there is a device and it has one.
@@ -218,7 +218,7 @@ impl Bus {
         ensures step { Step self.old.state (Event.Attach slot setup) (attached_reply result) self.new.state }
         ensures around { StaysAround self.old self.new }
     {
-        if self.devices.get(slot).is_some() {
+        if self.devices.holds(slot) {
             return Err(SlotTaken);
         }
         self.devices.put(slot, Device::new(setup));
@@ -231,7 +231,7 @@ impl Bus {
         ensures step { Step self.old.state (Event.DropOff slot) (dropped_reply result) self.new.state }
         ensures around { StaysAround self.old self.new }
     {
-        if self.devices.get(slot).is_none() {
+        if !self.devices.holds(slot) {
             return Err(DropRefusal::NoDevice);
         }
         if slot == self.active() {
@@ -247,7 +247,7 @@ impl Bus {
         ensures step { Step self.old.state (Event.Raise slot byte) (raised_reply result) self.new.state }
         ensures around { StaysAround self.old self.new }
     {
-        if self.devices.get(slot).is_none() {
+        if !self.devices.holds(slot) {
             return Err(RaiseRefusal::NoDevice);
         }
         if slot == self.active() {

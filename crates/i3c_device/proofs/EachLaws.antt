@@ -27,11 +27,11 @@ changed_from_in f n (x ∷ xs) (suc k) l =
     let same : k + suc n ≡ suc k + n = omega arith in
     changed_from_in f (suc n) xs k (omega arith) ∙ ap (λ m. f m (get_or xs k None)) same
 
-changed_in : (f : ℕ → Option Device → Option Device) (xs : List (Option Device)) (k : ℕ) → k < length xs → get_or (changed f xs) k None ≡ f k (get_or xs k None)
+pub changed_in : (f : ℕ → Option Device → Option Device) (xs : List (Option Device)) (k : ℕ) → k < length xs → get_or (changed f xs) k None ≡ f k (get_or xs k None)
 changed_in f xs k l = let same : k + 0 ≡ k = omega arith in changed_from_in f 0 xs k l ∙ ap (λ m. f m (get_or xs k None)) same
 
 -- places that are each changed
-all_changed : (f : ℕ → Option Device → Option Device) (xs ys : List (Option Device)) → length ys ≡ length xs → ((k : ℕ) → k < length xs → get_or ys k None ≡ f k (get_or xs k None)) → ys ≡ changed f xs
+pub all_changed : (f : ℕ → Option Device → Option Device) (xs ys : List (Option Device)) → length ys ≡ length xs → ((k : ℕ) → k < length xs → get_or ys k None ≡ f k (get_or xs k None)) → ys ≡ changed f xs
 all_changed f xs ys long each =
     ext_get_or None ys (changed f xs) (long ∙ sym (length-changed f xs)) (λ k l. let low : k < length xs = omega arith in each k low ∙ sym (changed_in f xs k low))
 

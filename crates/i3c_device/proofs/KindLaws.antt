@@ -1,13 +1,11 @@
 -- Sets of kinds and the bits that stand for them.
-use Rattle.std.proofs.Common.{◌≡◌, ℕ, ◌-◌, ◌*◌, ◌/◌, ◌%◌, ◌^◌, ◌<◌, not, ◌&&◌, ◌||◌, ◌==◌, min, max, sym, ap, ◌∙◌, arith}
+use Rattle.std.proofs.Common.{◌≡◌, ℕ, ◌-◌, ◌*◌, ◌/◌, ◌%◌, ◌^◌, ◌<◌, not, ◌&&◌, ◌||◌, ◌==◌, min, max, ap, ◌∙◌, arith}
 use Rattle.std.proofs.lemmas.Bool.Decides.{nat_tests}
 use Rattle.std.proofs.lemmas.Nat.Bits.{and_pow, bit_at-lt, bit_at_and, bit_at_lowest, bit_at_not, bit_at_or}
-use Rattle.std.specs.Int.{Width, bit_at, w8}
+use Rattle.std.specs.Int.{Width, bit_at}
 use mir.Val.{bits}
 use Rattle.std.specs.Int.RustNames.{bit_or}
 use lib.Bits.{bit_and}
-use Rattle.i3c_base.specs.Numbers.{kind_set}
-use Rattle.i3c_base.specs.Frames.{with_kinds, without_kinds}
 
 -- a test of the lowest bit, the second and the fourth
 pub has_lowest : (n : ℕ) → (bit_and n 1 == 1) ≡ (n % 2 == 1)
@@ -32,27 +30,15 @@ either_one x y l m = grind (arith, nat_tests)
 one_alone : (x y : ℕ) → x < 2 → y < 2 → (min x (1 - y) == 1) ≡ ((x == 1) && not (y == 1))
 one_alone x y l m = grind (arith, nat_tests)
 
-or_bit : (a b i : ℕ) → (bit_at (bit_or a b) i == 1) ≡ ((bit_at a i == 1) || (bit_at b i == 1))
+pub or_bit : (a b i : ℕ) → (bit_at (bit_or a b) i == 1) ≡ ((bit_at a i == 1) || (bit_at b i == 1))
 or_bit a b i = ap (λ x. x == 1) (bit_at_or a b i) ∙ either_one (bit_at a i) (bit_at b i) (bit_at-lt a i) (bit_at-lt b i)
+
+both_one : (x y : ℕ) → x < 2 → y < 2 → (min x y == 1) ≡ ((x == 1) && (y == 1))
+both_one x y l m = grind (arith, nat_tests)
+
+pub and_bit : (a b i : ℕ) → (bit_at (bit_and a b) i == 1) ≡ ((bit_at a i == 1) && (bit_at b i == 1))
+and_bit a b i = ap (λ x. x == 1) (bit_at_and a b i) ∙ both_one (bit_at a i) (bit_at b i) (bit_at-lt a i) (bit_at-lt b i)
 
 pub without_bit : (w : Width) (a b i : ℕ) → b < 2 ^ bits w → i < bits w → (bit_at (bit_and a (2 ^ bits w - 1 - b)) i == 1) ≡ ((bit_at a i == 1) && not (bit_at b i == 1))
 without_bit w a b i l m =
     ap (λ x. x == 1) (bit_at_and a (2 ^ bits w - 1 - b) i ∙ ap (min (bit_at a i)) (bit_at_not w b i l m)) ∙ one_alone (bit_at a i) (bit_at b i) (bit_at-lt a i) (bit_at-lt b i)
-
-lowest_is : (n : ℕ) → (bit_at n 0 == 1) ≡ (n % 2 == 1)
-lowest_is n = ap (λ x. x == 1) (bit_at_lowest n)
-
--- the set of a union, and that of a difference
-pub union_set : (a b n : ℕ) → n ≡ bit_or a b → kind_set (record { 0 = n }) ≡ with_kinds (kind_set (record { 0 = a })) (kind_set (record { 0 = b }))
-union_set a b n e =
-    let low : (n % 2 == 1) ≡ ((a % 2 == 1) || (b % 2 == 1)) = ap (λ k. k % 2 == 1) e ∙ (sym (lowest_is (bit_or a b)) ∙ (or_bit a b 0 ∙ ((λ t. lowest_is a t || lowest_is b t)))) in
-    let second : (n / 2 % 2 == 1) ≡ ((a / 2 % 2 == 1) || (b / 2 % 2 == 1)) = ap (λ k. k / 2 % 2 == 1) e ∙ or_bit a b 1 in
-    let fourth : (n / 8 % 2 == 1) ≡ ((a / 8 % 2 == 1) || (b / 8 % 2 == 1)) = ap (λ k. k / 8 % 2 == 1) e ∙ or_bit a b 3 in
-    λ t. record { interrupt = low t; role = second t; join = fourth t }
-
-pub difference_set : (a b n : ℕ) → b < 256 → n ≡ bit_and a (255 - b) → kind_set (record { 0 = n }) ≡ without_kinds (kind_set (record { 0 = a })) (kind_set (record { 0 = b }))
-difference_set a b n l e =
-    let low : (n % 2 == 1) ≡ ((a % 2 == 1) && not (b % 2 == 1)) = ap (λ k. k % 2 == 1) e ∙ (sym (lowest_is (bit_and a (255 - b))) ∙ (without_bit w8 a b 0 l (omega arith) ∙ ((λ t. lowest_is a t && not (lowest_is b t))))) in
-    let second : (n / 2 % 2 == 1) ≡ ((a / 2 % 2 == 1) && not (b / 2 % 2 == 1)) = ap (λ k. k / 2 % 2 == 1) e ∙ without_bit w8 a b 1 l (omega arith) in
-    let fourth : (n / 8 % 2 == 1) ≡ ((a / 8 % 2 == 1) && not (b / 8 % 2 == 1)) = ap (λ k. k / 8 % 2 == 1) e ∙ without_bit w8 a b 3 l (omega arith) in
-    λ t. record { interrupt = low t; role = second t; join = fourth t }

@@ -3,6 +3,9 @@ pub mod Targets
 pub mod SetLaws
 pub mod MarkLaws
 pub mod EachLaws
+pub mod SeenLaws
+pub mod Blindness
+pub mod SeenWalks
 pub mod FindLaws
 pub mod FirstLaws
 pub mod ReadLaws

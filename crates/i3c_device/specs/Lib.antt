@@ -4,6 +4,7 @@ pub mod Addressing
 pub mod Walks
 pub mod First
 pub mod Wishing
+pub mod Enabling
 pub mod Sets
 pub mod Marks
 pub mod Finding

@@ -1,5 +1,5 @@
 -- When a device may raise an interrupt.
-use Rattle.std.specs.Prelude.{ℕ, ◌-◌, ◌^◌, true, not, nat_le, List, [], ◌∷◌, ◌++◌, length, Option, Some, None, is_none, is_some, if◌then◌else◌}
+use Rattle.std.specs.Prelude.{ℕ, ◌-◌, ◌^◌, Bool, true, not, nat_le, List, [], ◌∷◌, ◌++◌, length, Option, Some, None, is_none, is_some, if◌then◌else◌}
 use Rattle.i3c_base.specs.declared.device.TheConstants.{WAITING}
 use Rattle.i3c_base.specs.declared.device.Waiting.{Waiting}
 use Rattle.i3c_base.specs.Numbers.{can_interrupt, has_byte, same_bool}
@@ -25,6 +25,10 @@ or_uncounted None raised = if nat_le (2 ^ 64 - 1) raised then Some Full else Non
 -- the first fault of a device's next raise, where `raised` of its slot were accepted
 abbrev pub next_fault : Device → Option ℕ → ℕ → Option RaiseRefusal
 next_fault d byte raised = or_uncounted (raise_fault d byte) raised
+
+-- a device whose interrupts are enabled, or aren't
+abbrev pub interrupting_if : Bool → Device → Device
+interrupting_if enabled d = record d { kinds = record { interrupt = enabled; role = true; join = true } }
 
 -- a device with one more interrupt that waits
 abbrev pub with_raise : ℕ → Option ℕ → Device → Device

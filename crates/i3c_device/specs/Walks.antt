@@ -27,6 +27,10 @@ abbrev pub reaches_at : ℕ → Option ℕ → ℕ → Device → Bool
 reaches_at active None s d = not (s == active)
 reaches_at active (Some a) s d = not (s == active) && has_address a d
 
+-- these are the slots of the devices that a command reaches
+abbrev pub AreReached : ℕ → Option ℕ → SlotSet → List (Option Device) → Type 0
+AreReached active to slots devices = (s : ℕ) → s < SLOTS → has slots s ≡ in_slot (reaches_at active to s) (slice_index_or devices s None)
+
 -- it is a willing device at this address, other than the active controller
 abbrev pub willing_at : ℕ → ℕ → ℕ → Option Device → Bool
 willing_at active a s place = in_slot (λ d. reaches_at active (Some a) s d && d.willing) place

@@ -1,8 +1,41 @@
--- What a device wishes for.
-use Rattle.std.specs.Prelude.{Bool, not, ◌||◌, is_none, if◌then◌else◌}
-use Rattle.i3c_base.specs.Serve.{is_empty}
+-- What a device wishes for, whether or not that kind is enabled.
+use Rattle.std.specs.Prelude.{◌≡◌, Bool, true, false, not, ◌&&◌, ◌||◌, is_none, is_some, Option, Some, None}
+use Rattle.i3c_base.specs.declared.requests.Request.{Request}
+use Rattle.i3c_base.specs.Numbers.{KindSet}
+use Rattle.i3c_base.specs.Serve.{asks, is_empty}
 use Rattle.i3c_base.specs.State.{Device}
+use Rattle.i3c_header.specs.Keys.{IsLawful}
+use Rattle.i3c_device.specs.Enabling.{under}
 
--- it wishes to join where it has no address, else for the role or an interrupt, whether or not that kind is enabled
-abbrev pub wishes : Device → Bool
-wishes d = if is_none d.address then d.join_wish else d.role_wish || not (is_empty d.waiting)
+-- to join, where it has no address
+abbrev pub wishes_join : Device → Bool
+wishes_join d = is_none d.address && d.join_wish
+
+-- for the role, where it has one
+abbrev pub wishes_role : Device → Bool
+wishes_role d = is_some d.address && d.role_wish
+
+-- to interrupt, where it has one and doesn't wish for the role
+abbrev pub wishes_interrupt : Device → Bool
+wishes_interrupt d = is_some d.address && (not d.role_wish && not (is_empty d.waiting))
+
+-- it drives a request: it wishes for something, and that kind is enabled
+abbrev pub asks_some : Device → Bool
+asks_some d = (wishes_join d && d.kinds.join) || ((wishes_role d && d.kinds.role) || (wishes_interrupt d && d.kinds.interrupt))
+
+-- the one request that a device can drive, where that kind is enabled
+pub record IsWish (d : Device) (r : Request) : Type 0 where
+  pub asked : (kinds : KindSet) → asks_some (under kinds d) ≡ true → asks (under kinds d) r ≡ true
+  pub alone : (kinds : KindSet) (q : Request) → asks (under kinds d) q ≡ true → q ≡ r
+  pub lawful : IsLawful r
+
+-- whatever kinds are enabled, a device drives no request
+abbrev pub WishesNothing : Device → Type 0
+WishesNothing d = (kinds : KindSet) → asks_some (under kinds d) ≡ false
+
+-- what whatever stands in a slot wishes for
+abbrev pub WishesIn : Option Request → Option Device → Type 0
+WishesIn None None = Unit {0}
+WishesIn (Some r) None = ⊥
+WishesIn None (Some d) = WishesNothing d
+WishesIn (Some r) (Some d) = IsWish d r

@@ -1,17 +1,13 @@
-use crate::kinds::{all, difference, may_ask_role, may_interrupt, may_join, named, union};
 use arrayvec::ArrayVec;
-use i3c_base::{Addr7, Identity, Kinds, REGISTERS, RaiseRefusal, Request, Setup, WAITING, Waiting};
-use i3c_ccc::Code;
-use i3c_word::Word;
+use i3c_base::{Addr7, Identity, REGISTERS, RaiseRefusal, Request, Setup, WAITING, Waiting};
 use std::marker::Model;
 
-/// A device while it is attached.
+/// A device while it is attached, but for which kinds of its events are enabled: by itself it is seen with all of them.
 #[derive(Drop)]
 pub struct Device {
     identity: Identity,
     willing: bool,
     address: Option<Addr7>,
-    kinds: Kinds,
     waiting: ArrayVec<Waiting, WAITING>,
     join_wish: bool,
     role_wish: bool,
@@ -20,8 +16,7 @@ pub struct Device {
 }
 
 impl Model for Device {
-    ghost use Rattle.i3c_base.specs.Numbers.{kind_set};
-    ghost use Rattle.i3c_base.specs.State.{Device as DeviceState};
+    ghost use Rattle.i3c_base.specs.State.{Device as DeviceState, all_kinds};
     ghost use Rattle.i3c_device.specs.Addressing.{IsDynamic};
 
     ghost Value = { DeviceState };
@@ -30,7 +25,7 @@ impl Model for Device {
       identity = d.identity;
       willing = d.willing;
       address = d.address;
-      kinds = kind_set d.kinds;
+      kinds = all_kinds;
       waiting = d.waiting.items;
       join_wish = d.join_wish;
       role_wish = d.role_wish;
@@ -42,19 +37,16 @@ impl Model for Device {
 }
 
 impl Device {
-    ghost use Rattle.std.specs.Prelude.{◌≡◌, ◌≤◌, ◌++◌, ◌∷◌, [], ℕ, suc, true, false, length, slice_get, IfSome, MatchOption, MatchResult, OnErr, OnOk, Some, None};
+    ghost use Rattle.std.specs.Prelude.{◌≡◌, ◌≤◌, suc, length, slice_get, MatchOption, MatchResult, OnErr, OnOk, Some, None, true};
     ghost use Rattle.i3c_base.specs.declared.device.TheConstants.{REGISTERS as REGISTER_COUNT};
-    ghost use Rattle.i3c_base.specs.declared.requests.Request.{Request as RequestValue};
-    ghost use Rattle.i3c_base.specs.Frames.{overwritten};
+    ghost use Rattle.i3c_base.specs.Frames.{overwritten, unaddressed_device};
     ghost use Rattle.i3c_base.specs.State.{attached};
-    ghost use Rattle.i3c_base.specs.Serve.{asks, without_front, without_join, without_role};
-    ghost use Rattle.i3c_base.specs.Round.{unhearing, winner};
-    ghost use Rattle.i3c_header.specs.Keys.{IsLawful};
-    ghost use Rattle.i3c_device.specs.Hearing.{heard};
-    ghost use Rattle.i3c_device.specs.Wishing.{wishes};
-    ghost use Rattle.i3c_device.specs.Raising.{front_byte, next_fault, raise_fault, with_raise};
+    ghost use Rattle.i3c_base.specs.Serve.{without_front, without_join, without_role};
+    ghost use Rattle.i3c_base.specs.Round.{hears, unhearing, winner};
+    ghost use Rattle.i3c_device.specs.Wishing.{IsWish, WishesNothing, wishes_interrupt, wishes_join, wishes_role};
+    ghost use Rattle.i3c_device.specs.Raising.{front_byte, interrupting_if, next_fault, raise_fault, with_raise};
 
-    /// A device that was just attached: all kinds of events are enabled, and its registers are `00`.
+    /// A device that was just attached: its registers are `00`.
     pub fn new(setup: Setup) -> Device
         ensures { result ≡ attached setup }
     {
@@ -62,7 +54,6 @@ impl Device {
             identity: setup.identity,
             willing: setup.willing,
             address: None,
-            kinds: all(),
             waiting: ArrayVec::new(),
             join_wish: false,
             role_wish: false,
@@ -90,20 +81,6 @@ impl Device {
         ensures { result ≡ self.now.address }
     {
         self.address
-    }
-
-    /// Whether its joins are enabled.
-    pub fn may_join(&self) -> bool
-        ensures { result ≡ self.now.kinds.join }
-    {
-        may_join(self.kinds)
-    }
-
-    /// Whether its role requests are enabled.
-    pub fn may_ask_role(&self) -> bool
-        ensures { result ≡ self.now.kinds.role }
-    {
-        may_ask_role(self.kinds)
     }
 
     /// How many of its interrupts wait.
@@ -135,25 +112,21 @@ impl Device {
         self.registers[..bytes.len()].copy_from_slice(bytes);
     }
 
-    /// What it does with a command and the words after its code (I3C Basic 5.1.9.3). What it keeps of a list (DEFTGTS)
-    /// isn't part of it: the bus has that.
-    pub fn hear(&mut self, code: Code, words: &[Word])
-        ensures { self.new ≡ heard code words.now self.old }
+    /// A session is opened: it hears it if it has no address (I3C Basic 5.1.4.2).
+    pub fn hear_opening(&mut self)
+        ensures { self.new ≡ hears self.old }
     {
-        match code {
-            Code::Enec | Code::EnecDirect => self.kinds = union(self.kinds, named(words)),
-            Code::Disec | Code::DisecDirect => self.kinds = difference(self.kinds, named(words)),
-            Code::Entdaa => {
-                if self.address.is_none() {
-                    self.hearing = true;
-                }
-            }
-            Code::Rstdaa => {
-                self.address = None;
-                self.role_wish = false;
-            }
-            Code::Deftgts | Code::Getacccr | Code::Other(_) => {}
+        if self.address.is_none() {
+            self.hearing = true;
         }
+    }
+
+    /// All addresses are reset: it has none any more, and no wish for the role (I3C Basic 5.1.9.3.3).
+    pub fn lose_address(&mut self)
+        ensures { self.new ≡ unaddressed_device self.old }
+    {
+        self.address = None;
+        self.role_wish = false;
     }
 
     /// The session ends: it hears no more.
@@ -163,28 +136,21 @@ impl Device {
         self.hearing = false;
     }
 
-    /// The request that it drives into an arbitrable header: a join without an address, else the role request before
-    /// the interrupt, its choice only while that kind is enabled (I3C Basic 5.1.6).
-    pub fn wants(&self) -> Option<Request>
-        ensures asked { MatchOption result ((r : RequestValue) → asks self.now r ≡ false) (λ r. asks self.now r ≡ true) }
-        ensures alone { IfSome result (λ r. (q : RequestValue) → asks self.now q ≡ true → q ≡ r) }
-        ensures lawful { IfSome result IsLawful }
+    /// The request that it drives into an arbitrable header where that kind is enabled: a join without an address, else
+    /// the role request before the interrupt (I3C Basic 5.1.6).
+    pub fn wish(&self) -> Option<Request>
+        ensures { MatchOption result (WishesNothing self.now) (IsWish self.now) }
     {
         let Some(address) = self.address else {
-            return if self.join_wish && may_join(self.kinds) {
+            return if self.join_wish {
                 Some(Request::Join)
             } else {
                 None
             };
         };
         if self.role_wish {
-            return if may_ask_role(self.kinds) {
-                Some(Request::Role(address))
-            } else {
-                None
-            };
-        }
-        if !self.waiting.is_empty() && may_interrupt(self.kinds) {
+            Some(Request::Role(address))
+        } else if !self.waiting.is_empty() {
             Some(Request::Interrupt(address))
         } else {
             None
@@ -201,9 +167,10 @@ impl Device {
         self.join_wish = false;
     }
 
-    /// Whether it may raise an interrupt with this byte now: the first fault, if there is one.
-    pub fn may_raise(&self, byte: Option<u8>) -> Result<(), RaiseRefusal>
-        ensures { MatchResult result (λ _. raise_fault self.now byte ≡ None) (λ fault. raise_fault self.now byte ≡ Some fault) }
+    /// Whether it may raise an interrupt with this byte now, where its interrupts are enabled or aren't: the first fault,
+    /// if there is one.
+    pub fn may_raise(&self, byte: Option<u8>, enabled: bool) -> Result<(), RaiseRefusal>
+        ensures { MatchResult result (λ _. raise_fault (interrupting_if enabled self.now) byte ≡ None) (λ fault. raise_fault (interrupting_if enabled self.now) byte ≡ Some fault) }
     {
         if self.address.is_none() {
             return Err(RaiseRefusal::NoAddress);
@@ -214,7 +181,7 @@ impl Device {
         if self.identity.bcr.has_byte() != byte.is_some() {
             return Err(RaiseRefusal::ByteMismatch);
         }
-        if !may_interrupt(self.kinds) {
+        if !enabled {
             return Err(RaiseRefusal::Masked);
         }
         if self.waiting.is_full() {
@@ -223,14 +190,20 @@ impl Device {
         Ok(())
     }
 
-    /// Raises the interrupt after this many of its slot, and answers its number: it waits as the last one. The first
-    /// fault refuses it, and changes nothing; a count that can't grow is `Full` too.
-    pub fn raise(&mut self, raised: u64, byte: Option<u8>) -> Result<u64, RaiseRefusal>
-        ensures fault { MatchResult result (λ number. (number ≡ suc raised) × (next_fault self.old byte raised ≡ None)) (λ fault. next_fault self.old byte raised ≡ Some fault) }
+    /// Raises the interrupt after this many of its slot, where its interrupts are enabled or aren't, and answers its
+    /// number: it waits as the last one. The first fault refuses it, and changes nothing; a count that can't grow is
+    /// `Full` too.
+    pub fn raise(
+        &mut self,
+        raised: u64,
+        byte: Option<u8>,
+        enabled: bool,
+    ) -> Result<u64, RaiseRefusal>
+        ensures fault { MatchResult result (λ number. (number ≡ suc raised) × (next_fault (interrupting_if enabled self.old) byte raised ≡ None)) (λ fault. next_fault (interrupting_if enabled self.old) byte raised ≡ Some fault) }
         ensures raised { OnOk result (self.new ≡ with_raise (suc raised) byte self.old) }
         ensures unchanged { OnErr result (self.new ≡ self.old) }
     {
-        self.may_raise(byte)?;
+        self.may_raise(byte, enabled)?;
         let Some(number) = raised.checked_add(1) else {
             return Err(RaiseRefusal::Full);
         };
@@ -255,16 +228,25 @@ impl Device {
         }
     }
 
-    /// Whether it wishes for something: to join where it has no address, else the role or an interrupt. Whether that kind
-    /// is enabled isn't asked.
-    pub(crate) fn wishes(&self) -> bool
-        ensures { result ≡ wishes self.now }
+    /// Whether it wishes to join, and has no address.
+    pub(crate) fn wishes_join(&self) -> bool
+        ensures { result ≡ wishes_join self.now }
     {
-        if self.address.is_none() {
-            self.join_wish
-        } else {
-            self.role_wish || !self.waiting.is_empty()
-        }
+        self.address.is_none() && self.join_wish
+    }
+
+    /// Whether it wishes for the role, and has an address.
+    pub(crate) fn wishes_role(&self) -> bool
+        ensures { result ≡ wishes_role self.now }
+    {
+        self.address.is_some() && self.role_wish
+    }
+
+    /// Whether it wishes to interrupt, and not for the role, and has an address.
+    pub(crate) fn wishes_interrupt(&self) -> bool
+        ensures { result ≡ wishes_interrupt self.now }
+    {
+        self.address.is_some() && !self.role_wish && !self.waiting.is_empty()
     }
 
     /// It wishes to join.

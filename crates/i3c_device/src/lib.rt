@@ -3,9 +3,11 @@
 #![tactic(auto)]
 
 mod attached;
+mod enabled;
 mod first;
 mod kinds;
 mod marks;
+mod occupants;
 mod places;
 mod sets;
 mod slots;

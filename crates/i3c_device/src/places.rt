@@ -1,48 +1,56 @@
-ghost use Rattle.std.specs.Prelude.{◌≡◌, ◌≤◌, ◌<◌, ◌+◌, ◌^◌, ◌&&◌, ℕ, true, false, option_map, length, IfSome, IsTrue, ◌↔◌, MatchOption, Some, is_none};
+ghost use Rattle.std.specs.Prelude.{◌≡◌, ◌≤◌, ◌<◌, ◌+◌, ◌^◌, ◌&&◌, ℕ, true, false, option_map, length, is_none};
 ghost use Rattle.i3c_base.specs.declared.device.TheConstants.{REGISTERS as REGISTER_COUNT};
 ghost use Rattle.i3c_base.specs.declared.range.TheConstants.{SLOTS as SLOT_COUNT};
-ghost use Rattle.i3c_base.specs.declared.requests.Request.{Request as RequestValue};
 ghost use Rattle.i3c_base.specs.Cutting.{nobody};
+ghost use Rattle.i3c_base.specs.Frames.{unaddressed_device};
 ghost use Rattle.i3c_base.specs.Numbers.{same_identity};
-ghost use Rattle.i3c_base.specs.Places.{changed};
 ghost use Rattle.i3c_base.specs.Round.{hears, unhearing};
 ghost use Rattle.i3c_base.specs.Serve.{without_role};
 ghost use Rattle.i3c_base.specs.State.{in_slot};
-ghost use Rattle.i3c_header.specs.Keys.{IsLawful};
 ghost use Rattle.i3c_device.specs.Raising.{wishing_join, wishing_role};
 ghost use Rattle.i3c_device.specs.Reading.{IsDrivenFrom, IsRegisterFrom};
-ghost use Rattle.i3c_device.specs.Walks.{assigned_at, drives_at, heard_at, reaches_at, taken_from, willing_at, written_at};
-ghost use Rattle.i3c_device.specs.Wishing.{wishes};
+ghost use Rattle.i3c_device.specs.Walks.{assigned_at, reaches_at, taken_from, willing_at, written_at};
+ghost use Rattle.i3c_device.specs.Wishing.{WishesIn, wishes_interrupt, wishes_join, wishes_role};
 
 use crate::attached::Device;
 use i3c_base::{Addr7, Cuts, Identity, Request, Slot};
-use i3c_ccc::Code;
-use i3c_word::Word;
 
-/// The request that whatever stands in this slot drives. The active controller drives none.
-pub(crate) fn driven(place: &Option<Device>, index: usize, active: Slot) -> Option<Request>
-    ensures asked { MatchOption result ((q : RequestValue) → drives_at active index place.now q ≡ false) (λ r. drives_at active index place.now r ≡ true) }
-    ensures alone { IfSome result (λ r. (q : RequestValue) → drives_at active index place.now q ≡ true → q ≡ r) }
-    ensures lawful { IfSome result IsLawful }
+/// The request that whatever stands in this slot wishes to drive.
+pub(crate) fn wish(place: &Option<Device>) -> Option<Request>
+    ensures { WishesIn result place.now }
 {
     match place {
-        Some(device) => {
-            if index == active.index() {
-                None
-            } else {
-                device.wants()
-            }
-        }
+        Some(device) => device.wish(),
         None => None,
     }
 }
 
-/// Whether whatever stands in this slot wishes for something.
-pub(crate) fn is_wishing(place: &Option<Device>) -> bool
-    ensures { result ≡ in_slot wishes place.now }
+/// Whether whatever stands in this slot wishes to join, and has no address.
+pub(crate) fn wishes_join(place: &Option<Device>) -> bool
+    ensures { result ≡ in_slot wishes_join place.now }
 {
     match place {
-        Some(device) => device.wishes(),
+        Some(device) => device.wishes_join(),
+        None => false,
+    }
+}
+
+/// Whether whatever stands in this slot wishes for the role, and has an address.
+pub(crate) fn wishes_role(place: &Option<Device>) -> bool
+    ensures { result ≡ in_slot wishes_role place.now }
+{
+    match place {
+        Some(device) => device.wishes_role(),
+        None => false,
+    }
+}
+
+/// Whether whatever stands in this slot wishes to interrupt, and not for the role, and has an address.
+pub(crate) fn wishes_interrupt(place: &Option<Device>) -> bool
+    ensures { result ≡ in_slot wishes_interrupt place.now }
+{
+    match place {
+        Some(device) => device.wishes_interrupt(),
         None => false,
     }
 }
@@ -191,30 +199,21 @@ pub(crate) fn is_willing(place: &Option<Device>, index: usize, active: Slot, add
     }
 }
 
-/// Whatever stands in this slot hears a command and its words, if it reaches it.
-pub(crate) fn hear(
-    place: &mut Option<Device>,
-    index: usize,
-    active: Slot,
-    to: &Option<Addr7>,
-    code: Code,
-    words: &[Word],
-)
-    ensures { place.new ≡ heard_at active to.now code words.now index place.old }
-{
-    if reaches(place, index, active, to) {
-        if let Some(device) = place {
-            device.hear(code, words);
-        }
-    }
-}
-
 /// A session is opened: the device here hears it if it has no address.
 pub(crate) fn open(place: &mut Option<Device>)
     ensures { place.new ≡ option_map hears place.old }
 {
     if let Some(device) = place {
-        device.hear(Code::Entdaa, &[]);
+        device.hear_opening();
+    }
+}
+
+/// All addresses are reset: the device here has none any more.
+pub(crate) fn reset(place: &mut Option<Device>)
+    ensures { place.new ≡ option_map unaddressed_device place.old }
+{
+    if let Some(device) = place {
+        device.lose_address();
     }
 }
 

@@ -1,4 +1,4 @@
-ghost use Rattle.std.specs.Prelude.{◌≡◌, ◌<◌, ◌↔◌, ℕ, false, true, not, ◌&&◌, ◌==◌, nat_le, if◌then◌else◌, IsTrue, MatchOption};
+ghost use Rattle.std.specs.Prelude.{◌≡◌, ◌<◌, ◌↔◌, ℕ, false, true, not, ◌&&◌, ◌||◌, ◌==◌, nat_le, if◌then◌else◌, IsTrue, MatchOption};
 ghost use Rattle.i3c_base.specs.declared.range.TheConstants.{SLOTS as SLOT_COUNT};
 ghost use Rattle.i3c_base.specs.Cutting.{lost_by};
 ghost use Rattle.i3c_device.specs.Sets.{IsLowestOf, IsNone, SomeLeft, has};
@@ -80,6 +80,31 @@ impl SlotSet {
         SlotSet {
             bits: self.bits & !other.bits,
         }
+    }
+
+    /// The slots of both sets.
+    pub(crate) fn or(self, other: SlotSet) -> SlotSet
+        ensures { (s : ℕ) → s < SLOT_COUNT → has result s ≡ (has self s || has other s) }
+    {
+        SlotSet {
+            bits: self.bits | other.bits,
+        }
+    }
+
+    /// Those of its slots that are in another set too.
+    pub(crate) fn and(self, other: SlotSet) -> SlotSet
+        ensures { (s : ℕ) → s < SLOT_COUNT → has result s ≡ (has self s && has other s) }
+    {
+        SlotSet {
+            bits: self.bits & other.bits,
+        }
+    }
+
+    /// All of its slots, or none.
+    pub(crate) fn only_if(self, is_so: bool) -> SlotSet
+        ensures { (s : ℕ) → has result s ≡ (is_so && has self s) }
+    {
+        if is_so { self } else { SlotSet::none() }
     }
 
     /// Those of its slots that aren't below this one.

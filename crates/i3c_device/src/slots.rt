@@ -1,12 +1,14 @@
 use crate::attached::Device;
+use crate::enabled::Enabled;
 use crate::first::joined;
-use crate::marks::Marks;
-use crate::places::{driven, hear, lose_role_wish, reaches, register_from, wish_join, wish_role};
+use crate::kinds::named;
+use crate::occupants::Occupants;
 use crate::sets::{SlotSet, lost_slots};
 use crate::walks::{
-    Accepted, Ended, Happening, Lost, Opened, Reached, Sought, Willing, Won, Written,
+    Accepted, Ended, Happening, JoinWished, Lost, Opened, Reset, RoleLost, RoleWished, Willing,
+    Won, Written,
 };
-use i3c_base::{Addr7, Cuts, Identity, REGISTERS, RaiseRefusal, Request, SLOTS, Slot};
+use i3c_base::{Addr7, Cuts, Identity, REGISTERS, RaiseRefusal, Request, Slot};
 use i3c_ccc::Code;
 use i3c_word::Word;
 use std::marker::Model;
@@ -19,22 +21,19 @@ const WORD_BITS: u16 = 9;
 /// Clauses see a place for each slot. Which slot is the active controller's is told to the calls that depend on it.
 #[derive(Drop)]
 pub struct Devices {
-    places: [Option<Device>; SLOTS],
-    // so that no walk looks into a slot where there is nothing for it
-    marks: Marks,
+    occupants: Occupants,
+    // a word for each kind, so that a command to all changes three words
+    enabled: Enabled,
 }
 
 impl Model for Devices {
-    ghost use Rattle.std.specs.Prelude.{◌≡◌, length, List, Option};
-    ghost use Rattle.i3c_base.specs.declared.range.TheConstants.{SLOTS as SLOT_COUNT};
+    ghost use Rattle.std.specs.Prelude.{List, Option};
     ghost use Rattle.i3c_base.specs.State.{Device as DeviceState};
-    ghost use Rattle.i3c_device.specs.Marks.{AreMarks};
+    ghost use Rattle.i3c_device.specs.Enabling.{seen};
 
     ghost Value = { List (Option DeviceState) };
 
-    ghost view = { λ d. d.places };
-
-    ghost invariant = { λ d. (length d.places ≡ SLOT_COUNT) × AreMarks d.marks d.places };
+    ghost view = { λ d. seen d.enabled d.occupants };
 }
 
 impl Devices {
@@ -42,13 +41,15 @@ impl Devices {
     ghost use Rattle.i3c_base.specs.declared.range.TheConstants.{SLOTS as SLOT_COUNT};
     ghost use Rattle.i3c_base.specs.Cutting.{lost_by};
     ghost use Rattle.i3c_base.specs.Places.{changed};
-    ghost use Rattle.i3c_device.specs.Finding.{within, IsLowestFound, IsNowhere};
-    ghost use Rattle.i3c_device.specs.Walks.{accepted_at, assigned_at, heard_at, left_at, AreDrivers, AreWillingLost, IsFirstDriven, IsHearerFrom, IsLowestWilling, NobodyDrives, NobodyHearsFrom, SomeReached, written_at};
-    ghost use Rattle.i3c_device.specs.Reading.{AreAt, AreReadOf, IsRegisterOf};
-    ghost use Rattle.std.specs.Prelude.{◌≡◌, ◌≤◌, ◌<◌, ◌+◌, ◌^◌, ◌↔◌, ℕ, All, length, IsTrue, suc, Some, None, option_map, slice_index_or, slice_set, MatchOption, MatchResult, OnOk, OnErr};
+    ghost use Rattle.i3c_device.specs.Enabling.{bare};
+    ghost use Rattle.i3c_device.specs.Walks.{accepted_at, assigned_at, heard_at, left_at, AreDrivers, AreReached, AreWillingLost, IsFirstDriven, IsHearerFrom, IsLowestWilling, NobodyDrives, NobodyHearsFrom, SomeReached, written_at};
+    ghost use Rattle.i3c_device.specs.Reading.{AreReadOf, IsRegisterOf};
+    ghost use Rattle.i3c_device.specs.Sets.{has};
+    ghost use Rattle.i3c_device.specs.Wishing.{asks_some};
+    ghost use Rattle.std.specs.Prelude.{◌≡◌, ◌≤◌, ◌<◌, ◌+◌, ◌^◌, ◌↔◌, ◌&&◌, ◌==◌, ℕ, not, All, length, IsTrue, is_some, suc, Some, None, option_map, slice_index_or, slice_set, MatchOption, MatchResult, OnOk, OnErr};
     ghost use Rattle.i3c_base.specs.Round.{hears, unhearing};
     ghost use Rattle.i3c_base.specs.Serve.{without_role};
-    ghost use Rattle.i3c_base.specs.State.{Device as DeviceState, no_devices};
+    ghost use Rattle.i3c_base.specs.State.{Device as DeviceState, in_slot, no_devices};
     ghost use Rattle.i3c_device.specs.Raising.{next_fault, with_raise, wishing_join, wishing_role};
 
     /// Empty slots.
@@ -56,62 +57,81 @@ impl Devices {
         ensures { result ≡ no_devices }
     {
         Devices {
-            places: std::array::from_fn(|_| None),
-            marks: Marks::new(),
+            occupants: Occupants::new(),
+            enabled: Enabled::new(),
         }
     }
 
-    /// The device in a slot.
+    /// The device in a slot, but for which of its kinds are enabled.
     pub fn get(&self, slot: Slot) -> Option<&Device>
-        ensures device { option_map (λ d. d.now) result ≡ slice_index_or self.now slot None }
+        ensures device { option_map (λ d. bare d.now) result ≡ option_map bare (slice_index_or self.now slot None) }
         ensures slots { length self.now ≡ SLOT_COUNT }
     {
-        self.places[slot.index()].as_ref()
+        self.occupants.get(slot)
     }
 
-    /// A device enters a slot.
-    pub fn put(&mut self, slot: Slot, device: Device)
-        ensures { self.new ≡ slice_set self.old slot (Some device) }
+    /// Whether a slot holds a device.
+    pub fn holds(&self, slot: Slot) -> bool
+        ensures { result ≡ is_some (slice_index_or self.now slot None) }
     {
-        let index = slot.index();
-        self.places[index] = Some(device);
-        self.marks = self.marks.noted(index, &self.places[index]);
+        self.occupants.marks().present.has(slot.index())
+    }
+
+    /// Whether interrupts of the slot's device are enabled.
+    pub fn may_interrupt(&self, slot: Slot) -> bool
+        ensures { (d : DeviceState) → slice_index_or self.now slot None ≡ Some d → result ≡ d.kinds.interrupt }
+    {
+        self.enabled.interrupts.has(slot.index())
+    }
+
+    /// Whether joins of the slot's device are enabled.
+    pub fn may_join(&self, slot: Slot) -> bool
+        ensures { (d : DeviceState) → slice_index_or self.now slot None ≡ Some d → result ≡ d.kinds.join }
+    {
+        self.enabled.joins.has(slot.index())
+    }
+
+    /// Whether role requests of the slot's device are enabled.
+    pub fn may_ask_role(&self, slot: Slot) -> bool
+        ensures { (d : DeviceState) → slice_index_or self.now slot None ≡ Some d → result ≡ d.kinds.role }
+    {
+        self.enabled.roles.has(slot.index())
+    }
+
+    /// A device enters a slot. All kinds of its events are enabled.
+    pub fn put(&mut self, slot: Slot, device: Device)
+        ensures { self.new ≡ slice_set self.old slot (Some (bare device)) }
+    {
+        self.occupants.put(slot, Some(device));
+        self.enabled = self.enabled.renewed(slot.index());
     }
 
     /// A slot's device is gone.
     pub fn remove(&mut self, slot: Slot)
         ensures { self.new ≡ slice_set self.old slot None }
     {
-        let index = slot.index();
-        self.places[index] = None;
-        self.marks = self.marks.noted(index, &self.places[index]);
+        self.occupants.put(slot, None);
     }
 
     /// The slot's device, if there is one, wishes to join.
     pub fn wish_join(&mut self, slot: Slot)
         ensures { self.new ≡ slice_set self.old slot (option_map wishing_join (slice_index_or self.old slot None)) }
     {
-        let index = slot.index();
-        wish_join(&mut self.places[index]);
-        self.marks = self.marks.noted(index, &self.places[index]);
+        self.occupants.happen(slot, &JoinWished);
     }
 
     /// The slot's device, if there is one, wishes for the controller role.
     pub fn wish_role(&mut self, slot: Slot)
         ensures { self.new ≡ slice_set self.old slot (option_map wishing_role (slice_index_or self.old slot None)) }
     {
-        let index = slot.index();
-        wish_role(&mut self.places[index]);
-        self.marks = self.marks.noted(index, &self.places[index]);
+        self.occupants.happen(slot, &RoleWished);
     }
 
     /// The slot's device, if there is one, loses its wish for the role.
     pub fn lose_role_wish(&mut self, slot: Slot)
         ensures { self.new ≡ slice_set self.old slot (option_map without_role (slice_index_or self.old slot None)) }
     {
-        let index = slot.index();
-        lose_role_wish(&mut self.places[index]);
-        self.marks = self.marks.noted(index, &self.places[index]);
+        self.occupants.happen(slot, &RoleLost);
     }
 
     /// The slot's device raises the interrupt after this many of its slot, and answers its number. The first fault
@@ -122,13 +142,8 @@ impl Devices {
         ensures raised { OnOk result (self.new ≡ slice_set self.old slot (option_map (with_raise (suc raised) byte) (slice_index_or self.old slot None))) }
         ensures unchanged { OnErr result (self.new ≡ self.old) }
     {
-        let index = slot.index();
-        let Some(device) = &mut self.places[index] else {
-            unreachable!()
-        };
-        let outcome = device.raise(raised, byte);
-        self.marks = self.marks.noted(index, &self.places[index]);
-        outcome
+        let enabled = self.enabled.interrupts.has(slot.index());
+        self.occupants.raise(slot, raised, byte, enabled)
     }
 
     /// The first of the requests that the devices drive into one header, and the slots that drive it (I3C Basic 5.1.6.2).
@@ -138,28 +153,39 @@ impl Devices {
         ensures slots { length self.now ≡ SLOT_COUNT }
     {
         let mut first: Option<(Request, SlotSet)> = None;
-        let mut left = self.marks.wishing;
+        let mut left = self.driving(active);
         while let Some(index) = left.take_lowest() {
-            if let Some(request) = driven(&self.places[index], index, active) {
+            if let Some(request) = self.occupants.wish(index) {
                 first = Some(joined(first, request, index));
             }
         }
         first
     }
 
+    /// The slots whose device drives a request. The active controller drives none.
+    fn driving(&self, active: Slot) -> SlotSet
+        ensures asking { (s : ℕ) → s < SLOT_COUNT → has result s ≡ (not (s == active) && in_slot asks_some (slice_index_or self.now s None)) }
+        ensures slots { length self.now ≡ SLOT_COUNT }
+    {
+        let marks = self.occupants.marks();
+        let joins = marks.joining.and(self.enabled.joins);
+        let roles = marks.asking.and(self.enabled.roles);
+        let interrupts = marks.interrupting.and(self.enabled.interrupts);
+        joins.or(roles.or(interrupts)).but(active)
+    }
+
     /// The request was accepted: these slots, its drivers, lose the wish or the front of what waits.
     pub fn accept(&mut self, drivers: SlotSet, request: &Request)
         ensures { (active : ℕ) → AreDrivers active request.now self.old drivers → self.new ≡ changed (accepted_at active request.now) self.old }
     {
-        self.each(drivers, &Accepted { request });
+        self.occupants.each(drivers, &Accepted { request });
     }
 
     /// Whether a command, to all or to one address, reaches a device that isn't lost by this bit: it acknowledges.
     pub fn is_heard(&self, active: Slot, to: &Option<Addr7>, cuts: &Cuts, last: u16) -> bool
         ensures { IsTrue result ↔ SomeReached active to.now (lost_by cuts.now last) self.now }
     {
-        let left = self.marks.present.without(lost_slots(cuts, last));
-        self.lowest(left, &Reached { active, to }).is_some()
+        self.reached(active, to).outlasts(cuts, last)
     }
 
     /// The lowest slot with a device that would take the role that is offered to this address, of those that aren't lost
@@ -173,8 +199,9 @@ impl Devices {
     ) -> Option<Slot>
         ensures { MatchOption result (AreWillingLost active address (lost_by cuts.now last) self.now) (IsLowestWilling active address (lost_by cuts.now last) self.now) }
     {
-        let left = self.marks.present.without(lost_slots(cuts, last));
-        self.lowest(left, &Willing { active, address })
+        let present = self.occupants.marks().present;
+        let left = present.without(lost_slots(cuts, last));
+        self.occupants.lowest(left, &Willing { active, address })
     }
 
     /// A private write to an address: these bytes go into the first registers of each device there but the active
@@ -183,8 +210,8 @@ impl Devices {
         requires { length bytes.now ≤ REGISTER_COUNT }
         ensures { self.new ≡ changed (written_at active address bytes.now) self.old }
     {
-        let present = self.marks.present;
-        self.each(
+        let present = self.occupants.marks().present;
+        self.occupants.each(
             present,
             &Written {
                 active,
@@ -203,67 +230,60 @@ impl Devices {
         ensures long { length result ≡ REGISTER_COUNT }
         ensures bytes { All (λ byte. byte < 256) result }
     {
-        let targets = self.targets(active, address);
+        let targets = self.occupants.targets(active, address);
         let mut bytes = [0; REGISTERS];
         for (index, byte) in bytes.iter_mut().enumerate() {
-            *byte = self.register_of(targets, index, cuts, first + WORD_BITS * index as u16);
+            *byte = self
+                .occupants
+                .register_of(targets, index, cuts, first + WORD_BITS * index as u16);
         }
         bytes
     }
 
-    /// The slots of the devices at an address, but the active controller's.
-    fn targets(&self, active: Slot, address: Addr7) -> SlotSet
-        ensures there { AreAt active address result self.now }
+    /// The slots of the devices that a command reaches, all but the active controller or those of them at one address.
+    fn reached(&self, active: Slot, to: &Option<Addr7>) -> SlotSet
+        ensures reached { AreReached active to.now result self.now }
         ensures slots { length self.now ≡ SLOT_COUNT }
     {
-        let mut targets = SlotSet::none();
-        let mut left = self.marks.present;
-        while let Some(index) = left.take_lowest() {
-            let is_there = reaches(&self.places[index], index, active, &Some(address));
-            targets = targets.with(index, is_there);
+        match to {
+            None => self.occupants.marks().present.but(active),
+            Some(address) => self.occupants.targets(active, *address),
         }
-        targets
-    }
-
-    /// A register of these slots' devices, as the lines give it from this bit of a frame on.
-    fn register_of(&self, among: SlotSet, register: usize, cuts: &Cuts, at: u16) -> u8
-        requires { register < REGISTER_COUNT }
-        ensures { IsRegisterOf among register cuts.now at self.now result }
-    {
-        let mut byte = u8::MAX;
-        let mut left = among;
-        while let Some(index) = left.take_lowest() {
-            let cut = cuts.at(Slot::from_index(index));
-            byte &= register_from(&self.places[index], register, cut, at);
-        }
-        byte
     }
 
     /// The devices that a command reaches, all but the active controller or those of them at one address, hear it and
-    /// its words.
+    /// its words (I3C Basic 5.1.9.3). What they keep of a list (DEFTGTS) isn't part of it: the bus has that.
     pub fn hear(&mut self, active: Slot, to: &Option<Addr7>, code: Code, words: &[Word])
         ensures { self.new ≡ changed (heard_at active to.now code words.now) self.old }
     {
-        for (index, place) in self.places.iter_mut().enumerate() {
-            hear(place, index, active, to, code, words);
+        let reached = self.reached(active, to);
+        match code {
+            Code::Enec | Code::EnecDirect => {
+                self.enabled = self.enabled.with(named(words), reached);
+            }
+            Code::Disec | Code::DisecDirect => {
+                self.enabled = self.enabled.without(named(words), reached);
+            }
+            Code::Entdaa => self.occupants.each(reached, &Opened),
+            Code::Rstdaa => self.occupants.each(reached, &Reset),
+            Code::Deftgts | Code::Getacccr | Code::Other(_) => {}
         }
-        self.marks = self.marks.commanded(code, &self.places);
     }
 
     /// A session is opened: each device without an address hears it.
     pub fn open(&mut self)
         ensures { self.new ≡ changed (λ s place. option_map hears place) self.old }
     {
-        let unaddressed = self.marks.unaddressed;
-        self.each(unaddressed, &Opened);
+        let unaddressed = self.occupants.marks().unaddressed;
+        self.occupants.each(unaddressed, &Opened);
     }
 
     /// The session ends: nobody hears any more.
     pub fn silence(&mut self)
         ensures { self.new ≡ changed (λ s place. option_map unhearing place) self.old }
     {
-        let hearing = self.marks.hearing;
-        self.each(hearing, &Ended);
+        let hearing = self.occupants.marks().hearing;
+        self.occupants.each(hearing, &Ended);
     }
 
     /// The lowest slot that isn't below this one and whose device hears the open session.
@@ -271,7 +291,7 @@ impl Devices {
         ensures hearer { MatchOption result (NobodyHearsFrom first self.now) (IsHearerFrom first self.now) }
         ensures slots { length self.now ≡ SLOT_COUNT }
     {
-        let mut left = self.marks.hearing.from(first);
+        let mut left = self.occupants.marks().hearing.from(first);
         let index = left.take_lowest()?;
         Some(Slot::from_index(index))
     }
@@ -281,41 +301,15 @@ impl Devices {
         requires { 8 ≤ address }
         ensures { self.new ≡ changed (assigned_at (lost_by cuts.now last) identity.now address) self.old }
     {
-        let left = self.marks.hearing.without(lost_slots(cuts, last));
-        self.each(left, &Won { identity, address });
+        let hearing = self.occupants.marks().hearing;
+        let left = hearing.without(lost_slots(cuts, last));
+        self.occupants.each(left, &Won { identity, address });
     }
 
     /// A frame ends: the devices lost by this bit are gone.
     pub fn drop_lost(&mut self, cuts: &Cuts, last: u16)
         ensures { self.new ≡ changed (left_at (lost_by cuts.now last)) self.old }
     {
-        self.each(lost_slots(cuts, last), &Lost);
-    }
-
-    /// The lowest of these slots in which what is sought is found.
-    fn lowest<S: Sought>(&self, among: SlotSet, sought: &S) -> Option<Slot>
-        ensures { MatchOption result (IsNowhere (S.finds sought.now) among self.now) (IsLowestFound (S.finds sought.now) among self.now) }
-    {
-        let mut left = among;
-        while let Some(index) = left.take_lowest() {
-            if sought.is_found(&self.places[index], index) {
-                return Some(Slot::from_index(index));
-            }
-        }
-        None
-    }
-
-    /// This happens in each of these slots.
-    fn each<H: Happening>(&mut self, among: SlotSet, happening: &H)
-        ensures changed { self.new ≡ changed (within among (H.after happening.now)) self.old }
-        ensures slots { length self.old ≡ SLOT_COUNT }
-    {
-        let mut left = among;
-        while let Some(index) = left.take_lowest() {
-            if happening.concerns(&self.places[index], index) {
-                happening.happen(&mut self.places[index], index);
-                self.marks = self.marks.noted(index, &self.places[index]);
-            }
-        }
+        self.occupants.each(lost_slots(cuts, last), &Lost);
     }
 }

@@ -1,12 +1,18 @@
 ghost use Rattle.std.specs.Prelude.{◌≡◌, ◌≤◌, ℕ, Bool, Option, None, false, length, option_map};
 ghost use Rattle.i3c_base.specs.declared.device.TheConstants.{REGISTERS as REGISTER_COUNT};
 ghost use Rattle.i3c_base.specs.Cutting.{nobody};
+ghost use Rattle.i3c_base.specs.Frames.{unaddressed_device};
 ghost use Rattle.i3c_base.specs.Round.{hears, unhearing};
-ghost use Rattle.i3c_base.specs.State.{Device as DeviceState, in_slot};
-ghost use Rattle.i3c_device.specs.Walks.{assigned_at, reaches_at, taken_from, willing_at, written_at};
+ghost use Rattle.i3c_base.specs.Serve.{without_role};
+ghost use Rattle.i3c_base.specs.State.{Device as DeviceState};
+ghost use Rattle.i3c_device.specs.Raising.{wishing_join, wishing_role};
+ghost use Rattle.i3c_device.specs.Walks.{assigned_at, taken_from, willing_at, written_at};
 
 use crate::attached::Device;
-use crate::places::{accept, assign, is_willing, is_winner, open, reaches, silence, write};
+use crate::places::{
+    accept, assign, is_willing, is_winner, lose_role_wish, open, reaches, reset, silence,
+    wish_join, wish_role, write,
+};
 use i3c_base::{Addr7, Identity, Request, Slot};
 
 /// What happens to whatever stands in some slots.
@@ -38,6 +44,70 @@ impl Happening for Accepted<'_> {
 
     fn happen(&self, place: &mut Option<Device>, _index: usize) {
         accept(place, self.request);
+    }
+}
+
+/// The device wishes to join.
+#[derive(Drop)]
+pub(crate) struct JoinWished;
+
+impl Happening for JoinWished {
+    ghost after = { λ h s place. option_map wishing_join place };
+
+    fn concerns(&self, _place: &Option<Device>, _index: usize) -> bool {
+        true
+    }
+
+    fn happen(&self, place: &mut Option<Device>, _index: usize) {
+        wish_join(place);
+    }
+}
+
+/// The device wishes for the controller role.
+#[derive(Drop)]
+pub(crate) struct RoleWished;
+
+impl Happening for RoleWished {
+    ghost after = { λ h s place. option_map wishing_role place };
+
+    fn concerns(&self, _place: &Option<Device>, _index: usize) -> bool {
+        true
+    }
+
+    fn happen(&self, place: &mut Option<Device>, _index: usize) {
+        wish_role(place);
+    }
+}
+
+/// The device loses its wish for the role.
+#[derive(Drop)]
+pub(crate) struct RoleLost;
+
+impl Happening for RoleLost {
+    ghost after = { λ h s place. option_map without_role place };
+
+    fn concerns(&self, _place: &Option<Device>, _index: usize) -> bool {
+        true
+    }
+
+    fn happen(&self, place: &mut Option<Device>, _index: usize) {
+        lose_role_wish(place);
+    }
+}
+
+/// All addresses are reset.
+#[derive(Drop)]
+pub(crate) struct Reset;
+
+impl Happening for Reset {
+    ghost after = { λ h s place. option_map unaddressed_device place };
+
+    fn concerns(&self, _place: &Option<Device>, _index: usize) -> bool {
+        true
+    }
+
+    fn happen(&self, place: &mut Option<Device>, _index: usize) {
+        reset(place);
     }
 }
 
@@ -138,21 +208,6 @@ pub(crate) trait Sought {
     /// Whether it stands in this slot.
     fn is_found(&self, place: &Option<Device>, index: usize) -> bool
         ensures { result ≡ finds self.now index place.now };
-}
-
-/// A device that a command reaches, to all or to one address.
-#[derive(Drop)]
-pub(crate) struct Reached<'a> {
-    pub active: Slot,
-    pub to: &'a Option<Addr7>,
-}
-
-impl Sought for Reached<'_> {
-    ghost finds = { λ d s place. in_slot (reaches_at d.active d.to.now s) place };
-
-    fn is_found(&self, place: &Option<Device>, index: usize) -> bool {
-        reaches(place, index, self.active, self.to)
-    }
 }
 
 /// A device that would take the role at this address.

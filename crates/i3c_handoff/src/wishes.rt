@@ -24,7 +24,7 @@ pub fn ask(devices: &mut Devices, active: Slot, slot: Slot) -> Result<(), RoleRe
     if !device.identity().bcr.capable() {
         return Err(RoleRefusal::NotCapable);
     }
-    if !device.may_ask_role() {
+    if !devices.may_ask_role(slot) {
         return Err(RoleRefusal::Masked);
     }
     devices.wish_role(slot);

@@ -18,7 +18,7 @@ pub fn ask(devices: &mut Devices, slot: Slot) -> Result<(), JoinRefusal>
     if device.address().is_some() {
         return Err(JoinRefusal::HasAddress);
     }
-    if !device.may_join() {
+    if !devices.may_join(slot) {
         return Err(JoinRefusal::Masked);
     }
     devices.wish_join(slot);

@@ -62,7 +62,7 @@ pub(crate) fn change(
         "fall-silent" => device.fall_silent(),
         "lose-front" => device.lose_front(),
         "lose-join-wish" => device.lose_join_wish(),
-        "hear" => hear(alloc, device, words)?,
+        "hear" => hear(device, words)?,
         "fill" => fill(alloc, device, words)?,
         _ => return Ok(false),
     }
@@ -79,10 +79,13 @@ fn take_address(device: &mut Device, words: &mut Words) -> Result<(), Fault> {
     Ok(())
 }
 
-/// A device hears a command.
-fn hear(alloc: Global, device: &mut Device, words: &mut Words) -> Result<(), Fault> {
-    let code = code_of(words)?;
-    device.hear(code, &words_of(alloc, &words.bytes(alloc)?)?);
+/// A device by itself hears a session's opening, or a reset.
+fn hear(device: &mut Device, words: &mut Words) -> Result<(), Fault> {
+    match code_of(words)? {
+        Code::Entdaa => device.hear_opening(),
+        Code::Rstdaa => device.lose_address(),
+        _ => return Err(Fault::Unknown),
+    }
     Ok(())
 }
 
@@ -112,13 +115,11 @@ enum Question {
     IsHearing,
     IsWilling,
     Registers,
-    Wants,
     Waiting,
     Front,
     AnswerByte,
     MayRaise,
-    MayJoin,
-    MayAskRole,
+    MayRaiseMasked,
 }
 
 /// The question that a call is, if it is one.
@@ -129,13 +130,11 @@ fn question_of(call: &str) -> Option<Question> {
         "is-hearing" => Question::IsHearing,
         "is-willing" => Question::IsWilling,
         "registers" => Question::Registers,
-        "wants" => Question::Wants,
         "waiting" => Question::Waiting,
         "front" => Question::Front,
         "answer-byte" => Question::AnswerByte,
         "may-raise" => Question::MayRaise,
-        "may-join" => Question::MayJoin,
-        "may-ask-role" => Question::MayAskRole,
+        "may-raise-masked" => Question::MayRaiseMasked,
         _ => return None,
     })
 }
@@ -172,12 +171,10 @@ fn answer(
         Question::IsHearing => told(alloc, &device.is_hearing()),
         Question::IsWilling => told(alloc, &device.is_willing()),
         Question::Registers => told_hex(alloc, device.registers()),
-        Question::Wants => told_hex(alloc, &device.wants()),
         Question::Waiting => told(alloc, &device.waiting()),
         Question::Front => told_hex(alloc, &device.front()),
         Question::AnswerByte => told_hex(alloc, &device.answer_byte()),
-        Question::MayRaise => told(alloc, &device.may_raise(byte)),
-        Question::MayJoin => told(alloc, &device.may_join()),
-        Question::MayAskRole => told(alloc, &device.may_ask_role()),
+        Question::MayRaise => told(alloc, &device.may_raise(byte, true)),
+        Question::MayRaiseMasked => told(alloc, &device.may_raise(byte, false)),
     }
 }

@@ -3,8 +3,8 @@ use crate::hand::{code_of, device_of, words_of};
 use crate::setting::Setting;
 use crate::told::{told, told_hex};
 use crate::words::{Place, Words};
-use i3c_base::{REGISTERS, SLOTS, Slot};
-use i3c_device::{Device, SlotSet};
+use i3c_base::{REGISTERS, Request, SLOTS, Slot};
+use i3c_device::{Device, Devices, SlotSet};
 use std::alloc::Global;
 
 /// Changes the devices, and says whether the call is one that does.
@@ -167,6 +167,10 @@ pub(crate) fn ask(
 ) -> Result<Option<String>, Fault> {
     Ok(Some(match call {
         "raise" => raise(alloc, setting, words)?,
+        "wants" => wants(alloc, setting, words.place()?)?,
+        "may-interrupt" => told(alloc, &setting.devices.may_interrupt(words.slot()?))?,
+        "may-join" => told(alloc, &setting.devices.may_join(words.slot()?))?,
+        "may-ask-role" => told(alloc, &setting.devices.may_ask_role(words.slot()?))?,
         "first" => first(alloc, setting)?,
         "drivers" => drivers(alloc, setting)?,
         "outlasts" => outlasts(alloc, setting, words.bit()?)?,
@@ -189,7 +193,7 @@ fn raise(alloc: Global, setting: &mut Setting, words: &mut Words) -> Result<Stri
     let raised = words.count()?;
     let byte = words.maybe_byte()?;
     let number = match place {
-        Place::Hand => in_hand(setting)?.raise(raised, byte),
+        Place::Hand => in_hand(setting)?.raise(raised, byte, true),
         Place::Slot(slot) => {
             if setting.devices.get(slot).is_none() {
                 return Err(Fault::Unknown);
@@ -198,6 +202,28 @@ fn raise(alloc: Global, setting: &mut Setting, words: &mut Words) -> Result<Stri
         }
     };
     told(alloc, &number)
+}
+
+/// The request that a device drives: its wish, if that kind is enabled.
+fn wants(alloc: Global, setting: &mut Setting, place: Place) -> Result<String, Fault> {
+    match place {
+        Place::Hand => told_hex(alloc, &in_hand(setting)?.wish()),
+        Place::Slot(slot) => match setting.devices.get(slot) {
+            Some(device) => told_hex(alloc, &enabled(&setting.devices, slot, device.wish())),
+            None => Ok(format!(in alloc; "nobody")?),
+        },
+    }
+}
+
+/// The request of a slot's device, if its kind is enabled.
+fn enabled(devices: &Devices, slot: Slot, wish: Option<Request>) -> Option<Request> {
+    let request = wish?;
+    let is_enabled = match &request {
+        Request::Join => devices.may_join(slot),
+        Request::Role(_) => devices.may_ask_role(slot),
+        Request::Interrupt(_) => devices.may_interrupt(slot),
+    };
+    if is_enabled { Some(request) } else { None }
 }
 
 /// The first request.

@@ -1,5 +1,5 @@
 -- Whom the command reaches hears it, and who is cut by then is gone.
-use Rattle.std.proofs.Common.{◌∙◌, ◌+◌, ℕ, ap, refl, subst, sym}
+use Rattle.std.proofs.Common.{◌∙◌, ◌+◌, ℕ, ap, subst, sym}
 use Rattle.i3c_base.specs.declared.answers.Answer.{Answer}
 use Rattle.i3c_base.specs.Cutting.{lost_by}
 use Rattle.i3c_base.specs.Frames.{Rekinds, changed_kinds, kinds_bits}

@@ -1,5 +1,5 @@
 -- A device that drops off leaves a sound bus.
-use Rattle.std.proofs.Common.{ℕ, ◌==◌, ◌∙◌, not, List, Option, ap, subst, sym}
+use Rattle.std.proofs.Common.{ℕ, ◌==◌, ◌∙◌, List, Option, ap, subst, sym}
 use Rattle.i3c_base.specs.State.{Device, Held}
 use Rattle.i3c_bus.specs.Parts.{state_of}
 use Rattle.i3c_step.specs.Sound.{IsSound}
@@ -10,7 +10,7 @@ pub invariant_of-self : goal.invariant_of-self
 invariant_of-self c = record {
   sound = subst (λ (devices : List (Option Device)). IsSound (state_of devices c.self.inside.raised c.self.inside.active c.self.inside.table c.self.inside.legacy c.self.inside.in_session c.self.inside.records.items)) (sym c.remove.ensures)
       (sound_dropped c.args.slot (state_of c.self.inside.devices c.self.inside.raised c.self.inside.active c.self.inside.table c.self.inside.legacy c.self.inside.in_session c.self.inside.records.items)
-      (some_there _ c.get.result _ c.get.ensures.device (ap not c.is_none.ensures ∙ ap (λ b. not (not b)) c.if-is_none.false)) (ap (λ (k : ℕ). c.args.slot == k) (ap (λ (h : Held). h.state.active) c.self.view_is ∙ sym c.active.ensures) ∙ (sym c.eq.ensures ∙ c.if-eq.false)) c.self.invariant.sound);
+      (some_there _ (sym c.holds.ensures ∙ c.if-not-holds.false)) (ap (λ (k : ℕ). c.args.slot == k) (ap (λ (h : Held). h.state.active) c.self.view_is ∙ sym c.active.ensures) ∙ (sym c.eq.ensures ∙ c.if-eq.false)) c.self.invariant.sound);
   covered = c.self.invariant.covered;
   copied = c.self.invariant.copied;
 }

@@ -4,7 +4,7 @@ use Rattle.i3c_base.specs.declared.answers.Answer.{Answer}
 use Rattle.i3c_base.specs.declared.requests.Served.{Served}
 use Rattle.i3c_base.specs.Cutting.{lost_by}
 use Rattle.i3c_base.specs.Serve.{emptied}
-use Rattle.i3c_base.specs.State.{HasDevices, Held, State}
+use Rattle.i3c_base.specs.State.{HasDevices, State}
 use Rattle.i3c_frame.specs.Taps.{Tells}
 use Rattle.i3c_handoff.specs.declared.outcome.Offer.TheVariants.{Taken}
 use Rattle.i3c_handoff.specs.Offers.{IsOffered, offer_bits}

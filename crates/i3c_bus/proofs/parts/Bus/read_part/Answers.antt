@@ -1,5 +1,5 @@
 -- What was read is told.
-use Rattle.std.proofs.Common.{◌≡◌, ◌∙◌, ap, sym}
+use Rattle.std.proofs.Common.{◌≡◌, ap, sym}
 use Rattle.i3c_base.specs.State.{HasDevices, Held}
 use Rattle.i3c_bus.proofs.Seen.{has_devices}
 use Rattle.i3c_bus.proofs.parts.Bus.read_part.Goals as goal

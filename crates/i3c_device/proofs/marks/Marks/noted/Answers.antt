@@ -1,6 +1,6 @@
 -- Each set, of the places with the one anew.
 use Rattle.std.proofs.Common.{◌∙◌, ◌<◌, true, length, arith, is_none}
-use Rattle.i3c_device.specs.Wishing.{wishes}
+use Rattle.i3c_device.specs.Wishing.{wishes_interrupt, wishes_join, wishes_role}
 use Rattle.i3c_device.proofs.MarkLaws.{present_is, set_of_put}
 use Rattle.i3c_device.proofs.marks.Marks.noted.Goals as goal
 
@@ -11,7 +11,9 @@ returns c places long are =
     let place = c.args.place.now in
     record {
       present = set_of_put (λ d. true) set.present c.with.result places c.args.index place c.is_some.result low are.present (c.is_some.ensures ∙ present_is place) c.with.ensures;
-      wishing = set_of_put wishes set.wishing c.with-2.result places c.args.index place c.is_wishing.result low are.wishing c.is_wishing.ensures c.with-2.ensures;
-      hearing = set_of_put (λ d. d.hearing) set.hearing c.with-3.result places c.args.index place c.is_hearing.result low are.hearing c.is_hearing.ensures c.with-3.ensures;
-      unaddressed = set_of_put (λ d. is_none d.address) set.unaddressed c.with-4.result places c.args.index place c.is_unaddressed.result low are.unaddressed c.is_unaddressed.ensures c.with-4.ensures;
+      joining = set_of_put wishes_join set.joining c.with-2.result places c.args.index place c.wishes_join.result low are.joining c.wishes_join.ensures c.with-2.ensures;
+      asking = set_of_put wishes_role set.asking c.with-3.result places c.args.index place c.wishes_role.result low are.asking c.wishes_role.ensures c.with-3.ensures;
+      interrupting = set_of_put wishes_interrupt set.interrupting c.with-4.result places c.args.index place c.wishes_interrupt.result low are.interrupting c.wishes_interrupt.ensures c.with-4.ensures;
+      hearing = set_of_put (λ d. d.hearing) set.hearing c.with-5.result places c.args.index place c.is_hearing.result low are.hearing c.is_hearing.ensures c.with-5.ensures;
+      unaddressed = set_of_put (λ d. is_none d.address) set.unaddressed c.with-6.result places c.args.index place c.is_unaddressed.result low are.unaddressed c.is_unaddressed.ensures c.with-6.ensures;
     }

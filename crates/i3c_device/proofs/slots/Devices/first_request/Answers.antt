@@ -1,18 +1,24 @@
--- One slot more.
-use Rattle.std.proofs.Common.{◌≡◌, true, arith, get_or, None, subst}
-use Rattle.std.proofs.lemmas.List.{get_or_default}
-use Rattle.i3c_base.specs.declared.requests.Request.{Request}
-use Rattle.i3c_device.specs.Walks.{drives_at}
-use Rattle.i3c_device.proofs.FirstLaws.{leads_joined}
+-- One slot more, until none is left.
+use Rattle.i3c_device.proofs.FirstLaws.{leads_all}
+use Rattle.i3c_device.proofs.SeenWalks.{asking_more, asking_none, asking_skip}
 use Rattle.i3c_device.proofs.slots.Devices.first_request.Goals as goal
 
-pub loop-index-preserved-in-Some-driven : goal.loop-index-preserved-in-Some-driven
-loop-index-preserved-in-Some-driven c =
-    let taken = c.in-Some.ensures.taken in
-    let seen : get_or c.self.inside.places c.in-Some.index c.index-self-index.result ≡ get_or c.self.inside.places c.in-Some.index None =
-    get_or_default c.self.inside.places c.in-Some.index c.index-self-index.result None (omega (arith, c.self.invariant.0, taken.0)) in
-    leads_joined c.args.active c.loop-index.left c.take_lowest.new.self c.self.inside.places c.loop-index.first c.in-Some-driven.request c.in-Some.index c.joined.result c.loop-index.invariant
-    taken.0 taken.1 taken.3
-    (subst (λ o. drives_at c.args.active c.in-Some.index o c.in-Some-driven.request ≡ true) seen c.in-Some-driven.ensures.asked)
-    (subst (λ o. (q : Request) → drives_at c.args.active c.in-Some.index o q ≡ true → q ≡ c.in-Some-driven.request) seen c.in-Some-driven.ensures.alone)
-    c.in-Some-driven.ensures.lawful c.joined.ensures
+pub loop-index-init : goal.loop-index-init
+loop-index-init c = asking_none c.args.active c.driving-left.result c.args.self.now c.driving-left.ensures.asking
+
+pub loop-index-preserved-in-Some-wish : goal.loop-index-preserved-in-Some-wish
+loop-index-preserved-in-Some-wish c =
+    asking_more c.self.inside.enabled c.self.inside.occupants c.args.self.now c.args.active c.in-Some.index c.loop-index.left c.take_lowest.new.self c.loop-index.first c.in-Some-wish.request c.joined.result c.self.view_is
+    c.loop-index.invariant c.in-Some.ensures.taken.0 c.in-Some.ensures.taken.1 c.in-Some.ensures.taken.3 c.in-Some-wish.ensures.wish c.joined.ensures
+
+pub loop-index-preserved : goal.loop-index-preserved
+loop-index-preserved c =
+    asking_skip c.self.inside.enabled c.self.inside.occupants c.args.self.now c.args.active c.in-Some.index c.loop-index.left c.take_lowest.new.self c.loop-index.first c.self.view_is c.loop-index.invariant
+    c.in-Some.ensures.taken.0 c.in-Some.ensures.taken.1 c.in-Some.ensures.taken.3 c.in_default-wish.ensures.wish
+
+pub returns-clause-first : goal.returns-clause-first
+returns-clause-first c =
+    leads_all c.args.active c.loop-index.left c.args.self.now c.loop-index.first c.driving-left.ensures.slots c.loop-index.invariant.leads c.in_default.ensures.taken
+
+pub returns-clause-slots : goal.returns-clause-slots
+returns-clause-slots c = c.driving-left.ensures.slots

@@ -3,4 +3,4 @@ use Rattle.i3c_device.proofs.slots.Devices.read.Given as goal
 
 -- the registers so far are read
 abbrev pub invariant-loop-index : goal.invariant-loop-index
-invariant-loop-index l = ReadSoFar l.targets l.cuts l.first l.self l.index l.byte-items
+invariant-loop-index l = ReadSoFar l.targets l.cuts l.first l.self-inside.occupants l.index l.byte-items

@@ -1,0 +1,140 @@
+-- Devices as they are seen with their kinds: what leaves the kinds as they are is seen as it happens.
+use Rattle.std.proofs.Common.{◌≡◌, ℕ, zero, suc, ◌+◌, ◌<◌, Bool, true, false, ◌==◌, if◌then◌else◌, List, [], ◌∷◌, length, get_or, set, Option, Some, None, option_map, inl, inr, refl, sym, ap, subst, ◌∙◌, arith, length-set, zero-add}
+use Rattle.std.proofs.lemmas.Bool.{cases_eq, cond-true, cond-false, eq-eqb, ne_eqb}
+use Rattle.std.proofs.lemmas.List.{ext_get_or, get_or-set_other, get_or-set_same}
+use Rattle.std.proofs.lemmas.Option.{none-some, same_Some}
+use Rattle.i3c_base.specs.declared.range.TheConstants.{SLOTS}
+use Rattle.i3c_base.specs.Numbers.{KindSet}
+use Rattle.i3c_base.specs.Places.{changed, changed_from}
+use Rattle.i3c_base.specs.State.{Device, all_kinds, in_slot, no_devices}
+use Rattle.i3c_base.proofs.Lookups.{changed_at, length-changed, no_devices_at}
+use Rattle.i3c_device.specs.declared.enabled.Enabled.{Enabled}
+use Rattle.i3c_device.specs.declared.sets.SlotSet.{SlotSet}
+use Rattle.i3c_device.specs.Enabling.{bare, kinds_in, seen, seen_in, under}
+use Rattle.i3c_device.specs.Finding.{within}
+use Rattle.i3c_device.specs.Marks.{IsSetOf}
+use Rattle.i3c_device.specs.Sets.{has}
+use Rattle.i3c_device.proofs.EachLaws.{all_changed, changed_in, narrowed, spared}
+
+-- what is seen in a slot
+pub seen_at : (e : Enabled) (xs : List (Option Device)) (s : ℕ) → get_or (seen e xs) s None ≡ seen_in e s (get_or xs s None)
+seen_at e xs s = changed_at (seen_in e) xs s None refl
+
+pub length_seen : (e : Enabled) (xs : List (Option Device)) → length (seen e xs) ≡ length xs
+length_seen e xs = length-changed (seen_in e) xs
+
+-- a device that is seen has the kinds of its slot
+pub kinds_seen : (e : Enabled) (xs : List (Option Device)) (s : ℕ) (d : Device) → get_or (seen e xs) s None ≡ Some d → d.kinds ≡ kinds_in e s
+kinds_seen e xs s d h = go (get_or xs s None) (sym (seen_at e xs s) ∙ h)
+  where
+    go : (o : Option Device) → seen_in e s o ≡ Some d → d.kinds ≡ kinds_in e s
+    go None n = absurd (none-some d n)
+    go (Some x) n = sym (ap (λ y. y.kinds) (same_Some (under (kinds_in e s) x) d n))
+
+-- but for the kinds it is as it is
+pub bare_seen : (e : Enabled) (s : ℕ) (o : Option Device) → option_map bare (seen_in e s o) ≡ option_map bare o
+bare_seen e s None = refl
+bare_seen e s (Some d) = refl
+
+pub bare_there : (o : Option Device) (d : Device) → Some (bare d) ≡ option_map bare o → (x : Device) × (o ≡ Some x) × (bare d ≡ bare x)
+bare_there None d h = absurd (none-some (bare d) (sym h))
+bare_there (Some x) d h = (x, refl, same_Some (bare d) (bare x) h)
+
+-- each slot changed, and perhaps its kinds
+pub seen_turned : (e more : Enabled) (f : ℕ → Option Device → Option Device) (xs ys : List (Option Device)) → length xs ≡ SLOTS → length ys ≡ SLOTS
+    → ((s : ℕ) → s < SLOTS → seen_in more s (get_or ys s None) ≡ f s (seen_in e s (get_or xs s None))) → seen more ys ≡ changed f (seen e xs)
+seen_turned e more f xs ys long same each =
+    all_changed f (seen e xs) (seen more ys) (length_seen more ys ∙ (same ∙ sym (length_seen e xs ∙ long)))
+    (λ k l. seen_at more ys k ∙ (each k (omega (arith, l, length_seen e xs, long)) ∙ ap (f k) (sym (seen_at e xs k))))
+
+-- a change that neither reads the kinds nor changes them
+abbrev pub IsBlind : (ℕ → Option Device → Option Device) → Type 0
+IsBlind f = (kinds : KindSet) (s : ℕ) (o : Option Device) → option_map (under kinds) (f s o) ≡ f s (option_map (under kinds) o)
+
+pub seen_within : (e : Enabled) (among : SlotSet) (f : ℕ → Option Device → Option Device) (xs ys : List (Option Device)) → IsBlind f → length xs ≡ SLOTS → ys ≡ changed (within among f) xs → seen e ys ≡ changed (within among f) (seen e xs)
+seen_within e among f xs ys blind long is =
+    seen_turned e e (within among f) xs ys long (ap length is ∙ (length-changed (within among f) xs ∙ long))
+    (λ s l. ap (seen_in e s) (ap (λ zs. get_or zs s None) is ∙ in_slot_s s l) ∙ go (has among s) s (get_or xs s None))
+  where
+    in_slot_s : (s : ℕ) → s < SLOTS → get_or (changed (within among f) xs) s None ≡ within among f s (get_or xs s None)
+    in_slot_s s l = changed_in (within among f) xs s (omega (arith, l, long))
+
+    go : (b : Bool) (s : ℕ) (o : Option Device) → seen_in e s (if b then f s o else o) ≡ (if b then f s (seen_in e s o) else seen_in e s o)
+    go true s o = blind (kinds_in e s) s o
+    go false s o = refl
+
+-- one slot changed, and not its kinds
+changed_from_set : (f : ℕ → Option Device → Option Device) (n : ℕ) (xs : List (Option Device)) (i : ℕ) (place : Option Device) → changed_from n f (set xs i place) ≡ set (changed_from n f xs) i (f (i + n) place)
+changed_from_set f n [] i place = refl
+changed_from_set f n (x ∷ xs) zero place = λ t. f (sym (zero-add n) t) place ∷ changed_from (suc n) f xs
+changed_from_set f n (x ∷ xs) (suc i) place =
+    let same : i + suc n ≡ suc i + n = omega arith in
+    ap (λ ys. f n x ∷ ys) (changed_from_set f (suc n) xs i place ∙ ap (λ k. set (changed_from (suc n) f xs) i (f k place)) same)
+
+pub seen_put : (e : Enabled) (xs : List (Option Device)) (i : ℕ) (place : Option Device) → seen e (set xs i place) ≡ set (seen e xs) i (seen_in e i place)
+seen_put e xs i place = let same : i + 0 ≡ i = omega arith in changed_from_set (seen_in e) 0 xs i place ∙ ap (λ k. set (seen e xs) i (seen_in e k place)) same
+
+-- a happening in one slot
+pub happened_seen : (e : Enabled) (f : ℕ → Option Device → Option Device) (xs ys now : List (Option Device)) (i : ℕ) → IsBlind f → seen e xs ≡ now → ys ≡ set xs i (f i (get_or xs i None)) → seen e ys ≡ set now i (f i (get_or now i None))
+happened_seen e f xs ys now i blind is happened =
+    ap (seen e) happened ∙ (seen_put e xs i (f i (get_or xs i None)) ∙ (ap (set (seen e xs) i) (blind (kinds_in e i) i (get_or xs i None) ∙ ap (f i) (sym (seen_at e xs i)))
+    ∙ ap (λ zs. set zs i (f i (get_or zs i None))) is))
+
+-- a device that enters a slot, in which all kinds are enabled from then on
+pub entered_seen : (e more : Enabled) (xs ys now : List (Option Device)) (i j : ℕ) (d : Device) → length xs ≡ SLOTS → i < SLOTS → j ≡ i
+    → ((s : ℕ) → s < SLOTS → kinds_in more s ≡ (if s == j then all_kinds else kinds_in e s)) → seen e xs ≡ now → ys ≡ set xs i (Some d) → seen more ys ≡ set now i (Some (bare d))
+entered_seen e more xs ys now i j d long low at anew is put =
+    ap (seen more) put ∙ (seen_put more xs i (Some d) ∙ ((λ t. set (seen more xs) i (Some (under (here t) d)))
+    ∙ (ext_get_or None (set (seen more xs) i (Some (bare d))) (set (seen e xs) i (Some (bare d))) lengths each ∙ ap (λ zs. set zs i (Some (bare d))) is)))
+  where
+    here : kinds_in more i ≡ all_kinds
+    here = anew i low ∙ cond-true (i == j) all_kinds (kinds_in e i) (eq-eqb i j (sym at))
+
+    lengths : length (set (seen more xs) i (Some (bare d))) ≡ length (set (seen e xs) i (Some (bare d)))
+    lengths = length-set (seen more xs) i (Some (bare d)) ∙ (length_seen more xs ∙ sym (length-set (seen e xs) i (Some (bare d)) ∙ length_seen e xs))
+
+    other : (s : ℕ) → s < SLOTS → (s ≡ i → ⊥) → get_or (seen more xs) s None ≡ get_or (seen e xs) s None
+    other s l ne =
+        seen_at more xs s
+        ∙ (ap (λ kinds. option_map (under kinds) (get_or xs s None)) (anew s l ∙ cond-false (s == j) all_kinds (kinds_in e s) (ne_eqb s j (λ same. ne (same ∙ at))))
+        ∙ sym (seen_at e xs s))
+
+    each : (s : ℕ) → s < length (set (seen more xs) i (Some (bare d))) → get_or (set (seen more xs) i (Some (bare d))) s None ≡ get_or (set (seen e xs) i (Some (bare d))) s None
+    each s m = elim (cases_eq s i) [
+      | inl e2 ↦
+          ap (λ k. get_or (set (seen more xs) i (Some (bare d))) k None) e2
+          ∙ (get_or-set_same (seen more xs) i (Some (bare d)) None (omega (arith, low, long, length_seen more xs))
+          ∙ sym (ap (λ k. get_or (set (seen e xs) i (Some (bare d))) k None) e2 ∙ get_or-set_same (seen e xs) i (Some (bare d)) None (omega (arith, low, long, length_seen e xs))))
+      | inr ne ↦
+          get_or-set_other (seen more xs) i s (Some (bare d)) None ne
+          ∙ (other s (omega (arith, m, long, length-set (seen more xs) i (Some (bare d)), length_seen more xs)) ne ∙ sym (get_or-set_other (seen e xs) i s (Some (bare d)) None ne))
+    ]
+
+-- a test that doesn't read the kinds
+pub set_seen : (e : Enabled) (test : Device → Bool) (slots : SlotSet) (xs : List (Option Device)) → ((kinds : KindSet) (d : Device) → test (under kinds d) ≡ test d) → IsSetOf test slots xs → IsSetOf test slots (seen e xs)
+set_seen e test slots xs blind is s l = is s l ∙ sym (ap (in_slot test) (seen_at e xs s) ∙ go (get_or xs s None))
+  where
+    go : (o : Option Device) → in_slot test (seen_in e s o) ≡ in_slot test o
+    go None = refl
+    go (Some d) = blind (kinds_in e s) d
+
+pub set_now : (e : Enabled) (test : Device → Bool) (slots : SlotSet) (xs now : List (Option Device)) → ((kinds : KindSet) (d : Device) → test (under kinds d) ≡ test d) → seen e xs ≡ now → IsSetOf test slots xs → IsSetOf test slots now
+set_now e test slots xs now blind is of = subst (IsSetOf test slots) is (set_seen e test slots xs blind of)
+
+-- a change of some slots that does what is due in each
+pub narrowed_seen : (e : Enabled) (f g : ℕ → Option Device → Option Device) (among : SlotSet) (xs ys now : List (Option Device)) → length xs ≡ SLOTS → IsBlind f → seen e xs ≡ now → ys ≡ changed (within among f) xs
+    → ((s : ℕ) → s < SLOTS → within among f s (get_or now s None) ≡ g s (get_or now s None)) → seen e ys ≡ changed g now
+narrowed_seen e f g among xs ys now long blind is each same =
+    narrowed f g among now (seen e ys) (sym (ap length is) ∙ (length_seen e xs ∙ long)) (seen_within e among f xs ys blind long each ∙ ap (changed (within among f)) is) same
+
+-- a change that leaves the other slots as they are
+pub spared_seen : (e : Enabled) (f : ℕ → Option Device → Option Device) (test : Device → Bool) (among : SlotSet) (xs ys now : List (Option Device)) → length xs ≡ SLOTS → ((kinds : KindSet) (d : Device) → test (under kinds d) ≡ test d)
+    → IsBlind f → IsSetOf test among xs → ((s : ℕ) (o : Option Device) → in_slot test o ≡ false → f s o ≡ o) → seen e xs ≡ now → ys ≡ changed (within among f) xs → seen e ys ≡ changed f now
+spared_seen e f test among xs ys now long same blind of spares is each =
+    spared f test among now (seen e ys) (sym (ap length is) ∙ (length_seen e xs ∙ long)) (set_now e test among xs now same is of) spares (seen_within e among f xs ys blind long each ∙ ap (changed (within among f)) is)
+
+-- empty slots
+pub seen_none : (e : Enabled) → seen e no_devices ≡ no_devices
+seen_none e =
+    ext_get_or None (seen e no_devices) no_devices (length_seen e no_devices)
+    (λ s l. seen_at e no_devices s ∙ (ap (seen_in e s) (no_devices_at s) ∙ sym (no_devices_at s)))

@@ -1,0 +1,358 @@
+-- Walks over devices as they are seen with their kinds.
+use Rattle.std.proofs.Common.{◌≡◌, ℕ, ◌+◌, ◌-◌, ◌*◌, ◌<◌, ◌↔◌, ◌⊎◌, slice_index, Bool, true, false, not, ◌&&◌, ◌||◌, ◌==◌, nat_le, if◌then◌else◌, List, length, get_or, Option, Some, None, Result, Ok, Err, IsTrue, MatchOption, OnOk, option_map, is_none, is_some, inl, inr, refl, sym, ap, subst, ◌∙◌, arith}
+use Rattle.std.proofs.lemmas.Bool.{and_parts, and_right, both_ways, cases_Bool, cases_lt, false_from_ne_true, le-leb, lt-leb, or_left, or_right}
+use Rattle.std.proofs.lemmas.List.{get_or_past}
+use Rattle.std.proofs.lemmas.Option.{none-some, same_Some}
+use Rattle.std.specs.Int.{bit_at}
+use Rattle.i3c_base.specs.declared.range.TheConstants.{SLOTS}
+use Rattle.i3c_base.specs.declared.refusals.RaiseRefusal.{RaiseRefusal}
+use Rattle.i3c_base.specs.declared.requests.Request.{Request}
+use Rattle.i3c_base.specs.declared.requests.Request.TheVariants.{Interrupt, Join, Role}
+use Rattle.i3c_base.specs.Cutting.{CutList, Lost, lost_by}
+use Rattle.i3c_base.specs.Frames.{with_kinds, without_kinds}
+use Rattle.i3c_base.specs.Numbers.{KindSet}
+use Rattle.i3c_base.specs.Places.{changed}
+use Rattle.i3c_base.specs.Serve.{asks, is_empty}
+use Rattle.i3c_base.specs.State.{Device, in_slot, is_the}
+use Rattle.i3c_word.specs.declared.Word.{Word}
+use Rattle.i3c_ccc.specs.declared.codes.Code.{Code}
+use Rattle.i3c_ccc.specs.declared.codes.Code.TheVariants.{Deftgts, Disec, DisecDirect, Enec, EnecDirect, Getacccr, Other}
+use Rattle.i3c_header.specs.Keys.{IsLawful}
+use Rattle.i3c_device.specs.declared.enabled.Enabled.{Enabled}
+use Rattle.i3c_device.specs.declared.marks.Marks.{Marks}
+use Rattle.i3c_device.specs.declared.sets.SlotSet.{SlotSet}
+use Rattle.i3c_device.specs.First.{IsAlone, Precedes}
+use Rattle.i3c_device.specs.Enabling.{kinds_in, seen, seen_in, under}
+use Rattle.i3c_device.specs.Finding.{IsLowestFound, IsNowhere, within}
+use Rattle.i3c_device.specs.Hearing.{named_kinds}
+use Rattle.i3c_device.specs.Marks.{AreMarks, IsSetOf}
+use Rattle.i3c_device.specs.Raising.{interrupting_if, next_fault}
+use Rattle.i3c_device.specs.Reading.{AreReadOf, PullsLow}
+use Rattle.i3c_device.specs.Sets.{SomeLeft, has}
+use Rattle.i3c_device.specs.Walks.{AreReached, AreWillingLost, IsHearerFrom, IsLowestWilling, NobodyHearsFrom, SomeReached, drives_at, heard_at, reaches_at, willing_at}
+use Rattle.i3c_device.specs.Wishing.{WishesIn, asks_some, wishes_interrupt, wishes_join, wishes_role}
+use Rattle.i3c_device.proofs.EachLaws.{all_changed}
+use Rattle.i3c_device.proofs.FindLaws.{TakesOut, not_taken, still_in}
+use Rattle.i3c_device.proofs.FirstLaws.{LeadsSoFar, leads_joined, leads_skip}
+use Rattle.i3c_device.proofs.SeenLaws.{kinds_seen, length_seen, seen_at, seen_turned}
+
+-- what holds where a call went well
+pub on_ok : {A B : Type 0} (r : Result A B) (P Q : Type 0) → (P → Q) → OnOk r P → OnOk r Q
+on_ok (Ok a) P Q f h = f h
+on_ok (Err e) P Q f h = h
+
+-- as many slots
+pub slots_seen : (e : Enabled) (xs now : List (Option Device)) → length xs ≡ SLOTS → seen e xs ≡ now → length now ≡ SLOTS
+slots_seen e xs now long is = sym (ap length is) ∙ (length_seen e xs ∙ long)
+
+pub now_at : (e : Enabled) (xs now : List (Option Device)) (s : ℕ) → seen e xs ≡ now → get_or now s None ≡ seen_in e s (get_or xs s None)
+now_at e xs now s is = ap (λ ys. get_or ys s None) (sym is) ∙ seen_at e xs s
+
+-- a device that is seen stands there
+unseen : (e : Enabled) (s : ℕ) (o : Option Device) (d : Device) → seen_in e s o ≡ Some d → (x : Device) × (o ≡ Some x) × (d ≡ under (kinds_in e s) x)
+unseen e s None d h = absurd (none-some d h)
+unseen e s (Some x) d h = (x, refl, sym (same_Some (under (kinds_in e s) x) d h))
+
+pub there_seen : (e : Enabled) (xs now : List (Option Device)) (s : ℕ) → seen e xs ≡ now → ((d : Device) × (get_or now s None ≡ Some d)) → (x : Device) × (get_or xs s None ≡ Some x)
+there_seen e xs now s is h = let u = unseen e s (get_or xs s None) h.0 (sym (now_at e xs now s is) ∙ h.1) in (u.0, u.1)
+
+-- a fault of a raise, whose interrupts are enabled where the slot's are
+pub fault_seen : (e : Enabled) (xs now : List (Option Device)) (s : ℕ) (b : Bool) (byte : Option ℕ) (raised : ℕ) (Q : Option RaiseRefusal → Type 0) → seen e xs ≡ now → b ≡ has e.interrupts s
+    → ((x : Device) → get_or xs s None ≡ Some x → Q (next_fault (interrupting_if b x) byte raised)) → (d : Device) → get_or now s None ≡ Some d → Q (next_fault d byte raised)
+fault_seen e xs now s b byte raised Q is same h d there =
+    let u = unseen e s (get_or xs s None) d (sym (now_at e xs now s is) ∙ there) in
+    subst Q (ap (λ on. next_fault (interrupting_if on u.0) byte raised) same ∙ ap (λ x. next_fault x byte raised) (sym u.2)) (h u.0 u.1)
+
+-- a test of a device, its slot and no kinds
+test_seen : (e : Enabled) (test : Device → Bool) (s : ℕ) (o : Option Device) → ((kinds : KindSet) (d : Device) → test (under kinds d) ≡ test d) → in_slot test (seen_in e s o) ≡ in_slot test o
+test_seen e test s None blind = refl
+test_seen e test s (Some d) blind = blind (kinds_in e s) d
+
+-- whom a command reaches
+pub reached_all : (e : Enabled) (xs now : List (Option Device)) (active : ℕ) (present slots : SlotSet) → seen e xs ≡ now → IsSetOf (λ d. true) present xs
+    → ((s : ℕ) → s < SLOTS → has slots s ≡ (if s == active then false else has present s)) → AreReached active None slots now
+reached_all e xs now active present slots is of but s l =
+    but s l ∙ (ap (λ b. if s == active then false else b) (of s l) ∙ (go (s == active) (get_or xs s None) ∙ ap (in_slot (λ d. not (s == active))) (sym (now_at e xs now s is))))
+  where
+    go : (b : Bool) (o : Option Device) → (if b then false else in_slot (λ d. true) o) ≡ in_slot (λ d. not b) (seen_in e s o)
+    go true None = refl
+    go true (Some d) = refl
+    go false None = refl
+    go false (Some d) = refl
+
+pub reached_one : (e : Enabled) (xs now : List (Option Device)) (active a : ℕ) (slots : SlotSet) → seen e xs ≡ now → AreReached active (Some a) slots xs → AreReached active (Some a) slots now
+reached_one e xs now active a slots is of s l = of s l ∙ sym (ap (in_slot (reaches_at active (Some a) s)) (now_at e xs now s is) ∙ test_seen e (reaches_at active (Some a) s) s (get_or xs s None) (λ kinds d. refl))
+
+-- that somebody of them isn't lost
+there_in : (test : Device → Bool) (o : Option Device) → in_slot test o ≡ true → (d : Device) × (o ≡ Some d) × (test d ≡ true)
+there_in test None h = absurd (both_ways _ refl h)
+there_in test (Some d) h = (d, refl, h)
+
+within_slots : (now : List (Option Device)) (s : ℕ) (d : Device) → length now ≡ SLOTS → get_or now s None ≡ Some d → s < SLOTS
+within_slots now s d long there = elim (cases_lt s SLOTS) [
+  | inl l ↦ l
+  | inr past ↦ absurd (none-some d (sym (get_or_past now s None (omega (arith, long, past))) ∙ there))
+]
+
+pub heard_some : (active : ℕ) (to : Option ℕ) (slots : SlotSet) (lost : Lost) (now : List (Option Device)) (b : Bool) → length now ≡ SLOTS → AreReached active to slots now → (IsTrue b ↔ SomeLeft slots lost)
+    → (IsTrue b ↔ SomeReached active to lost now)
+heard_some active to slots lost now b long reached is = (
+  λ t. let left = is.0 t in let there = there_in (reaches_at active to left.0) (get_or now left.0 None) (sym (reached left.0 left.1) ∙ left.2) in (left.0, there.0, there.1, there.2, left.3),
+  λ some. let l = within_slots now some.0 some.1 long some.2 in is.1 (some.0, l, reached some.0 l ∙ (ap (in_slot (reaches_at active to some.0)) some.2 ∙ some.3), some.4),
+)
+
+-- who would take the role
+willing_now : (e : Enabled) (xs now : List (Option Device)) (active a s : ℕ) → seen e xs ≡ now → willing_at active a s (get_or now s None) ≡ willing_at active a s (get_or xs s None)
+willing_now e xs now active a s is =
+    ap (willing_at active a s) (now_at e xs now s is) ∙ test_seen e (λ d. reaches_at active (Some a) s d && d.willing) s (get_or xs s None) (λ kinds d. refl)
+
+willing_among : (xs : List (Option Device)) (active a s : ℕ) (present left : SlotSet) (lost : Lost) → length xs ≡ SLOTS → IsSetOf (λ d. true) present xs → ((t : ℕ) → t < SLOTS → has left t ≡ (has present t && not (lost t)))
+    → willing_at active a s (get_or xs s None) ≡ true → lost s ≡ false → (s < SLOTS) × (has left s ≡ true)
+willing_among xs active a s present left lost long of but w n =
+    let there = there_in (λ d. reaches_at active (Some a) s d && d.willing) (get_or xs s None) w in
+    let l = within_slots xs s there.0 long there.1 in
+    (l, but s l ∙ (ap (λ b. b && not (lost s)) (of s l ∙ ap (in_slot (λ d. true)) there.1) ∙ ap not n))
+
+pub willing_seen : (e : Enabled) (xs now : List (Option Device)) (active a : ℕ) (present left : SlotSet) (lost : Lost) (found : Option ℕ) → length xs ≡ SLOTS → seen e xs ≡ now → IsSetOf (λ d. true) present xs
+    → ((t : ℕ) → t < SLOTS → has left t ≡ (has present t && not (lost t))) → MatchOption found (IsNowhere (willing_at active a) left xs) (IsLowestFound (willing_at active a) left xs)
+    → MatchOption found (AreWillingLost active a lost now) (IsLowestWilling active a lost now)
+willing_seen e xs now active a present left lost None long is of but h = λ s w. elim (cases_Bool (lost s)) [
+  | inl t ↦ t
+  | inr n ↦
+      let w2 = sym (willing_now e xs now active a s is) ∙ w in
+      let there = willing_among xs active a s present left lost long of but w2 n in
+      absurd (both_ways _ (h s there.0 there.1) w2)
+]
+willing_seen e xs now active a present left lost (Some i) long is of but h = (
+  willing_now e xs now active a i is ∙ h.found,
+  not_lost,
+  λ t l w. elim (cases_Bool (lost t)) [
+    | inl y ↦ y
+    | inr n ↦
+        let w2 = sym (willing_now e xs now active a t is) ∙ w in
+        let there = willing_among xs active a t present left lost long of but w2 n in
+        absurd (both_ways _ (h.below t l there.1) w2)
+  ],
+)
+  where
+    low : i < SLOTS
+    low = let there = there_in (λ d. reaches_at active (Some a) i d && d.willing) (get_or xs i None) h.found in within_slots xs i there.0 long there.1
+
+    not_lost : lost i ≡ false
+    not_lost = let kept = (and_parts (has present i) (not (lost i)) (sym (but i low) ∙ h.among_them)).1 in false_from_ne_true (lost i) (λ t. both_ways _ (ap not t) kept)
+
+-- a command that enables or disables kinds
+kinds_of_heard : (e more : Enabled) (f : KindSet → KindSet) (active : ℕ) (to : Option ℕ) (slots : SlotSet) (s : ℕ) (o : Option Device) → kinds_in more s ≡ (if has slots s then f (kinds_in e s) else kinds_in e s)
+    → has slots s ≡ in_slot (reaches_at active to s) (seen_in e s o) → seen_in more s o ≡ option_map (λ d. if reaches_at active to s d then under (f d.kinds) d else d) (seen_in e s o)
+kinds_of_heard e more f active to slots s None is reached = refl
+kinds_of_heard e more f active to slots s (Some d) is reached =
+    ap (λ kinds. Some (under kinds d)) (is ∙ ap (λ b. if b then f (kinds_in e s) else kinds_in e s) reached) ∙ go (reaches_at active to s (under (kinds_in e s) d))
+  where
+    go : (b : Bool) → Some (under (if b then f (kinds_in e s) else kinds_in e s) d) ≡ Some (if b then under (f (kinds_in e s)) d else under (kinds_in e s) d)
+    go true = refl
+    go false = refl
+
+pub kinds_heard : (e more : Enabled) (f : KindSet → KindSet) (active : ℕ) (to : Option ℕ) (slots : SlotSet) (xs now : List (Option Device)) → length xs ≡ SLOTS → seen e xs ≡ now → AreReached active to slots now
+    → ((s : ℕ) → s < SLOTS → kinds_in more s ≡ (if has slots s then f (kinds_in e s) else kinds_in e s)) → seen more xs ≡ changed (λ s place. option_map (λ d. if reaches_at active to s d then under (f d.kinds) d else d) place) now
+kinds_heard e more f active to slots xs now long is reached anew =
+    seen_turned e more (λ s place. option_map (λ d. if reaches_at active to s d then under (f d.kinds) d else d) place) xs xs long long
+    (λ s l. kinds_of_heard e more f active to slots s (get_or xs s None) (anew s l) (reached s l ∙ ap (in_slot (reaches_at active to s)) (now_at e xs now s is)))
+    ∙ ap (changed (λ s place. option_map (λ d. if reaches_at active to s d then under (f d.kinds) d else d) place)) is
+
+-- a command that changes those whom it reaches
+pub reached_alike : (h : Device → Device) (active : ℕ) (to : Option ℕ) (slots : SlotSet) (s : ℕ) (o : Option Device) → has slots s ≡ in_slot (reaches_at active to s) o
+    → within slots (λ k place. option_map h place) s o ≡ option_map (λ d. if reaches_at active to s d then h d else d) o
+reached_alike h active to slots s None e = elim (has slots s) as (λ b. ◌≡◌ {A = Option Device} (if b then None else None) None) [ true ↦ refl | false ↦ refl ]
+reached_alike h active to slots s (Some d) e = ap (λ b. if b then Some (h d) else Some d) e ∙ go (reaches_at active to s d)
+  where
+    go : (b : Bool) → (if b then Some (h d) else Some d) ≡ Some (if b then h d else d)
+    go true = refl
+    go false = refl
+
+-- a command that changes nobody
+pub unheard : (active : ℕ) (to : Option ℕ) (now : List (Option Device)) → now ≡ changed (λ s place. option_map (λ d. if reaches_at active to s d then d else d) place) now
+unheard active to now = all_changed (λ s place. option_map (λ d. if reaches_at active to s d then d else d) place) now now refl (λ s l. go s (get_or now s None))
+  where
+    same : (b : Bool) (d : Device) → d ≡ (if b then d else d)
+    same true d = refl
+    same false d = refl
+
+    go : (s : ℕ) (o : Option Device) → o ≡ option_map (λ d. if reaches_at active to s d then d else d) o
+    go s None = refl
+    go s (Some d) = ap Some (same (reaches_at active to s d) d)
+
+-- who hears from a slot on
+pub hears_nowhere : (now : List (Option Device)) (first : ℕ) (hearing left : SlotSet) → length now ≡ SLOTS → IsSetOf (λ d. d.hearing) hearing now → ((s : ℕ) → s < SLOTS → has left s ≡ (nat_le first s && has hearing s))
+    → ((s : ℕ) → s < SLOTS → has left s ≡ false) → NobodyHearsFrom first now
+hears_nowhere now first hearing left long of from none s above = false_from_ne_true (in_slot (λ d. d.hearing) (get_or now s None)) (λ t.
+    let there = there_in (λ d. d.hearing) (get_or now s None) t in
+    let l = within_slots now s there.0 long there.1 in
+    both_ways _ (none s l) (from s l ∙ (ap (λ b. b && has hearing s) (le-leb first s above) ∙ (of s l ∙ t))))
+
+pub hears_first : (now : List (Option Device)) (first : ℕ) (hearing left : SlotSet) (i : ℕ) → length now ≡ SLOTS → IsSetOf (λ d. d.hearing) hearing now → ((s : ℕ) → s < SLOTS → has left s ≡ (nat_le first s && has hearing s))
+    → i < SLOTS → has left i ≡ true → ((s : ℕ) → s < i → has left s ≡ false) → IsHearerFrom first now i
+hears_first now first hearing left i long of from low there below =
+    let parts = and_parts (nat_le first i) (has hearing i) (sym (from i low) ∙ there) in (
+      elim (cases_lt i first) [ inl l ↦ absurd (both_ways _ (not_below l) parts.0) | inr above ↦ above ],
+      sym (of i low) ∙ parts.1,
+      λ t above l. let m : t < SLOTS = omega (arith, l, low) in
+          sym (of t m) ∙ (sym (ap (λ b. b && has hearing t) (le-leb first t above)) ∙ (sym (from t m) ∙ below t l)),
+    )
+  where
+    not_below : i < first → nat_le first i ≡ false
+    not_below l = lt-leb first i l
+
+-- whoever drives a request asks for something
+there : (a : ℕ) (o : Option ℕ) → is_the a o ≡ true → is_some o ≡ true
+there a None e = absurd (both_ways _ refl e)
+there a (Some b) e = refl
+
+and_join : (a b : Bool) → a ≡ true → b ≡ true → (a && b) ≡ true
+and_join a b p q = ap (λ x. x && b) p ∙ q
+
+pub asked_of : (d : Device) (r : Request) → asks d r ≡ true → asks_some d ≡ true
+asked_of d Join h =
+    let p = and_parts (is_none d.address) (d.join_wish && d.kinds.join) h in
+    let q = and_parts d.join_wish d.kinds.join p.1 in
+    or_left (wishes_join d && d.kinds.join) ((wishes_role d && d.kinds.role) || (wishes_interrupt d && d.kinds.interrupt)) (and_join (wishes_join d) d.kinds.join (and_join (is_none d.address) d.join_wish p.0 q.0) q.1)
+asked_of d (Role a) h =
+    let p = and_parts (is_the a d.address) (d.role_wish && d.kinds.role) h in
+    let q = and_parts d.role_wish d.kinds.role p.1 in
+    or_right (wishes_join d && d.kinds.join) ((wishes_role d && d.kinds.role) || (wishes_interrupt d && d.kinds.interrupt))
+    (or_left (wishes_role d && d.kinds.role) (wishes_interrupt d && d.kinds.interrupt) (and_join (wishes_role d) d.kinds.role (and_join (is_some d.address) d.role_wish (there a d.address p.0) q.0) q.1))
+asked_of d (Interrupt a) h =
+    let p = and_parts (is_the a d.address) (not d.role_wish && (not (is_empty d.waiting) && d.kinds.interrupt)) h in
+    let q = and_parts (not d.role_wish) (not (is_empty d.waiting) && d.kinds.interrupt) p.1 in
+    let r = and_parts (not (is_empty d.waiting)) d.kinds.interrupt q.1 in
+    or_right (wishes_join d && d.kinds.join) ((wishes_role d && d.kinds.role) || (wishes_interrupt d && d.kinds.interrupt))
+    (or_right (wishes_role d && d.kinds.role) (wishes_interrupt d && d.kinds.interrupt)
+    (and_join (wishes_interrupt d) d.kinds.interrupt (and_join (is_some d.address) (not d.role_wish && not (is_empty d.waiting)) (there a d.address p.0) (and_join (not d.role_wish) (not (is_empty d.waiting)) q.0 r.0)) r.1))
+
+-- a slot whose device drives a request
+abbrev pub AreAsking : ℕ → SlotSet → List (Option Device) → Type 0
+AreAsking active slots now = (s : ℕ) → s < SLOTS → has slots s ≡ true → (not (s == active) && in_slot asks_some (get_or now s None)) ≡ true
+
+pub asking_seen : (e : Enabled) (marks : Marks) (xs now : List (Option Device)) (active s : ℕ) (joins roles interrupts more all result : SlotSet) → seen e xs ≡ now → AreMarks marks xs → s < SLOTS
+    → has joins s ≡ (has marks.joining s && has e.joins s) → has roles s ≡ (has marks.asking s && has e.roles s) → has interrupts s ≡ (has marks.interrupting s && has e.interrupts s)
+    → has more s ≡ (has roles s || has interrupts s) → has all s ≡ (has joins s || has more s) → has result s ≡ (if s == active then false else has all s)
+    → has result s ≡ (not (s == active) && in_slot asks_some (get_or now s None))
+asking_seen e marks xs now active s joins roles interrupts more all result is are l j r i m a but =
+    but ∙ (ap (λ b. if s == active then false else b) (a ∙ (λ t. (j ∙ ap (λ b. b && has e.joins s) (are.joining s l)) t || (m ∙ (λ u. (r ∙ ap (λ b. b && has e.roles s) (are.asking s l)) u || (i ∙ ap (λ b. b && has e.interrupts s) (are.interrupting s l)) u)) t))
+    ∙ (go (s == active) (get_or xs s None) ∙ ap (λ o. not (s == active) && in_slot asks_some o) (sym (now_at e xs now s is))))
+  where
+    go : (b : Bool) (o : Option Device)
+        → (if b then false else (in_slot wishes_join o && has e.joins s) || ((in_slot wishes_role o && has e.roles s) || (in_slot wishes_interrupt o && has e.interrupts s)))
+        ≡ (not b && in_slot asks_some (seen_in e s o))
+    go true o = refl
+    go false None = refl
+    go false (Some d) = refl
+
+-- the request of a slot that asks
+pub wish_driven : (e : Enabled) (xs now : List (Option Device)) (active i : ℕ) (r : Request) → seen e xs ≡ now → WishesIn (Some r) (get_or xs i None) → (not (i == active) && in_slot asks_some (get_or now i None)) ≡ true
+    → (drives_at active i (get_or now i None) r ≡ true) × ((q : Request) → drives_at active i (get_or now i None) q ≡ true → q ≡ r) × IsLawful r
+wish_driven e xs now active i r is wish asks_it =
+    let p = and_parts (not (i == active)) (in_slot asks_some (get_or now i None)) asks_it in
+    let here = now_at e xs now i is in
+    go (get_or xs i None) (get_or now i None) here wish p.0 p.1
+  where
+    go : (o n : Option Device) → n ≡ seen_in e i o → WishesIn (Some r) o → not (i == active) ≡ true → in_slot asks_some n ≡ true
+        → (drives_at active i n r ≡ true) × ((q : Request) → drives_at active i n q ≡ true → q ≡ r) × IsLawful r
+    go None n same w other h = absurd w
+    go (Some d) n same w other h =
+        let at : n ≡ Some (under (kinds_in e i) d) = same in
+        subst (λ m. (drives_at active i m r ≡ true) × ((q : Request) → drives_at active i m q ≡ true → q ≡ r) × IsLawful r) (sym at) (
+          and_join (not (i == active)) (asks (under (kinds_in e i) d) r) other (w.asked (kinds_in e i) (sym (ap (in_slot asks_some) at) ∙ h)),
+          λ q t. w.alone (kinds_in e i) q (and_parts (not (i == active)) (asks (under (kinds_in e i) d) q) t).1,
+          w.lawful,
+        )
+
+pub nothing_driven : (e : Enabled) (xs now : List (Option Device)) (active i : ℕ) (q : Request) → seen e xs ≡ now → WishesIn None (get_or xs i None) → drives_at active i (get_or now i None) q ≡ false
+nothing_driven e xs now active i q is wish = ap (λ o. drives_at active i o q) (now_at e xs now i is) ∙ go (get_or xs i None) wish
+  where
+    go : (o : Option Device) → WishesIn None o → drives_at active i (seen_in e i o) q ≡ false
+    go None w = and_right (not (i == active)) false refl
+    go (Some d) w = and_right (not (i == active)) (asks (under (kinds_in e i) d) q) (false_from_ne_true (asks (under (kinds_in e i) d) q) (λ t. both_ways _ (w (kinds_in e i)) (asked_of (under (kinds_in e i) d) q t)))
+
+-- the commands by their codes
+pub unseen_slots : (e : Enabled) (xs now : List (Option Device)) → length now ≡ SLOTS → seen e xs ≡ now → length xs ≡ SLOTS
+unseen_slots e xs now long is = sym (length_seen e xs) ∙ (ap length is ∙ long)
+
+pub enabled_alike : (active : ℕ) (to : Option ℕ) (code : Code) (words : List Word) (kinds : KindSet) (now : List (Option Device)) → kinds ≡ named_kinds words → (code ≡ Enec) ⊎ (code ≡ EnecDirect)
+    → changed (λ s place. option_map (λ d. if reaches_at active to s d then under (with_kinds d.kinds kinds) d else d) place) now ≡ changed (heard_at active to code words) now
+enabled_alike active to code words kinds now named (inl e) =
+    ap (λ k. changed (λ s place. option_map (λ d. if reaches_at active to s d then under (with_kinds d.kinds k) d else d) place) now) named ∙ ap (λ c. changed (heard_at active to c words) now) (sym e)
+enabled_alike active to code words kinds now named (inr e) =
+    ap (λ k. changed (λ s place. option_map (λ d. if reaches_at active to s d then under (with_kinds d.kinds k) d else d) place) now) named ∙ ap (λ c. changed (heard_at active to c words) now) (sym e)
+
+pub disabled_alike : (active : ℕ) (to : Option ℕ) (code : Code) (words : List Word) (kinds : KindSet) (now : List (Option Device)) → kinds ≡ named_kinds words → (code ≡ Disec) ⊎ (code ≡ DisecDirect)
+    → changed (λ s place. option_map (λ d. if reaches_at active to s d then under (without_kinds d.kinds kinds) d else d) place) now ≡ changed (heard_at active to code words) now
+disabled_alike active to code words kinds now named (inl e) =
+    ap (λ k. changed (λ s place. option_map (λ d. if reaches_at active to s d then under (without_kinds d.kinds k) d else d) place) now) named ∙ ap (λ c. changed (heard_at active to c words) now) (sym e)
+disabled_alike active to code words kinds now named (inr e) =
+    ap (λ k. changed (λ s place. option_map (λ d. if reaches_at active to s d then under (without_kinds d.kinds k) d else d) place) now) named ∙ ap (λ c. changed (heard_at active to c words) now) (sym e)
+
+pub unheard_alike : (active : ℕ) (to : Option ℕ) (code : Code) (words : List Word) (now : List (Option Device)) → (code ≡ Deftgts) ⊎ ((code ≡ Getacccr) ⊎ ((byte : ℕ) × (code ≡ Other byte))) → now ≡ changed (heard_at active to code words) now
+unheard_alike active to code words now (inl e) = unheard active to now ∙ ap (λ c. changed (heard_at active to c words) now) (sym e)
+unheard_alike active to code words now (inr (inl e)) = unheard active to now ∙ ap (λ c. changed (heard_at active to c words) now) (sym e)
+unheard_alike active to code words now (inr (inr e)) = unheard active to now ∙ ap (λ c. changed (heard_at active to c words) now) (sym e.1)
+
+-- kinds of a device that is seen
+pub kinds_now : (e : Enabled) (xs now : List (Option Device)) (s : ℕ) (d : Device) → seen e xs ≡ now → get_or now s None ≡ Some d → kinds_in e s ≡ d.kinds
+kinds_now e xs now s d is h = sym (kinds_seen e xs s d (ap (λ ys. get_or ys s None) is ∙ h))
+
+-- registers as they are read
+pulls_seen : (e : Enabled) (xs now : List (Option Device)) (active a : ℕ) (lost : Lost) (k bit : ℕ) → seen e xs ≡ now → PullsLow active a lost k bit xs → PullsLow active a lost k bit now
+pulls_seen e xs now active a lost k bit is h = (h.0, under (kinds_in e h.0) h.1, now_at e xs now h.0 is ∙ ap (seen_in e h.0) h.2, h.3, h.4, h.5)
+
+seen_pulls : (e : Enabled) (xs now : List (Option Device)) (active a : ℕ) (lost : Lost) (k bit : ℕ) → seen e xs ≡ now → PullsLow active a lost k bit now → PullsLow active a lost k bit xs
+seen_pulls e xs now active a lost k bit is h =
+    let u = unseen e h.0 (get_or xs h.0 None) h.1 (sym (now_at e xs now h.0 is) ∙ h.2) in
+    (h.0, u.0, u.1, sym (ap (reaches_at active (Some a) h.0) u.2) ∙ h.3, h.4, sym (ap (λ d. bit_at (slice_index d.registers k) bit) u.2) ∙ h.5)
+
+pub read_seen : (e : Enabled) (xs now : List (Option Device)) (active a : ℕ) (cuts : CutList) (first : ℕ) (bytes : List ℕ) → seen e xs ≡ now → AreReadOf active a cuts first xs bytes → AreReadOf active a cuts first now bytes
+read_seen e xs now active a cuts first bytes is h k j l m = (
+  λ z. pulls_seen e xs now active a (lost_by cuts (first + 9 * k + j)) k (7 - j) is ((h k j l m).0 z),
+  λ p. (h k j l m).1 (seen_pulls e xs now active a (lost_by cuts (first + 9 * k + j)) k (7 - j) is p),
+)
+
+-- the first request of the slots so far, where those that are left ask
+pub record Asking (active : ℕ) (left : SlotSet) (now : List (Option Device)) (first : Option (Request × SlotSet)) : Type 0 where
+  pub leads : LeadsSoFar active left now first
+  pub asking : AreAsking active left now
+
+pub asking_none : (active : ℕ) (left : SlotSet) (now : List (Option Device)) → ((s : ℕ) → s < SLOTS → has left s ≡ (not (s == active) && in_slot asks_some (get_or now s None))) → Asking active left now None
+asking_none active left now is = record {
+  leads = λ s q l d. is s l ∙ driver_asks s q (get_or now s None) d;
+  asking = λ s l h. sym (is s l) ∙ h;
+}
+  where
+    driver_asks : (s : ℕ) (q : Request) (o : Option Device) → drives_at active s o q ≡ true → (not (s == active) && in_slot asks_some o) ≡ true
+    driver_asks s q None h = h
+    driver_asks s q (Some d) h = let p = and_parts (not (s == active)) (asks d q) h in and_join (not (s == active)) (asks_some d) p.0 (asked_of d q p.1)
+
+still_asking : (active i : ℕ) (left next : SlotSet) (now : List (Option Device)) → TakesOut i left next → AreAsking active left now → AreAsking active next now
+still_asking active i left next now out h s l t = h s l (sym (still_in i left next out s l (not_taken i left next out s l t)) ∙ t)
+
+-- a slot without a wish, and one with it
+pub asking_skip : (e : Enabled) (xs now : List (Option Device)) (active i : ℕ) (left next : SlotSet) (first : Option (Request × SlotSet)) → seen e xs ≡ now → Asking active left now first → i < SLOTS → has left i ≡ true → TakesOut i left next
+    → WishesIn None (get_or xs i None) → Asking active next now first
+asking_skip e xs now active i left next first is h low t out wish = record {
+  leads = leads_skip active left next now first i h.leads low t out (λ q. nothing_driven e xs now active i q is wish);
+  asking = still_asking active i left next now out h.asking;
+}
+
+pub asking_more : (e : Enabled) (xs now : List (Option Device)) (active i : ℕ) (left next : SlotSet) (first : Option (Request × SlotSet)) (r : Request) (more : Request × SlotSet) → seen e xs ≡ now → Asking active left now first → i < SLOTS
+    → has left i ≡ true → TakesOut i left next → WishesIn (Some r) (get_or xs i None) → MatchOption first (IsAlone r i more) (λ f. Precedes f r i more) → Asking active next now (Some more)
+asking_more e xs now active i left next first r more is h low t out wish joined =
+    let d = wish_driven e xs now active i r is wish (h.asking i low t) in record {
+      leads = leads_joined active left next now first r i more h.leads low t out d.0 d.1 d.2 joined;
+      asking = still_asking active i left next now out h.asking;
+    }
+
+-- a slot that holds a device
+pub held_seen : (e : Enabled) (xs now : List (Option Device)) (present : SlotSet) (s : ℕ) → seen e xs ≡ now → IsSetOf (λ d. true) present xs → s < SLOTS → has present s ≡ is_some (get_or now s None)
+held_seen e xs now present s is of l = of s l ∙ (go (get_or xs s None) ∙ ap is_some (sym (now_at e xs now s is)))
+  where
+    go : (o : Option Device) → in_slot (λ d. true) o ≡ is_some (seen_in e s o)
+    go None = refl
+    go (Some d) = refl

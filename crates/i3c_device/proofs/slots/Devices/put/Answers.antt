@@ -1,0 +1,7 @@
+use Rattle.i3c_device.proofs.SeenLaws.{entered_seen}
+use Rattle.i3c_device.proofs.slots.Devices.put.Goals as goal
+
+pub returns : goal.returns
+returns c =
+    entered_seen c.self.inside.enabled c.renewed-self-inside.result c.self.inside.occupants c.put.new.self c.args.self.now c.args.slot c.index.result c.args.device c.put.ensures.slots c.index.ensures.in_range
+    c.index.ensures.same c.renewed-self-inside.ensures c.self.view_is c.put.ensures.put

@@ -1,0 +1,27 @@
+-- Which kinds of events are enabled in which slots, and devices as they are seen with them.
+use Rattle.std.specs.Prelude.{ℕ, List, Option, option_map}
+use Rattle.i3c_base.specs.Numbers.{KindSet}
+use Rattle.i3c_base.specs.Places.{changed}
+use Rattle.i3c_base.specs.State.{Device, all_kinds}
+use Rattle.i3c_device.specs.declared.enabled.Enabled.{Enabled}
+use Rattle.i3c_device.specs.Sets.{has}
+
+-- a device for which these kinds are enabled
+abbrev pub under : KindSet → Device → Device
+under kinds d = record d { kinds = kinds }
+
+-- a device but for its kinds: all are enabled
+abbrev pub bare : Device → Device
+bare d = under all_kinds d
+
+-- the kinds that are enabled in a slot
+abbrev pub kinds_in : Enabled → ℕ → KindSet
+kinds_in enabled s = record { interrupt = has enabled.interrupts s; role = has enabled.roles s; join = has enabled.joins s }
+
+-- what stands in a slot, with its kinds
+abbrev pub seen_in : Enabled → ℕ → Option Device → Option Device
+seen_in enabled s place = option_map (under (kinds_in enabled s)) place
+
+-- devices in their slots, each with its kinds
+abbrev pub seen : Enabled → List (Option Device) → List (Option Device)
+seen enabled places = changed (seen_in enabled) places

@@ -1,0 +1,64 @@
+ghost use Rattle.std.specs.Prelude.{◌≡◌, ℕ, ◌<◌, ◌==◌, if◌then◌else◌};
+ghost use Rattle.i3c_base.specs.declared.range.TheConstants.{SLOTS as SLOT_COUNT};
+ghost use Rattle.i3c_base.specs.Frames.{with_kinds, without_kinds};
+ghost use Rattle.i3c_base.specs.Numbers.{kind_set};
+ghost use Rattle.i3c_base.specs.State.{all_kinds};
+ghost use Rattle.i3c_device.specs.Enabling.{kinds_in};
+ghost use Rattle.i3c_device.specs.Sets.{has};
+
+use crate::kinds::{may_ask_role, may_interrupt, may_join};
+use crate::sets::SlotSet;
+use i3c_base::Kinds;
+
+/// In which slots each kind of event is enabled.
+#[derive(Clone, Copy)]
+pub(crate) struct Enabled {
+    pub interrupts: SlotSet,
+    pub roles: SlotSet,
+    pub joins: SlotSet,
+}
+
+impl Enabled {
+    /// None in any slot.
+    pub fn new() -> Enabled {
+        Enabled {
+            interrupts: SlotSet::none(),
+            roles: SlotSet::none(),
+            joins: SlotSet::none(),
+        }
+    }
+
+    /// All kinds in this slot, and in the others as they are.
+    pub fn renewed(self, index: usize) -> Enabled
+        requires { index < SLOT_COUNT }
+        ensures { (s : ℕ) → s < SLOT_COUNT → kinds_in result s ≡ (if s == index then all_kinds else kinds_in self s) }
+    {
+        Enabled {
+            interrupts: self.interrupts.with(index, true),
+            roles: self.roles.with(index, true),
+            joins: self.joins.with(index, true),
+        }
+    }
+
+    /// These kinds more in these slots.
+    pub fn with(self, kinds: Kinds, among: SlotSet) -> Enabled
+        ensures { (s : ℕ) → s < SLOT_COUNT → kinds_in result s ≡ (if has among s then with_kinds (kinds_in self s) (kind_set kinds) else kinds_in self s) }
+    {
+        Enabled {
+            interrupts: self.interrupts.or(among.only_if(may_interrupt(kinds))),
+            roles: self.roles.or(among.only_if(may_ask_role(kinds))),
+            joins: self.joins.or(among.only_if(may_join(kinds))),
+        }
+    }
+
+    /// Without these kinds in these slots.
+    pub fn without(self, kinds: Kinds, among: SlotSet) -> Enabled
+        ensures { (s : ℕ) → s < SLOT_COUNT → kinds_in result s ≡ (if has among s then without_kinds (kinds_in self s) (kind_set kinds) else kinds_in self s) }
+    {
+        Enabled {
+            interrupts: self.interrupts.without(among.only_if(may_interrupt(kinds))),
+            roles: self.roles.without(among.only_if(may_ask_role(kinds))),
+            joins: self.joins.without(among.only_if(may_join(kinds))),
+        }
+    }
+}

@@ -1,0 +1,175 @@
+use crate::attached::Device;
+use crate::marks::Marks;
+use crate::places::{reaches, register_from, wish};
+use crate::sets::SlotSet;
+use crate::walks::{Happening, Sought};
+use i3c_base::{Addr7, Cuts, RaiseRefusal, Request, SLOTS, Slot};
+use std::marker::Model;
+
+/// The devices of a bus in their slots, each as if all kinds of its events were enabled.
+#[derive(Drop)]
+pub(crate) struct Occupants {
+    places: [Option<Device>; SLOTS],
+    // so that no walk looks into a slot where there is nothing for it
+    marks: Marks,
+}
+
+impl Model for Occupants {
+    ghost use Rattle.std.specs.Prelude.{◌≡◌, length, List, Option};
+    ghost use Rattle.i3c_base.specs.declared.range.TheConstants.{SLOTS as SLOT_COUNT};
+    ghost use Rattle.i3c_base.specs.State.{Device as DeviceState};
+    ghost use Rattle.i3c_device.specs.Marks.{AreMarks};
+
+    ghost Value = { List (Option DeviceState) };
+
+    ghost view = { λ d. d.places };
+
+    ghost invariant = { λ d. (length d.places ≡ SLOT_COUNT) × AreMarks d.marks d.places };
+}
+
+impl Occupants {
+    ghost use Rattle.i3c_base.specs.declared.device.TheConstants.{REGISTERS as REGISTER_COUNT};
+    ghost use Rattle.i3c_base.specs.declared.range.TheConstants.{SLOTS as SLOT_COUNT};
+    ghost use Rattle.i3c_base.specs.Places.{changed};
+    ghost use Rattle.i3c_base.specs.State.{Device as DeviceState, no_devices};
+    ghost use Rattle.i3c_device.specs.Finding.{within, IsLowestFound, IsNowhere};
+    ghost use Rattle.i3c_device.specs.Marks.{AreMarks};
+    ghost use Rattle.i3c_device.specs.Raising.{interrupting_if, next_fault, with_raise};
+    ghost use Rattle.i3c_device.specs.Reading.{AreAt, IsRegisterOf};
+    ghost use Rattle.i3c_device.specs.Wishing.{WishesIn};
+    ghost use Rattle.std.specs.Prelude.{◌≡◌, ◌<◌, length, suc, Some, None, option_map, slice_index_or, slice_set, MatchOption, MatchResult, OnOk, OnErr};
+
+    /// Empty slots.
+    pub fn new() -> Occupants
+        ensures { result ≡ no_devices }
+    {
+        Occupants {
+            places: std::array::from_fn(|_| None),
+            marks: Marks::new(),
+        }
+    }
+
+    /// The device in a slot.
+    pub fn get(&self, slot: Slot) -> Option<&Device>
+        ensures device { option_map (λ d. d.now) result ≡ slice_index_or self.now slot None }
+        ensures slots { length self.now ≡ SLOT_COUNT }
+    {
+        self.places[slot.index()].as_ref()
+    }
+
+    /// In which slots a walk may find something.
+    pub fn marks(&self) -> Marks
+        ensures marks { AreMarks result self.now }
+        ensures slots { length self.now ≡ SLOT_COUNT }
+    {
+        self.marks
+    }
+
+    /// This stands in a slot from now on.
+    pub fn put(&mut self, slot: Slot, place: Option<Device>)
+        ensures put { self.new ≡ slice_set self.old slot place }
+        ensures slots { length self.old ≡ SLOT_COUNT }
+    {
+        let index = slot.index();
+        self.places[index] = place;
+        self.marks = self.marks.noted(index, &self.places[index]);
+    }
+
+    /// The slot's device raises the interrupt after this many of its slot, and answers its number, if its interrupts are
+    /// enabled. The first fault refuses it, and changes nothing.
+    pub fn raise(
+        &mut self,
+        slot: Slot,
+        raised: u64,
+        byte: Option<u8>,
+        enabled: bool,
+    ) -> Result<u64, RaiseRefusal>
+        requires { (d : DeviceState) × (slice_index_or self.old slot None ≡ Some d) }
+        ensures fault { (d : DeviceState) → slice_index_or self.old slot None ≡ Some d → MatchResult result (λ number. (number ≡ suc raised) × (next_fault (interrupting_if enabled d) byte raised ≡ None)) (λ fault. next_fault (interrupting_if enabled d) byte raised ≡ Some fault) }
+        ensures raised { OnOk result (self.new ≡ slice_set self.old slot (option_map (with_raise (suc raised) byte) (slice_index_or self.old slot None))) }
+        ensures unchanged { OnErr result (self.new ≡ self.old) }
+        ensures slots { length self.old ≡ SLOT_COUNT }
+    {
+        let index = slot.index();
+        let Some(device) = &mut self.places[index] else {
+            unreachable!()
+        };
+        let outcome = device.raise(raised, byte, enabled);
+        self.marks = self.marks.noted(index, &self.places[index]);
+        outcome
+    }
+
+    /// The request that the slot's device wishes to drive, if there is one.
+    pub fn wish(&self, index: usize) -> Option<Request>
+        requires { index < SLOT_COUNT }
+        ensures wish { WishesIn result (slice_index_or self.now index None) }
+        ensures slots { length self.now ≡ SLOT_COUNT }
+    {
+        wish(&self.places[index])
+    }
+
+    /// The slots of the devices at an address, but the active controller's.
+    pub fn targets(&self, active: Slot, address: Addr7) -> SlotSet
+        ensures there { AreAt active address result self.now }
+        ensures slots { length self.now ≡ SLOT_COUNT }
+    {
+        let mut targets = SlotSet::none();
+        let mut left = self.marks.present;
+        while let Some(index) = left.take_lowest() {
+            let is_there = reaches(&self.places[index], index, active, &Some(address));
+            targets = targets.with(index, is_there);
+        }
+        targets
+    }
+
+    /// A register of these slots' devices, as the lines give it from this bit of a frame on.
+    pub fn register_of(&self, among: SlotSet, register: usize, cuts: &Cuts, at: u16) -> u8
+        requires { register < REGISTER_COUNT }
+        ensures { IsRegisterOf among register cuts.now at self.now result }
+    {
+        let mut byte = u8::MAX;
+        let mut left = among;
+        while let Some(index) = left.take_lowest() {
+            let cut = cuts.at(Slot::from_index(index));
+            byte &= register_from(&self.places[index], register, cut, at);
+        }
+        byte
+    }
+
+    /// The lowest of these slots in which what is sought is found.
+    pub fn lowest<S: Sought>(&self, among: SlotSet, sought: &S) -> Option<Slot>
+        ensures { MatchOption result (IsNowhere (S.finds sought.now) among self.now) (IsLowestFound (S.finds sought.now) among self.now) }
+    {
+        let mut left = among;
+        while let Some(index) = left.take_lowest() {
+            if sought.is_found(&self.places[index], index) {
+                return Some(Slot::from_index(index));
+            }
+        }
+        None
+    }
+
+    /// This happens in one slot.
+    pub fn happen<H: Happening>(&mut self, slot: Slot, happening: &H)
+        ensures changed { self.new ≡ slice_set self.old slot (H.after happening.now slot (slice_index_or self.old slot None)) }
+        ensures slots { length self.old ≡ SLOT_COUNT }
+    {
+        let index = slot.index();
+        happening.happen(&mut self.places[index], index);
+        self.marks = self.marks.noted(index, &self.places[index]);
+    }
+
+    /// This happens in each of these slots.
+    pub fn each<H: Happening>(&mut self, among: SlotSet, happening: &H)
+        ensures changed { self.new ≡ changed (within among (H.after happening.now)) self.old }
+        ensures slots { length self.old ≡ SLOT_COUNT }
+    {
+        let mut left = among;
+        while let Some(index) = left.take_lowest() {
+            if happening.concerns(&self.places[index], index) {
+                happening.happen(&mut self.places[index], index);
+                self.marks = self.marks.noted(index, &self.places[index]);
+            }
+        }
+    }
+}
