@@ -1,5 +1,5 @@
 -- The first of the requests that are driven in some slots, looked through one after another.
-use Rattle.std.proofs.Common.{◌≡◌, ℕ, ◌<◌, ◌≤◌, Bool, true, false, not, ◌&&◌, ◌==◌, ◌⊎◌, List, length, get_or, Option, Some, None, MatchOption, inl, inr, sym, ap, subst, ◌∙◌, arith}
+use Rattle.std.proofs.Common.{◌≡◌, ℕ, ◌<◌, ◌≤◌, Bool, true, false, not, ◌&&◌, ◌==◌, if◌then◌else◌, ◌⊎◌, List, length, get_or, Option, Some, None, MatchOption, inl, inr, sym, ap, subst, ◌∙◌, arith}
 use Rattle.std.proofs.lemmas.Bool.{and_left, and_right, both_ways, cases_Bool, cases_eq, cases_lt, cond-true, cond-false, eq-eqb, false_from_ne_true, ne_eqb}
 use Rattle.std.proofs.lemmas.List.{get_or_past}
 use Rattle.i3c_base.specs.declared.range.TheConstants.{SLOTS}
@@ -8,11 +8,27 @@ use Rattle.i3c_base.specs.Serve.{rank}
 use Rattle.i3c_base.specs.State.{Device}
 use Rattle.i3c_header.specs.Keys.{IsLawful}
 use Rattle.i3c_device.specs.declared.sets.SlotSet.{SlotSet}
-use Rattle.i3c_device.specs.First.{IsAlone, IsShared, Precedes}
 use Rattle.i3c_device.specs.Sets.{has}
 use Rattle.i3c_device.specs.Walks.{AnyDrives, IsFirstDriven, NobodyDrives, drives_at}
 use Rattle.i3c_device.proofs.FindLaws.{TakesOut, still_in}
 use Rattle.i3c_device.proofs.MarkLaws.{undriven_past}
+
+-- slot i alone drives the request
+pub record IsAlone (r : Request) (i : ℕ) (next : Request × SlotSet) : Type 0 where
+  pub request : next.0 ≡ r
+  pub drivers : (s : ℕ) → s < SLOTS → has next.1 s ≡ (if s == i then true else false)
+
+-- the same request, which slot i drives as well
+pub record IsShared (first : Request × SlotSet) (i : ℕ) (next : Request × SlotSet) : Type 0 where
+  pub request : next.0 ≡ first.0
+  pub drivers : (s : ℕ) → s < SLOTS → has next.1 s ≡ (if s == i then true else has first.1 s)
+
+-- of what was first, and the request r of slot i, what comes first; both where they are one
+abbrev pub Precedes : Request × SlotSet → Request → ℕ → Request × SlotSet → Type 0
+Precedes first r i next =
+    ((first.0 ≡ r) × IsShared first i next)
+    ⊎ ((rank r < rank first.0) × IsAlone r i next)
+    ⊎ ((rank first.0 < rank r) × (next ≡ first))
 
 -- what a slot drives
 abbrev pub drives_in : ℕ → List (Option Device) → ℕ → Request → Bool

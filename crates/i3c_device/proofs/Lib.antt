@@ -6,6 +6,7 @@ pub mod EachLaws
 pub mod SeenLaws
 pub mod Blindness
 pub mod SeenWalks
+pub mod KeyLaws
 pub mod FindLaws
 pub mod FirstLaws
 pub mod ReadLaws

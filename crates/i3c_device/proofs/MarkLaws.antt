@@ -1,16 +1,19 @@
 -- What marks say of the places that they are of.
-use Rattle.std.proofs.Common.{◌≡◌, ℕ, zero, suc, ◌<◌, Bool, true, false, not, ◌&&◌, ◌==◌, if◌then◌else◌, List, [], ◌∷◌, length, get_or, set, replicate, Option, Some, None, is_some, inl, inr, refl, sym, ap, ◌∙◌, arith}
+use Rattle.std.proofs.Common.{◌≡◌, ℕ, zero, suc, ◌+◌, ◌/◌, ◌<◌, ◌≤◌, Bool, true, false, not, ◌&&◌, ◌==◌, if◌then◌else◌, List, [], ◌∷◌, length, length-set, get_or, set, replicate, Option, Some, None, is_none, is_some, slice_index, subst, inl, inr, refl, sym, ap, ◌∙◌, arith}
 use Rattle.std.proofs.lemmas.Bool.{and_parts, both_ways, cases_eq, cond-true, cond-false, eq-eqb, ne_eqb}
-use Rattle.std.proofs.lemmas.List.{get_or-set_other, get_or-set_same}
+use Rattle.std.proofs.lemmas.List.{get_or-replicate, get_or-set_other, length-replicate, get_or-set_same}
 use Rattle.i3c_base.specs.declared.range.TheConstants.{SLOTS}
 use Rattle.i3c_base.specs.declared.requests.Request.{Request}
 use Rattle.i3c_base.specs.Serve.{asks}
-use Rattle.i3c_base.specs.State.{Device, in_slot, no_devices}
+use Rattle.i3c_base.specs.State.{Device, in_slot, is_the, no_devices}
 use Rattle.i3c_base.proofs.Lookups.{no_devices_at}
 use Rattle.i3c_device.specs.declared.sets.SlotSet.{SlotSet}
-use Rattle.i3c_device.specs.Marks.{IsSetOf}
+use Rattle.i3c_device.specs.Addressing.{IsDynamicIn}
+use Rattle.i3c_device.specs.Marks.{AreKeys, IsSetOf, key_in}
 use Rattle.i3c_device.specs.Sets.{has}
 use Rattle.i3c_device.specs.Walks.{drives_at}
+use Rattle.i3c_device.specs.Reading.{AreAt}
+use Rattle.i3c_device.specs.Wishing.{key_of}
 
 -- a place that holds a device
 pub present_is : (o : Option Device) → is_some o ≡ in_slot (λ d. true) o
@@ -39,3 +42,71 @@ set_of_put test old new places i place b low h is put s l = put s l ∙ elim (ca
 -- an empty slot drives no request
 pub undriven_past : (active s : ℕ) (o : Option Device) (q : Request) → o ≡ None → drives_at active s o q ≡ true → ⊥
 undriven_past active s o q e h = both_ways _ refl (and_parts (not (s == active)) false (ap (λ p. not (s == active) && in_slot (λ d. asks d q) p) (sym e) ∙ h)).1
+
+-- the keys of empty slots
+pub keys_none : AreKeys (replicate SLOTS 0) no_devices
+keys_none = (length-replicate {A = ℕ} SLOTS 0, λ s l. (slice_index_replicate s l ∙ sym (ap key_in (no_devices_at s)), subst IsDynamicIn (sym (no_devices_at s)) tt))
+  where
+    slice_index_replicate : (s : ℕ) → s < SLOTS → slice_index (replicate SLOTS 0) s ≡ 0
+    slice_index_replicate s l = get_or-replicate SLOTS s 0 0 l
+
+-- one key anew
+pub keys_of_put : (keys : List ℕ) (places : List (Option Device)) (i : ℕ) (place : Option Device) (key : ℕ) → i < length places → AreKeys keys places → key ≡ key_in place → IsDynamicIn place → i < SLOTS
+    → AreKeys (set keys i key) (set places i place)
+keys_of_put keys places i place key low are is dynamic here = (
+  length-set keys i key ∙ are.0,
+  λ s l. elim (cases_eq s i) [
+    | inl e ↦
+        let there : get_or (set places i place) s None ≡ place = ap (λ k. get_or (set places i place) k None) e ∙ get_or-set_same places i place None low in
+        (ap (λ k. slice_index (set keys i key) k) e ∙ (get_or-set_same keys i key 0 (omega (arith, are.0, here)) ∙ (is ∙ sym (ap key_in there))), subst IsDynamicIn (sym there) dynamic)
+    | inr ne ↦
+        let there : get_or (set places i place) s None ≡ get_or places s None = get_or-set_other places i s place None ne in
+        (get_or-set_other keys i s key 0 ne ∙ ((are.1 s l).0 ∙ sym (ap key_in there)), subst IsDynamicIn (sym there) (are.1 s l).1)
+  ],
+)
+
+-- the slots so far whose keys are of requests at an address
+abbrev pub AreKeyed : ℕ → ℕ → List ℕ → SlotSet → Type 0
+AreKeyed a n keys slots = (s : ℕ) → s < SLOTS → s < n → has slots s ≡ (slice_index keys s / 2 == a)
+
+pub keyed_none : (a : ℕ) (keys : List ℕ) (slots : SlotSet) → AreKeyed a 0 keys slots
+keyed_none a keys slots s l m = absurd (omega (arith, m))
+
+pub keyed_more : (a n : ℕ) (keys : List ℕ) (slots more : SlotSet) (b : Bool) → AreKeyed a n keys slots → b ≡ (slice_index keys n / 2 == a) → ((s : ℕ) → s < SLOTS → has more s ≡ (if s == n then b else has slots s)) → AreKeyed a (n + 1) keys more
+keyed_more a n keys slots more b h is put s l m = put s l ∙ elim (cases_eq s n) [
+  | inl e ↦ cond-true (s == n) b (has slots s) (eq-eqb s n e) ∙ (is ∙ ap (λ k. slice_index keys k / 2 == a) (sym e))
+  | inr ne ↦ cond-false (s == n) b (has slots s) (ne_eqb s n ne) ∙ h s l (omega (arith, m, ne))
+]
+
+-- the slots of the devices at an address, but the active controller's
+pub keyed_at : (active a n : ℕ) (keys : List ℕ) (places : List (Option Device)) (present unaddressed addressed keyed both slots : SlotSet) → SLOTS ≤ n → AreKeyed a n keys keyed → AreKeys keys places → IsSetOf (λ d. true) present places
+    → IsSetOf (λ d. is_none d.address) unaddressed places → ((s : ℕ) → s < SLOTS → has addressed s ≡ (has present s && not (has unaddressed s))) → ((s : ℕ) → s < SLOTS → has both s ≡ (has keyed s && has addressed s))
+    → ((s : ℕ) → s < SLOTS → has slots s ≡ (if s == active then false else has both s)) → AreAt active a slots places
+keyed_at active a n keys places present unaddressed addressed keyed both slots past h are there lacks addresses joined but s l =
+    but s l ∙ (ap (λ b. if s == active then false else b) (joined s l ∙ (λ t. (h s l (omega (arith, l, past)) ∙ ap (λ k. k / 2 == a) (are.1 s l).0) t && (addresses s l ∙ (λ u. there s l u && not (lacks s l u))) t)) ∙ go (s == active) (get_or places s None))
+  where
+    -- a key is twice an address, or one more
+    half : (b : ℕ) (role : Bool) → key_of (Some b) role / 2 ≡ b
+    half b true = omega arith
+    half b false = omega arith
+
+    at : (b : ℕ) (role : Bool) → ((key_of (Some b) role / 2 == a) && true) ≡ (b == a)
+    at b role = ap (λ k. (k == a) && true) (half b role) ∙ last (b == a)
+      where
+        last : (x : Bool) → (x && true) ≡ x
+        last true = refl
+        last false = refl
+
+    nobody : (x : Bool) → (x && false) ≡ false
+    nobody true = refl
+    nobody false = refl
+
+    device : (o : Option ℕ) (role : Bool) → ((key_of o role / 2 == a) && not (is_none o)) ≡ is_the a o
+    device None role = nobody (key_of None role / 2 == a)
+    device (Some b) role = at b role
+
+    go : (b : Bool) (o : Option Device) → (if b then false else (key_in o / 2 == a) && (in_slot (λ d. true) o && not (in_slot (λ d. is_none d.address) o))) ≡ in_slot (λ d. not b && is_the a d.address) o
+    go true None = refl
+    go true (Some d) = refl
+    go false None = nobody (0 == a)
+    go false (Some d) = device d.address d.role_wish

@@ -1,6 +1,6 @@
 -- Walks over devices as they are seen with their kinds.
 use Rattle.std.proofs.Common.{◌≡◌, ℕ, ◌+◌, ◌-◌, ◌*◌, ◌<◌, ◌↔◌, ◌⊎◌, slice_index, Bool, true, false, not, ◌&&◌, ◌||◌, ◌==◌, nat_le, if◌then◌else◌, List, length, get_or, Option, Some, None, Result, Ok, Err, IsTrue, MatchOption, OnOk, option_map, is_none, is_some, inl, inr, refl, sym, ap, subst, ◌∙◌, arith}
-use Rattle.std.proofs.lemmas.Bool.{and_parts, and_right, both_ways, cases_Bool, cases_lt, false_from_ne_true, le-leb, lt-leb, or_left, or_right}
+use Rattle.std.proofs.lemmas.Bool.{and_parts, both_ways, cases_Bool, cases_lt, false_from_ne_true, le-leb, lt-leb, or_left, or_right}
 use Rattle.std.proofs.lemmas.List.{get_or_past}
 use Rattle.std.proofs.lemmas.Option.{none-some, same_Some}
 use Rattle.std.specs.Int.{bit_at}
@@ -17,11 +17,9 @@ use Rattle.i3c_base.specs.State.{Device, in_slot, is_the}
 use Rattle.i3c_word.specs.declared.Word.{Word}
 use Rattle.i3c_ccc.specs.declared.codes.Code.{Code}
 use Rattle.i3c_ccc.specs.declared.codes.Code.TheVariants.{Deftgts, Disec, DisecDirect, Enec, EnecDirect, Getacccr, Other}
-use Rattle.i3c_header.specs.Keys.{IsLawful}
 use Rattle.i3c_device.specs.declared.enabled.Enabled.{Enabled}
 use Rattle.i3c_device.specs.declared.marks.Marks.{Marks}
 use Rattle.i3c_device.specs.declared.sets.SlotSet.{SlotSet}
-use Rattle.i3c_device.specs.First.{IsAlone, Precedes}
 use Rattle.i3c_device.specs.Enabling.{kinds_in, seen, seen_in, under}
 use Rattle.i3c_device.specs.Finding.{IsLowestFound, IsNowhere, within}
 use Rattle.i3c_device.specs.Hearing.{named_kinds}
@@ -29,11 +27,9 @@ use Rattle.i3c_device.specs.Marks.{AreMarks, IsSetOf}
 use Rattle.i3c_device.specs.Raising.{interrupting_if, next_fault}
 use Rattle.i3c_device.specs.Reading.{AreReadOf, PullsLow}
 use Rattle.i3c_device.specs.Sets.{SomeLeft, has}
-use Rattle.i3c_device.specs.Walks.{AreReached, AreWillingLost, IsHearerFrom, IsLowestWilling, NobodyHearsFrom, SomeReached, drives_at, heard_at, reaches_at, willing_at}
-use Rattle.i3c_device.specs.Wishing.{WishesIn, asks_some, wishes_interrupt, wishes_join, wishes_role}
+use Rattle.i3c_device.specs.Walks.{AreReached, AreWillingLost, IsHearerFrom, IsLowestWilling, NobodyHearsFrom, SomeReached, heard_at, reaches_at, willing_at}
+use Rattle.i3c_device.specs.Wishing.{asks_some, wishes_interrupt, wishes_join, wishes_role}
 use Rattle.i3c_device.proofs.EachLaws.{all_changed}
-use Rattle.i3c_device.proofs.FindLaws.{TakesOut, not_taken, still_in}
-use Rattle.i3c_device.proofs.FirstLaws.{LeadsSoFar, leads_joined, leads_skip}
 use Rattle.i3c_device.proofs.SeenLaws.{kinds_seen, length_seen, seen_at, seen_turned}
 
 -- what holds where a call went well
@@ -207,7 +203,7 @@ there : (a : ℕ) (o : Option ℕ) → is_the a o ≡ true → is_some o ≡ tru
 there a None e = absurd (both_ways _ refl e)
 there a (Some b) e = refl
 
-and_join : (a b : Bool) → a ≡ true → b ≡ true → (a && b) ≡ true
+pub and_join : (a b : Bool) → a ≡ true → b ≡ true → (a && b) ≡ true
 and_join a b p q = ap (λ x. x && b) p ∙ q
 
 pub asked_of : (d : Device) (r : Request) → asks d r ≡ true → asks_some d ≡ true
@@ -246,32 +242,6 @@ asking_seen e marks xs now active s joins roles interrupts more all result is ar
     go true o = refl
     go false None = refl
     go false (Some d) = refl
-
--- the request of a slot that asks
-pub wish_driven : (e : Enabled) (xs now : List (Option Device)) (active i : ℕ) (r : Request) → seen e xs ≡ now → WishesIn (Some r) (get_or xs i None) → (not (i == active) && in_slot asks_some (get_or now i None)) ≡ true
-    → (drives_at active i (get_or now i None) r ≡ true) × ((q : Request) → drives_at active i (get_or now i None) q ≡ true → q ≡ r) × IsLawful r
-wish_driven e xs now active i r is wish asks_it =
-    let p = and_parts (not (i == active)) (in_slot asks_some (get_or now i None)) asks_it in
-    let here = now_at e xs now i is in
-    go (get_or xs i None) (get_or now i None) here wish p.0 p.1
-  where
-    go : (o n : Option Device) → n ≡ seen_in e i o → WishesIn (Some r) o → not (i == active) ≡ true → in_slot asks_some n ≡ true
-        → (drives_at active i n r ≡ true) × ((q : Request) → drives_at active i n q ≡ true → q ≡ r) × IsLawful r
-    go None n same w other h = absurd w
-    go (Some d) n same w other h =
-        let at : n ≡ Some (under (kinds_in e i) d) = same in
-        subst (λ m. (drives_at active i m r ≡ true) × ((q : Request) → drives_at active i m q ≡ true → q ≡ r) × IsLawful r) (sym at) (
-          and_join (not (i == active)) (asks (under (kinds_in e i) d) r) other (w.asked (kinds_in e i) (sym (ap (in_slot asks_some) at) ∙ h)),
-          λ q t. w.alone (kinds_in e i) q (and_parts (not (i == active)) (asks (under (kinds_in e i) d) q) t).1,
-          w.lawful,
-        )
-
-pub nothing_driven : (e : Enabled) (xs now : List (Option Device)) (active i : ℕ) (q : Request) → seen e xs ≡ now → WishesIn None (get_or xs i None) → drives_at active i (get_or now i None) q ≡ false
-nothing_driven e xs now active i q is wish = ap (λ o. drives_at active i o q) (now_at e xs now i is) ∙ go (get_or xs i None) wish
-  where
-    go : (o : Option Device) → WishesIn None o → drives_at active i (seen_in e i o) q ≡ false
-    go None w = and_right (not (i == active)) false refl
-    go (Some d) w = and_right (not (i == active)) (asks (under (kinds_in e i) d) q) (false_from_ne_true (asks (under (kinds_in e i) d) q) (λ t. both_ways _ (w (kinds_in e i)) (asked_of (under (kinds_in e i) d) q t)))
 
 -- the commands by their codes
 pub unseen_slots : (e : Enabled) (xs now : List (Option Device)) → length now ≡ SLOTS → seen e xs ≡ now → length xs ≡ SLOTS
@@ -314,40 +284,6 @@ read_seen e xs now active a cuts first bytes is h k j l m = (
   λ z. pulls_seen e xs now active a (lost_by cuts (first + 9 * k + j)) k (7 - j) is ((h k j l m).0 z),
   λ p. (h k j l m).1 (seen_pulls e xs now active a (lost_by cuts (first + 9 * k + j)) k (7 - j) is p),
 )
-
--- the first request of the slots so far, where those that are left ask
-pub record Asking (active : ℕ) (left : SlotSet) (now : List (Option Device)) (first : Option (Request × SlotSet)) : Type 0 where
-  pub leads : LeadsSoFar active left now first
-  pub asking : AreAsking active left now
-
-pub asking_none : (active : ℕ) (left : SlotSet) (now : List (Option Device)) → ((s : ℕ) → s < SLOTS → has left s ≡ (not (s == active) && in_slot asks_some (get_or now s None))) → Asking active left now None
-asking_none active left now is = record {
-  leads = λ s q l d. is s l ∙ driver_asks s q (get_or now s None) d;
-  asking = λ s l h. sym (is s l) ∙ h;
-}
-  where
-    driver_asks : (s : ℕ) (q : Request) (o : Option Device) → drives_at active s o q ≡ true → (not (s == active) && in_slot asks_some o) ≡ true
-    driver_asks s q None h = h
-    driver_asks s q (Some d) h = let p = and_parts (not (s == active)) (asks d q) h in and_join (not (s == active)) (asks_some d) p.0 (asked_of d q p.1)
-
-still_asking : (active i : ℕ) (left next : SlotSet) (now : List (Option Device)) → TakesOut i left next → AreAsking active left now → AreAsking active next now
-still_asking active i left next now out h s l t = h s l (sym (still_in i left next out s l (not_taken i left next out s l t)) ∙ t)
-
--- a slot without a wish, and one with it
-pub asking_skip : (e : Enabled) (xs now : List (Option Device)) (active i : ℕ) (left next : SlotSet) (first : Option (Request × SlotSet)) → seen e xs ≡ now → Asking active left now first → i < SLOTS → has left i ≡ true → TakesOut i left next
-    → WishesIn None (get_or xs i None) → Asking active next now first
-asking_skip e xs now active i left next first is h low t out wish = record {
-  leads = leads_skip active left next now first i h.leads low t out (λ q. nothing_driven e xs now active i q is wish);
-  asking = still_asking active i left next now out h.asking;
-}
-
-pub asking_more : (e : Enabled) (xs now : List (Option Device)) (active i : ℕ) (left next : SlotSet) (first : Option (Request × SlotSet)) (r : Request) (more : Request × SlotSet) → seen e xs ≡ now → Asking active left now first → i < SLOTS
-    → has left i ≡ true → TakesOut i left next → WishesIn (Some r) (get_or xs i None) → MatchOption first (IsAlone r i more) (λ f. Precedes f r i more) → Asking active next now (Some more)
-asking_more e xs now active i left next first r more is h low t out wish joined =
-    let d = wish_driven e xs now active i r is wish (h.asking i low t) in record {
-      leads = leads_joined active left next now first r i more h.leads low t out d.0 d.1 d.2 joined;
-      asking = still_asking active i left next now out h.asking;
-    }
 
 -- a slot that holds a device
 pub held_seen : (e : Enabled) (xs now : List (Option Device)) (present : SlotSet) (s : ℕ) → seen e xs ≡ now → IsSetOf (λ d. true) present xs → s < SLOTS → has present s ≡ is_some (get_or now s None)

@@ -1,15 +1,25 @@
 -- In which slots a walk may find something.
-use Rattle.std.specs.Prelude.{◌≡◌, ℕ, ◌<◌, Bool, true, List, Option, None, is_none, slice_index_or}
+use Rattle.std.specs.Prelude.{◌≡◌, ℕ, Some, length, ◌<◌, Bool, true, List, Option, None, is_none, slice_index, slice_index_or}
 use Rattle.i3c_base.specs.declared.range.TheConstants.{SLOTS}
 use Rattle.i3c_base.specs.State.{Device, in_slot}
 use Rattle.i3c_device.specs.declared.sets.SlotSet.{SlotSet}
 use Rattle.i3c_device.specs.declared.marks.Marks.{Marks}
+use Rattle.i3c_device.specs.Addressing.{IsDynamicIn}
 use Rattle.i3c_device.specs.Sets.{has}
-use Rattle.i3c_device.specs.Wishing.{wishes_interrupt, wishes_join, wishes_role}
+use Rattle.i3c_device.specs.Wishing.{key_of, wishes_interrupt, wishes_join, wishes_role}
 
 -- the set of the slots whose device passes a test
 abbrev pub IsSetOf : (Device → Bool) → SlotSet → List (Option Device) → Type 0
 IsSetOf test slots places = (s : ℕ) → s < SLOTS → has slots s ≡ in_slot test (slice_index_or places s None)
+
+-- the key of the request that whatever stands in a slot drives when it drives one
+abbrev pub key_in : Option Device → ℕ
+key_in None = 0
+key_in (Some d) = key_of d.address d.role_wish
+
+-- the keys of these places, whose addresses are dynamic ones
+abbrev pub AreKeys : List ℕ → List (Option Device) → Type 0
+AreKeys keys places = (length keys ≡ SLOTS) × ((s : ℕ) → s < SLOTS → (slice_index keys s ≡ key_in (slice_index_or places s None)) × IsDynamicIn (slice_index_or places s None))
 
 -- the marks of these places
 pub record AreMarks (marks : Marks) (places : List (Option Device)) : Type 0 where
@@ -19,3 +29,4 @@ pub record AreMarks (marks : Marks) (places : List (Option Device)) : Type 0 whe
   pub interrupting : IsSetOf wishes_interrupt marks.interrupting places
   pub hearing : IsSetOf (λ d. d.hearing) marks.hearing places
   pub unaddressed : IsSetOf (λ d. is_none d.address) marks.unaddressed places
+  pub keys : AreKeys marks.keys places

@@ -1,6 +1,7 @@
 -- What a device wishes for, whether or not that kind is enabled.
-use Rattle.std.specs.Prelude.{◌≡◌, Bool, true, false, not, ◌&&◌, ◌||◌, is_none, is_some, Option, Some, None}
+use Rattle.std.specs.Prelude.{◌≡◌, ℕ, ◌+◌, ◌*◌, ◌/◌, ◌%◌, ◌==◌, if◌then◌else◌, Bool, true, false, not, ◌&&◌, ◌||◌, is_none, is_some, Option, Some, None}
 use Rattle.i3c_base.specs.declared.requests.Request.{Request}
+use Rattle.i3c_base.specs.declared.requests.Request.TheVariants.{Interrupt, Join, Role}
 use Rattle.i3c_base.specs.Numbers.{KindSet}
 use Rattle.i3c_base.specs.Serve.{asks, is_empty}
 use Rattle.i3c_base.specs.State.{Device}
@@ -22,6 +23,16 @@ wishes_interrupt d = is_some d.address && (not d.role_wish && not (is_empty d.wa
 -- it drives a request: it wishes for something, and that kind is enabled
 abbrev pub asks_some : Device → Bool
 asks_some d = (wishes_join d && d.kinds.join) || ((wishes_role d && d.kinds.role) || (wishes_interrupt d && d.kinds.interrupt))
+
+-- the key of the request that a device drives when it drives one, by its address and whether it wishes for the role
+abbrev pub key_of : Option ℕ → Bool → ℕ
+key_of None role = 4
+key_of (Some a) true = 2 * a
+key_of (Some a) false = 2 * a + 1
+
+-- the request with a key: 04 is a join's, and of the others the even ones are role requests
+abbrev pub request_of : ℕ → Request
+request_of key = if key == 4 then Join else (if key % 2 == 0 then Role (key / 2) else Interrupt (key / 2))
 
 -- the one request that a device can drive, where that kind is enabled
 pub record IsWish (d : Device) (r : Request) : Type 0 where

@@ -1,5 +1,6 @@
 use arrayvec::ArrayVec;
 use i3c_base::{Addr7, Identity, REGISTERS, RaiseRefusal, Request, Setup, WAITING, Waiting};
+use i3c_header::key;
 use std::marker::Model;
 
 /// A device while it is attached, but for which kinds of its events are enabled: by itself it is seen with all of them.
@@ -43,7 +44,8 @@ impl Device {
     ghost use Rattle.i3c_base.specs.State.{attached};
     ghost use Rattle.i3c_base.specs.Serve.{without_front, without_join, without_role};
     ghost use Rattle.i3c_base.specs.Round.{hears, unhearing, winner};
-    ghost use Rattle.i3c_device.specs.Wishing.{IsWish, WishesNothing, wishes_interrupt, wishes_join, wishes_role};
+    ghost use Rattle.i3c_device.specs.Addressing.{IsDynamic};
+    ghost use Rattle.i3c_device.specs.Wishing.{IsWish, WishesNothing, key_of, wishes_interrupt, wishes_join, wishes_role};
     ghost use Rattle.i3c_device.specs.Raising.{front_byte, interrupting_if, next_fault, raise_fault, with_raise};
 
     /// A device that was just attached: its registers are `00`.
@@ -154,6 +156,19 @@ impl Device {
             Some(Request::Interrupt(address))
         } else {
             None
+        }
+    }
+
+    /// The key of the request that it drives when it drives one: of a join without an address, else of the role request or
+    /// the interrupt (I3C Basic 5.1.2.2.1).
+    pub(crate) fn key(&self) -> u8
+        ensures key { result ≡ key_of self.now.address self.now.role_wish }
+        ensures dynamic { IsDynamic self.now.address }
+    {
+        match self.address {
+            None => key(Request::Join),
+            Some(address) if self.role_wish => key(Request::Role(address)),
+            Some(address) => key(Request::Interrupt(address)),
         }
     }
 

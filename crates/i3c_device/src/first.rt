@@ -1,31 +1,36 @@
-ghost use Rattle.std.specs.Prelude.{◌<◌, IfSome, MatchOption};
+ghost use Rattle.std.specs.Prelude.{◌≡◌, ◌<◌, MatchOption};
 ghost use Rattle.i3c_base.specs.declared.range.TheConstants.{SLOTS as SLOT_COUNT};
-ghost use Rattle.i3c_header.specs.Keys.{IsLawful};
 ghost use Rattle.i3c_device.specs.First.{Precedes, IsAlone};
+ghost use Rattle.i3c_device.specs.Wishing.{request_of};
 
 use crate::sets::SlotSet;
-use i3c_base::Request;
-use i3c_header::comes_before;
+use i3c_base::{Addr7, Request};
+use i3c_header::key;
 
-/// The first of some requests and the slots that drive it, where this slot drives a request too.
-pub(crate) fn joined(
-    first: Option<(Request, SlotSet)>,
-    request: Request,
-    index: usize,
-) -> (Request, SlotSet)
-    requires slot { index < SLOT_COUNT }
-    requires first { IfSome first (λ f. IsLawful f.0) }
-    requires request { IsLawful request }
-    ensures { MatchOption first (IsAlone request index result) (λ f. Precedes f request index result) }
+/// The lowest of some keys and the slots that drive it, where this slot drives a key too. The lower key wins a header
+/// (I3C Basic 5.1.6.2): a line is low as soon as one pulls it low, and who reads another bit than its own gives up.
+pub(crate) fn joined(first: Option<(u8, SlotSet)>, key: u8, index: usize) -> (u8, SlotSet)
+    requires { index < SLOT_COUNT }
+    ensures { MatchOption first (IsAlone key index result) (λ f. Precedes f key index result) }
 {
-    let Some((before, drivers)) = first else {
-        return (request, SlotSet::only(index));
-    };
-    if before == request {
-        (before, drivers.with(index, true))
-    } else if comes_before(&request, &before) {
-        (request, SlotSet::only(index))
+    match first {
+        Some((before, drivers)) if before < key => (before, drivers),
+        Some((before, drivers)) if before == key => (before, drivers.with(index, true)),
+        _ => (key, SlotSet::only(index)),
+    }
+}
+
+/// The request with a key.
+pub(crate) fn request_of(of: u8) -> Request
+    ensures { result ≡ request_of of }
+{
+    if of == key(Request::Join) {
+        return Request::Join;
+    }
+    let address = Addr7::new(of / 2).unwrap();
+    if of % 2 == 0 {
+        Request::Role(address)
     } else {
-        (before, drivers)
+        Request::Interrupt(address)
     }
 }

@@ -4,8 +4,9 @@ ghost use Rattle.i3c_base.specs.State.{Device as DeviceState, no_devices};
 ghost use Rattle.i3c_device.specs.Marks.{AreMarks};
 
 use crate::attached::Device;
-use crate::places::{is_hearing, is_unaddressed, wishes_interrupt, wishes_join, wishes_role};
+use crate::places::{is_hearing, is_unaddressed, key, wishes_interrupt, wishes_join, wishes_role};
 use crate::sets::SlotSet;
+use i3c_base::SLOTS;
 
 /// In which slots a walk may find something.
 #[derive(Clone, Copy)]
@@ -22,6 +23,8 @@ pub(crate) struct Marks {
     pub hearing: SlotSet,
     /// Those whose device has no address.
     pub unaddressed: SlotSet,
+    /// By slot, the key of the request that its device drives when it drives one.
+    pub keys: [u8; SLOTS],
 }
 
 impl Marks {
@@ -36,6 +39,7 @@ impl Marks {
             interrupting: SlotSet::none(),
             hearing: SlotSet::none(),
             unaddressed: SlotSet::none(),
+            keys: [0; SLOTS],
         }
     }
 
@@ -44,6 +48,8 @@ impl Marks {
         requires { index < SLOT_COUNT }
         ensures { (places : List (Option DeviceState)) → length places ≡ SLOT_COUNT → AreMarks self places → AreMarks result (slice_set places index place.now) }
     {
+        let mut keys = self.keys;
+        keys[index] = key(place);
         Marks {
             present: self.present.with(index, place.is_some()),
             joining: self.joining.with(index, wishes_join(place)),
@@ -51,6 +57,7 @@ impl Marks {
             interrupting: self.interrupting.with(index, wishes_interrupt(place)),
             hearing: self.hearing.with(index, is_hearing(place)),
             unaddressed: self.unaddressed.with(index, is_unaddressed(place)),
+            keys,
         }
     }
 }

@@ -1,9 +1,9 @@
 use crate::attached::Device;
 use crate::marks::Marks;
-use crate::places::{reaches, register_from, wish};
+use crate::places::register_from;
 use crate::sets::SlotSet;
 use crate::walks::{Happening, Sought};
-use i3c_base::{Addr7, Cuts, RaiseRefusal, Request, SLOTS, Slot};
+use i3c_base::{Addr7, Cuts, RaiseRefusal, SLOTS, Slot};
 use std::marker::Model;
 
 /// The devices of a bus in their slots, each as if all kinds of its events were enabled.
@@ -36,7 +36,6 @@ impl Occupants {
     ghost use Rattle.i3c_device.specs.Marks.{AreMarks};
     ghost use Rattle.i3c_device.specs.Raising.{interrupting_if, next_fault, with_raise};
     ghost use Rattle.i3c_device.specs.Reading.{AreAt, IsRegisterOf};
-    ghost use Rattle.i3c_device.specs.Wishing.{WishesIn};
     ghost use Rattle.std.specs.Prelude.{◌≡◌, ◌<◌, length, suc, Some, None, option_map, slice_index_or, slice_set, MatchOption, MatchResult, OnOk, OnErr};
 
     /// Empty slots.
@@ -99,27 +98,17 @@ impl Occupants {
         outcome
     }
 
-    /// The request that the slot's device wishes to drive, if there is one.
-    pub fn wish(&self, index: usize) -> Option<Request>
-        requires { index < SLOT_COUNT }
-        ensures wish { WishesIn result (slice_index_or self.now index None) }
-        ensures slots { length self.now ≡ SLOT_COUNT }
-    {
-        wish(&self.places[index])
-    }
-
     /// The slots of the devices at an address, but the active controller's.
     pub fn targets(&self, active: Slot, address: Addr7) -> SlotSet
         ensures there { AreAt active address result self.now }
         ensures slots { length self.now ≡ SLOT_COUNT }
     {
         let mut targets = SlotSet::none();
-        let mut left = self.marks.present;
-        while let Some(index) = left.take_lowest() {
-            let is_there = reaches(&self.places[index], index, active, &Some(address));
-            targets = targets.with(index, is_there);
+        for (index, key) in self.marks.keys.iter().enumerate() {
+            targets = targets.with(index, key / 2 == address.get());
         }
-        targets
+        let addressed = self.marks.present.without(self.marks.unaddressed);
+        targets.and(addressed).but(active)
     }
 
     /// A register of these slots' devices, as the lines give it from this bit of a frame on.

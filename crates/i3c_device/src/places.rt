@@ -7,21 +7,24 @@ ghost use Rattle.i3c_base.specs.Numbers.{same_identity};
 ghost use Rattle.i3c_base.specs.Round.{hears, unhearing};
 ghost use Rattle.i3c_base.specs.Serve.{without_role};
 ghost use Rattle.i3c_base.specs.State.{in_slot};
+ghost use Rattle.i3c_device.specs.Addressing.{IsDynamicIn};
+ghost use Rattle.i3c_device.specs.Marks.{key_in};
 ghost use Rattle.i3c_device.specs.Raising.{wishing_join, wishing_role};
 ghost use Rattle.i3c_device.specs.Reading.{IsDrivenFrom, IsRegisterFrom};
 ghost use Rattle.i3c_device.specs.Walks.{assigned_at, reaches_at, taken_from, willing_at, written_at};
-ghost use Rattle.i3c_device.specs.Wishing.{WishesIn, wishes_interrupt, wishes_join, wishes_role};
+ghost use Rattle.i3c_device.specs.Wishing.{wishes_interrupt, wishes_join, wishes_role};
 
 use crate::attached::Device;
-use i3c_base::{Addr7, Cuts, Identity, Request, Slot};
+use i3c_base::{Addr7, Identity, Request, Slot};
 
-/// The request that whatever stands in this slot wishes to drive.
-pub(crate) fn wish(place: &Option<Device>) -> Option<Request>
-    ensures { WishesIn result place.now }
+/// The key of the request that whatever stands in this slot drives when it drives one.
+pub(crate) fn key(place: &Option<Device>) -> u8
+    ensures key { result ≡ key_in place.now }
+    ensures dynamic { IsDynamicIn place.now }
 {
     match place {
-        Some(device) => device.wish(),
-        None => None,
+        Some(device) => device.key(),
+        None => 0,
     }
 }
 

@@ -1,6 +1,6 @@
 use crate::attached::Device;
 use crate::enabled::Enabled;
-use crate::first::joined;
+use crate::first::{joined, request_of};
 use crate::kinds::named;
 use crate::occupants::Occupants;
 use crate::sets::{SlotSet, lost_slots};
@@ -152,14 +152,14 @@ impl Devices {
         ensures first { MatchOption result (NobodyDrives active self.now) (IsFirstDriven active self.now) }
         ensures slots { length self.now ≡ SLOT_COUNT }
     {
-        let mut first: Option<(Request, SlotSet)> = None;
+        let keys = self.occupants.marks().keys;
+        let mut first: Option<(u8, SlotSet)> = None;
         let mut left = self.driving(active);
         while let Some(index) = left.take_lowest() {
-            if let Some(request) = self.occupants.wish(index) {
-                first = Some(joined(first, request, index));
-            }
+            first = Some(joined(first, keys[index], index));
         }
-        first
+        let (key, drivers) = first?;
+        Some((request_of(key), drivers))
     }
 
     /// The slots whose device drives a request. The active controller drives none.

@@ -1,7 +1,7 @@
 -- Each set, of the places with the one anew.
 use Rattle.std.proofs.Common.{◌∙◌, ◌<◌, true, length, arith, is_none}
 use Rattle.i3c_device.specs.Wishing.{wishes_interrupt, wishes_join, wishes_role}
-use Rattle.i3c_device.proofs.MarkLaws.{present_is, set_of_put}
+use Rattle.i3c_device.proofs.MarkLaws.{keys_of_put, present_is, set_of_put}
 use Rattle.i3c_device.proofs.marks.Marks.noted.Goals as goal
 
 pub returns : goal.returns
@@ -16,4 +16,5 @@ returns c places long are =
       interrupting = set_of_put wishes_interrupt set.interrupting c.with-4.result places c.args.index place c.wishes_interrupt.result low are.interrupting c.wishes_interrupt.ensures c.with-4.ensures;
       hearing = set_of_put (λ d. d.hearing) set.hearing c.with-5.result places c.args.index place c.is_hearing.result low are.hearing c.is_hearing.ensures c.with-5.ensures;
       unaddressed = set_of_put (λ d. is_none d.address) set.unaddressed c.with-6.result places c.args.index place c.is_unaddressed.result low are.unaddressed c.is_unaddressed.ensures c.with-6.ensures;
+      keys = keys_of_put set.keys places c.args.index place c.key.result low are.keys c.key.ensures.key c.key.ensures.dynamic c.requires;
     }
