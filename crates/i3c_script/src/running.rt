@@ -1,13 +1,14 @@
-ghost use Rattle.std.specs.Prelude.{◌≡◌};
+ghost use Rattle.std.specs.Prelude.{◌≡◌, ◌⊎◌, None, Some, MatchResult};
 ghost use Rattle.i3c_script.specs.Asking.{goes_on};
+ghost use Rattle.i3c_script.specs.Stops.{reply_stop};
 
-use crate::asking::{event_of, slot_of_device};
-use crate::faults::Stop;
+use crate::asking::{event_of, frame_of, slot_of_device};
+use crate::faults::{Stop, line_refusal};
 use crate::show::show;
-use crate::telling::{Origin, tell};
+use crate::telling::{Origin, Subject, show_raised, subject_of, tell};
 use crate::wires::Wires;
 use i3c_base::{Cuts, Fixed, RoundReply, SLOTS, Setup};
-use i3c_bus::{Bus, Event, Hand, Reply};
+use i3c_bus::{Bus, Command as Frame, Event, Hand, Reply};
 use i3c_legacy::Legacies;
 use i3c_lines::{ACCEPT_ALL, Command, Name, Names, Refusal, Text, Wish};
 use std::alloc::Global;
@@ -45,6 +46,7 @@ impl Running {
     ghost use Rattle.i3c_base.specs.Cutting.{no_cuts};
     ghost use Rattle.i3c_base.specs.State.{IsStart, legacy_targets_of};
     ghost use Rattle.i3c_base.specs.declared.requests.Verdict.TheVariants.{Accept};
+    ghost use Rattle.i3c_step.specs.Commands.{event_of};
     ghost use Rattle.i3c_step.specs.Step.{Step};
     ghost use Rattle.i3c_script.specs.Asking.{AsksForNone, Asked, Assigns, CarriesOut, Moves, RoundsAndEnd, RoundsUp, comes_to, cut_named, cuts_after, cuts_left, device_named};
     ghost use Rattle.i3c_lines.specs.Naming.{place_named};
@@ -90,7 +92,7 @@ impl Running {
         match command {
             Command::Legacy { .. } | Command::Main { .. } => Err(Refusal::BusMade.into()),
             Command::Event(wish) => {
-                match self.carry_out(names, Origin::Line, wish, text) {
+                match self.carry_out(names, wish, text) {
                     Ok(_) => Ok(()),
                     Err(stop) => Err(stop),
                 }
@@ -119,9 +121,71 @@ impl Running {
         Ok(())
     }
 
-    /// One event, by a line of its own or as a part of `daa`: the wish is read to the event, the bus answers, and the
+    /// A line that is one event. It answers whether there is another round after it.
+    fn carry_out(&mut self, names: &mut Names, wish: &Wish, text: &mut Text) -> Result<bool, Stop>
+        ensures policy { self.new.policy ≡ self.old.policy }
+        ensures cuts { self.new.cuts ≡ cuts_left wish.now self.old.cuts }
+        ensures carried { CarriesOut self.old names.old wish.now result self.new.state }
+    {
+        match wish {
+            Wish::Raise { name, byte } => self.raise(names, name, *byte, text),
+            _ => match frame_of(wish) {
+                Some(frame) => {
+                    let reply = self.send(&frame);
+                    come_of(names, Origin::Line, Subject::Nothing, &reply, text)
+                }
+                None => self.carry_event(names, Origin::Line, wish, text),
+            },
+        }
+    }
+
+    /// `raise`, which sends no frame.
+    fn raise(
+        &mut self,
+        names: &Names,
+        name: &Name,
+        byte: Option<u8>,
+        text: &mut Text,
+    ) -> Result<bool, Stop>
+        ensures policy { self.new.policy ≡ self.old.policy }
+        ensures cuts { self.new.cuts ≡ self.old.cuts }
+        ensures carried { CarriesOut self.old names.now (Wish.Raise name.now byte) result self.new.state }
+    {
+        let slot = match names.slot_of(name) {
+            Ok(slot) => slot,
+            Err(why) => return Err(Stop::Refused(why)),
+        };
+        match self.bus.raise(slot, byte) {
+            Ok(number) => match show_raised(number, text) {
+                Ok(()) => Ok(false),
+                Err(_) => Err(Stop::Memory),
+            },
+            Err(why) => Err(Stop::Refused(line_refusal(why.into()))),
+        }
+    }
+
+    /// A frame under the role. It takes the cuts that wait.
+    fn send(&mut self, frame: &Frame) -> Reply
+        ensures policy { self.new.policy ≡ self.old.policy }
+        ensures cuts { self.new.cuts ≡ no_cuts }
+        ensures step { Step self.old.state (event_of frame.now self.old.policy self.old.cuts) result self.new.state }
+    {
+        let Some(hand) = &self.hand else {
+            unreachable!()
+        };
+        let mut policy = self.policy;
+        let reply = self
+            .bus
+            .command(hand, frame, &mut policy, &mut self.wires, &self.cuts);
+        self.cuts = Cuts::new();
+        reply
+    }
+
+    /// Any event, by a line of its own or as a part of `daa`: the wish is read to the event, the bus answers, and the
     /// reply is printed. It answers whether there is another round after it.
-    fn carry_out(
+    // kept apart, so that raises and the frames under the role don't pay for the room that an event takes on the stack
+    #[inline(never)]
+    fn carry_event(
         &mut self,
         names: &mut Names,
         origin: Origin,
@@ -134,10 +198,7 @@ impl Running {
     {
         let event = self.asked(names, wish)?;
         let reply = self.step(&event);
-        match tell(names, origin, &event, &reply, text) {
-            Ok(()) => Ok(goes_on(&reply)),
-            Err(stop) => Err(stop),
-        }
+        come_of(names, origin, subject_of(&event), &reply, text)
     }
 
     /// The event that a line asks for, with the cuts that wait if it sends a frame. A device that is attached gets its
@@ -185,7 +246,7 @@ impl Running {
         ensures policy { self.new.policy ≡ self.old.policy }
         ensures cuts { self.new.cuts ≡ no_cuts }
     {
-        match self.carry_out(names, Origin::Daa, &Wish::Open, text) {
+        match self.carry_event(names, Origin::Daa, &Wish::Open, text) {
             Ok(_) => self.finish(names, text),
             Err(stop) => Err(stop),
         }
@@ -199,7 +260,7 @@ impl Running {
         ensures cuts { self.new.cuts ≡ no_cuts }
     {
         let outcome = self.rounds(names, text);
-        let ended = self.carry_out(names, Origin::Daa, &Wish::End, text);
+        let ended = self.carry_event(names, Origin::Daa, &Wish::End, text);
         match outcome {
             Err(stop) => Err(stop),
             Ok(()) => match ended {
@@ -218,7 +279,7 @@ impl Running {
     {
         // of so many rounds one is the last, by the law `sessions_end` of the bus
         for _ in 0..SLOTS {
-            match self.carry_out(names, Origin::Daa, &Wish::Round, text) {
+            match self.carry_event(names, Origin::Daa, &Wish::Round, text) {
                 Ok(true) => {}
                 Ok(false) => break,
                 Err(stop) => return Err(stop),
@@ -242,6 +303,22 @@ impl Running {
             }
             None => unreachable!(),
         }
+    }
+}
+
+/// Prints the reply to an event, and answers whether there is another round after it, or what stops the line.
+fn come_of(
+    names: &Names,
+    origin: Origin,
+    subject: Subject,
+    reply: &Reply,
+    text: &mut Text,
+) -> Result<bool, Stop>
+    ensures { MatchResult result (λ more. (reply_stop reply.now ≡ None) × (more ≡ goes_on reply.now)) (λ stop. (stop ≡ Stop.Memory) ⊎ (reply_stop reply.now ≡ Some stop)) }
+{
+    match tell(names, origin, subject, reply, text) {
+        Ok(()) => Ok(goes_on(reply)),
+        Err(stop) => Err(stop),
     }
 }
 
