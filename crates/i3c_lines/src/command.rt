@@ -102,14 +102,14 @@ pub enum Command {
 
 impl Command {
     /// The command of a line, if the line has a form. Its words are parted by exactly one space.
-    // kept apart, and with each command made where its words are read, so that a command is written once
-    #[inline(never)]
     pub fn parse(line: &[u8]) -> Option<Command> {
         let mut words = Words::of(line);
         let command = match words.next()? {
             b"raise" => return parse_raise(&mut words),
             b"serve" => Command::Event(Wish::Serve),
             b"daa" => Command::Daa,
+            b"enec" => return parse_enec(&mut words),
+            b"disec" => return parse_disec(&mut words),
             b"reset" => Command::Event(Wish::Reset),
             b"list" => Command::Event(Wish::List),
             b"open" => Command::Event(Wish::Open),
@@ -129,8 +129,6 @@ impl Command {
 #[inline(never)]
 fn parse_longer(word: &[u8], words: &mut Words<'_>) -> Option<Command> {
     match word {
-        b"enec" => parse_enec(words),
-        b"disec" => parse_disec(words),
         b"read" => parse_read(words),
         b"write" => parse_write(words),
         b"handover" => parse_handover(words),

@@ -46,9 +46,9 @@ impl Running {
     ghost use Rattle.i3c_base.specs.Cutting.{no_cuts};
     ghost use Rattle.i3c_base.specs.State.{IsStart, legacy_targets_of};
     ghost use Rattle.i3c_base.specs.declared.requests.Verdict.TheVariants.{Accept};
-    ghost use Rattle.i3c_step.specs.Commands.{event_of};
+    ghost use Rattle.i3c_lines.specs.declared.command.Wish.{Wish as WishValue};
     ghost use Rattle.i3c_step.specs.Step.{Step};
-    ghost use Rattle.i3c_script.specs.Asking.{AsksForNone, Asked, Assigns, CarriesOut, Moves, RoundsAndEnd, RoundsUp, comes_to, cut_named, cuts_after, cuts_left, device_named};
+    ghost use Rattle.i3c_script.specs.Asking.{AsksForNone, Asked, Assigns, CarriesOut, IsFrameOf, Moves, RoundsAndEnd, RoundsUp, comes_to, cut_named, cuts_after, cuts_left, device_named};
     ghost use Rattle.i3c_lines.specs.Naming.{place_named};
     ghost use Rattle.i3c_lines.specs.Policies.{each_kind};
 
@@ -127,15 +127,13 @@ impl Running {
         ensures cuts { self.new.cuts ≡ cuts_left wish.now self.old.cuts }
         ensures carried { CarriesOut self.old names.old wish.now result self.new.state }
     {
-        match wish {
-            Wish::Raise { name, byte } => self.raise(names, name, *byte, text),
-            _ => match frame_of(wish) {
-                Some(frame) => {
-                    let reply = self.send(&frame);
-                    come_of(names, Origin::Line, Subject::Nothing, &reply, text)
-                }
-                None => self.carry_event(names, Origin::Line, wish, text),
-            },
+        if let Wish::Raise { name, byte } = wish {
+            return self.raise(names, name, *byte, text);
+        }
+        let frame = frame_of(wish);
+        match &frame {
+            Some(frame) => self.send(names, frame, text),
+            None => self.carry_event(names, Origin::Line, wish, text),
         }
     }
 
@@ -164,11 +162,11 @@ impl Running {
         }
     }
 
-    /// A frame under the role. It takes the cuts that wait.
-    fn send(&mut self, frame: &Frame) -> Reply
+    /// A line that sends a frame under the role. The frame takes the cuts that wait.
+    fn send(&mut self, names: &Names, frame: &Frame, text: &mut Text) -> Result<bool, Stop>
         ensures policy { self.new.policy ≡ self.old.policy }
         ensures cuts { self.new.cuts ≡ no_cuts }
-        ensures step { Step self.old.state (event_of frame.now self.old.policy self.old.cuts) result self.new.state }
+        ensures carried { (wish : WishValue) → IsFrameOf wish frame.now → CarriesOut self.old names.now wish result self.new.state }
     {
         let Some(hand) = &self.hand else {
             unreachable!()
@@ -178,7 +176,7 @@ impl Running {
             .bus
             .command(hand, frame, &mut policy, &mut self.wires, &self.cuts);
         self.cuts = Cuts::new();
-        reply
+        come_of(names, Origin::Line, Subject::Nothing, &reply, text)
     }
 
     /// Any event, by a line of its own or as a part of `daa`: the wish is read to the event, the bus answers, and the
