@@ -103,28 +103,33 @@ pub enum Command {
 impl Command {
     /// The command of a line, if the line has a form. Its words are parted by exactly one space.
     pub fn parse(line: &[u8]) -> Option<Command> {
-        let mut words = Words::of(line);
-        let command = match words.next()? {
-            b"raise" => return parse_raise(&mut words),
-            b"serve" => Command::Event(Wish::Serve),
-            b"daa" => Command::Daa,
-            b"enec" => return parse_enec(&mut words),
-            b"disec" => return parse_disec(&mut words),
-            b"reset" => Command::Event(Wish::Reset),
-            b"list" => Command::Event(Wish::List),
-            b"open" => Command::Event(Wish::Open),
-            b"round" => Command::Event(Wish::Round),
-            b"end" => Command::Event(Wish::End),
-            b"show" => Command::Show,
-            b"symbols" => Command::Symbols,
-            word => return parse_longer(word, &mut words),
-        };
-        words.end()?;
-        Some(command)
+        match line {
+            b"serve" => Some(Command::Event(Wish::Serve)),
+            b"daa" => Some(Command::Daa),
+            b"reset" => Some(Command::Event(Wish::Reset)),
+            b"list" => Some(Command::Event(Wish::List)),
+            b"open" => Some(Command::Event(Wish::Open)),
+            b"round" => Some(Command::Event(Wish::Round)),
+            b"end" => Some(Command::Event(Wish::End)),
+            b"show" => Some(Command::Show),
+            b"symbols" => Some(Command::Symbols),
+            _ => parse_words(line),
+        }
     }
 }
 
-/// A command with words of its own, by its first word.
+/// The command of a line of several words, if it has a form.
+fn parse_words(line: &[u8]) -> Option<Command> {
+    let mut words = Words::of(line);
+    match words.next()? {
+        b"raise" => parse_raise(&mut words),
+        b"enec" => parse_enec(&mut words),
+        b"disec" => parse_disec(&mut words),
+        word => parse_longer(word, &mut words),
+    }
+}
+
+/// Any other of these, by its first word.
 // kept apart, so that no other line pays for the room that these take on the stack
 #[inline(never)]
 fn parse_longer(word: &[u8], words: &mut Words<'_>) -> Option<Command> {
