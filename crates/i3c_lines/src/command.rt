@@ -103,43 +103,46 @@ pub enum Command {
 impl Command {
     /// The command of a line, if the line has a form. Its words are parted by exactly one space.
     pub fn parse(line: &[u8]) -> Option<Command> {
-        let mut words = Words::of(line);
-        let command = match words.next()? {
-            b"raise" => Command::Event(parse_raise(&mut words)?),
-            b"serve" => Command::Event(Wish::Serve),
-            b"daa" => Command::Daa,
-            b"enec" => Command::Event(Wish::Enec(parse_choice(&mut words)?)),
-            b"disec" => Command::Event(Wish::Disec(parse_choice(&mut words)?)),
-            b"reset" => Command::Event(Wish::Reset),
-            b"list" => Command::Event(Wish::List),
-            b"open" => Command::Event(Wish::Open),
-            b"round" => Command::Event(Wish::Round),
-            b"end" => Command::Event(Wish::End),
-            b"show" => Command::Show,
-            b"symbols" => Command::Symbols,
-            word => parse_longer(word, &mut words)?,
-        };
-        match words.next() {
-            Some(_) => None,
-            None => Some(command),
+        match line {
+            b"serve" => Some(Command::Event(Wish::Serve)),
+            b"daa" => Some(Command::Daa),
+            b"reset" => Some(Command::Event(Wish::Reset)),
+            b"list" => Some(Command::Event(Wish::List)),
+            b"open" => Some(Command::Event(Wish::Open)),
+            b"round" => Some(Command::Event(Wish::Round)),
+            b"end" => Some(Command::Event(Wish::End)),
+            b"show" => Some(Command::Show),
+            b"symbols" => Some(Command::Symbols),
+            _ => parse_words(line),
         }
     }
 }
 
-/// A command with words of its own, by its first word.
+/// The command of a line of several words, if it has a form.
+fn parse_words(line: &[u8]) -> Option<Command> {
+    let mut words = Words::of(line);
+    match words.next()? {
+        b"raise" => parse_raise(&mut words),
+        b"enec" => parse_enec(&mut words),
+        b"disec" => parse_disec(&mut words),
+        word => parse_longer(word, &mut words),
+    }
+}
+
+/// Any other of these, by its first word.
 // kept apart, so that no other line pays for the room that these take on the stack
 #[inline(never)]
 fn parse_longer(word: &[u8], words: &mut Words<'_>) -> Option<Command> {
     match word {
-        b"read" => Some(Command::Event(parse_read(words)?)),
-        b"write" => Some(Command::Event(parse_write(words)?)),
-        b"handover" => Some(Command::Event(parse_handover(words)?)),
-        b"policy" => Some(Command::Policy(parse_policy(words)?)),
+        b"read" => parse_read(words),
+        b"write" => parse_write(words),
+        b"handover" => parse_handover(words),
+        b"policy" => parse_policy(words),
         b"cut" => parse_cut(words),
-        b"attach" => Some(Command::Event(parse_attach(words)?)),
-        b"drop" => Some(Command::Event(parse_drop(words)?)),
-        b"ask-join" => Some(Command::Event(parse_ask_join(words)?)),
-        b"ask-role" => Some(Command::Event(parse_ask_role(words)?)),
+        b"attach" => parse_attach(words),
+        b"drop" => parse_drop(words),
+        b"ask-join" => parse_ask_join(words),
+        b"ask-role" => parse_ask_role(words),
         b"main" => parse_main(words),
         b"legacy" => parse_legacy(words),
         _ => None,
@@ -151,6 +154,7 @@ fn parse_legacy(words: &mut Words<'_>) -> Option<Command> {
     let name = Name::parse(words.next()?)?;
     let address = words::address(words.next()?)?;
     let lvr = Lvr(words::byte(words.next()?)?);
+    words.end()?;
     Some(Command::Legacy { name, address, lvr })
 }
 
@@ -161,9 +165,9 @@ fn parse_main(words: &mut Words<'_>) -> Option<Command> {
 }
 
 /// The words of `attach`.
-fn parse_attach(words: &mut Words<'_>) -> Option<Wish> {
+fn parse_attach(words: &mut Words<'_>) -> Option<Command> {
     let (name, setup) = parse_device(words)?;
-    Some(Wish::Attach { name, setup })
+    Some(Command::Event(Wish::Attach { name, setup }))
 }
 
 /// The words of a device: its name and its identity, and `decline` if it doesn't take the controller role.
@@ -178,79 +182,103 @@ fn parse_device(words: &mut Words<'_>) -> Option<(Name, Setup)> {
         Some(b"decline") => false,
         Some(_) => return None,
     };
+    words.end()?;
     Some((name, Setup { identity, willing }))
 }
 
 /// The word of `drop`: a name.
-fn parse_drop(words: &mut Words<'_>) -> Option<Wish> {
+fn parse_drop(words: &mut Words<'_>) -> Option<Command> {
     let name = Name::parse(words.next()?)?;
-    Some(Wish::DropOff { name })
+    words.end()?;
+    Some(Command::Event(Wish::DropOff { name }))
 }
 
 /// The word of `ask-join`: a name.
-fn parse_ask_join(words: &mut Words<'_>) -> Option<Wish> {
+fn parse_ask_join(words: &mut Words<'_>) -> Option<Command> {
     let name = Name::parse(words.next()?)?;
-    Some(Wish::AskJoin { name })
+    words.end()?;
+    Some(Command::Event(Wish::AskJoin { name }))
 }
 
 /// The word of `ask-role`: a name.
-fn parse_ask_role(words: &mut Words<'_>) -> Option<Wish> {
+fn parse_ask_role(words: &mut Words<'_>) -> Option<Command> {
     let name = Name::parse(words.next()?)?;
-    Some(Wish::AskRole { name })
+    words.end()?;
+    Some(Command::Event(Wish::AskRole { name }))
 }
 
 /// The word of `read`: an address.
-fn parse_read(words: &mut Words<'_>) -> Option<Wish> {
+fn parse_read(words: &mut Words<'_>) -> Option<Command> {
     let at = words::address(words.next()?)?;
-    Some(Wish::Read { at })
+    words.end()?;
+    Some(Command::Event(Wish::Read { at }))
 }
 
 /// The words of `write`: an address, and bytes if there are some.
-fn parse_write(words: &mut Words<'_>) -> Option<Wish> {
+fn parse_write(words: &mut Words<'_>) -> Option<Command> {
     let at = words::address(words.next()?)?;
     let bytes = match words.next() {
         None => ArrayVec::new(),
         Some(b"") => return None,
         Some(word) => words::bytes(word)?,
     };
-    Some(Wish::Write { at, bytes })
+    words.end()?;
+    Some(Command::Event(Wish::Write { at, bytes }))
 }
 
 /// The word of `handover`: an address.
-fn parse_handover(words: &mut Words<'_>) -> Option<Wish> {
+fn parse_handover(words: &mut Words<'_>) -> Option<Command> {
     let to = words::address(words.next()?)?;
-    Some(Wish::HandOver { to })
+    words.end()?;
+    Some(Command::Event(Wish::HandOver { to }))
 }
 
 /// The word of `policy`.
-fn parse_policy(words: &mut Words<'_>) -> Option<Fixed> {
+fn parse_policy(words: &mut Words<'_>) -> Option<Command> {
     let word = str::from_utf8(words.next()?).ok()?;
-    policy(word)
+    let policy = policy(word)?;
+    words.end()?;
+    Some(Command::Policy(policy))
 }
 
 /// The words of `cut`: a name and a bit.
 fn parse_cut(words: &mut Words<'_>) -> Option<Command> {
     let name = Name::parse(words.next()?)?;
     let bit = words::bit(words.next()?)?;
+    words.end()?;
     Some(Command::Cut { name, bit })
 }
 
 /// The words of `raise`: a name, and a byte if one is given.
-fn parse_raise(words: &mut Words<'_>) -> Option<Wish> {
+fn parse_raise(words: &mut Words<'_>) -> Option<Command> {
     let name = Name::parse(words.next()?)?;
     let byte = match words.next() {
         None => None,
         Some(word) => Some(words::byte(word)?),
     };
-    Some(Wish::Raise { name, byte })
+    words.end()?;
+    Some(Command::Event(Wish::Raise { name, byte }))
 }
 
-/// The words of `enec` and `disec`: a byte, and an address if one is given.
+/// The words of `enec`.
+fn parse_enec(words: &mut Words<'_>) -> Option<Command> {
+    let choice = parse_choice(words)?;
+    Some(Command::Event(Wish::Enec(choice)))
+}
+
+/// The words of `disec`.
+fn parse_disec(words: &mut Words<'_>) -> Option<Command> {
+    let choice = parse_choice(words)?;
+    Some(Command::Event(Wish::Disec(choice)))
+}
+
+/// The words of both: a byte, and an address if one is given.
 fn parse_choice(words: &mut Words<'_>) -> Option<Choice> {
     let kinds = words::kinds(words.next()?)?;
     let to = match words.next() {
         None => None,
         Some(word) => Some(words::address(word)?),
     };
+    words.end()?;
     Some(Choice { kinds, to })
 }

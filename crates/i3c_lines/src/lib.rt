@@ -15,7 +15,7 @@ mod text;
 mod words;
 
 pub use command::{Choice, Command, Wish};
-pub use line::{Line, read_line};
+pub use line::{Line, is_skipped, read_line};
 pub use names::{Name, Names, Place};
 pub use policies::ACCEPT_ALL;
 pub use refusals::Refusal;

@@ -1,4 +1,4 @@
-ghost use Rattle.std.specs.Prelude.{◌≡◌, ◌<◌, ◌≤◌, [], length, slice_get};
+ghost use Rattle.std.specs.Prelude.{◌≡◌, ◌<◌, ◌≤◌, [], true, length, slice_get};
 
 use crate::command::Command;
 use crate::refusals::Refusal;
@@ -13,19 +13,30 @@ pub const TELLING_LENGTH: usize = LINE_LENGTH + 1;
 /// A comment begins with this.
 const COMMENT: u8 = b'#';
 
-/// The command of a line, if it isn't one that is skipped: an empty one or a comment, whatever bytes follow its `#`. A
-/// line that is too long has no form, even if it begins as a comment does.
-pub fn read_line(line: &[u8]) -> Result<Option<Command>, Refusal>
+/// Whether a line is skipped: it is an empty one or a comment, whatever bytes follow its `#`. A line that is too long has
+/// no form, even if it begins as a comment does.
+pub fn is_skipped(line: &[u8]) -> Result<bool, Refusal>
     ensures long { LINE_LENGTH < length line.now → result ≡ Err Refusal.BadLine }
-    ensures empty { line.now ≡ [] → result ≡ Ok None }
-    ensures comment { length line.now ≤ LINE_LENGTH → slice_get line.now 0 ≡ Some COMMENT → result ≡ Ok None }
+    ensures empty { line.now ≡ [] → result ≡ Ok true }
+    ensures comment { length line.now ≤ LINE_LENGTH → slice_get line.now 0 ≡ Some COMMENT → result ≡ Ok true }
 {
     if line.len() > LINE_LENGTH {
         return Err(Refusal::BadLine);
     }
     match line.first() {
-        None | Some(&COMMENT) => return Ok(None),
-        Some(_) => {}
+        None | Some(&COMMENT) => Ok(true),
+        Some(_) => Ok(false),
+    }
+}
+
+/// The command of a line, if it isn't one that is skipped.
+pub fn read_line(line: &[u8]) -> Result<Option<Command>, Refusal>
+    ensures long { LINE_LENGTH < length line.now → result ≡ Err Refusal.BadLine }
+    ensures empty { line.now ≡ [] → result ≡ Ok None }
+    ensures comment { length line.now ≤ LINE_LENGTH → slice_get line.now 0 ≡ Some COMMENT → result ≡ Ok None }
+{
+    if is_skipped(line)? {
+        return Ok(None);
     }
     match Command::parse(line) {
         Some(command) => Ok(Some(command)),

@@ -51,6 +51,14 @@ impl<'a> Words<'a> {
             }
         }
     }
+
+    /// Nothing, if each word was read.
+    pub fn end(&self) -> Option<()> {
+        match self.rest {
+            None => Some(()),
+            Some(_) => None,
+        }
+    }
 }
 
 /// The number that a word writes, if it has so many hex digits.

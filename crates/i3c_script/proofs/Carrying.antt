@@ -1,17 +1,21 @@
 -- What it comes to that a line is carried out which names no device.
-use Rattle.std.proofs.Common.{◌≡◌, ◌⊎◌, ◌∙◌, ℕ, ◌+◌, Bool, true, false, arith, List, [], ◌∷◌, length, Some, Result, Ok, Err, ap, inl, inr, refl, subst}
+use Rattle.std.proofs.Common.{◌≡◌, ◌⊎◌, ◌∙◌, ℕ, ◌+◌, Bool, true, false, arith, List, [], ◌∷◌, length, Option, None, Some, MatchResult, Result, Ok, Err, ap, inl, inr, refl, subst}
 use Rattle.i3c_base.specs.declared.answers.RoundReply.{RoundReply}
 use Rattle.i3c_base.specs.declared.range.TheConstants.{SLOTS}
 use Rattle.i3c_base.specs.Cutting.{no_cuts}
 use Rattle.i3c_base.specs.State.{State}
+use Rattle.i3c_step.specs.declared.events.Command.{Command as Frame}
 use Rattle.i3c_step.specs.declared.events.Event.{Event}
+use Rattle.i3c_step.specs.Commands.{event_of}
 use Rattle.i3c_step.specs.declared.replies.Reply.{Reply}
 use Rattle.i3c_step.specs.Step.{Step}
 use Rattle.i3c_lines.specs.declared.command.Wish.{Wish}
 use Rattle.i3c_lines.specs.declared.refusals.Refusal.{Refusal}
 use Rattle.i3c_script.specs.declared.faults.Stop.{Stop}
+use Rattle.i3c_lines.specs.Naming.{place_named, slot_named}
+use Rattle.i3c_lines.specs.declared.names.Name.{Name}
 use Rattle.i3c_lines.specs.declared.names.Names.{Names}
-use Rattle.i3c_script.specs.Asking.{AreOver, Asked, AsksForNone, Assigns, Carries, CarriesOut, EndsRounds, GoOn, Ran, Rounds, RoundsUp, StopsAt, goes_on}
+use Rattle.i3c_script.specs.Asking.{AreOver, Asked, AsksForNone, Assigns, Carries, CarriesOut, EndsRounds, GoOn, IsFrameOf, Ran, Rounds, RoundsUp, StopsAt, goes_on, in_its_slot}
 use Rattle.i3c_script.specs.Stops.{reply_stop}
 
 -- a line that is refused asks for no event
@@ -36,6 +40,21 @@ none_asked ran names Wish.End why asked = (why, asked, refl)
 -- a line's event is asked for, and the bus's step is its reply
 pub carried_by : (ran : Ran) (names : Names) (wish : Wish) (event : Event) (reply : Reply) (mid new : State) → Asked ran.state names ran.policy ran.cuts wish (Ok event) → Step mid event reply new → mid ≡ ran.state → Carries ran names wish reply new
 carried_by ran names wish event reply mid new asked step same = (event, asked, subst (λ st. Step st event reply new) same step)
+
+-- a frame under the role is its line's event
+pub sent_by : (ran : Ran) (names : Names) (wish : Wish) (frame : Frame) (reply : Reply) (new : State) → IsFrameOf wish frame → Step ran.state (event_of frame ran.policy ran.cuts) reply new → Carries ran names wish reply new
+sent_by ran names wish frame reply new is step = (event_of frame ran.policy ran.cuts, is.1 ran.state names ran.policy ran.cuts, step)
+
+-- a raise by a device's name
+pub raised_by : (ran : Ran) (names : Names) (name : Name) (byte : Option ℕ) (slot : ℕ) (reply : Reply) (new : State) → Ok slot ≡ slot_named (place_named names name) → Step ran.state (Event.Raise slot byte) reply new
+    → Carries ran names (Wish.Raise name byte) reply new
+raised_by ran names name byte slot reply new is step = (Event.Raise slot byte, ap (in_its_slot (λ slot. Event.Raise slot byte)) is, step)
+
+-- what a line comes to whose reply is told
+pub told_so : (ran : Ran) (names : Names) (wish : Wish) (reply : Reply) (new : State) (result : Result Bool Stop) → Carries ran names wish reply new
+    → MatchResult result (λ more. (reply_stop reply ≡ None) × (more ≡ goes_on reply)) (λ stop. (stop ≡ Stop.Memory) ⊎ (reply_stop reply ≡ Some stop)) → CarriesOut ran names wish result new
+told_so ran names wish reply new (Ok more) carried told = (reply, carried, told.0, told.1)
+told_so ran names wish reply new (Err stop) carried told = inr (reply, carried, told)
 
 -- an opening that is carried out
 pub opens : (ran : Ran) (names : Names) (reply : Reply) (new : State) → Carries ran names Wish.Open reply new → Step ran.state (Event.OpenDaa ran.cuts) reply new

@@ -6,7 +6,9 @@ use Rattle.i3c_base.specs.declared.range.TheConstants.{SLOTS}
 use Rattle.i3c_base.specs.declared.requests.Fixed.{Fixed}
 use Rattle.i3c_base.specs.Cutting.{CutList, cut_of, earlier, no_cuts}
 use Rattle.i3c_base.specs.State.{State, IsPresent, device_at}
+use Rattle.i3c_step.specs.declared.events.Command.{Command as Frame}
 use Rattle.i3c_step.specs.declared.events.Event.{Event}
+use Rattle.i3c_step.specs.Commands.{event_of}
 use Rattle.i3c_step.specs.declared.replies.Reply.{Reply}
 use Rattle.i3c_step.specs.Step.{Step}
 use Rattle.i3c_lines.specs.declared.command.Command.{Command}
@@ -190,6 +192,10 @@ sends_frame (Wish.Disec choice) = true
 sends_frame Wish.Open = true
 sends_frame Wish.Round = true
 sends_frame Wish.End = false
+
+-- the line sends this frame under the role, with the policy and the cuts of the script
+abbrev pub IsFrameOf : Wish → Frame → Type 0
+IsFrameOf wish frame = (sends_frame wish ≡ true) × ((st : State) (names : Names) (policy : Fixed) (cuts : CutList) → Asked st names policy cuts wish (Ok (event_of frame policy cuts)))
 
 -- the cuts that an event's line takes with it: those that wait, if it sends a frame
 abbrev pub cuts_taken : Wish → CutList → CutList

@@ -15,6 +15,7 @@ use Rattle.i3c_lines.specs.Naming.{letters, slot_names}
 use Rattle.i3c_lines.specs.Refusing.{refusal_text}
 use Rattle.i3c_script.specs.declared.faults.Stop.{Stop}
 use Rattle.i3c_script.specs.declared.telling.Origin.{Origin}
+use Rattle.i3c_script.specs.declared.telling.Subject.{Subject}
 
 -- what a line's end prints: its refusal, if it is refused
 abbrev pub end_text : Result (Unit {0}) Stop → List ℕ
@@ -93,45 +94,56 @@ abbrev pub named_text : Option Name → ℕ → List ℕ
 named_text None slot = []
 named_text (Some name) slot = letters name ++ number_text (codes " slot ") slot
 
--- the device that an event attaches, where the event is such
-abbrev pub attached_text : Names → Event → List ℕ
-attached_text names (Event.Attach slot setup) = named_text (slice_index_or (slot_names names) slot None) slot
-attached_text names (Event.DropOff slot) = []
-attached_text names (Event.Raise slot byte) = []
-attached_text names (Event.AskJoin slot) = []
-attached_text names (Event.AskRole slot) = []
-attached_text names (Event.Reset policy cuts) = []
-attached_text names (Event.SendList policy cuts) = []
-attached_text names (Event.ReadFrom a policy cuts) = []
-attached_text names (Event.WriteTo a bytes policy cuts) = []
-attached_text names (Event.HandOver to cuts) = []
-attached_text names (Event.Serve policy cuts) = []
-attached_text names (Event.Enec to kinds policy cuts) = []
-attached_text names (Event.Disec to kinds policy cuts) = []
-attached_text names (Event.OpenDaa cuts) = []
-attached_text names (Event.Round cuts) = []
-attached_text names Event.EndDaa = []
+-- what of an event its reply's text has in it
+abbrev pub subject_of : Event → Subject
+subject_of (Event.Attach slot setup) = Subject.Attached slot
+subject_of (Event.HandOver to cuts) = Subject.HandedTo to
+subject_of (Event.DropOff slot) = Subject.Nothing
+subject_of (Event.Raise slot byte) = Subject.Nothing
+subject_of (Event.AskJoin slot) = Subject.Nothing
+subject_of (Event.AskRole slot) = Subject.Nothing
+subject_of (Event.Reset policy cuts) = Subject.Nothing
+subject_of (Event.SendList policy cuts) = Subject.Nothing
+subject_of (Event.ReadFrom a policy cuts) = Subject.Nothing
+subject_of (Event.WriteTo a bytes policy cuts) = Subject.Nothing
+subject_of (Event.Serve policy cuts) = Subject.Nothing
+subject_of (Event.Enec to kinds policy cuts) = Subject.Nothing
+subject_of (Event.Disec to kinds policy cuts) = Subject.Nothing
+subject_of (Event.OpenDaa cuts) = Subject.Nothing
+subject_of (Event.Round cuts) = Subject.Nothing
+subject_of Event.EndDaa = Subject.Nothing
+
+-- the device that was attached, where one was
+abbrev pub attached_text : Names → Subject → List ℕ
+attached_text names (Subject.Attached slot) = named_text (slice_index_or (slot_names names) slot None) slot
+attached_text names (Subject.HandedTo to) = []
+attached_text names Subject.Nothing = []
 
 -- an address that is the active controller's now
 abbrev pub active_text : ℕ → List ℕ
 active_text a = codes "active " ++ (byte_text a ++ 10 ∷ [])
 
 -- what a handover served, and who is active now
-abbrev pub handed_text : Event → Served → List ℕ
-handed_text (Event.HandOver to cuts) served = request_text served ++ active_text to
-handed_text _ served = []
+abbrev pub handed_text : Subject → Served → List ℕ
+handed_text (Subject.HandedTo to) served = request_text served ++ active_text to
+handed_text (Subject.Attached slot) served = []
+handed_text Subject.Nothing served = []
 
--- a reply to an event that a line is, or that is a part of `daa`
-abbrev pub reply_text : Names → Origin → Event → Reply → List ℕ
-reply_text names origin event (Reply.Refused why) = []
-reply_text names origin event Reply.OutOfMemory = []
-reply_text names origin event Reply.Attached = attached_text names event
-reply_text names origin event Reply.Dropped = codes "dropped" ++ 10 ∷ []
-reply_text names origin event (Reply.Raised number) = number_text (codes "raised ") number
-reply_text names origin event Reply.Asked = codes "asked" ++ 10 ∷ []
-reply_text names origin event (Reply.Served served) = served_text served
-reply_text names origin event (Reply.Framed framed) = framed_text framed
-reply_text names origin event (Reply.Opened served) = opened_text origin served
-reply_text names origin event (Reply.Handed served) = handed_text event served
-reply_text names origin event (Reply.Round answer) = round_text answer
-reply_text names origin event Reply.Ended = ended_text origin
+-- the number of a raise
+abbrev pub raised_text : ℕ → List ℕ
+raised_text number = number_text (codes "raised ") number
+
+-- a reply to an event that a line is, or that is a part of `daa`; of the event the text has no more than its subject
+abbrev pub reply_text : Names → Origin → Subject → Reply → List ℕ
+reply_text names origin subject (Reply.Refused why) = []
+reply_text names origin subject Reply.OutOfMemory = []
+reply_text names origin subject Reply.Attached = attached_text names subject
+reply_text names origin subject Reply.Dropped = codes "dropped" ++ 10 ∷ []
+reply_text names origin subject (Reply.Raised number) = raised_text number
+reply_text names origin subject Reply.Asked = codes "asked" ++ 10 ∷ []
+reply_text names origin subject (Reply.Served served) = served_text served
+reply_text names origin subject (Reply.Framed framed) = framed_text framed
+reply_text names origin subject (Reply.Opened served) = opened_text origin served
+reply_text names origin subject (Reply.Handed served) = handed_text subject served
+reply_text names origin subject (Reply.Round answer) = round_text answer
+reply_text names origin subject Reply.Ended = ended_text origin

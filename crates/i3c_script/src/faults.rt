@@ -61,7 +61,7 @@ impl From<fmt::Error> for Stop {
 }
 
 /// The bus's refusal, as it is printed.
-fn line_refusal(why: i3c_bus::Refusal) -> Refusal
+pub(crate) fn line_refusal(why: i3c_bus::Refusal) -> Refusal
     ensures { result ≡ bus_refusal why }
 {
     match why {

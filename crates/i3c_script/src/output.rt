@@ -29,6 +29,7 @@ pub(crate) fn show_refusal(refusal: Refusal, text: &mut Text) -> Result<(), Allo
 }
 
 /// Writes a text, or, where the writer fails or takes nothing, a part of it from its beginning.
+#[inline(always)]
 pub(crate) fn write_out<W: Write>(text: &[u8], out: &mut W) -> Result<(), ScriptFault>
     ensures { MatchResult result (λ _. Appends (W.contents out.old) (W.contents out.new) text.now)
         (λ fault. (fault ≡ ScriptFault.Write) × AppendsSome (W.contents out.old) (W.contents out.new) text.now) }

@@ -1,13 +1,14 @@
-ghost use Rattle.std.specs.Prelude.{◌≡◌};
+ghost use Rattle.std.specs.Prelude.{◌≡◌, ◌⊎◌, None, Some, MatchResult};
 ghost use Rattle.i3c_script.specs.Asking.{goes_on};
+ghost use Rattle.i3c_script.specs.Stops.{reply_stop};
 
-use crate::asking::{event_of, slot_of_device};
-use crate::faults::Stop;
+use crate::asking::{event_of, frame_of, slot_of_device};
+use crate::faults::{Stop, line_refusal};
 use crate::show::show;
-use crate::telling::{Origin, tell};
+use crate::telling::{Origin, Subject, show_raised, subject_of, tell};
 use crate::wires::Wires;
 use i3c_base::{Cuts, Fixed, RoundReply, SLOTS, Setup};
-use i3c_bus::{Bus, Event, Hand, Reply};
+use i3c_bus::{Bus, Command as Frame, Event, Hand, Reply};
 use i3c_legacy::Legacies;
 use i3c_lines::{ACCEPT_ALL, Command, Name, Names, Refusal, Text, Wish};
 use std::alloc::Global;
@@ -45,8 +46,9 @@ impl Running {
     ghost use Rattle.i3c_base.specs.Cutting.{no_cuts};
     ghost use Rattle.i3c_base.specs.State.{IsStart, legacy_targets_of};
     ghost use Rattle.i3c_base.specs.declared.requests.Verdict.TheVariants.{Accept};
+    ghost use Rattle.i3c_lines.specs.declared.command.Wish.{Wish as WishValue};
     ghost use Rattle.i3c_step.specs.Step.{Step};
-    ghost use Rattle.i3c_script.specs.Asking.{AsksForNone, Asked, Assigns, CarriesOut, Moves, RoundsAndEnd, RoundsUp, comes_to, cut_named, cuts_after, cuts_left, device_named};
+    ghost use Rattle.i3c_script.specs.Asking.{AsksForNone, Asked, Assigns, CarriesOut, IsFrameOf, Moves, RoundsAndEnd, RoundsUp, comes_to, cut_named, cuts_after, cuts_left, device_named};
     ghost use Rattle.i3c_lines.specs.Naming.{place_named};
     ghost use Rattle.i3c_lines.specs.Policies.{each_kind};
 
@@ -90,7 +92,7 @@ impl Running {
         match command {
             Command::Legacy { .. } | Command::Main { .. } => Err(Refusal::BusMade.into()),
             Command::Event(wish) => {
-                match self.carry_out(names, Origin::Line, wish, text) {
+                match self.carry_out(names, wish, text) {
                     Ok(_) => Ok(()),
                     Err(stop) => Err(stop),
                 }
@@ -119,9 +121,69 @@ impl Running {
         Ok(())
     }
 
-    /// One event, by a line of its own or as a part of `daa`: the wish is read to the event, the bus answers, and the
+    /// A line that is one event. It answers whether there is another round after it.
+    fn carry_out(&mut self, names: &mut Names, wish: &Wish, text: &mut Text) -> Result<bool, Stop>
+        ensures policy { self.new.policy ≡ self.old.policy }
+        ensures cuts { self.new.cuts ≡ cuts_left wish.now self.old.cuts }
+        ensures carried { CarriesOut self.old names.old wish.now result self.new.state }
+    {
+        if let Wish::Raise { name, byte } = wish {
+            return self.raise(names, name, *byte, text);
+        }
+        let frame = frame_of(wish);
+        match &frame {
+            Some(frame) => self.send(names, frame, text),
+            None => self.carry_event(names, Origin::Line, wish, text),
+        }
+    }
+
+    /// `raise`, which sends no frame.
+    fn raise(
+        &mut self,
+        names: &Names,
+        name: &Name,
+        byte: Option<u8>,
+        text: &mut Text,
+    ) -> Result<bool, Stop>
+        ensures policy { self.new.policy ≡ self.old.policy }
+        ensures cuts { self.new.cuts ≡ self.old.cuts }
+        ensures carried { CarriesOut self.old names.now (Wish.Raise name.now byte) result self.new.state }
+    {
+        let slot = match names.slot_of(name) {
+            Ok(slot) => slot,
+            Err(why) => return Err(Stop::Refused(why)),
+        };
+        match self.bus.raise(slot, byte) {
+            Ok(number) => match show_raised(number, text) {
+                Ok(()) => Ok(false),
+                Err(_) => Err(Stop::Memory),
+            },
+            Err(why) => Err(Stop::Refused(line_refusal(why.into()))),
+        }
+    }
+
+    /// A line that sends a frame under the role. The frame takes the cuts that wait.
+    fn send(&mut self, names: &Names, frame: &Frame, text: &mut Text) -> Result<bool, Stop>
+        ensures policy { self.new.policy ≡ self.old.policy }
+        ensures cuts { self.new.cuts ≡ no_cuts }
+        ensures carried { (wish : WishValue) → IsFrameOf wish frame.now → CarriesOut self.old names.now wish result self.new.state }
+    {
+        let Some(hand) = &self.hand else {
+            unreachable!()
+        };
+        let mut policy = self.policy;
+        let reply = self
+            .bus
+            .command(hand, frame, &mut policy, &mut self.wires, &self.cuts);
+        self.cuts = Cuts::new();
+        come_of(names, Origin::Line, Subject::Nothing, &reply, text)
+    }
+
+    /// Any event, by a line of its own or as a part of `daa`: the wish is read to the event, the bus answers, and the
     /// reply is printed. It answers whether there is another round after it.
-    fn carry_out(
+    // kept apart, so that raises and the frames under the role don't pay for the room that an event takes on the stack
+    #[inline(never)]
+    fn carry_event(
         &mut self,
         names: &mut Names,
         origin: Origin,
@@ -134,10 +196,7 @@ impl Running {
     {
         let event = self.asked(names, wish)?;
         let reply = self.step(&event);
-        match tell(names, origin, &event, &reply, text) {
-            Ok(()) => Ok(goes_on(&reply)),
-            Err(stop) => Err(stop),
-        }
+        come_of(names, origin, subject_of(&event), &reply, text)
     }
 
     /// The event that a line asks for, with the cuts that wait if it sends a frame. A device that is attached gets its
@@ -185,7 +244,7 @@ impl Running {
         ensures policy { self.new.policy ≡ self.old.policy }
         ensures cuts { self.new.cuts ≡ no_cuts }
     {
-        match self.carry_out(names, Origin::Daa, &Wish::Open, text) {
+        match self.carry_event(names, Origin::Daa, &Wish::Open, text) {
             Ok(_) => self.finish(names, text),
             Err(stop) => Err(stop),
         }
@@ -199,7 +258,7 @@ impl Running {
         ensures cuts { self.new.cuts ≡ no_cuts }
     {
         let outcome = self.rounds(names, text);
-        let ended = self.carry_out(names, Origin::Daa, &Wish::End, text);
+        let ended = self.carry_event(names, Origin::Daa, &Wish::End, text);
         match outcome {
             Err(stop) => Err(stop),
             Ok(()) => match ended {
@@ -218,7 +277,7 @@ impl Running {
     {
         // of so many rounds one is the last, by the law `sessions_end` of the bus
         for _ in 0..SLOTS {
-            match self.carry_out(names, Origin::Daa, &Wish::Round, text) {
+            match self.carry_event(names, Origin::Daa, &Wish::Round, text) {
                 Ok(true) => {}
                 Ok(false) => break,
                 Err(stop) => return Err(stop),
@@ -242,6 +301,22 @@ impl Running {
             }
             None => unreachable!(),
         }
+    }
+}
+
+/// Prints the reply to an event, and answers whether there is another round after it, or what stops the line.
+fn come_of(
+    names: &Names,
+    origin: Origin,
+    subject: Subject,
+    reply: &Reply,
+    text: &mut Text,
+) -> Result<bool, Stop>
+    ensures { MatchResult result (λ more. (reply_stop reply.now ≡ None) × (more ≡ goes_on reply.now)) (λ stop. (stop ≡ Stop.Memory) ⊎ (reply_stop reply.now ≡ Some stop)) }
+{
+    match tell(names, origin, subject, reply, text) {
+        Ok(()) => Ok(goes_on(reply)),
+        Err(stop) => Err(stop),
     }
 }
 

@@ -11,7 +11,7 @@ use crate::faults::{ScriptFault, Stop};
 use crate::output::{position_of_feed, show_refusal, write_out};
 use crate::reading::{CHUNK, MOST_BYTES, Piece, read_piece};
 use crate::stage::Stage;
-use i3c_lines::{Line, Names, Text, read_line};
+use i3c_lines::{Command, Line, Names, Refusal, Text, is_skipped};
 use std::alloc::Global;
 use std::io::{Read, Write};
 use std::mem;
@@ -183,13 +183,18 @@ impl Script {
         ensures refused { self.new.refused ≡ self.old.refused }
         ensures obeys { Obeys line.now result self.old.text self.new.text }
     {
-        match read_line(line) {
-            Ok(Some(command)) => {
+        match is_skipped(line) {
+            Ok(true) => return Ok(()),
+            Ok(false) => {}
+            Err(refusal) => return Err(Stop::Refused(refusal)),
+        }
+        let command = Command::parse(line);
+        match &command {
+            Some(command) => {
                 self.stage
-                    .obey(self.alloc, &mut self.names, &command, &mut self.text)
+                    .obey(self.alloc, &mut self.names, command, &mut self.text)
             }
-            Ok(None) => Ok(()),
-            Err(refusal) => Err(Stop::Refused(refusal)),
+            None => Err(Stop::Refused(Refusal::BadLine)),
         }
     }
 

@@ -1,11 +1,11 @@
 ghost use Rattle.std.specs.Prelude.{◌≡◌, ◌⊎◌, [], ◌∷◌, ◌++◌, None, Some, MatchResult, OnOk};
 ghost use Rattle.std.specs.Fmt.{decimal};
-ghost use Rattle.i3c_script.specs.Printed.{assigned_text, attached_text, ended_text, field_text, framed_text, handed_text, identity_text, opened_text, reply_text, request_text, round_text, served_text};
+ghost use Rattle.i3c_script.specs.Printed.{assigned_text, attached_text, ended_text, field_text, framed_text, handed_text, identity_text, opened_text, raised_text, reply_text, request_text, round_text, served_text, subject_of};
 ghost use Rattle.i3c_script.specs.Stops.{reply_stop};
 ghost use Rattle.i3c_script.specs.declared.faults.Stop.TheVariants.{Memory};
 
 use crate::faults::Stop;
-use i3c_base::{Addr7, Answer, Identity, RoundReply, Served};
+use i3c_base::{Addr7, Answer, Identity, RoundReply, Served, Slot};
 use i3c_bus::{Event, Framed, Reply};
 use i3c_lines::{Names, Text};
 use std::alloc::AllocError;
@@ -22,18 +22,40 @@ pub(crate) enum Origin {
     Daa,
 }
 
+/// What of its event a reply's text has in it.
+#[derive(Clone, Copy)]
+pub(crate) enum Subject {
+    /// The slot in which a device was attached.
+    Attached(Slot),
+    /// The address to which the role was handed over.
+    HandedTo(Addr7),
+    /// Nothing.
+    Nothing,
+}
+
+/// What of an event its reply's text has in it.
+pub(crate) fn subject_of(event: &Event) -> Subject
+    ensures { result ≡ subject_of event.now }
+{
+    match event {
+        Event::Attach(slot, _) => Subject::Attached(*slot),
+        Event::HandOver(to, _) => Subject::HandedTo(*to),
+        _ => Subject::Nothing,
+    }
+}
+
 /// Prints the bus's reply to an event. What the line is refused or stopped by is answered, and not printed here.
 pub(crate) fn tell(
     names: &Names,
     origin: Origin,
-    event: &Event,
+    subject: Subject,
     reply: &Reply,
     text: &mut Text,
 ) -> Result<(), Stop>
     ensures stop { MatchResult result (λ _. reply_stop reply.now ≡ None) (λ stop. (stop ≡ Stop.Memory) ⊎ (reply_stop reply.now ≡ Some stop)) }
-    ensures told { OnOk result (text.new ≡ text.old ++ reply_text names.now origin event.now reply.now) }
+    ensures told { OnOk result (text.new ≡ text.old ++ reply_text names.now origin subject reply.now) }
 {
-    show_reply(names, origin, event, reply, text)?;
+    show_reply(names, origin, subject, reply, text)?;
     match Stop::of_reply(reply) {
         Some(stop) => Err(stop),
         None => Ok(()),
@@ -44,25 +66,32 @@ pub(crate) fn tell(
 fn show_reply(
     names: &Names,
     origin: Origin,
-    event: &Event,
+    subject: Subject,
     reply: &Reply,
     text: &mut Text,
 ) -> Result<(), AllocError>
-    ensures { OnOk result (text.new ≡ text.old ++ reply_text names.now origin event.now reply.now) }
+    ensures { OnOk result (text.new ≡ text.old ++ reply_text names.now origin subject reply.now) }
 {
     match reply {
         Reply::Refused(_) | Reply::OutOfMemory => Ok(()),
-        Reply::Attached => show_attached(names, event, text),
+        Reply::Attached => show_attached(names, subject, text),
         Reply::Dropped => text.push(b"dropped\n"),
-        Reply::Raised(number) => show_number(b"raised ", *number, text),
+        Reply::Raised(number) => show_raised(*number, text),
         Reply::Asked => text.push(b"asked\n"),
         Reply::Served(served) => show_served(served, text),
         Reply::Framed(framed) => show_framed(framed, text),
         Reply::Opened(served) => show_opened(origin, served, text),
-        Reply::Handed(served) => show_handed(event, served, text),
+        Reply::Handed(served) => show_handed(subject, served, text),
         Reply::Round(answer) => show_round(answer, text),
         Reply::Ended => show_ended(origin, text),
     }
+}
+
+/// Prints the number of a raise.
+pub(crate) fn show_raised(number: u64, text: &mut Text) -> Result<(), AllocError>
+    ensures { OnOk result (text.new ≡ text.old ++ raised_text number) }
+{
+    show_number(b"raised ", number, text)
 }
 
 /// Prints a line of some words and a number.
@@ -75,13 +104,13 @@ fn show_number(words: &[u8], number: u64, text: &mut Text) -> Result<(), AllocEr
 }
 
 /// Prints the name and the slot of a device that was attached.
-fn show_attached(names: &Names, event: &Event, text: &mut Text) -> Result<(), AllocError>
-    ensures { OnOk result (text.new ≡ text.old ++ attached_text names.now event.now) }
+fn show_attached(names: &Names, subject: Subject, text: &mut Text) -> Result<(), AllocError>
+    ensures { OnOk result (text.new ≡ text.old ++ attached_text names.now subject) }
 {
-    let Event::Attach(slot, _) = event else {
+    let Subject::Attached(slot) = subject else {
         return Ok(());
     };
-    match names.in_slot(*slot) {
+    match names.in_slot(slot) {
         Some(name) => {
             text.push(name.as_bytes())?;
             show_number(b" slot ", slot.index() as u64, text)
@@ -146,10 +175,10 @@ fn show_opened(origin: Origin, served: &Served, text: &mut Text) -> Result<(), A
 }
 
 /// Prints what was served while the role was handed over, and the address of who has it.
-fn show_handed(event: &Event, served: &Served, text: &mut Text) -> Result<(), AllocError>
-    ensures { OnOk result (text.new ≡ text.old ++ handed_text event.now served.now) }
+fn show_handed(subject: Subject, served: &Served, text: &mut Text) -> Result<(), AllocError>
+    ensures { OnOk result (text.new ≡ text.old ++ handed_text subject served.now) }
 {
-    let Event::HandOver(to, _) = event else {
+    let Subject::HandedTo(to) = subject else {
         return Ok(());
     };
     show_request(served, text)?;

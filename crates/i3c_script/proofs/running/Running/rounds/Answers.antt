@@ -6,15 +6,15 @@ use Rattle.i3c_script.proofs.running.Running.rounds.Goals.{else-loop-test, then-
 
 pub returns-in-Err-clause-rounds : goal.returns-in-Err-clause-rounds
 returns-in-Err-clause-rounds c =
-    no_more c.loop.self c.loop.names c.args.self.now.state c.carry_out.new.self.state c.loop.counter c.in-Err.stop c.loop.invariant.1 c.loop.invariant.2 c.in-Err.ensures.carried
+    no_more c.loop.self c.loop.names c.args.self.now.state c.carry_event.new.self.state c.loop.counter c.in-Err.stop c.loop.invariant.1 c.loop.invariant.2 c.in-Err.ensures.carried
 
 pub loop-preserved : goal.loop-preserved
 loop-preserved c =
     let (reply, carried, none, same) = c.in-Ok-true.ensures.carried in
     let more : goes_on reply ≡ true = cc in (
-      c.carry_out.ensures.policy ∙ c.loop.invariant.0,
-      c.carry_out.ensures.cuts,
-      one_more c.loop.self c.loop.names c.args.self.now.state c.carry_out.new.self.state c.loop.counter reply c.loop.invariant.1 c.loop.invariant.2 carried more,
+      c.carry_event.ensures.policy ∙ c.loop.invariant.0,
+      c.carry_event.ensures.cuts,
+      one_more c.loop.self c.loop.names c.args.self.now.state c.carry_event.new.self.state c.loop.counter reply c.loop.invariant.1 c.loop.invariant.2 carried more,
     )
 
 pub returns-clause-rounds : goal.returns-clause-rounds
@@ -25,5 +25,5 @@ returns-clause-rounds c =
       | then-loop-test+in-Ok-false w ↦
           let (reply, carried, none, same) = w.in-Ok-false.ensures.carried in
           let over : goes_on reply ≡ false = cc in
-          subst Led (sym w.self-is) (last c.loop.self c.loop.names c.args.self.now.state w.carry_out.new.self.state c.loop.counter reply c.loop.invariant.1 c.loop.invariant.2 carried over)
+          subst Led (sym w.self-is) (last c.loop.self c.loop.names c.args.self.now.state w.carry_event.new.self.state c.loop.counter reply c.loop.invariant.1 c.loop.invariant.2 carried over)
     ]
