@@ -3,8 +3,11 @@
 //!
 //! `lines` has names, numbers and refusals, `script` whole scripts and traces with what they print, and readers and
 //! writers that fail. `library` is the example of README.md on the library.
+//! `checks` has what they assert.
 #![tactic(auto)]
 
+#[cfg(test)]
+mod checks;
 #[cfg(test)]
 mod library;
 #[cfg(test)]

@@ -1,5 +1,6 @@
 //! The example of README.md on the library, which tests/readme compares with this file.
 
+use crate::checks::same;
 use i3c_base::{Bcr, Cuts, Dcr, Identity, Pid, Setup, Slot};
 use i3c_bus::{Bus, Event, Fixed, Hand, Records, Verdict};
 use i3c_frame::Silent;
@@ -45,8 +46,8 @@ fn alarm(alloc: Global) -> Result<Records, Fail> {
 fn the_alarm_is_recorded(rt: HostRuntime) -> Result<(), Fail> {
     let records = alarm(rt.alloc())?;
     let record = records.as_slice().first().ok_or("a record")?;
-    assert_eq!(rt; records.as_slice().len(), 1);
-    assert_eq!(rt; (record.slot.index(), record.number), (1, 1));
-    assert_eq!(rt; (record.at.get(), record.byte), (0x09, Some(0x11)));
+    same(&rt, records.as_slice().len(), 1);
+    same(&rt, (record.slot.index(), record.number), (1, 1));
+    same(&rt, (record.at.get(), record.byte), (0x09, Some(0x11)));
     Ok(())
 }

@@ -1,6 +1,28 @@
+use crate::checks::{holds, same};
 use i3c_base::{Addr7, Slot};
 use i3c_lines::{Name, Names, Refusal, Text};
+use std::process::Abort;
 use std::test::Fail;
+
+/// The name stands for this slot, or for none, as is due.
+fn stands(rt: &impl Abort, names: &Names, name: &Name, due: Result<Slot, Refusal>) {
+    same(rt, names.slot_of(name), due);
+}
+
+/// The slot has this name.
+fn is_called(rt: &impl Abort, names: &Names, slot: Slot, name: &Name) {
+    holds(
+        rt,
+        names.in_slot(slot) == Some(name),
+        "the slot has this name",
+    );
+}
+
+/// The slot is given the name.
+fn give(names: &mut Names, name: &Name, slot: Slot) -> Result<(), Fail> {
+    names.give_slot(name, slot)?;
+    Ok(())
+}
 
 // A name stays known where another device takes its slot, and may be given again. A slot knows its name.
 #[test]
@@ -9,25 +31,25 @@ fn names_of_devices_that_are_gone(rt: HostRuntime) -> Result<(), Fail> {
     let second = Name::parse(b"u").ok_or("a name")?;
     let (one, two) = (Slot::new(1)?, Slot::new(2)?);
     let mut names = Names::new(rt.alloc());
-    assert!(rt; names.slot_of(&first) == Err(Refusal::NoName));
-    assert!(rt; names.in_slot(one).is_none());
-    names.give_slot(&first, one)?;
-    names.give_slot(&first, one)?;
-    assert!(rt; names.slot_of(&first) == Ok(one));
-    names.give_slot(&second, one)?;
-    assert!(rt; names.slot_of(&first) == Err(Refusal::NoDevice));
-    assert!(rt; names.slot_of(&second) == Ok(one));
-    assert!(rt; names.in_slot(one) == Some(&second));
-    names.give_slot(&first, two)?;
-    assert!(rt; names.slot_of(&first) == Ok(two));
-    assert!(rt; names.slot_of(&second) == Ok(one));
+    stands(&rt, &names, &first, Err(Refusal::NoName));
+    holds(&rt, names.in_slot(one).is_none(), "nobody was in slot 1");
+    give(&mut names, &first, one)?;
+    give(&mut names, &first, one)?;
+    stands(&rt, &names, &first, Ok(one));
+    give(&mut names, &second, one)?;
+    stands(&rt, &names, &first, Err(Refusal::NoDevice));
+    stands(&rt, &names, &second, Ok(one));
+    is_called(&rt, &names, one, &second);
+    give(&mut names, &first, two)?;
+    stands(&rt, &names, &first, Ok(two));
+    stands(&rt, &names, &second, Ok(one));
     // a name that was given to another slot stands there, though its old slot is taken by a new name
-    names.give_slot(&second, two)?;
-    names.give_slot(&first, one)?;
-    assert!(rt; names.slot_of(&first) == Ok(one));
-    assert!(rt; names.slot_of(&second) == Ok(two));
-    assert!(rt; names.in_slot(one) == Some(&first));
-    assert!(rt; names.in_slot(two) == Some(&second));
+    give(&mut names, &second, two)?;
+    give(&mut names, &first, one)?;
+    stands(&rt, &names, &first, Ok(one));
+    stands(&rt, &names, &second, Ok(two));
+    is_called(&rt, &names, one, &first);
+    is_called(&rt, &names, two, &second);
     Ok(())
 }
 
@@ -41,7 +63,7 @@ fn words_of_refusals(rt: HostRuntime) -> Result<(), Fail> {
     for (refusal, wanted) in cases {
         let mut text = Text::new(rt.alloc());
         refusal.push(&mut text)?;
-        assert_eq!(rt; text.as_bytes(), wanted.as_bytes());
+        same(&rt, text.as_bytes(), wanted.as_bytes());
     }
     Ok(())
 }
@@ -56,6 +78,6 @@ fn numerals(rt: HostRuntime) -> Result<(), Fail> {
     text.push_bytes(&[0x00, 0xFF])?;
     text.push_hex(0x0204_0000_00BE, 12)?;
     let wanted = b"018446744073709551615A500FF0204000000BE";
-    assert_eq!(rt; text.as_bytes(), wanted.as_slice());
+    same(&rt, text.as_bytes(), wanted.as_slice());
     Ok(())
 }

@@ -1,3 +1,4 @@
+use crate::checks::{holds, same, same_in};
 use i3c_frame::read_trace;
 use i3c_script::{ScriptFault, Tally, run_script};
 use std::alloc::Global;
@@ -30,8 +31,8 @@ fn run(alloc: Global, script: &[u8]) -> (Vec<u8>, Result<Tally, ScriptFault>) {
 fn prints(rt: &impl Abort, alloc: Global, script: &str, wanted: &str, refused: u64) {
     let (printed, outcome) = run(alloc, script.as_bytes());
     let printed = str::from_utf8(&printed).unwrap_or("no text");
-    assert_eq!(rt; printed, wanted, "by {script:?}");
-    assert_eq!(rt; outcome, Ok(Tally { refused }), "by {script:?}");
+    same_in(rt, script, printed, wanted);
+    same_in(rt, script, outcome, Ok(Tally { refused }));
 }
 
 /// A script that follows the main controller's line prints this after its line.
@@ -64,11 +65,12 @@ fn skipped_lines(rt: HostRuntime) {
     prints(&rt, alloc, script, wanted, 2);
     prints(&rt, alloc, "", "", 0);
     let (printed, outcome) = run(alloc, b"#\xFF\x80\ndaa\xFF\n\xC0");
-    assert_eq!(rt;
+    same(
+        &rt,
         printed.as_slice(),
-        b"refused BadLine\nrefused BadLine\n".as_slice()
+        b"refused BadLine\nrefused BadLine\n".as_slice(),
     );
-    assert_eq!(rt; outcome, Ok(Tally { refused: 2 }));
+    same(&rt, outcome, Ok(Tally { refused: 2 }));
 }
 
 // A line has at most 256 bytes, a comment too.
@@ -87,11 +89,21 @@ fn long_lines(rt: HostRuntime) -> Result<(), Fail> {
             script.push('a')?;
         }
         let (printed, _) = run(rt.alloc(), script.as_bytes());
-        assert_eq!(rt; printed.as_slice(), wanted.as_bytes(), "{first} {length}");
+        same_in(
+            &rt,
+            format_args!("{first} {length}"),
+            printed.as_slice(),
+            wanted.as_bytes(),
+        );
         script.push_str("\ndaa\n")?;
         let (printed, _) = run(rt.alloc(), script.as_bytes());
         let wanted = format!(in rt.alloc(); "{wanted}refused NoBus\n")?;
-        assert_eq!(rt; printed.as_slice(), wanted.as_bytes(), "{first} {length}");
+        same_in(
+            &rt,
+            format_args!("{first} {length}"),
+            printed.as_slice(),
+            wanted.as_bytes(),
+        );
     }
     Ok(())
 }
@@ -113,19 +125,19 @@ fn long_script(alloc: Global, length: usize) -> Result<Vec<u8>, Fail> {
 #[test]
 fn large_scripts(rt: HostRuntime) -> Result<(), Fail> {
     let mut script = long_script(rt.alloc(), SCRIPT_LENGTH)?;
-    assert_eq!(rt; script.len(), SCRIPT_LENGTH);
+    same(&rt, script.len(), SCRIPT_LENGTH);
     let (printed, outcome) = run(rt.alloc(), &script);
-    assert_eq!(rt; printed.as_slice(), b"refused NoBus\n".as_slice());
-    assert_eq!(rt; outcome, Ok(Tally { refused: 1 }));
+    same(&rt, printed.as_slice(), b"refused NoBus\n".as_slice());
+    same(&rt, outcome, Ok(Tally { refused: 1 }));
     script.push(b'#')?;
     let (printed, outcome) = run(rt.alloc(), &script);
-    assert_eq!(rt; printed.as_slice(), b"refused NoBus\n".as_slice());
-    assert_eq!(rt; outcome, Err(ScriptFault::TooLarge));
+    same(&rt, printed.as_slice(), b"refused NoBus\n".as_slice());
+    same(&rt, outcome, Err(ScriptFault::TooLarge));
     script.remove(0);
     script.extend_from_slice(b"daa\n")?;
     let (printed, outcome) = run(rt.alloc(), &script);
-    assert_eq!(rt; printed.as_slice(), b"refused NoBus\n".as_slice());
-    assert_eq!(rt; outcome, Err(ScriptFault::TooLarge));
+    same(&rt, printed.as_slice(), b"refused NoBus\n".as_slice());
+    same(&rt, outcome, Err(ScriptFault::TooLarge));
     Ok(())
 }
 
@@ -158,8 +170,12 @@ fn a_reader_fails(rt: HostRuntime) {
         };
         let mut printed = Vec::new(rt.alloc());
         let outcome = run_script(rt.alloc(), &mut reader, &mut printed);
-        assert_eq!(rt; printed.as_slice(), b"hub slot 0 at 08\ndone\n".as_slice());
-        assert_eq!(rt; outcome, Err(ScriptFault::Read));
+        same(
+            &rt,
+            printed.as_slice(),
+            b"hub slot 0 at 08\ndone\n".as_slice(),
+        );
+        same(&rt, outcome, Err(ScriptFault::Read));
     }
 }
 
@@ -201,8 +217,8 @@ fn a_writer_fails(rt: HostRuntime) -> Result<(), Fail> {
                 fails,
             };
             let outcome = run_script(rt.alloc(), &mut reader, &mut writer);
-            assert_eq!(rt; outcome, Err(ScriptFault::Write), "with room for {room}");
-            assert_eq!(rt; writer.printed.as_slice(), &whole[..room]);
+            same_in(&rt, room, outcome, Err(ScriptFault::Write));
+            same(&rt, writer.printed.as_slice(), &whole[..room]);
         }
     }
     Ok(())
@@ -275,25 +291,25 @@ const EACH_LINE: &[u8] = b"show\nlegacy eep 50 20\nmain hub 020400000001 46 C0\n
 fn one_write_fails(rt: HostRuntime) -> Result<(), Fail> {
     let alloc = rt.alloc();
     let (whole, outcome) = run(alloc, EACH_LINE);
-    assert_eq!(rt; outcome, Ok(Tally { refused: 5 }));
+    same(&rt, outcome, Ok(Tally { refused: 5 }));
     let mut failures = 0u64;
     for before in 0..10_000 {
         let mut reader = EACH_LINE;
         let mut writer = Flaky::new(alloc, b"", before);
         let outcome = run_script(alloc, &mut reader, &mut writer);
         if !writer.has_failed {
-            assert_eq!(rt; outcome, Ok(Tally { refused: 5 }));
-            assert_eq!(rt; writer.printed.as_slice(), whole.as_slice());
+            same(&rt, outcome, Ok(Tally { refused: 5 }));
+            same(&rt, writer.printed.as_slice(), whole.as_slice());
             break;
         }
         failures = before + 1;
-        assert_eq!(rt; outcome, Err(ScriptFault::Write), "after {before} writes");
+        same_in(&rt, before, outcome, Err(ScriptFault::Write));
         let count = writer.printed.len();
-        assert!(rt; count < whole.len(), "after {before} writes");
-        assert_eq!(rt; writer.printed.as_slice(), &whole[..count]);
+        holds(&rt, count < whole.len(), "fewer bytes are printed");
+        same(&rt, writer.printed.as_slice(), &whole[..count]);
     }
     // there were writes to fail, one for a line at least
-    assert!(rt; failures > 20);
+    holds(&rt, failures > 20, "there were writes to fail");
     Ok(())
 }
 
@@ -308,17 +324,21 @@ fn one_read_fails(rt: HostRuntime) -> Result<(), Fail> {
         let mut writer = Vec::new(alloc);
         let outcome = run_script(alloc, &mut reader, &mut writer);
         if !reader.has_failed {
-            assert_eq!(rt; outcome, Ok(Tally { refused: 5 }));
-            assert_eq!(rt; writer.as_slice(), whole.as_slice());
+            same(&rt, outcome, Ok(Tally { refused: 5 }));
+            same(&rt, writer.as_slice(), whole.as_slice());
             break;
         }
-        assert_eq!(rt; outcome, Err(ScriptFault::Read), "after {before} reads");
+        same_in(&rt, before, outcome, Err(ScriptFault::Read));
         let count = writer.len();
-        assert!(rt; printed <= count && count <= whole.len());
-        assert_eq!(rt; writer.as_slice(), &whole[..count]);
+        holds(
+            &rt,
+            printed <= count && count <= whole.len(),
+            "no fewer bytes are printed than before",
+        );
+        same(&rt, writer.as_slice(), &whole[..count]);
         printed = count;
     }
-    assert_eq!(rt; printed, whole.len());
+    same(&rt, printed, whole.len());
     Ok(())
 }
 
@@ -358,10 +378,10 @@ fn symbols_are_a_trace(rt: HostRuntime) -> Result<(), Fail> {
     }
     script.push_str("symbols\n")?;
     let (printed, outcome) = run(alloc, script.as_bytes());
-    assert_eq!(rt; outcome, Ok(Tally { refused: 0 }));
+    same(&rt, outcome, Ok(Tally { refused: 0 }));
     let text = str::from_utf8(&printed)?;
     let wire = text.lines().last().ok_or("a line")?;
     let symbols = read_trace(alloc, wire)?;
-    assert_eq!(rt; symbols.len(), 252);
+    same(&rt, symbols.len(), 252);
     Ok(())
 }

@@ -1,3 +1,4 @@
+use super::checks::{holds, same};
 use super::setting::{
     address, assigned, attached, begun, closed, commanded, ended, ends_with, entry, is_none, only,
     opened, other_target, slot, target, unclosed, with,
@@ -21,7 +22,12 @@ fn the_lowest_port_is_told(rt: HostRuntime) -> Result<(), Fail> {
     let ports = with(&rt, ports, main);
     let (bus, role, ports) = unclosed(&rt, bus, role, ports, CloseFault::PortOut(one));
     let closed = closed(&rt, bus, role, with(&rt, ports, first));
-    assert!(rt; closed.run.len() == 2 && closed.records.as_slice().len() == 0);
+    let (events, records) = (closed.run.len(), closed.records.as_slice().len());
+    holds(
+        &rt,
+        events == 2 && records == 0,
+        "two events, and no record",
+    );
     Ok(())
 }
 
@@ -37,7 +43,7 @@ fn the_next_port_is_told(rt: HostRuntime) -> Result<(), Fail> {
     let ports = with(&rt, ports, second);
     let (bus, role, ports) = unclosed(&rt, bus, role, ports, CloseFault::PortOut(three));
     let closed = closed(&rt, bus, role, with(&rt, ports, third));
-    assert!(rt; closed.run.len() == 2);
+    same(&rt, closed.run.len(), 2);
     Ok(())
 }
 
@@ -52,13 +58,17 @@ fn ports_of_nobody_are_out(rt: HostRuntime) -> Result<(), Fail> {
     let mut cuts = Cuts::new();
     cuts.add(one, 20);
     let from = Command::ReadFrom(address(&rt, 0x09));
-    assert!(rt; commanded(&rt, &bus, &mut role, from, cuts).is_ok());
+    holds(
+        &rt,
+        commanded(&rt, &bus, &mut role, from, cuts).is_ok(),
+        "the role is current",
+    );
     let ports = only(&rt, rt.alloc(), main);
     let (bus, role, ports) = unclosed(&rt, bus, Some(role), ports, CloseFault::PortOut(one));
     let ports = with(&rt, ports, first);
     let (bus, role, ports) = unclosed(&rt, bus, role, ports, CloseFault::PortOut(two));
     bus.let_go();
-    assert!(rt; !is_none(role));
+    holds(&rt, !is_none(role), "the role came back");
     spend_ports(ports);
     Ok(())
 }
@@ -71,9 +81,9 @@ fn a_role_is_due(rt: HostRuntime) -> Result<(), Fail> {
     let (bus, nobody, ports) = unclosed(&rt, bus, None, none, CloseFault::RoleOut);
     let ports = with(&rt, ports, main);
     let (bus, nobody, ports) = unclosed(&rt, bus, nobody, ports, CloseFault::RoleOut);
-    assert!(rt; is_none(nobody));
+    holds(&rt, is_none(nobody), "nobody has a role");
     let closed = closed(&rt, bus, Some(role), ports);
-    assert!(rt; closed.run.is_empty());
+    holds(&rt, closed.run.is_empty(), "the run is empty");
     Ok(())
 }
 
@@ -85,12 +95,12 @@ fn a_session_has_the_role(rt: HostRuntime) -> Result<(), Fail> {
     let session = opened(&rt, &bus, role);
     let ports = only(&rt, rt.alloc(), main);
     let (bus, nobody, ports) = unclosed(&rt, bus, None, ports, CloseFault::RoleOut);
-    assert!(rt; is_none(nobody));
+    holds(&rt, is_none(nobody), "nobody has a role");
     let (bus, back, ports) = unclosed(&rt, bus, Some(foreign), ports, CloseFault::RoleOut);
-    assert!(rt; !is_none(back));
+    holds(&rt, !is_none(back), "the role came back");
     let role = ended(&rt, &bus, session);
     let closed = closed(&rt, bus, Some(role), ports);
-    assert!(rt; closed.run.len() == 2);
+    same(&rt, closed.run.len(), 2);
     other.let_go();
     idle.let_go();
     Ok(())
@@ -103,16 +113,17 @@ fn a_refused_close_takes_nothing_up(rt: HostRuntime) -> Result<(), Fail> {
     let (bus, role, main) = begun(&rt, rt.alloc());
     let mut main = main;
     for byte in 1..9 {
-        assert!(rt; main.post(Some(byte)) == Ok(()));
+        same(&rt, main.post(Some(byte)), Ok(()));
     }
     let none = Vec::new(rt.alloc());
     let (bus, nobody, none) = unclosed(&rt, bus, None, none, CloseFault::RoleOut);
-    assert!(rt; is_none(nobody) && main.post(Some(9)) == Err(Full(Some(9))));
+    holds(&rt, is_none(nobody), "nobody has a role");
+    same(&rt, main.post(Some(9)), Err(Full(Some(9))));
     let (bus, role, none) = unclosed(&rt, bus, Some(role), none, CloseFault::PortOut(at));
-    assert!(rt; main.post(Some(9)) == Err(Full(Some(9))));
+    same(&rt, main.post(Some(9)), Err(Full(Some(9))));
     let closed = closed(&rt, bus, role, with(&rt, none, main));
-    assert!(rt; closed.run.len() == 8);
+    same(&rt, closed.run.len(), 8);
     let last = entry(Event::Raise(at, Some(8)), Reply::Refused(Refusal::IsActive));
-    assert!(rt; ends_with(&closed.run, &[last]));
+    holds(&rt, ends_with(&closed.run, &[last]), "the run ends so");
     Ok(())
 }

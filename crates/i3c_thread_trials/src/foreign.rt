@@ -1,3 +1,4 @@
+use super::checks::{holds, same};
 use super::setting::{
     address, ask_join, attached, begun, closed, drop_off, entry, handed, is_run, only, served,
     slot, target, unclosed, with,
@@ -18,7 +19,7 @@ use std::test::Fail;
 fn stranger<R: Wait + Abort>(rt: &R, alloc: Global, at: Slot) -> Port {
     let (bus, role, main) = begun(rt, alloc);
     let mut port = attached(rt, &bus, at, target(rt));
-    assert!(rt; port.post(Some(0x33)) == Ok(()));
+    same(rt, port.post(Some(0x33)), Ok(()));
     bus.let_go();
     role.let_go();
     main.let_go();
@@ -30,7 +31,7 @@ fn kept<R: Wait + Abort>(rt: &R, bus: &SharedBus, port: Port) -> Port {
     match drop_off(rt, bus, port) {
         Ok(_) => panic!(rt; "a stranger's device is gone"),
         Err((port, why)) => {
-            assert!(rt; why == DropFault::OutOfMemory);
+            same(rt, why, DropFault::OutOfMemory);
             port
         }
     }
@@ -44,38 +45,46 @@ fn a_strangers_port_is_not_believed(rt: HostRuntime) -> Result<(), Fail> {
     let (bus, role, main) = begun(&rt, alloc);
     let mut own = attached(&rt, &bus, at, target(&rt));
     let mut foreign = stranger(&rt, alloc, at);
-    assert!(rt; bus.ask_join(&rt, &mut foreign) == Err(AskFault::OutOfMemory));
-    assert!(rt; bus.ask_role(&rt, &mut foreign) == Err(AskFault::OutOfMemory));
+    same(
+        &rt,
+        bus.ask_join(&rt, &mut foreign),
+        Err(AskFault::OutOfMemory),
+    );
+    same(
+        &rt,
+        bus.ask_role(&rt, &mut foreign),
+        Err(AskFault::OutOfMemory),
+    );
     let foreign = kept(&rt, &bus, foreign);
     let ports = with(&rt, only(&rt, alloc, main), foreign);
     let (bus, role, ports) = unclosed(&rt, bus, Some(role), ports, CloseFault::OutOfMemory);
     let mut ports = ports;
     ports.pop().expect(&rt, "the stranger's port").let_go();
-    assert!(rt; ask_join(&rt, &bus, &mut own) == Ok(()));
+    same(&rt, ask_join(&rt, &bus, &mut own), Ok(()));
     let closed = closed(&rt, bus, role, with(&rt, ports, own));
     let due = [
         entry(Event::Attach(at, target(&rt)), Reply::Attached),
         entry(Event::AskJoin(at), Reply::Asked),
     ];
-    assert!(rt; is_run(&closed.run, &due));
+    holds(&rt, is_run(&closed.run, &due), "the run is so");
     Ok(())
 }
 
 /// The role, which is refused as stale by each call that wants one.
 fn stale<R: Wait + Abort>(rt: &R, bus: &SharedBus, role: HeldRole) -> HeldRole {
     let mut role = role;
-    assert!(rt; served(rt, bus, &mut role) == Err(StaleRole(1)));
+    same(rt, served(rt, bus, &mut role), Err(StaleRole(1)));
     let role = match bus.open_daa(rt, role, &mut Silent, Cuts::new()) {
         Ok(_) => panic!(rt; "a session is opened"),
         Err((role, why)) => {
-            assert!(rt; why == OpenFault::StaleRole(StaleRole(1)));
+            same(rt, why, OpenFault::StaleRole(StaleRole(1)));
             role
         }
     };
     match bus.hand_over(rt, role, address(rt, 0x08), &mut Silent, Cuts::new()) {
         Ok(_) => panic!(rt; "the role is handed over"),
         Err((role, why)) => {
-            assert!(rt; why == HandOverFault::StaleRole(StaleRole(1)));
+            same(rt, why, HandOverFault::StaleRole(StaleRole(1)));
             role
         }
     }
@@ -89,14 +98,14 @@ fn a_strangers_role_is_stale(rt: HostRuntime) -> Result<(), Fail> {
     let (other, foreign, idle) = begun(&rt, rt.alloc());
     let mut main = main;
     for byte in 1..9 {
-        assert!(rt; main.post(Some(byte)) == Ok(()));
+        same(&rt, main.post(Some(byte)), Ok(()));
     }
     stale(&rt, &bus, foreign).let_go();
-    assert!(rt; main.post(Some(9)) == Err(Full(Some(9))));
+    same(&rt, main.post(Some(9)), Err(Full(Some(9))));
     let ports = with(&rt, only(&rt, rt.alloc(), main), port);
     let closed = closed(&rt, bus, None, ports);
     // an attachment, a session of four frames, the list, the handover, and then the eight raises
-    assert!(rt; closed.run.len() == 15);
+    same(&rt, closed.run.len(), 15);
     other.let_go();
     idle.let_go();
     Ok(())

@@ -1,3 +1,4 @@
+use super::checks::{holds, same};
 use super::setting::{
     ask_role, attach, closed, drop_off, ends_with, entry, handed, is_none, only, served, slot,
     target, unclosed, with,
@@ -13,10 +14,18 @@ use std::test::Fail;
 
 /// The role, which the new holder's port alone is given, and once.
 fn taken<R: Wait + Abort>(rt: &R, bus: &SharedBus, main: &Port, port: &Port) -> HeldRole {
-    assert!(rt; is_none(bus.take_role(rt, main)));
+    holds(
+        rt,
+        is_none(bus.take_role(rt, main)),
+        "no role is parked for the main controller",
+    );
     let role = bus.take_role(rt, port).expect(rt, "the role");
-    assert!(rt; is_none(bus.take_role(rt, port)));
-    assert!(rt; role.holder() == slot(rt, 1));
+    holds(
+        rt,
+        is_none(bus.take_role(rt, port)),
+        "the role is taken once",
+    );
+    same(rt, role.holder(), slot(rt, 1));
     role
 }
 
@@ -25,7 +34,7 @@ fn stays<R: Wait + Abort>(rt: &R, bus: &SharedBus, port: Port) -> Port {
     match drop_off(rt, bus, port) {
         Ok(_) => panic!(rt; "the active controller is gone"),
         Err((port, why)) => {
-            assert!(rt; why == DropFault::ActiveStays);
+            same(rt, why, DropFault::ActiveStays);
             port
         }
     }
@@ -39,19 +48,23 @@ fn the_new_holder_takes_the_role(rt: HostRuntime) -> Result<(), Fail> {
     let (bus, main, port) = handed(&rt, alloc);
     let mut main = main;
     let mut role = taken(&rt, &bus, &main, &port);
-    assert!(rt; served(&rt, &bus, &mut role) == Ok(Reply::Served(Served::Quiet)));
-    assert!(rt; ask_role(&rt, &bus, &mut main) == Ok(()));
+    same(
+        &rt,
+        served(&rt, &bus, &mut role),
+        Ok(Reply::Served(Served::Quiet)),
+    );
+    same(&rt, ask_role(&rt, &bus, &mut main), Ok(()));
     match attach(&rt, &bus, at, target(&rt)) {
         Ok(port) => {
             port.let_go();
-            assert!(rt; false);
+            holds(&rt, false, "the slot is taken");
         }
-        Err(why) => assert!(rt; why == AttachFault::SlotTaken),
+        Err(why) => same(&rt, why, AttachFault::SlotTaken),
     }
     let port = stays(&rt, &bus, port);
     let ports = only(&rt, alloc, main);
     let (bus, none, ports) = unclosed(&rt, bus, None, ports, CloseFault::RoleOut);
-    assert!(rt; is_none(none));
+    holds(&rt, is_none(none), "nobody has a role");
     let (bus, role, ports) = unclosed(&rt, bus, Some(role), ports, CloseFault::PortOut(at));
     let closed = closed(&rt, bus, role, with(&rt, ports, port));
     let due = [
@@ -62,7 +75,7 @@ fn the_new_holder_takes_the_role(rt: HostRuntime) -> Result<(), Fail> {
         ),
         entry(Event::DropOff(at), Reply::Refused(Refusal::ActiveStays)),
     ];
-    assert!(rt; ends_with(&closed.run, &due));
+    holds(&rt, ends_with(&closed.run, &due), "the run ends so");
     Ok(())
 }
 
@@ -71,7 +84,11 @@ fn the_new_holder_takes_the_role(rt: HostRuntime) -> Result<(), Fail> {
 fn the_new_holder_does_not_ask(rt: HostRuntime) -> Result<(), Fail> {
     let (bus, main, port) = handed(&rt, rt.alloc());
     let mut port = port;
-    assert!(rt; ask_role(&rt, &bus, &mut port) == Err(AskFault::Refused(Refusal::IsActive)));
+    same(
+        &rt,
+        ask_role(&rt, &bus, &mut port),
+        Err(AskFault::Refused(Refusal::IsActive)),
+    );
     // the role is parked: it is in
     let ports = with(&rt, only(&rt, rt.alloc(), main), port);
     let closed = closed(&rt, bus, None, ports);
@@ -79,7 +96,7 @@ fn the_new_holder_does_not_ask(rt: HostRuntime) -> Result<(), Fail> {
         Event::AskRole(slot(&rt, 1)),
         Reply::Refused(Refusal::IsActive),
     )];
-    assert!(rt; ends_with(&closed.run, &due));
+    holds(&rt, ends_with(&closed.run, &due), "the run ends so");
     Ok(())
 }
 
@@ -90,7 +107,7 @@ fn a_role_that_was_let_go_is_out(rt: HostRuntime) -> Result<(), Fail> {
     taken(&rt, &bus, &main, &port).let_go();
     let ports = with(&rt, only(&rt, rt.alloc(), main), port);
     let (bus, none, ports) = unclosed(&rt, bus, None, ports, CloseFault::RoleOut);
-    assert!(rt; is_none(none));
+    holds(&rt, is_none(none), "nobody has a role");
     bus.let_go();
     spend_ports(ports);
     Ok(())

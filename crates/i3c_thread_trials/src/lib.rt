@@ -5,8 +5,11 @@
 //! a bus may be closed, `foreign` ports and roles of another bus, `threads` devices that post while the bus is
 //! busy, and `sharing` threads that call on one bus.
 //! `setting` has what they share: there a call that was short of memory is given again. `strict` makes each call once.
+//! `checks` has what they assert.
 #![tactic(auto)]
 
+#[cfg(test)]
+mod checks;
 #[cfg(test)]
 mod closing;
 #[cfg(test)]

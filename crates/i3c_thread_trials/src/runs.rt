@@ -1,3 +1,4 @@
+use super::checks::{holds, same};
 use super::setting::{
     INTERRUPT, NONE, address, ask_join, assigned, attach, attached, begun, closed, commanded,
     ended, ends_with, entry, is_run, left, only, opened, round, served, slot, target, with,
@@ -23,7 +24,8 @@ fn one_assigned<R: Wait + Abort>(rt: &R, bus: &SharedBus, role: HeldRole) -> Hel
     let given = RoundReply::Assigned(address(rt, 0x09), target(rt).identity);
     let first = round(rt, bus, &mut session);
     let second = round(rt, bus, &mut session);
-    assert!(rt; first == Ok(given) && second == Ok(RoundReply::Done));
+    same(rt, first, Ok(given));
+    same(rt, second, Ok(RoundReply::Done));
     ended(rt, bus, session)
 }
 
@@ -58,12 +60,20 @@ fn from_a_join_to_a_drop_off(rt: HostRuntime) -> Result<(), Fail> {
     let (bus, role, main) = begun(&rt, alloc);
     let mut role = role;
     let mut port = attached(&rt, &bus, at, target(&rt));
-    assert!(rt; ask_join(&rt, &bus, &mut port) == Ok(()));
-    assert!(rt; served(&rt, &bus, &mut role) == Ok(Reply::Served(Served::Joining)));
+    same(&rt, ask_join(&rt, &bus, &mut port), Ok(()));
+    same(
+        &rt,
+        served(&rt, &bus, &mut role),
+        Ok(Reply::Served(Served::Joining)),
+    );
     role = one_assigned(&rt, &bus, role);
-    assert!(rt; port.post(Some(0x11)) == Ok(()));
-    assert!(rt; served(&rt, &bus, &mut role) == Ok(Reply::Served(Served::Recorded(1))));
-    assert!(rt; left(&rt, &bus, port) == Some(Left::Now));
+    same(&rt, port.post(Some(0x11)), Ok(()));
+    same(
+        &rt,
+        served(&rt, &bus, &mut role),
+        Ok(Reply::Served(Served::Recorded(1))),
+    );
+    same(&rt, left(&rt, &bus, port), Some(Left::Now));
     let again = attached(&rt, &bus, at, target(&rt));
     let closed = closed(
         &rt,
@@ -71,14 +81,14 @@ fn from_a_join_to_a_drop_off(rt: HostRuntime) -> Result<(), Fail> {
         Some(role),
         with(&rt, only(&rt, alloc, main), again),
     );
-    assert!(rt; is_run(&closed.run, &eleven(&rt, at)));
+    holds(&rt, is_run(&closed.run, &eleven(&rt, at)), "the run is so");
     let record = Record {
         slot: at,
         number: 1,
         at: address(&rt, 0x09),
         byte: Some(0x11),
     };
-    assert!(rt; closed.records.as_slice() == &[record][..]);
+    same(&rt, closed.records.as_slice(), &[record][..]);
     Ok(())
 }
 
@@ -87,8 +97,12 @@ fn from_a_join_to_a_drop_off(rt: HostRuntime) -> Result<(), Fail> {
 fn the_active_controller_posts(rt: HostRuntime) -> Result<(), Fail> {
     let (bus, role, main) = begun(&rt, rt.alloc());
     let (mut role, mut main) = (role, main);
-    assert!(rt; main.post(Some(1)) == Ok(()));
-    assert!(rt; served(&rt, &bus, &mut role) == Ok(Reply::Served(Served::Quiet)));
+    same(&rt, main.post(Some(1)), Ok(()));
+    same(
+        &rt,
+        served(&rt, &bus, &mut role),
+        Ok(Reply::Served(Served::Quiet)),
+    );
     let closed = closed(&rt, bus, Some(role), only(&rt, rt.alloc(), main));
     let due = [
         entry(
@@ -100,8 +114,8 @@ fn the_active_controller_posts(rt: HostRuntime) -> Result<(), Fail> {
             Reply::Served(Served::Quiet),
         ),
     ];
-    assert!(rt; is_run(&closed.run, &due));
-    assert!(rt; closed.records.as_slice().len() == 0);
+    holds(&rt, is_run(&closed.run, &due), "the run is so");
+    same(&rt, closed.records.as_slice().len(), 0);
     Ok(())
 }
 
@@ -113,19 +127,23 @@ fn a_drop_off_takes_up_the_last_posts(rt: HostRuntime) -> Result<(), Fail> {
     let mut port = attached(&rt, &bus, at, target(&rt));
     let mut role = assigned(&rt, &bus, role);
     for byte in 1..8 {
-        assert!(rt; port.post(Some(byte)) == Ok(()));
+        same(&rt, port.post(Some(byte)), Ok(()));
     }
-    assert!(rt; served(&rt, &bus, &mut role) == Ok(Reply::Served(Served::Recorded(1))));
-    assert!(rt; port.post(Some(8)) == Ok(()));
-    assert!(rt; port.post(Some(9)) == Ok(()));
-    assert!(rt; left(&rt, &bus, port) == Some(Left::Now));
+    same(
+        &rt,
+        served(&rt, &bus, &mut role),
+        Ok(Reply::Served(Served::Recorded(1))),
+    );
+    same(&rt, port.post(Some(8)), Ok(()));
+    same(&rt, port.post(Some(9)), Ok(()));
+    same(&rt, left(&rt, &bus, port), Some(Left::Now));
     let closed = closed(&rt, bus, Some(role), only(&rt, rt.alloc(), main));
     let due = [
         entry(Event::Raise(at, Some(8)), Reply::Raised(8)),
         entry(Event::Raise(at, Some(9)), Reply::Raised(9)),
         entry(Event::DropOff(at), Reply::Dropped),
     ];
-    assert!(rt; ends_with(&closed.run, &due));
+    holds(&rt, ends_with(&closed.run, &due), "the run ends so");
     Ok(())
 }
 
@@ -135,9 +153,9 @@ fn the_ninth_post_is_full(rt: HostRuntime) -> Result<(), Fail> {
     let (bus, role, main) = begun(&rt, rt.alloc());
     let mut main = main;
     for byte in 1..9 {
-        assert!(rt; main.post(Some(byte)) == Ok(()));
+        same(&rt, main.post(Some(byte)), Ok(()));
     }
-    assert!(rt; main.post(Some(9)) == Err(Full(Some(9))));
+    same(&rt, main.post(Some(9)), Err(Full(Some(9))));
     bus.let_go();
     role.let_go();
     main.let_go();
@@ -167,15 +185,19 @@ fn a_cut_device_leaves_its_port_out(rt: HostRuntime) -> Result<(), Fail> {
     let (bus, role, main) = begun(&rt, alloc);
     let port = attached(&rt, &bus, at, target(&rt));
     let mut role = assigned(&rt, &bus, role);
-    assert!(rt; commanded(&rt, &bus, &mut role, Command::ReadFrom(from), cut(at)) == Ok(torn()));
+    same(
+        &rt,
+        commanded(&rt, &bus, &mut role, Command::ReadFrom(from), cut(at)),
+        Ok(torn()),
+    );
     match attach(&rt, &bus, at, target(&rt)) {
         Ok(port) => {
             port.let_go();
-            assert!(rt; false);
+            holds(&rt, false, "the slot is taken");
         }
-        Err(why) => assert!(rt; why == AttachFault::SlotTaken),
+        Err(why) => same(&rt, why, AttachFault::SlotTaken),
     }
-    assert!(rt; left(&rt, &bus, port) == Some(Left::WasGone));
+    same(&rt, left(&rt, &bus, port), Some(Left::WasGone));
     let again = attached(&rt, &bus, at, target(&rt));
     let closed = closed(
         &rt,
@@ -189,6 +211,6 @@ fn a_cut_device_leaves_its_port_out(rt: HostRuntime) -> Result<(), Fail> {
         entry(Event::DropOff(at), Reply::Refused(Refusal::NoDevice)),
         entry(Event::Attach(at, target(&rt)), Reply::Attached),
     ];
-    assert!(rt; ends_with(&closed.run, &due));
+    holds(&rt, ends_with(&closed.run, &due), "the run ends so");
     Ok(())
 }

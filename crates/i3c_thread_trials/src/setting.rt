@@ -1,5 +1,6 @@
 //! What the trials share. A call that was short of memory is given again, once: then it does what it would have done, so
 //! each trial ends as it does otherwise, whichever one allocation is refused.
+use super::checks::{holds, same};
 use i3c_base::{
     Addr7, Bcr, Cuts, Dcr, Fixed, Identity, Pid, RoundReply, Served, Setup, Slot, Verdict,
 };
@@ -238,18 +239,22 @@ pub(crate) fn handed<R: Wait + Abort>(rt: &R, alloc: Global) -> (SharedBus, Port
     let (bus, role, main) = begun(rt, alloc);
     let port = attached(rt, &bus, slot(rt, 1), controller(rt));
     let mut role = assigned(rt, &bus, role);
-    assert!(rt; commanded(rt, &bus, &mut role, Command::SendList, Cuts::new()).is_ok());
+    holds(
+        rt,
+        commanded(rt, &bus, &mut role, Command::SendList, Cuts::new()).is_ok(),
+        "the role is current",
+    );
     let to = address(rt, 0x09);
     let outcome = match bus.hand_over(rt, role, to, &mut Silent, Cuts::new()) {
         Err((role, HandOverFault::OutOfMemory)) => {
             // nothing was handed over
-            assert!(rt; is_none(bus.take_role(rt, &port)));
+            holds(rt, is_none(bus.take_role(rt, &port)), "no role is parked");
             bus.hand_over(rt, role, to, &mut Silent, Cuts::new())
         }
         first => first,
     };
     match outcome {
-        Ok(served) => assert!(rt; served == Served::Quiet),
+        Ok(served) => same(rt, served, Served::Quiet),
         Err((role, _)) => {
             role.let_go();
             panic!(rt; "the role isn't handed over")
@@ -353,8 +358,9 @@ pub(crate) fn unclosed<R: Abort>(
                 ports,
                 fault,
             } = refused;
-            assert!(rt; fault == why);
-            assert!(rt; role.is_some() == had_role && ports.len() == count);
+            same(rt, fault, why);
+            same(rt, role.is_some(), had_role);
+            same(rt, ports.len(), count);
             (bus, role, ports)
         }
     }

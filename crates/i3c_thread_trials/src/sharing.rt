@@ -1,5 +1,6 @@
 ghost use Rattle.std.specs.Prelude.{⊤};
 
+use super::checks::{holds, same};
 use super::setting::{
     INTERRUPT, ask_join, ask_role, assigned, attached, begun, closed, commanded_by, controller,
     ends_with, entry, got, only, other_target, reached, slot, target, with,
@@ -86,14 +87,14 @@ fn a_call_waits_for_the_serve_under_the_lock(rt: HostRuntime) -> Result<(), Fail
     let (bus, role, main) = begun(&rt, rt.alloc());
     let mut first = attached(&rt, &bus, slot(&rt, 1), target(&rt));
     let mut role = assigned(&rt, &bus, role);
-    assert!(rt; first.post(Some(1)) == Ok(()));
+    same(&rt, first.post(Some(1)), Ok(()));
     let (second, served) = thread::join(
         &rt,
         || attach_meanwhile(&rt, &bus, slot(&rt, 2), other_target(&rt), &course),
         || serve_lingering(&rt, &bus, &mut role, &course),
     );
     assert!(rt; course.late.load(Ordering::SeqCst) == 0);
-    assert!(rt; served == Ok(Reply::Served(Served::Recorded(1))));
+    same(&rt, served, Ok(Reply::Served(Served::Recorded(1))));
     let ports = with(&rt, only(&rt, rt.alloc(), main), first);
     let closed = closed(&rt, bus, Some(role), with(&rt, ports, second));
     let due = [
@@ -106,7 +107,7 @@ fn a_call_waits_for_the_serve_under_the_lock(rt: HostRuntime) -> Result<(), Fail
             Reply::Attached,
         ),
     ];
-    assert!(rt; ends_with(&closed.run, &due));
+    holds(&rt, ends_with(&closed.run, &due), "the run ends so");
     Ok(())
 }
 
@@ -122,12 +123,17 @@ fn devices_wish_from_two_threads(rt: HostRuntime) -> Result<(), Fail> {
         || ask_role(&rt, &bus, &mut first),
         || ask_join(&rt, &bus, &mut second),
     );
-    assert!(rt; wish == Ok(()) && other == Ok(()));
+    same(&rt, wish, Ok(()));
+    same(&rt, other, Ok(()));
     let ports = with(&rt, only(&rt, rt.alloc(), main), first);
     let closed = closed(&rt, bus, Some(role), with(&rt, ports, second));
     let wishes = entry(Event::AskRole(slot(&rt, 1)), Reply::Asked);
-    assert!(rt; has(&closed.run, &wishes));
-    assert!(rt; has(&closed.run, &asked(slot(&rt, 2))));
+    holds(&rt, has(&closed.run, &wishes), "the first has wished");
+    holds(
+        &rt,
+        has(&closed.run, &asked(slot(&rt, 2))),
+        "the second has asked",
+    );
     Ok(())
 }
 
@@ -165,11 +171,15 @@ fn devices_ask_from_scoped_threads(rt: HostRuntime) -> Result<(), Fail> {
     let mut ports = with(&rt, ports, third);
     let count = AtomicU64::new(0);
     ask_from_threads(&rt, &bus, &mut ports, &count);
-    assert!(rt; count.load(Ordering::SeqCst) == 3);
+    same(&rt, count.load(Ordering::SeqCst), 3);
     let closed = closed(&rt, bus, Some(role), with(&rt, ports, main));
-    assert!(rt; closed.run.len() == 6);
+    same(&rt, closed.run.len(), 6);
     for number in 1..4 {
-        assert!(rt; has(&closed.run, &asked(slot(&rt, number))));
+        holds(
+            &rt,
+            has(&closed.run, &asked(slot(&rt, number))),
+            "each has asked",
+        );
     }
     Ok(())
 }

@@ -1,3 +1,4 @@
+use super::checks::{holds, same};
 use super::setting::{ALL, address, controller, entry, hub, is_none, slot};
 use i3c_base::{Cuts, RoundReply, Served};
 use i3c_frame::Silent;
@@ -34,7 +35,7 @@ fn ended_once<R: Wait + Abort>(rt: &R, bus: &SharedBus, session: HeldSession) ->
 /// The role that the device at 09 takes at once.
 fn handed_once<R: Wait + Abort>(rt: &R, bus: &SharedBus, role: HeldRole, to: &Port) -> HeldRole {
     match bus.hand_over(rt, role, address(rt, 0x09), &mut Silent, Cuts::new()) {
-        Ok(served) => assert!(rt; served == Served::Quiet),
+        Ok(served) => same(rt, served, Served::Quiet),
         Err((role, _)) => {
             role.let_go();
             panic!(rt; "the role isn't handed over")
@@ -97,22 +98,30 @@ fn no_call_is_short_of_memory(rt: HostRuntime) -> Result<(), Fail> {
     let (mut role, mut main) = (role, main);
     let attached = bus.attach(&rt, at, controller(&rt));
     let mut port = attached.expect(&rt, "a port");
-    assert!(rt; bus.ask_join(&rt, &mut port) == Ok(()));
+    same(&rt, bus.ask_join(&rt, &mut port), Ok(()));
     let served = commanded_once(&rt, &bus, &mut role, Command::Serve);
-    assert!(rt; served == Reply::Served(Served::Joining));
+    same(&rt, served, Reply::Served(Served::Joining));
     let mut session = opened_once(&rt, &bus, role);
     let given = RoundReply::Assigned(address(&rt, 0x09), controller(&rt).identity);
-    assert!(rt; bus.round(&rt, &mut session, &mut Silent, Cuts::new()) == Ok(given));
+    same(
+        &rt,
+        bus.round(&rt, &mut session, &mut Silent, Cuts::new()),
+        Ok(given),
+    );
     let mut role = ended_once(&rt, &bus, session);
     let listed = commanded_once(&rt, &bus, &mut role, Command::SendList);
-    assert!(rt; matches!(listed, Reply::Framed(_)));
+    holds(&rt, matches!(listed, Reply::Framed(_)), "the list is sent");
     let role = handed_once(&rt, &bus, role, &port);
-    assert!(rt; is_none(bus.take_role(&rt, &port)));
-    assert!(rt; bus.ask_role(&rt, &mut main) == Ok(()));
-    assert!(rt; left_once(&rt, &bus, main) == Left::Now);
+    holds(
+        &rt,
+        is_none(bus.take_role(&rt, &port)),
+        "the role is taken once",
+    );
+    same(&rt, bus.ask_role(&rt, &mut main), Ok(()));
+    same(&rt, left_once(&rt, &bus, main), Left::Now);
     let closed = closed_once(&rt, alloc, bus, role, port);
     let first = entry(Event::Attach(at, controller(&rt)), Reply::Attached);
-    assert!(rt; closed.run.get(0) == Ok(Some(first)));
-    assert!(rt; closed.run.len() == 10);
+    same(&rt, closed.run.get(0), Ok(Some(first)));
+    same(&rt, closed.run.len(), 10);
     Ok(())
 }

@@ -1,5 +1,6 @@
 ghost use Rattle.std.specs.Prelude.{⊤};
 
+use super::checks::{holds, same};
 use super::setting::{
     ALL, address, assigned, attached, begun, closed, commanded_by, ends_with, entry, only,
     other_target, reached, slot, target, with,
@@ -70,12 +71,12 @@ fn devices_post_at_once(rt: HostRuntime) -> Result<(), Fail> {
     assert!(rt; late == 0);
     match report {
         Ok(report) => {
-            assert!(rt; report.tried == 4);
-            assert!(rt; report.posted == 4);
-            assert!(rt; report.turned_away == 0);
-            assert!(rt; report.recorded.checked_add(report.waiting) == Some(4));
+            same(&rt, report.tried, 4);
+            same(&rt, report.posted, 4);
+            same(&rt, report.turned_away, 0);
+            same(&rt, report.recorded.checked_add(report.waiting), Some(4));
         }
-        Err(_) => assert!(rt; false),
+        Err(_) => holds(&rt, false, "there is a report"),
     }
     Ok(())
 }
@@ -184,7 +185,7 @@ fn gathered<R: Wait + Abort>(rt: &R, alloc: Global) -> Party {
     let first = attached(rt, &bus, slot(rt, 1), target(rt));
     let mut second = attached(rt, &bus, slot(rt, 2), other_target(rt));
     let role = assigned(rt, &bus, role);
-    assert!(rt; second.post(Some(1)) == Ok(()));
+    same(rt, second.post(Some(1)), Ok(()));
     Party {
         bus,
         role,
@@ -213,11 +214,17 @@ fn posts_do_not_wait_for_a_serve(rt: HostRuntime) -> Result<(), Fail> {
         || serve_patiently(&rt, &bus, &mut role, &counts, from),
     );
     assert!(rt; counts.late.load(Ordering::SeqCst) == 0);
-    assert!(rt; counts.posted.load(Ordering::SeqCst) == 8 && ninth == Err(Full(Some(9))));
-    assert!(rt; served == Ok(Reply::Served(Served::Recorded(1))));
+    same(&rt, counts.posted.load(Ordering::SeqCst), 8);
+    same(&rt, ninth, Err(Full(Some(9))));
+    same(&rt, served, Ok(Reply::Served(Served::Recorded(1))));
     let ports = with(&rt, only(&rt, rt.alloc(), main), first);
     let closed = closed(&rt, bus, Some(role), with(&rt, ports, second));
     // two attachments, a session of five events, the other's raise, and the serve, come before
-    assert!(rt; closed.run.len() == 17 && ends_with(&closed.run, &eight(slot(&rt, 1))));
+    same(&rt, closed.run.len(), 17);
+    holds(
+        &rt,
+        ends_with(&closed.run, &eight(slot(&rt, 1))),
+        "the run ends so",
+    );
     Ok(())
 }

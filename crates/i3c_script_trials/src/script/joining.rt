@@ -2,6 +2,7 @@
 
 ghost use Rattle.std.specs.Prelude.{◌<◌};
 
+use crate::checks::holds;
 use crate::script::{HUB, HUB_LINE, prints, run};
 use std::io::Write;
 use std::str;
@@ -38,8 +39,16 @@ fn addresses_run_out(rt: HostRuntime) -> Result<(), Fail> {
         wanted.push_str("done\ndropped\n")?;
     }
     // the 53rd and the 54th, beside an address that is left out
-    assert!(rt; wanted.contains("assigned 3D 020400010035 06 44\n"));
-    assert!(rt; wanted.contains("assigned 3F 020400010036 06 44\n"));
+    holds(
+        &rt,
+        wanted.contains("assigned 3D 020400010035 06 44\n"),
+        "the 53rd has 3D",
+    );
+    holds(
+        &rt,
+        wanted.contains("assigned 3F 020400010036 06 44\n"),
+        "the 54th has 3F",
+    );
     script.push_str(
         "attach d 02040001006B 06 44\nopen\nround\nround\nend\ndrop d\n\
         attach d 02040001006C 06 44\ndaa\nshow\nsymbols\n",
@@ -51,9 +60,10 @@ fn addresses_run_out(rt: HostRuntime) -> Result<(), Fail> {
     let (printed, _) = run(alloc, script.as_bytes());
     let printed = str::from_utf8(&printed)?;
     let wire = printed.lines().last().ok_or("a line")?;
-    assert!(rt;
+    holds(
+        &rt,
         wire.ends_with(" Sr 7E/R- P S 7E/W+ 07.0 Sr 7E/R+ =02040001006B0644 @EF+ P S 7E/W+ 07.0 P"),
-        "{wire}"
+        wire,
     );
     writeln!(wanted, "{wire}")?;
     prints(&rt, alloc, script.as_str(), wanted.as_str(), 2);

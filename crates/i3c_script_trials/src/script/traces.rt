@@ -1,4 +1,5 @@
 use super::{FailingReader, Flaky, FullWriter};
+use crate::checks::{holds, same, same_in};
 use i3c_script::{ScriptFault, Tally, run_trace};
 use std::io::ErrorKind;
 
@@ -16,8 +17,8 @@ fn a_trace_is_not_read(rt: HostRuntime) {
         let mut reader = FailingReader { rest: TRACE, kind };
         let mut printed = Vec::new(rt.alloc());
         let outcome = run_trace(rt.alloc(), &mut reader, &mut printed);
-        assert_eq!(rt; outcome, Err(ScriptFault::Read));
-        assert_eq!(rt; printed.len(), 0);
+        same(&rt, outcome, Err(ScriptFault::Read));
+        same(&rt, printed.len(), 0);
     }
 }
 
@@ -33,8 +34,8 @@ fn a_trace_is_not_written(rt: HostRuntime) {
                 fails,
             };
             let outcome = run_trace(rt.alloc(), &mut reader, &mut writer);
-            assert_eq!(rt; outcome, Err(ScriptFault::Write), "with room for {room}");
-            assert_eq!(rt; writer.printed.as_slice(), &TOLD[..room]);
+            same_in(&rt, room, outcome, Err(ScriptFault::Write));
+            same(&rt, writer.printed.as_slice(), &TOLD[..room]);
         }
     }
 }
@@ -48,16 +49,16 @@ fn one_read_of_a_trace_fails(rt: HostRuntime) {
         let mut printed = Vec::new(rt.alloc());
         let outcome = run_trace(rt.alloc(), &mut reader, &mut printed);
         if !reader.has_failed {
-            assert_eq!(rt; outcome, Ok(Tally { refused: 0 }));
-            assert_eq!(rt; printed.as_slice(), TOLD);
+            same(&rt, outcome, Ok(Tally { refused: 0 }));
+            same(&rt, printed.as_slice(), TOLD);
             break;
         }
         failures = before + 1;
-        assert_eq!(rt; outcome, Err(ScriptFault::Read), "after {before} reads");
-        assert_eq!(rt; printed.len(), 0);
+        same_in(&rt, before, outcome, Err(ScriptFault::Read));
+        same(&rt, printed.len(), 0);
     }
     // seven bytes at once, and the end
-    assert_eq!(rt; failures, TRACE.len() as u64 / 7 + 2);
+    same(&rt, failures, TRACE.len() as u64 / 7 + 2);
 }
 
 // A write that fails alone ends it, though later ones would go on; there is one for each line.
@@ -69,15 +70,15 @@ fn one_write_of_a_trace_fails(rt: HostRuntime) {
         let mut writer = Flaky::new(rt.alloc(), b"", before);
         let outcome = run_trace(rt.alloc(), &mut reader, &mut writer);
         if !writer.has_failed {
-            assert_eq!(rt; outcome, Ok(Tally { refused: 0 }));
-            assert_eq!(rt; writer.printed.as_slice(), TOLD);
+            same(&rt, outcome, Ok(Tally { refused: 0 }));
+            same(&rt, writer.printed.as_slice(), TOLD);
             break;
         }
         failures = before + 1;
-        assert_eq!(rt; outcome, Err(ScriptFault::Write), "after {before} writes");
+        same_in(&rt, before, outcome, Err(ScriptFault::Write));
         let count = writer.printed.len();
-        assert!(rt; count < TOLD.len());
-        assert_eq!(rt; writer.printed.as_slice(), &TOLD[..count]);
+        holds(&rt, count < TOLD.len(), "fewer bytes are printed");
+        same(&rt, writer.printed.as_slice(), &TOLD[..count]);
     }
-    assert_eq!(rt; failures, 6);
+    same(&rt, failures, 6);
 }
