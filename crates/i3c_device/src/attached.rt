@@ -38,7 +38,7 @@ impl Model for Device {
 }
 
 impl Device {
-    ghost use Rattle.std.specs.Prelude.{◌≡◌, ◌≤◌, suc, length, slice_get, MatchOption, MatchResult, OnErr, OnOk, Some, None, true};
+    ghost use Rattle.std.specs.Prelude.{◌≡◌, ◌≤◌, is_none, suc, length, slice_get, MatchOption, MatchResult, OnErr, OnOk, Some, None, true};
     ghost use Rattle.i3c_base.specs.declared.device.TheConstants.{REGISTERS as REGISTER_COUNT};
     ghost use Rattle.i3c_base.specs.Frames.{overwritten, unaddressed_device};
     ghost use Rattle.i3c_base.specs.State.{attached};
@@ -241,6 +241,13 @@ impl Device {
             Some(front) => front.byte,
             None => None,
         }
+    }
+
+    /// Whether it has no address.
+    pub(crate) fn is_unaddressed(&self) -> bool
+        ensures { result ≡ is_none self.now.address }
+    {
+        self.address.is_none()
     }
 
     /// Whether it wishes to join, and has no address.

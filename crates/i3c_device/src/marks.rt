@@ -1,10 +1,9 @@
-ghost use Rattle.std.specs.Prelude.{◌≡◌, ◌<◌, ℕ, length, List, Option, slice_set};
+ghost use Rattle.std.specs.Prelude.{◌≡◌, ◌<◌, ℕ, length, List, None, Option, Some, slice_set};
 ghost use Rattle.i3c_base.specs.declared.range.TheConstants.{SLOTS as SLOT_COUNT};
 ghost use Rattle.i3c_base.specs.State.{Device as DeviceState, no_devices};
 ghost use Rattle.i3c_device.specs.Marks.{AreMarks};
 
 use crate::attached::Device;
-use crate::places::{is_hearing, is_unaddressed, key, wishes_interrupt, wishes_join, wishes_role};
 use crate::sets::SlotSet;
 use i3c_base::SLOTS;
 
@@ -48,15 +47,44 @@ impl Marks {
         requires { index < SLOT_COUNT }
         ensures { (places : List (Option DeviceState)) → length places ≡ SLOT_COUNT → AreMarks self places → AreMarks result (slice_set places index place.now) }
     {
+        match place {
+            Some(device) => self.taken(index, device),
+            None => self.vacated(index),
+        }
+    }
+
+    /// The marks where this device stands in a slot from now on.
+    fn taken(self, index: usize, device: &Device) -> Marks
+        requires { index < SLOT_COUNT }
+        ensures { (places : List (Option DeviceState)) → length places ≡ SLOT_COUNT → AreMarks self places → AreMarks result (slice_set places index (Some device.now)) }
+    {
         let mut keys = self.keys;
-        keys[index] = key(place);
+        keys[index] = device.key();
         Marks {
-            present: self.present.with(index, place.is_some()),
-            joining: self.joining.with(index, wishes_join(place)),
-            asking: self.asking.with(index, wishes_role(place)),
-            interrupting: self.interrupting.with(index, wishes_interrupt(place)),
-            hearing: self.hearing.with(index, is_hearing(place)),
-            unaddressed: self.unaddressed.with(index, is_unaddressed(place)),
+            present: self.present.with(index, true),
+            joining: self.joining.with(index, device.wishes_join()),
+            asking: self.asking.with(index, device.wishes_role()),
+            interrupting: self.interrupting.with(index, device.wishes_interrupt()),
+            hearing: self.hearing.with(index, device.is_hearing()),
+            unaddressed: self.unaddressed.with(index, device.is_unaddressed()),
+            keys,
+        }
+    }
+
+    /// The marks where nothing stands in a slot from now on.
+    fn vacated(self, index: usize) -> Marks
+        requires { index < SLOT_COUNT }
+        ensures { (places : List (Option DeviceState)) → length places ≡ SLOT_COUNT → AreMarks self places → AreMarks result (slice_set places index None) }
+    {
+        let mut keys = self.keys;
+        keys[index] = 0;
+        Marks {
+            present: self.present.with(index, false),
+            joining: self.joining.with(index, false),
+            asking: self.asking.with(index, false),
+            interrupting: self.interrupting.with(index, false),
+            hearing: self.hearing.with(index, false),
+            unaddressed: self.unaddressed.with(index, false),
             keys,
         }
     }

@@ -7,76 +7,12 @@ ghost use Rattle.i3c_base.specs.Numbers.{same_identity};
 ghost use Rattle.i3c_base.specs.Round.{hears, unhearing};
 ghost use Rattle.i3c_base.specs.Serve.{without_role};
 ghost use Rattle.i3c_base.specs.State.{in_slot};
-ghost use Rattle.i3c_device.specs.Addressing.{IsDynamicIn};
-ghost use Rattle.i3c_device.specs.Marks.{key_in};
 ghost use Rattle.i3c_device.specs.Raising.{wishing_join, wishing_role};
 ghost use Rattle.i3c_device.specs.Reading.{IsDrivenFrom, IsRegisterFrom};
 ghost use Rattle.i3c_device.specs.Walks.{assigned_at, reaches_at, taken_from, willing_at, written_at};
-ghost use Rattle.i3c_device.specs.Wishing.{wishes_interrupt, wishes_join, wishes_role};
 
 use crate::attached::Device;
 use i3c_base::{Addr7, Identity, Request, Slot};
-
-/// The key of the request that whatever stands in this slot drives when it drives one.
-pub(crate) fn key(place: &Option<Device>) -> u8
-    ensures key { result ≡ key_in place.now }
-    ensures dynamic { IsDynamicIn place.now }
-{
-    match place {
-        Some(device) => device.key(),
-        None => 0,
-    }
-}
-
-/// Whether whatever stands in this slot wishes to join, and has no address.
-pub(crate) fn wishes_join(place: &Option<Device>) -> bool
-    ensures { result ≡ in_slot wishes_join place.now }
-{
-    match place {
-        Some(device) => device.wishes_join(),
-        None => false,
-    }
-}
-
-/// Whether whatever stands in this slot wishes for the role, and has an address.
-pub(crate) fn wishes_role(place: &Option<Device>) -> bool
-    ensures { result ≡ in_slot wishes_role place.now }
-{
-    match place {
-        Some(device) => device.wishes_role(),
-        None => false,
-    }
-}
-
-/// Whether whatever stands in this slot wishes to interrupt, and not for the role, and has an address.
-pub(crate) fn wishes_interrupt(place: &Option<Device>) -> bool
-    ensures { result ≡ in_slot wishes_interrupt place.now }
-{
-    match place {
-        Some(device) => device.wishes_interrupt(),
-        None => false,
-    }
-}
-
-/// Whether whatever stands in this slot hears the open session.
-pub(crate) fn is_hearing(place: &Option<Device>) -> bool
-    ensures { result ≡ in_slot (λ d. d.hearing) place.now }
-{
-    match place {
-        Some(device) => device.is_hearing(),
-        None => false,
-    }
-}
-
-/// Whether a device without an address stands in this slot.
-pub(crate) fn is_unaddressed(place: &Option<Device>) -> bool
-    ensures { result ≡ in_slot (λ d. is_none d.address) place.now }
-{
-    match place {
-        Some(device) => device.address().is_none(),
-        None => false,
-    }
-}
 
 /// The device here, if there is one, wishes to join.
 pub(crate) fn wish_join(place: &mut Option<Device>)
