@@ -1,86 +1,55 @@
--- The least address among the rows that are kept for an identity.
-use Rattle.std.proofs.Common.{◌≡◌, ◌≢◌, ℕ, ◌+◌, ◌≤◌, ◌<◌, List, length, get_or, min, take, Option, Some, None, option_map, MatchOption, IfSome, sym, refl, ap, ◌∙◌, inl, inr, arith, subst}
-use Rattle.std.specs.List.{All, Contains}
-use Rattle.std.proofs.lemmas.Bool.{cases_lt}
-use Rattle.std.proofs.lemmas.List.{take_all}
-use Rattle.std.proofs.lemmas.Option.{none-some}
-use Rattle.std.proofs.lemmas.List.Elements.{All-contains, All-more}
+-- The least address that is kept for an identity.
+use Rattle.std.proofs.Common.{◌≡◌, ◌≢◌, ◌⊎◌, ℕ, ◌<◌, ◌^◌, Bool, true, false, List, get_or, Option, Some, None, sym, refl, ap, ◌∙◌, inl, inr, arith}
+use Rattle.std.proofs.lemmas.Bool.{both_ways, cases_eq, cond-true, cond-false}
+use Rattle.std.proofs.lemmas.Option.{none-some, same_Some}
 use Rattle.i3c_base.specs.declared.identity.Identity.{Identity}
-use Rattle.i3c_base.specs.State.{Entry, entry_in, kept_of, IsKeptIn, IsUnknownIn, IsUsable}
-use Rattle.i3c_legacy.specs.Rows.{row_at}
-use Rattle.i3c_legacy.proofs.RowLaws.{row_from, row_here}
-use Rattle.i3c_table.specs.declared.row.Row.{Row}
-use Rattle.i3c_table.specs.Rows.{entries, entry_of_row, IsTidy}
-use Rattle.i3c_table.proofs.TableLaws.{address_of, all_usable, entry_at_row}
+use Rattle.i3c_base.specs.Numbers.{IsInRange, number_of}
+use Rattle.i3c_base.specs.State.{IsKeptIn, IsUnknownIn, entry_in, kept_of}
+use Rattle.i3c_table.specs.declared.table.Registers.{Registers}
+use Rattle.i3c_table.specs.Sets.{is_in, IsLowest}
+use Rattle.i3c_table.specs.Stored.{identity_of, kept_at, stored}
+use Rattle.i3c_table.proofs.StoredLaws.{IsSmall, identity_again, kept_stored, number_again, some_or_none}
 
--- a row is kept for the identity i at the address a
-abbrev pub HasKept : Identity → List Row → ℕ → Type 0
-HasKept i rows a = (row : Row) × Contains rows row × (row.identity ≡ Some i) × (row.address ≡ a)
+-- the addresses that are left are kept, and whichever is kept and isn't left is kept for another number
+pub record IsSearched (kept : ℕ) (numbers : List ℕ) (number left : ℕ) : Type 0 where
+  pub among : (a : ℕ) → is_in left a ≡ true → is_in kept a ≡ true
+  pub others : (a : ℕ) → is_in kept a ≡ true → is_in left a ≡ false → get_or numbers a 0 ≢ number
 
--- among the first n rows, the least address that is kept for the identity i
-abbrev pub IsLeastKept : Identity → List Row → ℕ → Option ℕ → Type 0
-IsLeastKept i rows n None = All (λ row. row.identity ≢ Some i) (take n rows)
-IsLeastKept i rows n (Some a) = HasKept i rows a × All (λ row. row.identity ≡ Some i → a ≤ row.address) (take n rows)
+pub searched_none : (kept : ℕ) (numbers : List ℕ) (number : ℕ) → IsSearched kept numbers number kept
+searched_none kept numbers number = record { among = λ a has. has; others = λ a has out. absurd (both_ways (is_in kept a) out has) }
 
--- a row that isn't kept for it
-pub least_same : (i : Identity) (rows : List Row) (n : ℕ) (least : Option ℕ) (row : Row) → n < length rows → row ≡ get_or rows n row → IsLeastKept i rows n least → row.identity ≢ Some i → IsLeastKept i rows (n + 1) least
-least_same i rows n None row l is h other = All-more (λ r. r.identity ≢ Some i) rows n row l h (λ e. other (ap (λ (r : Row). r.identity) is ∙ e))
-least_same i rows n (Some a) row l is h other = (h.0, All-more (λ r. r.identity ≡ Some i → a ≤ r.address) rows n row l h.1 (λ e. absurd (other (ap (λ (r : Row). r.identity) is ∙ e))))
+pub searched_more : (kept : ℕ) (numbers : List ℕ) (number left left' k : ℕ) → IsSearched kept numbers number left → get_or numbers k 0 ≢ number
+    → is_in left' k ≡ false → ((a : ℕ) → a ≢ k → is_in left' a ≡ is_in left a) → IsSearched kept numbers number left'
+searched_more kept numbers number left left' k h other gone same = record {
+  among = λ a has. elim (cases_eq a k) [
+    | inl e ↦ absurd (both_ways (is_in left' k) gone (ap (is_in left') (sym e) ∙ has))
+    | inr ne ↦ h.among a (sym (same a ne) ∙ has)
+  ];
+  others = λ a has out. elim (cases_eq a k) [
+    | inl e ↦ (λ is. other (ap (λ b. get_or numbers b 0) (sym e) ∙ is))
+    | inr ne ↦ h.others a has (sym (same a ne) ∙ out)
+  ];
+}
 
-among : (rows : List Row) (n : ℕ) (row : Row) → n < length rows → row ≡ get_or rows n row → Contains rows row
-among rows n row l is = (n, l, sym is)
+module _ (held kept : ℕ) (registers : List Registers) (numbers : List ℕ) (identity : Identity) where
+  not_kept_for : (a : ℕ) → IsSmall held → ((b : ℕ) → is_in kept b ≡ true → is_in held b ≡ true) → (is_in kept a ≡ true → get_or numbers a 0 ≢ number_of identity)
+      → kept_of (entry_in (stored held kept registers numbers) a) ≢ Some identity
+  not_kept_for a fits among other is = elim (some_or_none (is_in kept a)) [
+    | inr out ↦ absurd (none-some identity (sym (cond-false (is_in kept a) _ None out) ∙ (sym (kept_stored held kept registers numbers a fits among) ∙ is)))
+    | inl has ↦
+        let same : identity_of (get_or numbers a 0) ≡ identity = same_Some _ _ (sym (cond-true (is_in kept a) _ None has) ∙ (sym (kept_stored held kept registers numbers a fits among) ∙ is)) in
+        absurd (other has (sym (number_again (get_or numbers a 0)) ∙ ap number_of same))
+  ]
 
-lesser_kept : (i : Identity) (rows : List Row) (had a : ℕ) (row : Row) → Contains rows row → HasKept i rows had → row.identity ≡ Some i → a ≡ min had row.address → HasKept i rows a
-lesser_kept i rows had a row in_rows kept same is = elim (cases_lt had row.address) [
-  | inl below ↦ let e : had ≡ a = omega arith in (let P : ℕ → Type 0 = HasKept i rows in subst P e kept)
-  | inr above ↦ (row, in_rows, same, omega arith)
-]
+  -- the least of those that are left has the number
+  pub known_at : (left a : ℕ) → IsSmall held → ((b : ℕ) → is_in kept b ≡ true → is_in held b ≡ true) → IsInRange identity → IsSearched kept numbers (number_of identity) left
+      → IsLowest left a → get_or numbers a 0 ≡ number_of identity → IsKeptIn (stored held kept registers numbers) identity a
+  known_at left a fits among in_range h low is = (
+    kept_stored held kept registers numbers a fits among ∙ (cond-true (is_in kept a) _ None (h.among a low.0) ∙ ap Some (ap identity_of is ∙ identity_again identity in_range)),
+    λ b below. not_kept_for b fits among (λ has. h.others b has (low.1 b below)),
+  )
 
-least_with : (i : Identity) (rows : List Row) (n a : ℕ) (row : Row) → n < length rows → row ≡ get_or rows n row → All (λ r. r.identity ≡ Some i → a ≤ r.address) (take n rows) → a ≤ row.address → All (λ r. r.identity ≡ Some i → a ≤ r.address) (take (n + 1) rows)
-least_with i rows n a row l is before last =
-    let at : row.address ≡ (get_or rows n row).address = ap (λ (r : Row). r.address) is in
-    All-more (λ r. r.identity ≡ Some i → a ≤ r.address) rows n row l before (λ e. omega (arith, at, last))
-
--- and one that is
-pub least_more : (i : Identity) (rows : List Row) (n : ℕ) (least : Option ℕ) (a : ℕ) (row : Row) → n < length rows → row ≡ get_or rows n row → IsLeastKept i rows n least → row.identity ≡ Some i → MatchOption least (a ≡ row.address) (λ had. a ≡ min had row.address) → IsLeastKept i rows (n + 1) (Some a)
-least_more i rows n None a row l is h same at =
-    ((row, among rows n row l is, same, sym at), least_with i rows n a row l is (λ k d m e. absurd (h k d m e)) (omega (arith, at)))
-least_more i rows n (Some had) a row l is h same at =
-    (lesser_kept i rows had a row (among rows n row l is) h.0 same at, least_with i rows n a row l is (λ k d m e. let below = h.1 k d m e in omega (arith, below, at)) (omega (arith, at)))
-
--- what the table keeps stands in a row
-row_of_kept : (i : Identity) (rows : List Row) (given : List (Option Entry)) (a : ℕ) → IsTidy rows → entries rows ≡ given → kept_of (entry_in given a) ≡ Some i → HasKept i rows a
-row_of_kept i rows given a tidy view kept = from (row_at address_of rows a) refl (ap kept_of (sym (entry_at_row rows given a tidy view)) ∙ kept)
-  where
-    from : (o : Option Row) → row_at address_of rows a ≡ o → kept_of (option_map entry_of_row o) ≡ Some i → HasKept i rows a
-    from None e h = absurd (none-some i h)
-    from (Some row) e h = let at = row_from address_of rows a row e in (row, at.1, h, at.0)
-
--- and the other way round
-kept_of_row : (i : Identity) (rows : List Row) (given : List (Option Entry)) (a : ℕ) → IsTidy rows → entries rows ≡ given → HasKept i rows a → kept_of (entry_in given a) ≡ Some i
-kept_of_row i rows given a tidy view (row, within, same, at) =
-    let found_there : row_at address_of rows (address_of (get_or rows within.0 row)) ≡ Some (get_or rows within.0 row) = row_here address_of rows within.0 row tidy.distinct within.1 in
-    let its : row_at address_of rows a ≡ Some row = ap (row_at address_of rows) (sym (ap address_of within.2 ∙ at)) ∙ (found_there ∙ ap Some within.2) in
-    ap kept_of (entry_at_row rows given a tidy view ∙ ap (option_map entry_of_row) its) ∙ same
-
--- the least among all rows is the address that the table keeps
-pub kept_address : (i : Identity) (rows : List Row) (given : List (Option Entry)) (n : ℕ) (least : Option ℕ) → IsTidy rows → entries rows ≡ given → length rows ≤ n → IsLeastKept i rows n least → MatchOption least (IsUnknownIn given i) (λ a. IsKeptIn given i a)
-kept_address i rows given n None tidy view past h = λ a kept.
-    let it = row_of_kept i rows given a tidy view kept in
-    let all : All (λ row. row.identity ≢ Some i) rows = rw take_all at h in
-    All-contains (λ (row : Row). row.identity ≢ Some i) rows it.0 all it.1 it.2
-kept_address i rows given n (Some a) tidy view past h = (
-  kept_of_row i rows given a tidy view h.0,
-  λ b below kept.
-      let it = row_of_kept i rows given b tidy view kept in
-      let all : All (λ row. row.identity ≡ Some i → a ≤ row.address) rows = rw take_all at h.1 in
-      let least : a ≤ it.0.address = All-contains (λ (row : Row). row.identity ≡ Some i → a ≤ row.address) rows it.0 all it.1 it.2 in
-      let there = it.3 in
-      omega (arith, least, there, below),
-)
-
--- it is usable, as every address of a table is
-pub kept_usable : (i : Identity) (rows : List Row) (n : ℕ) (least : Option ℕ) → IsTidy rows → IsLeastKept i rows n least → IfSome least IsUsable
-kept_usable i rows n None tidy h = tt
-kept_usable i rows n (Some a) tidy h =
-    let P : ℕ → Type 0 = IsUsable in subst P h.0.3 (All-contains (λ (row : Row). IsUsable row.address) rows h.0.0 (all_usable rows tidy.usable) h.0.1)
+  -- nothing is left
+  pub known_nowhere : (left : ℕ) → IsSmall held → ((b : ℕ) → is_in kept b ≡ true → is_in held b ≡ true) → IsSearched kept numbers (number_of identity) left
+      → ((a : ℕ) → is_in left a ≡ false) → IsUnknownIn (stored held kept registers numbers) identity
+  known_nowhere left fits among h none a = not_kept_for a fits among (λ has. h.others a has (none a))

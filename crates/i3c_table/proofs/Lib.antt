@@ -1,5 +1,6 @@
-pub mod TableLaws
-pub mod Room
-pub mod Reset
+pub mod SetLaws
+pub mod StoredLaws
 pub mod Known
-pub mod Held
+pub mod Open
+pub mod Placed
+pub mod Reset

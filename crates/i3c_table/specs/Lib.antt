@@ -1,2 +1,4 @@
+pub mod Sets
+pub mod Stored
 pub mod Rows
 pub mod Putting

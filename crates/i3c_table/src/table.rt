@@ -1,8 +1,6 @@
-ghost use Rattle.std.specs.Prelude.{◌≡◌, ◌≢◌, ◌<◌, ◌↔◌, Some, IsTrue, All, HoldsAt, length, min, MatchOption};
-
-use crate::Row;
-use arrayvec::ArrayVec;
-use i3c_base::{ADDRESSES, Addr7, Identity, Lvr};
+use crate::addresses::Addresses;
+use crate::row::Row;
+use i3c_base::{ADDRESSES, Addr7, Bcr, Dcr, Identity, Lvr};
 use i3c_legacy::Legacies;
 use std::marker::Model;
 
@@ -12,15 +10,26 @@ pub const ROWS: usize = 108;
 /// The addresses that devices may have, one bit for each.
 const USABLE: u128 = 0x00BF_BFFF_BFFF_FFFF_BFFF_FFFF_FFFF_FF00;
 
+// what a device's registers say of it
+#[derive(Clone, Copy, Default)]
+struct Registers {
+    bcr: Bcr,
+    dcr: Dcr,
+}
+
 /// A controller's table: a row for each address that was given, the legacy targets, and whether the list that was
 /// last sent is current (DEFTGTS, I3C Basic 5.1.9.3.7).
 ///
 /// Clauses see a place for each of the 128 addresses.
 #[derive(Drop)]
 pub struct Table {
-    rows: ArrayVec<Row, ROWS>,
-    // the addresses of the rows, one bit for each
-    held: u128,
+    // the addresses that were given, and those of them that are kept for an identity
+    held: Addresses,
+    kept: Addresses,
+    // at each address that was given, the registers of who has it
+    registers: [Registers; ADDRESSES],
+    // at each address that is kept, the number of its identity
+    numbers: [u64; ADDRESSES],
     legacies: Legacies,
     listed: bool,
 }
@@ -30,20 +39,21 @@ impl Model for Table {
 
     ghost Value = { TableValue };
 
-    ghost use Rattle.i3c_table.specs.Rows.{entries, IsApart, IsHeld, IsTidy};
+    ghost use Rattle.i3c_table.specs.Stored.{stored, IsWhole};
 
-    ghost view = { λ t. record { given = entries t.rows.items; legacy = t.legacies; listed = t.listed } };
+    ghost view = { λ t. record { given = stored t.held.0 t.kept.0 t.registers t.numbers; legacy = t.legacies; listed = t.listed } };
 
-    ghost invariant = { λ t. IsTidy t.rows.items × IsApart t.rows.items t.legacies × IsHeld t.held (entries t.rows.items) };
+    ghost invariant = { λ t. IsWhole t.held.0 t.kept.0 t.legacies };
 }
 
 impl Table {
-    ghost use Rattle.std.specs.Prelude.{◌≡◌, ◌↔◌, ℕ, ◌≤◌, None, Some, true, false, count_by, is_some, length, map, option_map, slice_index_or, IfSome, MatchOption};
+    ghost use Rattle.std.specs.Prelude.{◌≡◌, ◌↔◌, ℕ, ◌≤◌, None, Some, true, false, count_by, is_some, length, map, option_map, slice_index_or, IfSome, IsSome, MatchOption};
     ghost use Rattle.i3c_base.specs.declared.range.TheConstants.{ADDRESSES};
     ghost use Rattle.i3c_table.specs.declared.table.TheConstants.{ROWS};
-    ghost use Rattle.i3c_base.specs.State.{entry_in, no_entries, IsFree, IsKeptIn, IsUnknownIn, IsUsable};
+    ghost use Rattle.i3c_base.specs.State.{entry_in, kept_of, no_entries, IsFree, IsKeptIn, IsUnknownIn, IsUsable};
     ghost use Rattle.std.specs.Int.{bit_at};
     ghost use Rattle.i3c_table.specs.Rows.{entry_of_row};
+    ghost use Rattle.i3c_table.specs.Sets.{is_in};
     ghost use Rattle.i3c_table.specs.Putting.{cleared, with_row, MayPut};
 
     /// A table in which no address was given.
@@ -51,8 +61,10 @@ impl Table {
         ensures { result ≡ record { given = no_entries; legacy = legacies; listed = false } }
     {
         Table {
-            rows: ArrayVec::new(),
-            held: 0,
+            held: Addresses(0),
+            kept: Addresses(0),
+            registers: [Registers::default(); ADDRESSES],
+            numbers: [0; ADDRESSES],
             legacies,
             listed: false,
         }
@@ -64,18 +76,30 @@ impl Table {
             (λ row. (row.address ≡ address) × (entry_in self.now.given address ≡ Some (entry_of_row row))) }
         ensures all_places { length self.now.given ≡ ADDRESSES }
     {
-        let rows = self.rows.as_slice();
-        match index_of(rows, address) {
-            Some(index) => Some(rows[index]),
-            None => None,
+        if !self.held.has(address) {
+            return None;
         }
+        let registers = self.registers[address.get() as usize];
+        Some(Row {
+            address,
+            bcr: registers.bcr,
+            dcr: registers.dcr,
+            identity: self.identity_at(address),
+        })
     }
 
     /// The addresses that may be given and were not, one bit for each. Legacy targets may have some of them.
     pub fn open_addresses(&self) -> u128
         ensures { (a : ℕ) → (bit_at result a ≡ 1) ↔ (IsUsable a × IsFree self.now.given a) }
     {
-        USABLE & !self.held
+        USABLE & !self.held.0
+    }
+
+    /// The addresses that were given.
+    pub fn given_addresses(&self) -> Addresses
+        ensures { (a : ℕ) → (is_in result.0 a ≡ true) ↔ IsSome (entry_in self.now.given a) }
+    {
+        self.held
     }
 
     /// The address that is kept for an identity, if one is: the least, were there several.
@@ -84,13 +108,15 @@ impl Table {
             (λ a. IsKeptIn self.now.given identity.now a) }
         ensures usable { IfSome result IsUsable }
     {
-        let mut least: Option<Addr7> = None;
-        for row in self.rows.iter() {
-            if is_kept_for(row, identity) {
-                least = Some(lesser(least, row.address));
+        let number = identity.number();
+        let mut left = self.kept;
+        while let Some(address) = left.lowest() {
+            if self.numbers[address.get() as usize] == number {
+                return Some(address);
             }
+            left = left.without(address);
         }
-        least
+        None
     }
 
     /// Enters a row, at an address that may be picked or that is kept for the row's identity. There is always room.
@@ -98,29 +124,33 @@ impl Table {
         requires { MayPut self.old row }
         ensures { self.new ≡ with_row row self.old }
     {
+        let Row {
+            address,
+            bcr,
+            dcr,
+            identity,
+        } = row;
+        let place = address.get() as usize;
+        let kept = match identity {
+            Some(identity) => {
+                self.numbers[place] = identity.number();
+                self.kept.with(address)
+            }
+            None => self.kept.without(address),
+        };
+        self.kept = kept;
+        self.held = self.held.with(address);
+        self.registers[place] = Registers { bcr, dcr };
         self.listed = false;
-        self.held |= 1 << row.address.get();
-        match index_of(self.rows.as_slice(), row.address) {
-            Some(index) => self.rows[index] = row,
-            None => self.rows.push(row),
-        }
     }
 
     /// Forgets every address but the controller's own, which is kept for nobody then (RSTDAA, I3C Basic 5.1.9.3.3).
     pub fn clear(&mut self, own: Addr7)
         ensures { self.new ≡ cleared own self.old }
     {
-        let kept = self.row_of(own);
         self.listed = false;
-        self.rows.clear();
-        self.held = 0;
-        if let Some(row) = kept {
-            self.rows.push(Row {
-                identity: None,
-                ..row
-            });
-            self.held = 1 << own.get();
-        }
+        self.kept = Addresses(0);
+        self.held = self.held.only(own);
     }
 
     /// The list of this table was sent: it is current (DEFTGTS, I3C Basic 5.1.9.3.7).
@@ -148,8 +178,10 @@ impl Table {
         ensures apart { (a : ℕ) → IfSome (entry_in self.now.given a) (λ _. IsFree self.now.legacy a) }
     {
         let mut rows = [None; ADDRESSES];
-        for row in self.rows.iter() {
-            rows[row.address.get() as usize] = Some(*row);
+        let mut left = self.held;
+        while let Some(address) = left.lowest() {
+            rows[address.get() as usize] = self.row_of(address);
+            left = left.without(address);
         }
         rows
     }
@@ -168,29 +200,14 @@ impl Table {
     {
         self.legacies.lvr_at(address)
     }
-}
 
-// The index of the row at an address.
-fn index_of(rows: &[Row], address: Addr7) -> Option<usize>
-    ensures { MatchOption result (All (λ row. row.address ≢ address) rows.now)
-        (λ i. (i < length rows.now) × HoldsAt (λ row. row.address ≡ address) rows.now i) }
-{
-    rows.iter().position(|row| row.address == address)
-}
-
-// Whether the row's address is kept for an identity.
-fn is_kept_for(row: &Row, identity: &Identity) -> bool
-    ensures { IsTrue result ↔ (row.now.identity ≡ Some identity.now) }
-{
-    row.identity == Some(*identity)
-}
-
-// The lesser of two addresses, or the second where there is one alone.
-fn lesser(known: Option<Addr7>, address: Addr7) -> Addr7
-    ensures { MatchOption known (result ≡ address) (λ had. result ≡ min had address) }
-{
-    match known {
-        Some(had) => had.min(address),
-        None => address,
+    // The identity that an address is kept for, if there is one.
+    fn identity_at(&self, address: Addr7) -> Option<Identity>
+        ensures { result ≡ kept_of (entry_in self.now.given address) }
+    {
+        if !self.kept.has(address) {
+            return None;
+        }
+        Some(Identity::from_number(self.numbers[address.get() as usize]))
     }
 }

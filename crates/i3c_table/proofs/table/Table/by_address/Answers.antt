@@ -1,35 +1,30 @@
-use Rattle.std.proofs.Common.{ap, arith, sym}
-use Rattle.i3c_base.specs.State.{IsFree, IsUsable}
-use Rattle.i3c_legacy.proofs.RowLaws.{places-nil}
-use Rattle.i3c_table.proofs.TableLaws.{address_of, all_usable, count_given, each_stands, whole_addressed, whole_entries, whole_more}
+use Rattle.std.proofs.Common.{◌≡◌, ◌∙◌, ap, arith, length, refl, sym}
+use Rattle.std.proofs.lemmas.List.{length-set}
+use Rattle.i3c_base.specs.State.{IsFree}
+use Rattle.i3c_table.proofs.Placed.{ArePlaced, each_apart, each_usable, few, placed_all, placed_more, placed_none}
+use Rattle.i3c_table.proofs.StoredLaws.{length-stored, small_whole}
 use Rattle.i3c_table.proofs.table.Table.by_address.Goals as goal
 
-pub loop-row-init : goal.loop-row-init
-loop-row-init c = sym (places-nil address_of (λ row. row))
+pub loop-address-init : goal.loop-address-init
+loop-address-init c = rw (ap (λ t. t.given) (sym c.self.view_is)) (refl, placed_none c.self.inside.held.0 c.self.inside.kept.0 c.self.inside.registers c.self.inside.numbers (small_whole _ _ _ c.self.invariant))
 
-pub loop-row-preserved : goal.loop-row-preserved
-loop-row-preserved c =
-    rw c.get.ensures.same (whole_more c.deref-row-items.result.now c.loop-row.rows c.loop-row.row-index c.row-item.result (rw c.deref-row-items.ensures.0 c.self.invariant.0)
-    c.loop-row-test.true c.row-item.is c.loop-row.invariant)
+pub loop-address-preserved : goal.loop-address-preserved
+loop-address-preserved c =
+    rw c.get.ensures.same (length-set c.loop-address.rows c.in-Some.address c.row_of.result ∙ c.loop-address.invariant.0, placed_more c.args.self.now.given c.loop-address.left.0 c.without-left.result.0 c.in-Some.address c.loop-address.rows c.row_of.result c.loop-address.invariant.1 (omega (arith, c.loop-address.invariant.0)) c.without-left.ensures.others c.row_of.ensures.found)
 
 pub returns-clause-rows : goal.returns-clause-rows
 returns-clause-rows c =
-    whole_entries c.self.inside.rows.items c.args.self.now.given c.loop-row.rows c.loop-row.row-index (ap (λ t. t.given) c.self.view_is) (rw c.deref-row-items.ensures.0 at c.loop-row-test.false) (rw c.deref-row-items.ensures.0 at c.loop-row.invariant)
+    let long = ap (λ t. length t.given) (sym c.self.view_is) ∙ length-stored _ _ _ _ in
+    placed_all c.args.self.now.given c.loop-address.left.0 c.loop-address.rows c.loop-address.invariant.1 c.in_default.ensures (omega (arith, long, c.loop-address.invariant.0))
 
 pub returns-clause-addressed : goal.returns-clause-addressed
-returns-clause-addressed c a =
-    whole_addressed c.self.inside.rows.items c.loop-row.rows c.loop-row.row-index a c.self.invariant.0 (rw c.deref-row-items.ensures.0 at c.loop-row-test.false) (rw c.deref-row-items.ensures.0 at c.loop-row.invariant)
+returns-clause-addressed c a = (c.loop-address.invariant.1 a (c.in_default.ensures a)).1
 
 pub returns-clause-few : goal.returns-clause-few
-returns-clause-few c =
-    let many = count_given c.self.inside.rows.items c.args.self.now.given c.self.invariant.0 (ap (λ t. t.given) c.self.view_is) in
-    let same = c.deref-row-items.ensures.0 in
-    let most = rw same at c.deref-row-items.ensures.1 in
-    omega (arith, many, most)
+returns-clause-few c = rw (ap (λ t. t.given) (sym c.self.view_is)) (few _ _ _ _ _ c.self.invariant)
 
 pub returns-clause-usable : goal.returns-clause-usable
-returns-clause-usable c a = each_stands IsUsable c.self.inside.rows.items c.args.self.now.given a c.self.invariant.0 (all_usable c.self.inside.rows.items c.self.invariant.0.usable) (ap (λ t. t.given) c.self.view_is)
+returns-clause-usable c a = rw (ap (λ t. t.given) (sym c.self.view_is)) (each_usable _ _ _ _ _ c.self.invariant a)
 
 pub returns-clause-apart : goal.returns-clause-apart
-returns-clause-apart c a =
-    rw (sym (ap (λ t. t.legacy) c.self.view_is)) (each_stands (IsFree c.self.inside.legacies) c.self.inside.rows.items c.args.self.now.given a c.self.invariant.0 c.self.invariant.1 (ap (λ t. t.given) c.self.view_is))
+returns-clause-apart c a = rw (ap (λ t. t.given) (sym c.self.view_is), ap (λ t. t.legacy) (sym c.self.view_is)) (each_apart _ _ _ _ _ c.self.invariant a)

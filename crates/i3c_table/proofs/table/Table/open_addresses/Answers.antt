@@ -1,6 +1,7 @@
-use Rattle.std.proofs.Common.{ap, arith}
-use Rattle.i3c_table.proofs.Held.{open_bits}
+use Rattle.std.proofs.Common.{ap, arith, sym}
+use Rattle.i3c_table.proofs.Open.{open_bits}
+use Rattle.i3c_table.proofs.StoredLaws.{small_whole}
 use Rattle.i3c_table.proofs.table.Table.open_addresses.Goals as goal
 
 pub returns : goal.returns
-returns c = open_bits c.self.inside.held c.args.self.now.given (omega arith) (rw (ap (λ t. t.given) c.self.view_is) at c.self.invariant.2)
+returns c = rw (ap (λ t. t.given) (sym c.self.view_is)) (open_bits c.self.inside.held.0 c.self.inside.kept.0 c.self.inside.registers c.self.inside.numbers (omega arith))

@@ -1,24 +1,27 @@
-use Rattle.std.proofs.Common.{◌≡◌, ◌∙◌, ap, sym, get_or, Some}
-use Rattle.i3c_table.specs.declared.row.Row.{Row}
-use Rattle.i3c_table.specs.Rows.{entry_of_row}
-use Rattle.i3c_table.proofs.TableLaws.{found, missing, long}
+use Rattle.std.proofs.Common.{◌≡◌, ◌∙◌, ap, arith, length, refl, Some, None, sym}
+use Rattle.i3c_base.specs.State.{entry_in, kept_of}
+use Rattle.i3c_table.proofs.StoredLaws.{entry_stored, length-stored, out_of, row_stored, small_whole}
 use Rattle.i3c_table.proofs.table.Table.row_of.Goals as goal
 
-pub returns-in-Some-clause-found : goal.returns-in-Some-clause-found
-returns-in-Some-clause-found c =
-    let l = rw c.as_slice-rows.ensures.value at c.in-Some.ensures.0 in
-    let same = rw c.as_slice-rows.ensures.value at c.in-Some.ensures.1 in
-    let is : c.index-rows-index.result ≡ get_or c.self.inside.rows.items c.in-Some.index c.index-rows-index.result = rw c.as_slice-rows.ensures.value at c.index-rows-index.is in (
-      ap (λ (r : Row). r.address) is ∙ same c.index-rows-index.result,
-      found c.self.inside.rows.items c.args.self.now.given c.in-Some.index c.args.address c.index-rows-index.result c.self.invariant.0 (ap (λ t. t.given) c.self.view_is) l same
-          ∙ ap (λ r. Some (entry_of_row r)) (sym is),
+pub returns-then-not-has-clause-found : goal.returns-then-not-has-clause-found
+returns-then-not-has-clause-found c =
+    let inside = c.self.inside in
+    let out = sym c.if-not-has.ensures in
+    ap (λ t. entry_in t.given c.args.address) (sym c.self.view_is) ∙ (entry_stored inside.held.0 inside.kept.0 inside.registers inside.numbers c.args.address (small_whole _ _ _ c.self.invariant)
+    ∙ out_of inside.held.0 inside.kept.0 inside.registers inside.numbers c.args.address out)
+
+pub returns-then-not-has-clause-all_places : goal.returns-then-not-has-clause-all_places
+returns-then-not-has-clause-all_places c = ap (λ t. length t.given) (sym c.self.view_is) ∙ length-stored _ _ _ _
+
+pub returns-clause-found : goal.returns-clause-found
+returns-clause-found c =
+    let inside = c.self.inside in
+    let has = sym c.if-not-has.ensures in
+    rw c.get.ensures.same (
+      refl,
+      ap (λ t. entry_in t.given c.args.address) (sym c.self.view_is) ∙ row_stored inside.held.0 inside.kept.0 inside.registers inside.numbers c.args.address c.identity_at.result (small_whole _ _ _ c.self.invariant) c.self.invariant.among
+          has (c.identity_at.ensures ∙ ap (λ t. kept_of (entry_in t.given c.args.address)) (sym c.self.view_is)),
     )
 
-pub returns-in-Some-clause-all_places : goal.returns-in-Some-clause-all_places
-returns-in-Some-clause-all_places c = long c.self.inside.rows.items c.args.self.now.given (ap (λ t. t.given) c.self.view_is)
-
-pub returns-in-None-clause-found : goal.returns-in-None-clause-found
-returns-in-None-clause-found c = missing c.self.inside.rows.items c.args.self.now.given c.args.address c.self.invariant.0 (ap (λ t. t.given) c.self.view_is) (rw c.as_slice-rows.ensures.value at c.in-None.ensures)
-
-pub returns-in-None-clause-all_places : goal.returns-in-None-clause-all_places
-returns-in-None-clause-all_places c = long c.self.inside.rows.items c.args.self.now.given (ap (λ t. t.given) c.self.view_is)
+pub returns-clause-all_places : goal.returns-clause-all_places
+returns-clause-all_places c = ap (λ t. length t.given) (sym c.self.view_is) ∙ length-stored _ _ _ _

@@ -1,0 +1,36 @@
+-- What a table stores at each address, seen as the entries there.
+use Rattle.std.specs.Prelude.{◌≡◌, ℕ, ◌/◌, ◌%◌, ◌==◌, true, List, map, Option, Some, None, if◌then◌else◌, slice_index_or}
+use Rattle.std.specs.List.{range_with_len}
+use Rattle.i3c_base.specs.declared.identity.Identity.{Identity}
+use Rattle.i3c_base.specs.declared.identity.Lvr.{Lvr}
+use Rattle.i3c_base.specs.declared.range.TheConstants.{ADDRESSES}
+use Rattle.i3c_base.specs.State.{Entry, IsFree, IsUsable}
+use Rattle.i3c_table.specs.declared.table.Registers.{Registers}
+use Rattle.i3c_table.specs.Sets.{is_in}
+
+-- the identity of a number
+abbrev pub identity_of : ℕ → Identity
+identity_of n = record { pid = n / 65536; bcr = record { 0 = n / 256 % 256 }; dcr = record { 0 = n % 256 } }
+
+-- registers that say nothing
+abbrev pub no_registers : Registers
+no_registers = record { bcr = record { 0 = 0 }; dcr = record { 0 = 0 } }
+
+-- the identity that the address a is kept for, if a is in the set
+abbrev pub kept_at : ℕ → List ℕ → ℕ → Option Identity
+kept_at kept numbers a = if is_in kept a then Some (identity_of (slice_index_or numbers a 0)) else None
+
+-- the entry at the address a, if a is in the set of those that were given
+abbrev pub stored_at : ℕ → ℕ → List Registers → List ℕ → ℕ → Option Entry
+stored_at held kept registers numbers a =
+    if is_in held a then Some (record { bcr = (slice_index_or registers a no_registers).bcr; dcr = (slice_index_or registers a no_registers).dcr; kept = kept_at kept numbers a }) else None
+
+-- the entries at all addresses
+unfoldable pub stored : ℕ → ℕ → List Registers → List ℕ → List (Option Entry)
+stored held kept registers numbers = map (stored_at held kept registers numbers) (range_with_len 0 ADDRESSES)
+
+-- addresses that were given are usable and no legacy target's, and those that are kept were given
+pub record IsWhole (held kept : ℕ) (legacy : List (Option Lvr)) : Type 0 where
+  pub usable : (a : ℕ) → is_in held a ≡ true → IsUsable a
+  pub apart : (a : ℕ) → is_in held a ≡ true → IsFree legacy a
+  pub among : (a : ℕ) → is_in kept a ≡ true → is_in held a ≡ true
