@@ -1,87 +1,89 @@
 -- The entries of a table's list, as they are found in it.
-use Rattle.std.proofs.Common.{◌≡◌, ℕ, suc, ◌+◌, ◌≤◌, ◌<◌, cond, List, [], ◌∷◌, ◌++◌, length, map, get_or, set, Option, Some, None, IfSome, option_map, is_some, count_by, inl, inr, sym, refl, ap, ◌∙◌, arith, add-zero, length-append}
+use Rattle.std.proofs.Common.{◌≡◌, ◌≢◌, ◌↔◌, ℕ, zero, suc, ◌+◌, ◌-◌, ◌≤◌, ◌<◌, cond, if◌then◌else◌, Bool, true, false, List, [], ◌∷◌, ◌++◌, length, get_or, set, Option, Some, None, IsSome, option_map, is_some, count_by, inl, inr, sym, refl, ap, ◌∙◌, arith, length-append, zero-add, append_assoc}
 use Rattle.std.specs.Option.{option_to_list}
-use Rattle.std.proofs.lemmas.Bool.{cases_eq, cases_lt}
-use Rattle.std.proofs.lemmas.List.{get_or_default, get_or-map, get_or-set_other, get_or-set_same, get_or_past, length-map, map-set, set_past}
+use Rattle.std.proofs.lemmas.Bool.{both_ways, cases_eq, cases_lt, cond-true, cond-false}
+use Rattle.std.proofs.lemmas.List.{ext_get_or, get_or-set_other, get_or-set_same, get_or_past, length-set, set_past}
 use Rattle.std.proofs.lemmas.List.Sums.{sum_by-set}
 use Rattle.i3c_base.specs.declared.identity.Lvr.{Lvr}
 use Rattle.i3c_base.specs.Covered.{Table}
+use Rattle.i3c_base.specs.Places.{changed_from}
 use Rattle.i3c_base.specs.State.{Entry as Given, entry_in}
-use Rattle.i3c_table.specs.declared.row.Row.{Row}
-use Rattle.i3c_table.specs.Rows.{entry_of_row}
+use Rattle.i3c_base.proofs.Lookups.{changed_at, length-changed}
+use Rattle.i3c_table.specs.Sets.{is_in, IsLowest}
 use Rattle.i3c_deftgts.specs.declared.entries.Entry.{Entry}
-use Rattle.i3c_deftgts.specs.Entries.{device_at, entries_of, legacy_at, own_entry, row_entry, upwards}
+use Rattle.i3c_deftgts.specs.Entries.{device_at, entries_of, given_in, legacy_at, own_entry, upwards}
 use Rattle.i3c_deftgts.proofs.UpwardLaws.{length-upwards}
 
--- each row stands at its address
-abbrev pub Stand : List (Option Row) → Type 0
-Stand rows = (k : ℕ) → IfSome (get_or rows k None) (λ row. row.address ≡ k)
+-- the entry of a place, if something stands there
+abbrev pub entry_here : List (Option Given) → ℕ → List Entry
+entry_here given a = option_to_list (option_map (device_at a) (entry_in given a))
 
--- the same, where a is the first address
-abbrev StandFrom : ℕ → List (Option Row) → Type 0
-StandFrom a rows = (k : ℕ) → IfSome (get_or rows k None) (λ row. row.address ≡ a + k)
+abbrev kept_in : ℕ → ℕ → Option Given → Option Given
+kept_in set a place = if is_in set a then place else None
 
-rest_stands : (a : ℕ) (place : Option Row) (rows : List (Option Row)) → StandFrom a (place ∷ rows) → StandFrom (suc a) rows
-rest_stands a place rows h k = if_some (get_or rows k None) (h (suc k))
+-- two sets that agree from an address on
+agreeing : (n : ℕ) (given : List (Option Given)) (left left' : ℕ) → ((b : ℕ) → n ≤ b → is_in left' b ≡ is_in left b) → changed_from n (kept_in left) given ≡ changed_from n (kept_in left') given
+agreeing n [] left left' same = refl
+agreeing n (place ∷ given) left left' same = λ t. (if sym (same n (omega arith)) t then place else None) ∷ agreeing (suc n) given left left' (λ b l. same b (omega arith)) t
+
+up_cons : (n : ℕ) (place : Option Given) (rest : List (Option Given)) → upwards device_at n (place ∷ rest) ≡ option_to_list (option_map (device_at n) place) ++ upwards device_at (suc n) rest
+up_cons n None rest = refl
+up_cons n (Some e) rest = refl
+
+-- the lowest address of a set comes first
+lowest_from : (n : ℕ) (given : List (Option Given)) (left left' a k : ℕ) → n + k ≡ a → ((b : ℕ) → b < a → is_in left b ≡ false) → is_in left a ≡ true → is_in left' a ≡ false → ((b : ℕ) → b ≢ a → is_in left' b ≡ is_in left b)
+    → upwards device_at n (changed_from n (kept_in left) given) ≡ option_to_list (option_map (device_at a) (get_or given k None)) ++ upwards device_at n (changed_from n (kept_in left') given)
+lowest_from n [] left left' a k l before has gone same = refl
+lowest_from n (place ∷ given) left left' a zero l before has gone same =
+    let e : n ≡ a = omega (arith, l) in
+    let here : kept_in left n place ≡ place = cond-true (is_in left n) place None (ap (is_in left) e ∙ has) in
+    let none : kept_in left' n place ≡ None = cond-false (is_in left' n) place None (ap (is_in left') e ∙ gone) in
+    let rest = agreeing (suc n) given left left' (λ b past. same b (λ is. absurd (omega (arith, past, is, e)))) in
+    let R = changed_from (suc n) (kept_in left) given in
+    let R' = changed_from (suc n) (kept_in left') given in
+    ap (λ p. upwards device_at n (p ∷ R)) here ∙ (up_cons n place R ∙ (ap (λ x. option_to_list (option_map (device_at n) place) ++ upwards device_at (suc n) x) rest
+    ∙ (ap (λ m. option_to_list (option_map (device_at m) place) ++ upwards device_at (suc n) R') e ∙ sym (ap (λ p. option_to_list (option_map (device_at a) place) ++ upwards device_at n (p ∷ R')) none))))
+lowest_from n (place ∷ given) left left' a (suc k) l before has gone same =
+    let below : n < a = omega (arith, l) in
+    let here : kept_in left n place ≡ None = cond-false (is_in left n) place None (before n below) in
+    let none : kept_in left' n place ≡ None = cond-false (is_in left' n) place None (same n (λ e. absurd (omega (arith, below, e))) ∙ before n below) in
+    let R = changed_from (suc n) (kept_in left) given in
+    let R' = changed_from (suc n) (kept_in left') given in
+    ap (λ p. upwards device_at n (p ∷ R)) here ∙ (lowest_from (suc n) given left left' a k (omega (arith, l)) before has gone same
+    ∙ sym (ap (λ p. option_to_list (option_map (device_at a) (get_or given k None)) ++ upwards device_at n (p ∷ R')) none))
+
+pub lowest_first : (given : List (Option Given)) (left left' a : ℕ) → IsLowest left a → is_in left' a ≡ false → ((b : ℕ) → b ≢ a → is_in left' b ≡ is_in left b)
+    → upwards device_at 0 (given_in left given) ≡ entry_here given a ++ upwards device_at 0 (given_in left' given)
+lowest_first given left left' a low gone same = lowest_from 0 given left left' a a (zero-add a) low.1 low.0 gone same
+
+-- no address is left
+pub none_left : (given : List (Option Given)) (left : ℕ) → ((a : ℕ) → is_in left a ≡ false) → upwards device_at 0 (given_in left given) ≡ []
+none_left given left none = nothing 0 given
   where
-    if_some : (o : Option Row) → IfSome o (λ row. row.address ≡ a + suc k) → IfSome o (λ row. row.address ≡ suc a + k)
-    if_some None e = tt
-    if_some (Some row) e = omega (arith, e)
+    nothing : (n : ℕ) (given : List (Option Given)) → upwards device_at n (changed_from n (kept_in left) given) ≡ []
+    nothing n [] = refl
+    nothing n (place ∷ given) = rw (cond-false (is_in left n) place None (none n)) (nothing (suc n) given)
 
-stand_from : (rows : List (Option Row)) → Stand rows → StandFrom 0 rows
-stand_from rows h k = if_some (get_or rows k None) (h k)
+-- all but the own one
+pub but_own : (given : List (Option Given)) (held others own : ℕ) → ((a : ℕ) → (is_in held a ≡ true) ↔ IsSome (entry_in given a)) → is_in others own ≡ false → ((a : ℕ) → a ≢ own → is_in others a ≡ is_in held a)
+    → given_in others given ≡ set given own None
+but_own given held others own is gone same = ext_get_or None (given_in others given) (set given own None) (length-changed (kept_in others) given ∙ sym (length-set given own None)) (λ a below.
+    changed_at (kept_in others) given a None (none_if (is_in others a)) ∙ elim (cases_eq a own) [
+      | inl e ↦ cond-false (is_in others a) _ None (ap (is_in others) e ∙ gone) ∙ sym (rw e (elim (cases_lt own (length given)) [ inl l ↦ get_or-set_same given own None None l | inr past ↦ rw (set_past given own None past) (get_or_past given own None past) ]))
+      | inr other ↦ rest a other (is_in held a) refl ∙ sym (get_or-set_other given own a None None other)
+    ])
   where
-    if_some : (o : Option Row) → IfSome o (λ row. row.address ≡ k) → IfSome o (λ row. row.address ≡ 0 + k)
-    if_some None e = tt
-    if_some (Some row) e = omega (arith, e)
+    none_if : (b : Bool) → ◌≡◌ {A = Option Given} (if b then None else None) None
+    none_if true = refl
+    none_if false = refl
 
--- rows at their addresses have the entries of what was given
-upwards_rows : (rows : List (Option Row)) (a : ℕ) → StandFrom a rows → upwards row_entry a rows ≡ upwards device_at a (map (option_map entry_of_row) rows)
-upwards_rows [] a h = refl
-upwards_rows (None ∷ rows) a h = upwards_rows rows (suc a) (rest_stands a None rows h)
-upwards_rows (Some row ∷ rows) a h =
-    let here : row.address ≡ a = h 0 ∙ add-zero a in
-    ap (λ b. device_at b (entry_of_row row) ∷ upwards row_entry (suc a) rows) here
-    ∙ ap (λ es. device_at a (entry_of_row row) ∷ es) (upwards_rows rows (suc a) (rest_stands a (Some row) rows h))
+    nothing : (o : Option Given) → (IsSome o → ⊥) → o ≡ None
+    nothing None stands = refl
+    nothing (Some e) stands = absurd (stands refl)
 
--- also where one is taken out
-stand_without : (rows : List (Option Row)) (own : ℕ) → Stand rows → Stand (set rows own None)
-stand_without rows own h k = elim (cases_eq k own) [
-  | inl same ↦ elim (cases_lt own (length rows)) [
-    | inl below ↦ rw (ap (λ j. get_or (set rows own None) j None) same ∙ get_or-set_same rows own None None below) tt
-    | inr past ↦ rw (set_past rows own None past) (h k)
-  ]
-  | inr other ↦ rw (get_or-set_other rows own k None None other) (h k)
-]
-
--- what a list of entries has at a place, as rows have it
-entry_of_place : (rows : List (Option Row)) (given : List (Option Given)) (a : ℕ) → map (option_map entry_of_row) rows ≡ given → entry_in given a ≡ option_map entry_of_row (get_or rows a None)
-entry_of_place rows given a view = ap (λ g. entry_in g a) (sym view) ∙ elim (cases_lt a (length rows)) [
-  | inl below ↦ get_or-map (option_map entry_of_row) rows a None None below
-  | inr past ↦ get_or_past (map (option_map entry_of_row) rows) a None (omega (arith, past, length-map rows (option_map entry_of_row))) ∙ ap (option_map entry_of_row) (sym (get_or_past rows a None past))
-]
-
--- the own row's entry
-own_some_at : (table : Table) (rows : List (Option Row)) (own : ℕ) (row : Row) → map (option_map entry_of_row) rows ≡ table.given → Stand rows → get_or rows own None ≡ Some row → own_entry table own ≡ row_entry 0 row ∷ []
-own_some_at table rows own row view stand here =
-    let stands : row.address ≡ own = rw here at (stand own) in
-    ap (λ o. option_to_list (option_map (device_at own) o)) (entry_of_place rows table.given own view ∙ ap (option_map entry_of_row) here)
-    ∙ ap (λ a. device_at a (entry_of_row row) ∷ []) (sym stands)
-
-own_none_at : (table : Table) (rows : List (Option Row)) (own : ℕ) → map (option_map entry_of_row) rows ≡ table.given → get_or rows own None ≡ None → own_entry table own ≡ []
-own_none_at table rows own view here = ap (λ o. option_to_list (option_map (device_at own) o)) (entry_of_place rows table.given own view ∙ ap (option_map entry_of_row) here)
-
-taken_at : (rows : List (Option Row)) (own : ℕ) (taken d : Option Row) → own < length rows → taken ≡ get_or rows own d → get_or rows own None ≡ taken
-taken_at rows own taken d below is = get_or_default rows own None d below ∙ sym is
-
-pub own_alone : (table : Table) (rows : List (Option Row)) (own : ℕ) (taken d : Option Row) → map (option_map entry_of_row) rows ≡ table.given → Stand rows → own < length rows → taken ≡ get_or rows own d → upwards row_entry 0 (taken ∷ []) ≡ own_entry table own
-own_alone table rows own None d view stand below is = sym (own_none_at table rows own view (taken_at rows own None d below is))
-own_alone table rows own (Some row) d view stand below is = sym (own_some_at table rows own row view stand (taken_at rows own (Some row) d below is))
-
-pub others : (table : Table) (rows : List (Option Row)) (own : ℕ) → map (option_map entry_of_row) rows ≡ table.given → Stand rows → upwards row_entry 0 (set rows own None) ≡ upwards device_at 0 (set table.given own None)
-others table rows own view stand =
-    upwards_rows (set rows own None) 0 (stand_from (set rows own None) (stand_without rows own stand))
-    ∙ ap (upwards device_at 0) (map-set (option_map entry_of_row) rows own None ∙ ap (λ g. set g own None) view)
+    rest : (a : ℕ) → a ≢ own → (b : Bool) → is_in held a ≡ b → kept_in others a (entry_in given a) ≡ entry_in given a
+    rest a other true e = cond-true (is_in others a) _ None (same a other ∙ e)
+    rest a other false e = cond-false (is_in others a) _ None (same a other ∙ e) ∙ sym (nothing (entry_in given a) (λ some. both_ways (is_in held a) e ((is a).1 some)))
 
 -- the own entry is one of those that were given
 count_own : {A B : Type 0} (f : A → B) (given : List (Option A)) (own : ℕ) → length (option_to_list (option_map f (get_or given own None))) + count_by is_some (set given own None) ≡ count_by is_some given
@@ -107,21 +109,6 @@ length-own_and_others table own =
     let counted = count_own (device_at own) table.given own in
     omega (arith, many, counted)
 
--- the own entry, and then the others
-pub two_parts : (table : Table) (rows : List (Option Row)) (own : ℕ) (taken d : Option Row) (none one two : List Entry) → map (option_map entry_of_row) rows ≡ table.given → Stand rows → own < length rows → taken ≡ get_or rows own d
-    → none ≡ [] → one ≡ none ++ upwards row_entry 0 (taken ∷ []) → two ≡ one ++ upwards row_entry 0 (set rows own None) → two ≡ own_entry table own ++ upwards device_at 0 (set table.given own None)
-two_parts table rows own taken d none one two view stand below is empty first second =
-    second ∙ (ap (λ e. e ++ upwards row_entry 0 (set rows own None)) (first ∙ (ap (λ e. e ++ upwards row_entry 0 (taken ∷ [])) empty ∙ own_alone table rows own taken d view stand below is))
-    ∙ ap (λ e. own_entry table own ++ e) (others table rows own view stand))
-
-pub first_room : (table : Table) (rows : List (Option Row)) (own : ℕ) (taken d : Option Row) (none one : List Entry) (most : ℕ) → map (option_map entry_of_row) rows ≡ table.given → Stand rows → own < length rows → taken ≡ get_or rows own d
-    → none ≡ [] → one ≡ none ++ upwards row_entry 0 (taken ∷ []) → count_by is_some table.given ≤ most → length one + length (upwards row_entry 0 (set rows own None)) ≤ most
-first_room table rows own taken d none one most view stand below is empty first few =
-    let long = ap length (two_parts table rows own taken d none one (one ++ upwards row_entry 0 (set rows own None)) view stand below is empty first refl) in
-    let both = length-append one (upwards row_entry 0 (set rows own None)) in
-    let whole = length-append (own_entry table own) (upwards device_at 0 (set table.given own None)) in
-    omega (arith, long, both, whole, few, length-own_and_others table own)
-
 pub second_room : (table : Table) (own : ℕ) (two : List Entry) (lvrs : List (Option Lvr)) → two ≡ own_entry table own ++ upwards device_at 0 (set table.given own None) → length two + length (upwards legacy_at 0 lvrs) ≡ count_by is_some table.given + count_by is_some lvrs
 second_room table own two lvrs is =
     let whole = length-append (own_entry table own) (upwards device_at 0 (set table.given own None)) in
@@ -136,3 +123,20 @@ length-entries_of table own =
     let whole = length-append (own_entry table own) (upwards device_at 0 (set table.given own None) ++ upwards legacy_at 0 table.legacy) in
     let rest = length-append (upwards device_at 0 (set table.given own None)) (upwards legacy_at 0 table.legacy) in
     omega (arith, many, targets, whole, rest)
+
+-- what is pushed where something stands at the lowest address, and where nothing does
+pub pushed_here : (given : List (Option Given)) (left left' a : ℕ) (before now whole : List Entry) → IsLowest left a → is_in left' a ≡ false → ((b : ℕ) → b ≢ a → is_in left' b ≡ is_in left b)
+    → now ≡ before ++ entry_here given a → before ++ upwards device_at 0 (given_in left given) ≡ whole → now ++ upwards device_at 0 (given_in left' given) ≡ whole
+pushed_here given left left' a before now whole low gone same is so_far =
+    ap (λ e. e ++ upwards device_at 0 (given_in left' given)) is ∙ (append_assoc before (entry_here given a) (upwards device_at 0 (given_in left' given)) ∙ (ap (λ e. before ++ e) (sym (lowest_first given left left' a low gone same)) ∙ so_far))
+
+-- there is room for one that stands at the lowest address
+pub room_for : (given : List (Option Given)) (left left' a most : ℕ) (e : Given) (before whole : List Entry) → IsLowest left a → is_in left' a ≡ false → ((b : ℕ) → b ≢ a → is_in left' b ≡ is_in left b)
+    → entry_in given a ≡ Some e → before ++ upwards device_at 0 (given_in left given) ≡ whole → length whole ≤ most → length before < most
+room_for given left left' a most e before whole low gone same stands so_far few =
+    let here = ap length (lowest_first given left left' a low gone same) in
+    let one = ap (λ o. length (option_to_list (option_map (device_at a) o))) stands in
+    let both = length-append (entry_here given a) (upwards device_at 0 (given_in left' given)) in
+    let all = length-append before (upwards device_at 0 (given_in left given)) in
+    let long = ap length so_far in
+    omega (arith, here, one, both, all, long, few)

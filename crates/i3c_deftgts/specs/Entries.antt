@@ -1,12 +1,13 @@
 -- The entries of a list: their addresses, and those that a controller's table has.
-use Rattle.std.specs.Prelude.{◌≡◌, ℕ, suc, ◌<◌, Bool, false, ◌||◌, ◌==◌, List, [], ◌∷◌, ◌++◌, length, count_by, slice_index_or, slice_set, Option, Some, None, option_map}
+use Rattle.std.specs.Prelude.{◌≡◌, ℕ, suc, ◌<◌, Bool, false, ◌||◌, ◌==◌, List, [], ◌∷◌, ◌++◌, length, count_by, slice_index_or, slice_set, Option, Some, None, if◌then◌else◌, option_map}
 use Rattle.std.specs.List.{list_any}
 use Rattle.std.specs.Option.{option_to_list}
 use Rattle.i3c_base.specs.declared.range.TheConstants.{ADDRESSES}
 use Rattle.i3c_base.specs.declared.identity.Lvr.{Lvr}
 use Rattle.i3c_base.specs.Covered.{Table}
+use Rattle.i3c_base.specs.Places.{changed}
 use Rattle.i3c_base.specs.State.{Entry as Given, entry_in}
-use Rattle.i3c_table.specs.declared.row.Row.{Row}
+use Rattle.i3c_table.specs.Sets.{is_in}
 use Rattle.i3c_deftgts.specs.declared.entries.Entry.{Entry}
 use Rattle.i3c_deftgts.specs.declared.entries.Entry.TheVariants.{Device, Legacy}
 
@@ -57,6 +58,6 @@ own_entry table own = option_to_list (option_map (device_at own) (entry_in table
 abbrev pub entries_of : Table → ℕ → List Entry
 entries_of table own = own_entry table own ++ (upwards device_at 0 (slice_set table.given own None) ++ upwards legacy_at 0 table.legacy)
 
--- the entry of a row
-abbrev pub row_entry : ℕ → Row → Entry
-row_entry a row = Device row.address row.dcr row.bcr None
+-- what was given at the addresses of a set
+abbrev pub given_in : ℕ → List (Option Given) → List (Option Given)
+given_in set given = changed (λ a place. if is_in set a then place else None) given

@@ -1,9 +1,10 @@
 ghost use Rattle.std.specs.Prelude.{◌≡◌, ◌+◌, ◌*◌, ◌≤◌, ◌++◌, List, ℕ, [], ◌∷◌, IsSome, count_by, is_some, length};
 ghost use Rattle.arrayvec.specs.ArrayVec.{array_vec_len};
 ghost use Rattle.i3c_base.specs.State.{entry_in};
+ghost use Rattle.i3c_table.specs.Rows.{entry_of_row};
 ghost use Rattle.i3c_word.specs.declared.Word.{Word as WordValue};
 ghost use Rattle.i3c_deftgts.specs.Copies.{copy_of, table_of};
-ghost use Rattle.i3c_deftgts.specs.Entries.{entries_of, legacy_at, row_entry, upwards};
+ghost use Rattle.i3c_deftgts.specs.Entries.{device_at, entries_of, given_in, legacy_at, upwards};
 ghost use Rattle.i3c_deftgts.specs.Layout.{bytes_of, list_bytes, static_byte, Carry};
 ghost use Rattle.i3c_deftgts.specs.Reading.{ReadAs};
 
@@ -11,7 +12,7 @@ use crate::entries::Entry;
 use arrayvec::ArrayVec;
 use i3c_base::{ADDRESSES, Addr7, Lvr};
 use i3c_legacy::LEGACIES;
-use i3c_table::{ROWS, Row, Table};
+use i3c_table::{Addresses, ROWS, Row, Table};
 use i3c_word::{Word, write_word};
 
 /// The most entries that a table's list has: a row's or a legacy target's each.
@@ -49,23 +50,25 @@ fn entries_of(table: &Table, own: Addr7) -> ArrayVec<Entry, WRITTEN>
     ensures read { (words : List WordValue) → Carry (list_bytes result.items) words → ReadAs words result.items }
     ensures copied { table_of result.items ≡ copy_of table.now }
 {
-    let mut rows = table.by_address();
-    let own_row = rows[own.get() as usize].take();
     let mut entries = ArrayVec::new();
-    push_devices(&mut entries, &[own_row]);
-    push_devices(&mut entries, &rows);
+    if let Some(row) = table.row_of(own) {
+        entries.push(device_entry(&row));
+    }
+    push_devices(&mut entries, table, table.given_addresses().without(own));
     push_legacies(&mut entries, &table.legacies().by_address());
     entries
 }
 
-// Appends the entries of rows.
-fn push_devices(entries: &mut ArrayVec<Entry, WRITTEN>, rows: &[Option<Row>])
-    requires { array_vec_len entries.old + length (upwards row_entry 0 rows.now) ≤ WRITTEN }
-    ensures { entries.new.items ≡ entries.old.items ++ upwards row_entry 0 rows.now }
+// Appends the entries of the devices that were given these addresses, upwards.
+fn push_devices(entries: &mut ArrayVec<Entry, WRITTEN>, table: &Table, addresses: Addresses)
+    requires { array_vec_len entries.old + length (upwards device_at 0 (given_in addresses.0 table.now.given)) ≤ WRITTEN }
+    ensures { entries.new.items ≡ entries.old.items ++ upwards device_at 0 (given_in addresses.0 table.now.given) }
 {
-    for place in rows {
-        if let Some(row) = place {
-            entries.push(device_entry(row));
+    let mut left = addresses;
+    while let Some(address) = left.lowest() {
+        left = left.without(address);
+        if let Some(row) = table.row_of(address) {
+            entries.push(device_entry(&row));
         }
     }
 }
@@ -88,7 +91,7 @@ fn push_legacies(entries: &mut ArrayVec<Entry, WRITTEN>, lvrs: &[Option<Lvr>])
 
 // The entry of a row, whose device has no static address.
 fn device_entry(row: &Row) -> Entry
-    ensures { result ≡ row_entry 0 row.now }
+    ensures { result ≡ device_at row.now.address (entry_of_row row.now) }
 {
     Entry::Device {
         address: row.address,

@@ -97,7 +97,13 @@ impl Table {
 
     /// The addresses that were given.
     pub fn given_addresses(&self) -> Addresses
-        ensures { (a : ℕ) → (is_in result.0 a ≡ true) ↔ IsSome (entry_in self.now.given a) }
+        ensures given { (a : ℕ) → (is_in result.0 a ≡ true) ↔ IsSome (entry_in self.now.given a) }
+        ensures few { count_by is_some self.now.given ≤ ROWS }
+        ensures usable { (a : ℕ) → IfSome (entry_in self.now.given a) (λ _. IsUsable a) }
+
+        // no legacy target has one
+        ensures apart { (a : ℕ) → IfSome (entry_in self.now.given a) (λ _. IsFree self.now.legacy a) }
+        ensures all_places { length self.now.given ≡ ADDRESSES }
     {
         self.held
     }
