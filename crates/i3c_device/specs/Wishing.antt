@@ -43,10 +43,3 @@ pub record IsWish (d : Device) (r : Request) : Type 0 where
 -- whatever kinds are enabled, a device drives no request
 abbrev pub WishesNothing : Device → Type 0
 WishesNothing d = (kinds : KindSet) → asks_some (under kinds d) ≡ false
-
--- what whatever stands in a slot wishes for
-abbrev pub WishesIn : Option Request → Option Device → Type 0
-WishesIn None None = Unit {0}
-WishesIn (Some r) None = ⊥
-WishesIn None (Some d) = WishesNothing d
-WishesIn (Some r) (Some d) = IsWish d r

@@ -52,6 +52,11 @@ fn asked(alloc: Global, method: &str, words: &mut Words<'_>, table: &Table) -> A
             shown(alloc, address.map(|address| Hex::byte(address.get())))
         }
         "by_address" => shown(alloc, alike(table)?),
+        "given_addresses" => shown(alloc, given(table)?),
+        "lowest_given" => {
+            let address = table.given_addresses().lowest();
+            shown(alloc, address.map(|address| Hex::byte(address.get())))
+        }
         "list_current" => shown(alloc, table.list_current()),
         "legacies" => shown(alloc, table.legacies().len()),
         _ => Err(Fault::NoCall),
@@ -94,6 +99,19 @@ fn alike(table: &Table) -> Result<usize, Fault> {
     let mut count = 0usize;
     for (address, row) in (0..128).zip(table.by_address()) {
         if row == table.row_of(Addr7::new(address)?) {
+            count = count.saturating_add(1);
+        }
+    }
+    Ok(count)
+}
+
+/// At how many of the addresses `given_addresses` and `row_of` have the same.
+fn given(table: &Table) -> Result<usize, Fault> {
+    let given = table.given_addresses();
+    let mut count = 0usize;
+    for number in 0..128 {
+        let address = Addr7::new(number)?;
+        if given.has(address) == table.row_of(address).is_some() {
             count = count.saturating_add(1);
         }
     }
