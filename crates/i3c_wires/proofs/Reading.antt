@@ -48,7 +48,7 @@ module _ {X : Type 0} where
   there : (x y : X) (xs : List X) → Contains xs y → Contains (x ∷ xs) y
   there x y xs h = (suc h.0, omega (arith, h.1), h.2)
 
-  all_kept : (p q : X → Bool) (xs : List X) → list_all p (filter q xs) ≡ true → AllByRecursion (λ x. q x ≡ true → p x ≡ true) xs
+  pub all_kept : (p q : X → Bool) (xs : List X) → list_all p (filter q xs) ≡ true → AllByRecursion (λ x. q x ≡ true → p x ≡ true) xs
   all_kept p q [] e = tt
   all_kept p q (x ∷ xs) e =
       elim (q x) as (λ t. list_all p (cond t (x ∷ filter q xs) (filter q xs)) ≡ true → (t ≡ true → p x ≡ true) × AllByRecursion (λ y. q y ≡ true → p y ≡ true) xs) [

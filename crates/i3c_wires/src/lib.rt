@@ -6,6 +6,7 @@
 #![tactic(auto)]
 
 mod arbitration;
+mod least;
 mod lines;
 mod masks;
 mod outcome;
