@@ -5,6 +5,9 @@ ghost use Rattle.i3c_lines.specs.Hex.{byte_text, bytes_text, hex_text};
 use itoa::Buffer;
 use std::alloc::AllocError;
 
+/// The hex digits, each at its value.
+static DIGITS: [u8; 16] = *b"0123456789ABCDEF";
+
 /// Numbers below this have at most four digits.
 const FIVE_DIGITS: u64 = 10_000;
 
@@ -138,13 +141,10 @@ fn push_digits(text: &mut Vec<u8>, number: u64, count: usize)
 }
 
 /// A hex digit, in upper case.
+#[tactic(auto, using(crate::proofs::HexTexts::digit_at))]
 fn digit(value: u8) -> u8
     requires { value < 16 }
     ensures { result ≡ digit_glyph true value }
 {
-    if value < 10 {
-        b'0' + value
-    } else {
-        b'A' + (value - 10)
-    }
+    DIGITS[usize::from(value)]
 }
