@@ -1,9 +1,10 @@
 -- Decimal digits, and the numbers that they write.
-use Rattle.std.proofs.Common.{◌≢◌, ℕ, suc, ◌^◌, ◌<◌, List, [], ◌∷◌, get_or, All, Result, Ok, Err, arith, refl, subst}
-use Rattle.std.proofs.lemmas.Fmt.{IsAscii-from_digits}
+use Rattle.std.proofs.Common.{◌≡◌, ◌≢◌, ◌∙◌, ℕ, suc, ◌+◌, ◌/◌, ◌%◌, ◌^◌, ◌<◌, ◌≤◌, List, [], ◌∷◌, ◌++◌, get_or, All, Result, Ok, Err, ap, append_assoc, arith, refl, subst, sym}
+use Rattle.std.proofs.lemmas.Fmt.{IsAscii-from_digits, decimal_digit, decimal_step}
 use Rattle.std.proofs.lemmas.Str.{IsUtf8-from_ascii}
 use Rattle.std.proofs.lemmas.Str.Parse.{without_leading_plus_none}
 use Rattle.std.specs.Char.{digit_value}
+use Rattle.std.specs.Fmt.{decimal}
 use Rattle.std.specs.Option.{IsSome}
 use Rattle.std.specs.Result.{OkIff, result_ok}
 use Rattle.std.specs.Str.{IsUtf8}
@@ -39,3 +40,15 @@ some_is_short word (Err e) writes some = absurd cc
 pub short_is_some : {E : Type 0} → (word : List ℕ) (r : Result ℕ E) → Writes word r → IsDecimal word → digits_value 10 word < 2 ^ 16 → IsSome (result_ok r)
 short_is_some word (Ok n) writes h short = refl
 short_is_some word (Err e) writes h short = absurd (writes ((h.0, all_decimal word h.1), short))
+
+-- a number of one digit is printed
+pub one_digit : (old new : List ℕ) (n : ℕ) → n < 10 → new ≡ old ++ (48 + n % 10) ∷ [] → new ≡ old ++ decimal n
+one_digit old new n small e =
+    let same : n % 10 ≡ n = omega (arith, small) in
+    e ∙ ap (λ d. old ++ (48 + d) ∷ []) same ∙ ap (λ ds. old ++ ds) (sym (decimal_digit n small))
+
+-- a digit is printed after those before it
+pub last_digit : (old mid new : List ℕ) (n : ℕ) → 10 ≤ n → n < 2 ^ 64 → mid ≡ old ++ decimal (n / 10) → new ≡ mid ++ (48 + n % 10) ∷ [] → new ≡ old ++ decimal n
+last_digit old mid new n more fits first then =
+    then ∙ ap (λ t. t ++ (48 + n % 10) ∷ []) first ∙ append_assoc old (decimal (n / 10)) ((48 + n % 10) ∷ [])
+    ∙ ap (λ ds. old ++ ds) (sym (decimal_step n more fits))

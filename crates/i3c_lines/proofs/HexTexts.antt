@@ -1,7 +1,9 @@
 -- Hex digits as they are printed.
-use Rattle.std.proofs.Common.{◌≡◌, ℕ, zero, suc, ◌-◌, ◌/◌, ◌%◌, ◌<◌, ◌≤◌, true, [], ◌∷◌, ◌++◌, arith, refl}
+use Rattle.std.proofs.Common.{◌≡◌, ℕ, zero, suc, ◌-◌, ◌/◌, ◌%◌, ◌<◌, ◌≤◌, Bool, true, ◌&&◌, T, eqb, eqb→eq, eq-zero-or-pos, get_or, inl, inr, [], ◌∷◌, ◌++◌, arith, refl}
+use lib.Ieee.Fits.{and_l, and_r}
 use Rattle.std.specs.Fmt.{digit_glyph}
 use Rattle.i3c_lines.specs.Hex.{hex_text}
+use Rattle.i3c_lines.specs.declared.numerals.TheConstants.{DIGITS}
 
 -- the last digit and those before it
 pub hex_text_more : (count n : ℕ) → 0 < count → hex_text count n ≡ hex_text (count - 1) (n / 16) ++ digit_glyph true (n % 16) ∷ []
@@ -11,3 +13,20 @@ hex_text_more (suc count) n h = let same : suc count - 1 ≡ count = omega arith
 pub hex_text_none : (count n : ℕ) → count ≤ 0 → hex_text count n ≡ []
 hex_text_none zero n h = refl
 hex_text_none (suc count) n h = absurd (omega arith)
+
+-- the first digits of the table are those of their values
+abbrev are_digits : ℕ → Bool
+are_digits zero = true
+are_digits (suc n) = eqb (get_or DIGITS n 0) (digit_glyph true n) && are_digits n
+
+below : (n value : ℕ) → T (are_digits n) → value < n → get_or DIGITS value 0 ≡ digit_glyph true value
+below zero value t h = absurd (omega arith)
+below (suc n) value t h =
+    elim (eq-zero-or-pos (n - value)) [
+      | inl z ↦ let e : value ≡ n = omega arith in rw e (eqb→eq _ _ (and_l _ (are_digits n) t))
+      | inr g ↦ below n value (and_r _ (are_digits n) t) (omega arith)
+    ]
+
+-- a digit of the table is its value's
+pub digit_at : (value : ℕ) → value < 16 → get_or DIGITS value 0 ≡ digit_glyph true value
+digit_at value h = below 16 value tt h

@@ -1,5 +1,5 @@
 -- What the names that were given stand for.
-use Rattle.std.specs.Prelude.{◌≡◌, ◌≢◌, ℕ, Bool, List, Option, Some, None, Result, Ok, Err, if◌then◌else◌, nat_eq, slice_index_or, MatchOption}
+use Rattle.std.specs.Prelude.{◌≡◌, ◌≢◌, ℕ, Bool, List, Option, Some, None, Result, Ok, Err, if◌then◌else◌, nat_eq, slice_index_or, take, MatchOption}
 use Rattle.std.specs.Cmp.Lexicographic.{pointwise}
 use Rattle.indexmap.specs.IndexMap.{get_by}
 use Rattle.i3c_lines.specs.declared.refusals.Refusal.{Refusal}
@@ -9,7 +9,7 @@ use Rattle.i3c_lines.specs.declared.names.Place.{Place}
 
 -- a name's letters
 abbrev pub letters : Name → List ℕ
-letters name = name.text.bytes
+letters name = take name.length name.bytes
 
 -- the name that was last given to each slot
 abbrev pub slot_names : Names → List (Option Name)

@@ -1,20 +1,23 @@
-ghost use Rattle.std.specs.Prelude.{◌≡◌, ◌<◌, ◌↔◌, All, IsTrue, IsSome, IfSome};
+ghost use Rattle.std.specs.Prelude.{◌≡◌, ◌<◌, ◌≤◌, ◌↔◌, All, IsTrue, IsSome, IfSome};
 ghost use Rattle.i3c_lines.specs.Words.{IsNameLetter};
+ghost use Rattle.i3c_lines.specs.declared.names.TheConstants.{NAME_LENGTH};
 
 use crate::refusals::Refusal;
-use arrayvec::ArrayString;
 use i3c_base::{ADDRESSES, Addr7, SLOTS, Slot};
 use indexmap::IndexMap;
 use std::alloc::{AllocError, Global};
-use std::str;
+use std::hash::{Hash, Hasher};
 
 /// The longest name.
 const NAME_LENGTH: usize = 16;
 
 /// The name of a device or a legacy target: 1 to 16 of `a` to `z` and `0` to `9`.
-#[derive(Clone, Copy, PartialEq, Eq, Hash)]
+#[derive(Clone, Copy)]
 pub struct Name {
-    text: ArrayString<NAME_LENGTH>,
+    // its letters, and then nothing that counts
+    bytes: [u8; NAME_LENGTH],
+    length: u8,
+    ghost short: { length ≤ NAME_LENGTH },
 }
 
 /// Whether a word is of a name's letters alone.
@@ -34,21 +37,57 @@ impl Name {
         ensures form { IsSome result ↔ IsName NAME_LENGTH word.now }
         ensures same { IfSome result (λ name. letters name ≡ word.now) }
     {
-        if word.is_empty() || !is_of_letters(word) {
+        if word.is_empty() || word.len() > NAME_LENGTH || !is_of_letters(word) {
             return None;
         }
-        let Ok(text) = str::from_utf8(word) else {
-            unreachable!();
-        };
-        let text = ArrayString::from(text).ok()?;
-        Some(Name { text })
+        let mut bytes = [0; NAME_LENGTH];
+        bytes[..word.len()].copy_from_slice(word);
+        let length = word.len() as u8;
+        Some(Name { bytes, length })
     }
 
     /// Its letters.
     pub fn as_bytes(&self) -> &[u8]
         ensures { result.now ≡ letters self.now }
     {
-        self.text.as_bytes()
+        &self.bytes[..usize::from(self.length)]
+    }
+}
+
+impl PartialEq for Name {
+    ghost use Rattle.std.specs.Cmp.{on_per, partial_equiv_from_equiv};
+    ghost use Rattle.std.specs.Cmp.Lexicographic.{nat_list_eq_equiv};
+    ghost use Rattle.i3c_lines.specs.Naming.{is_same, letters};
+
+    ghost eq = { is_same };
+
+    ghost laws = { on_per letters (partial_equiv_from_equiv nat_list_eq_equiv) };
+
+    fn eq(&self, other: &Self) -> bool {
+        self.as_bytes() == other.as_bytes()
+    }
+}
+
+impl Eq for Name {
+    ghost use Rattle.std.specs.Cmp.{on_equiv};
+    ghost use Rattle.std.specs.Cmp.Lexicographic.{nat_list_eq_equiv};
+    ghost use Rattle.i3c_lines.specs.Naming.{letters};
+
+    ghost laws = { on_equiv letters nat_list_eq_equiv };
+}
+
+impl Hash for Name {
+    ghost use Rattle.std.specs.Prelude.{[], ◌∷◌};
+    ghost use Rattle.std.specs.Hash.{on_Alike, same_Alike};
+    ghost use Rattle.std.specs.Cmp.Lexicographic.{bytes_decides};
+    ghost use Rattle.i3c_lines.specs.Naming.{letters};
+
+    ghost hash_input = { λ name. letters name ∷ [] };
+
+    ghost respects_eq = { (on_Alike letters (same_Alike (λ bytes. bytes ∷ []) bytes_decides)).fed };
+
+    fn hash<H: Hasher>(&self, state: &mut H) {
+        state.write(self.as_bytes());
     }
 }
 

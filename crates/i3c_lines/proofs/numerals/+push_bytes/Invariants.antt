@@ -1,5 +1,0 @@
-use Rattle.std.proofs.Common.{length}
-use Rattle.i3c_lines.proofs.numerals.+push_bytes.Given as goal
-
-abbrev pub decreases-push_bytes : goal.decreases-push_bytes
-decreases-push_bytes l = length l.bytes.now
