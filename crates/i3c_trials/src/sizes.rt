@@ -24,10 +24,11 @@ fn a_reply_is_48_bytes(rt: HostRuntime) -> Result<(), Fail> {
     Ok(())
 }
 
-// A bus has sixteen devices with eight waiting interrupts each, nine marks and a key for each slot, a table and a list of
-// all addresses, and legacy targets with sixteen registers: all inline, so that a frame wants no memory but for a record.
+// A bus has sixteen devices with eight waiting interrupts each, nine marks and a key for each slot, a table with ten bytes
+// for each address, a list of all addresses, and legacy targets with sixteen registers: all inline, so that a frame wants
+// no memory but for a record.
 #[test]
-fn a_bus_is_7904_bytes(rt: HostRuntime) -> Result<(), Fail> {
-    assert_eq!(rt; size_of::<Bus>(), 7904);
+fn a_bus_is_5728_bytes(rt: HostRuntime) -> Result<(), Fail> {
+    assert_eq!(rt; size_of::<Bus>(), 5728);
     Ok(())
 }
