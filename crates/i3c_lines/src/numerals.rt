@@ -134,8 +134,10 @@ fn push_digits(text: &mut Vec<u8>, number: u64, count: usize)
     ensures len { vec_len text.new ≡ vec_len text.old + count }
     ensures capacity { vec_capacity text.new ≡ vec_capacity text.old }
 {
-    if count > 0 {
-        push_digits(text, number / 16, count - 1);
+    if count > 1 {
+        push_digits(text, number / 256, count - 2);
+        push_pair(text, (number % 256) as u8);
+    } else if count == 1 {
         text.push_reserved(digit((number % 16) as u8));
     }
 }

@@ -2,7 +2,7 @@
 use Rattle.std.proofs.Common.{◌≡◌, ◌⊎◌, ◌∙◌, ℕ, ◌+◌, Bool, true, false, arith, List, [], ◌∷◌, length, Option, None, Some, MatchResult, Result, Ok, Err, ap, inl, inr, refl, subst}
 use Rattle.i3c_base.specs.declared.answers.RoundReply.{RoundReply}
 use Rattle.i3c_base.specs.declared.range.TheConstants.{SLOTS}
-use Rattle.i3c_base.specs.Cutting.{no_cuts}
+use Rattle.i3c_base.specs.Cutting.{CutList, no_cuts}
 use Rattle.i3c_base.specs.State.{State}
 use Rattle.i3c_step.specs.declared.events.Command.{Command as Frame}
 use Rattle.i3c_step.specs.declared.events.Event.{Event}
@@ -15,7 +15,7 @@ use Rattle.i3c_script.specs.declared.faults.Stop.{Stop}
 use Rattle.i3c_lines.specs.Naming.{place_named, slot_named}
 use Rattle.i3c_lines.specs.declared.names.Name.{Name}
 use Rattle.i3c_lines.specs.declared.names.Names.{Names}
-use Rattle.i3c_script.specs.Asking.{AreOver, Asked, AsksForNone, Assigns, Carries, CarriesOut, EndsRounds, GoOn, IsFrameOf, Ran, Rounds, RoundsUp, StopsAt, goes_on, in_its_slot}
+use Rattle.i3c_script.specs.Asking.{AreOver, Asked, AsksForNone, Assigns, Carries, CarriesOut, ComesOf, EndsRounds, GoOn, IsFrameOf, Ran, Rounds, RoundsAndEnd, RoundsUp, goes_on, in_its_slot}
 use Rattle.i3c_script.specs.Stops.{reply_stop}
 
 -- a line that is refused asks for no event
@@ -56,44 +56,42 @@ pub told_so : (ran : Ran) (names : Names) (wish : Wish) (reply : Reply) (new : S
 told_so ran names wish reply new (Ok more) carried told = (reply, carried, told.0, told.1)
 told_so ran names wish reply new (Err stop) carried told = inr (reply, carried, told)
 
--- an opening that is carried out
-pub opens : (ran : Ran) (names : Names) (reply : Reply) (new : State) → Carries ran names Wish.Open reply new → Step ran.state (Event.OpenDaa ran.cuts) reply new
-opens ran names reply new (event, asked, step) =
-    let is : event ≡ Event.OpenDaa ran.cuts = cc in subst (λ e. Step ran.state e reply new) is step
+-- what a part of `daa` comes to whose reply is told
+pub comes_so : (old : State) (event : Event) (reply : Reply) (new : State) (result : Result Bool Stop) → Step old event reply new
+    → MatchResult result (λ more. (reply_stop reply ≡ None) × (more ≡ goes_on reply)) (λ stop. (stop ≡ Stop.Memory) ⊎ (reply_stop reply ≡ Some stop)) → ComesOf old event result new
+comes_so old event reply new (Ok more) step told = (reply, step, told.0, told.1)
+comes_so old event reply new (Err stop) step told = (reply, step, told)
+
+-- an opening with the cuts that waited, after which its session comes
+pub opens : (ran : Ran) (opened new : State) (cuts : CutList) (more : Bool) (result : Result (Unit {0}) Stop) → cuts ≡ ran.cuts → ComesOf ran.state (Event.OpenDaa cuts) (Ok more) opened → RoundsAndEnd result opened new
+    → Assigns ran.state ran.cuts result new
+opens ran opened new cuts more result same (reply, step, none, goes) session = (opened, reply, subst (λ waited. Step ran.state (Event.OpenDaa waited) reply opened) same step, inr (none, session))
 
 -- one at which the line stops
-pub opens_no_more : (ran : Ran) (names : Names) (stop : Stop) (new : State) → StopsAt ran names Wish.Open stop new → Assigns ran.state ran.cuts (Err stop) new
-opens_no_more ran names stop new (inl (same, (why, asked, e))) = absurd cc
-opens_no_more ran names stop new (inr (reply, carried, inl short)) = (new, reply, opens ran names reply new carried, inl (refl, inl (ap Err short)))
-opens_no_more ran names stop new (inr (reply, carried, inr is)) = (new, reply, opens ran names reply new carried, inl (refl, inr (stop, is, refl)))
-
-ends_so : (ran : Ran) (names : Names) (reply : Reply) (new : State) → Carries ran names Wish.End reply new → Step ran.state Event.EndDaa reply new
-ends_so ran names reply new (event, asked, step) =
-    let is : event ≡ Event.EndDaa = cc in subst (λ e. Step ran.state e reply new) is step
+pub opens_no_more : (ran : Ran) (new : State) (cuts : CutList) (stop : Stop) → cuts ≡ ran.cuts → ComesOf ran.state (Event.OpenDaa cuts) (Err stop) new → Assigns ran.state ran.cuts (Err stop) new
+opens_no_more ran new cuts stop same (reply, step, inl short) = (new, reply, subst (λ waited. Step ran.state (Event.OpenDaa waited) reply new) same step, inl (refl, inl (ap Err short)))
+opens_no_more ran new cuts stop same (reply, step, inr is) = (new, reply, subst (λ waited. Step ran.state (Event.OpenDaa waited) reply new) same step, inl (refl, inr (stop, is, refl)))
 
 -- the end of a session, be what it prints refused or not
-pub ends : (ran : Ran) (names : Names) (new : State) (r : Result Bool Stop) → CarriesOut ran names Wish.End r new → (ended : Reply) × Step ran.state Event.EndDaa ended new
-ends ran names new (Ok more) (reply, carried, none, same) = (reply, ends_so ran names reply new carried)
-ends ran names new (Err stop) (inl (same, (why, asked, e))) = absurd cc
-ends ran names new (Err stop) (inr (reply, carried, why)) = (reply, ends_so ran names reply new carried)
+pub ends : (old new : State) (r : Result Bool Stop) → ComesOf old Event.EndDaa r new → (ended : Reply) × Step old Event.EndDaa ended new
+ends old new (Ok more) (reply, step, none, goes) = (reply, step)
+ends old new (Err stop) (reply, step, why) = (reply, step)
 
 -- so many rounds, each of which goes on
 abbrev pub SoFar : State → State → ℕ → Type 0
 SoFar first now count = (replies : List Reply) × Rounds replies first now × GoOn replies × (length replies ≡ count)
 
-round_step : (ran : Ran) (names : Names) (reply : Reply) (new : State) → ran.cuts ≡ no_cuts → Carries ran names Wish.Round reply new → Step ran.state (Event.Round no_cuts) reply new
-round_step ran names reply new uncut (event, asked, step) =
-    let is : event ≡ Event.Round no_cuts = cc in subst (λ e. Step ran.state e reply new) is step
+uncut_round : (now new : State) (cuts : CutList) (reply : Reply) → cuts ≡ no_cuts → Step now (Event.Round cuts) reply new → Step now (Event.Round no_cuts) reply new
+uncut_round now new cuts reply uncut step = subst (λ none. Step now (Event.Round none) reply new) uncut step
 
--- one more round, where no cut waits
-pub one_more : (ran : Ran) (names : Names) (first new : State) (count : ℕ) (reply : Reply) → ran.cuts ≡ no_cuts → SoFar first ran.state count → Carries ran names Wish.Round reply new → goes_on reply ≡ true → SoFar first new (count + 1)
-one_more ran names first new count reply uncut (replies, before, on, e) carried more =
-    (reply ∷ replies, (ran.state, before, on, round_step ran names reply new uncut carried), (more, on), omega (arith, e))
+-- one more round
+pub one_more : (first now new : State) (cuts : CutList) (count : ℕ) (reply : Reply) → cuts ≡ no_cuts → SoFar first now count → Step now (Event.Round cuts) reply new → goes_on reply ≡ true → SoFar first new (count + 1)
+one_more first now new cuts count reply uncut (replies, before, on, e) step more =
+    (reply ∷ replies, (now, before, on, uncut_round now new cuts reply uncut step), (more, on), omega (arith, e))
 
 -- the last round
-pub last : (ran : Ran) (names : Names) (first new : State) (count : ℕ) (reply : Reply) → ran.cuts ≡ no_cuts → SoFar first ran.state count → Carries ran names Wish.Round reply new → goes_on reply ≡ false → RoundsUp (Ok tt) first new
-last ran names first new count reply uncut (replies, before, on, e) carried over =
-    (reply ∷ replies, (ran.state, before, on, round_step ran names reply new uncut carried), inl over)
+pub last : (first now new : State) (cuts : CutList) (count : ℕ) (reply : Reply) → cuts ≡ no_cuts → SoFar first now count → Step now (Event.Round cuts) reply new → goes_on reply ≡ false → RoundsUp (Ok tt) first new
+last first now new cuts count reply uncut (replies, before, on, e) step over = (reply ∷ replies, (now, before, on, uncut_round now new cuts reply uncut step), inl over)
 
 -- as many rounds as slots
 over_by_count : (replies : List Reply) → length replies ≡ SLOTS → AreOver replies
@@ -127,10 +125,9 @@ ends_rounds (Stop.Refused refusal) reply replies (inl e) = absurd cc
 ends_rounds (Stop.Refused refusal) reply replies (inr e) = inl (stopped reply (Stop.Refused refusal) e)
 
 -- the round at which the line stops
-pub no_more : (ran : Ran) (names : Names) (first new : State) (count : ℕ) (stop : Stop) → ran.cuts ≡ no_cuts → SoFar first ran.state count → StopsAt ran names Wish.Round stop new → RoundsUp (Err stop) first new
-no_more ran names first new count stop uncut so_far (inl (same, (why, asked, e))) = absurd cc
-no_more ran names first new count stop uncut (replies, before, on, e) (inr (reply, carried, why)) =
-    (reply ∷ replies, (ran.state, before, on, round_step ran names reply new uncut carried), ends_rounds stop reply replies why)
+pub no_more : (first now new : State) (cuts : CutList) (count : ℕ) (stop : Stop) → cuts ≡ no_cuts → SoFar first now count → ComesOf now (Event.Round cuts) (Err stop) new → RoundsUp (Err stop) first new
+no_more first now new cuts count stop uncut (replies, before, on, e) (reply, step, why) =
+    (reply ∷ replies, (now, before, on, uncut_round now new cuts reply uncut step), ends_rounds stop reply replies why)
 
 over_anyway : (stop : Stop) (replies : List Reply) → AreOver replies → EndsRounds (Err stop) replies
 over_anyway Stop.Memory replies over = tt

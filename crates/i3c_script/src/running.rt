@@ -48,7 +48,7 @@ impl Running {
     ghost use Rattle.i3c_base.specs.declared.requests.Verdict.TheVariants.{Accept};
     ghost use Rattle.i3c_lines.specs.declared.command.Wish.{Wish as WishValue};
     ghost use Rattle.i3c_step.specs.Step.{Step};
-    ghost use Rattle.i3c_script.specs.Asking.{AsksForNone, Asked, Assigns, CarriesOut, IsFrameOf, Moves, RoundsAndEnd, RoundsUp, comes_to, cut_named, cuts_after, cuts_left, device_named};
+    ghost use Rattle.i3c_script.specs.Asking.{AsksForNone, Asked, Assigns, CarriesOut, ComesOf, IsFrameOf, Moves, RoundsAndEnd, RoundsUp, comes_to, cut_named, cuts_after, cuts_left, device_named};
     ghost use Rattle.i3c_lines.specs.Naming.{place_named};
     ghost use Rattle.i3c_lines.specs.Policies.{each_kind};
 
@@ -133,7 +133,7 @@ impl Running {
         let frame = frame_of(wish);
         match &frame {
             Some(frame) => self.send(names, frame, text),
-            None => self.carry_event(names, Origin::Line, wish, text),
+            None => self.carry_event(names, wish, text),
         }
     }
 
@@ -179,14 +179,13 @@ impl Running {
         come_of(names, Origin::Line, Subject::Nothing, &reply, text)
     }
 
-    /// Any event, by a line of its own or as a part of `daa`: the wish is read to the event, the bus answers, and the
-    /// reply is printed. It answers whether there is another round after it.
+    /// Any other event that is a line: the wish is read to the event, the bus answers, and the reply is printed. It
+    /// answers whether there is another round after it.
     // kept apart, so that raises and the frames under the role don't pay for the room that an event takes on the stack
     #[inline(never)]
     fn carry_event(
         &mut self,
         names: &mut Names,
-        origin: Origin,
         wish: &Wish,
         text: &mut Text,
     ) -> Result<bool, Stop>
@@ -196,7 +195,7 @@ impl Running {
     {
         let event = self.asked(names, wish)?;
         let reply = self.step(&event);
-        come_of(names, origin, subject_of(&event), &reply, text)
+        come_of(names, Origin::Line, subject_of(&event), &reply, text)
     }
 
     /// The event that a line asks for, with the cuts that wait if it sends a frame. A device that is attached gets its
@@ -239,26 +238,26 @@ impl Running {
     /// `daa`: opens a session, runs its rounds and ends it. Whoever asks while it is opened is turned down. The cuts that
     /// wait are its opening's.
     #[inline(never)]
-    fn assign(&mut self, names: &mut Names, text: &mut Text) -> Result<(), Stop>
+    fn assign(&mut self, names: &Names, text: &mut Text) -> Result<(), Stop>
         ensures assigns { Assigns self.old.state self.old.cuts result self.new.state }
         ensures policy { self.new.policy ≡ self.old.policy }
         ensures cuts { self.new.cuts ≡ no_cuts }
     {
-        match self.carry_event(names, Origin::Daa, &Wish::Open, text) {
+        let opening = Event::OpenDaa(mem::replace(&mut self.cuts, Cuts::new()));
+        match self.part(names, &opening, text) {
             Ok(_) => self.finish(names, text),
             Err(stop) => Err(stop),
         }
     }
 
     /// Runs the rounds of a session and ends it, whatever they came to.
-    fn finish(&mut self, names: &mut Names, text: &mut Text) -> Result<(), Stop>
-        requires uncut { self.old.cuts ≡ no_cuts }
+    fn finish(&mut self, names: &Names, text: &mut Text) -> Result<(), Stop>
         ensures session { RoundsAndEnd result self.old.state self.new.state }
         ensures policy { self.new.policy ≡ self.old.policy }
-        ensures cuts { self.new.cuts ≡ no_cuts }
+        ensures cuts { self.new.cuts ≡ self.old.cuts }
     {
         let outcome = self.rounds(names, text);
-        let ended = self.carry_event(names, Origin::Daa, &Wish::End, text);
+        let ended = self.part(names, &Event::EndDaa, text);
         match outcome {
             Err(stop) => Err(stop),
             Ok(()) => match ended {
@@ -268,22 +267,34 @@ impl Running {
         }
     }
 
-    /// Runs the rounds of a session, and prints each, until nobody hears it any more or no address is left.
-    fn rounds(&mut self, names: &mut Names, text: &mut Text) -> Result<(), Stop>
-        requires uncut { self.old.cuts ≡ no_cuts }
+    /// Runs the rounds of a session, in which nobody is cut, and prints each, until nobody hears it any more or no address
+    /// is left.
+    fn rounds(&mut self, names: &Names, text: &mut Text) -> Result<(), Stop>
         ensures rounds { RoundsUp result self.old.state self.new.state }
         ensures policy { self.new.policy ≡ self.old.policy }
-        ensures cuts { self.new.cuts ≡ no_cuts }
+        ensures cuts { self.new.cuts ≡ self.old.cuts }
     {
+        let round = Event::Round(Cuts::new());
         // of so many rounds one is the last, by the law `sessions_end` of the bus
         for _ in 0..SLOTS {
-            match self.carry_event(names, Origin::Daa, &Wish::Round, text) {
+            match self.part(names, &round, text) {
                 Ok(true) => {}
                 Ok(false) => break,
                 Err(stop) => return Err(stop),
             }
         }
         Ok(())
+    }
+
+    /// A part of `daa`: the bus answers the event, and the reply is printed. It answers whether there is another round
+    /// after it.
+    fn part(&mut self, names: &Names, event: &Event, text: &mut Text) -> Result<bool, Stop>
+        ensures policy { self.new.policy ≡ self.old.policy }
+        ensures cuts { self.new.cuts ≡ self.old.cuts }
+        ensures answered { ComesOf self.old.state event.now result self.new.state }
+    {
+        let reply = self.step(event);
+        come_of(names, Origin::Daa, Subject::Nothing, &reply, text)
     }
 
     /// Takes the bus apart. A session that is open ends so.

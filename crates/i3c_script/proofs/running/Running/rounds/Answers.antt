@@ -6,15 +6,15 @@ use Rattle.i3c_script.proofs.running.Running.rounds.Goals.{else-loop-test, then-
 
 pub returns-in-Err-clause-rounds : goal.returns-in-Err-clause-rounds
 returns-in-Err-clause-rounds c =
-    no_more c.loop.self c.loop.names c.args.self.now.state c.carry_event.new.self.state c.loop.counter c.in-Err.stop c.loop.invariant.1 c.loop.invariant.2 c.in-Err.ensures.carried
+    no_more c.args.self.now.state c.loop.self.state c.part.new.self.state c.new.result c.loop.counter c.in-Err.stop c.new.ensures.none c.loop.invariant.2 c.in-Err.ensures.answered
 
 pub loop-preserved : goal.loop-preserved
 loop-preserved c =
-    let (reply, carried, none, same) = c.in-Ok-true.ensures.carried in
+    let (reply, step, none, same) = c.in-Ok-true.ensures.answered in
     let more : goes_on reply ≡ true = cc in (
-      c.carry_event.ensures.policy ∙ c.loop.invariant.0,
-      c.carry_event.ensures.cuts,
-      one_more c.loop.self c.loop.names c.args.self.now.state c.carry_event.new.self.state c.loop.counter reply c.loop.invariant.1 c.loop.invariant.2 carried more,
+      c.part.ensures.policy ∙ c.loop.invariant.0,
+      c.part.ensures.cuts ∙ c.loop.invariant.1,
+      one_more c.args.self.now.state c.loop.self.state c.part.new.self.state c.new.result c.loop.counter reply c.new.ensures.none c.loop.invariant.2 step more,
     )
 
 pub returns-clause-rounds : goal.returns-clause-rounds
@@ -23,7 +23,7 @@ returns-clause-rounds c =
     elim c.loop-test.branch [
       | else-loop-test w ↦ subst Led (sym w.self-is) (all_rounds c.args.self.now.state c.loop.self.state c.loop.counter c.loop.invariant.2 (omega (arith, c.loop.auto.counter-end, w.loop-test.false)))
       | then-loop-test+in-Ok-false w ↦
-          let (reply, carried, none, same) = w.in-Ok-false.ensures.carried in
+          let (reply, step, none, same) = w.in-Ok-false.ensures.answered in
           let over : goes_on reply ≡ false = cc in
-          subst Led (sym w.self-is) (last c.loop.self c.loop.names c.args.self.now.state w.carry_event.new.self.state c.loop.counter reply c.loop.invariant.1 c.loop.invariant.2 carried over)
+          subst Led (sym w.self-is) (last c.args.self.now.state c.loop.self.state w.part.new.self.state c.new.result c.loop.counter reply c.new.ensures.none c.loop.invariant.2 step over)
     ]
