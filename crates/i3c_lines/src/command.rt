@@ -103,49 +103,73 @@ pub enum Command {
 impl Command {
     /// The command of a line, if the line has a form. Its words are parted by exactly one space.
     pub fn parse(line: &[u8]) -> Option<Command> {
-        match line {
-            b"serve" => Some(Command::Event(Wish::Serve)),
-            b"daa" => Some(Command::Daa),
-            b"reset" => Some(Command::Event(Wish::Reset)),
-            b"list" => Some(Command::Event(Wish::List)),
-            b"open" => Some(Command::Event(Wish::Open)),
-            b"round" => Some(Command::Event(Wish::Round)),
-            b"end" => Some(Command::Event(Wish::End)),
-            b"show" => Some(Command::Show),
-            b"symbols" => Some(Command::Symbols),
-            _ => parse_words(line),
+        let mut command = Command::Show;
+        command.read(line)?;
+        Some(command)
+    }
+
+    /// Becomes the command of a line, if the line has a form.
+    pub fn read(&mut self, line: &[u8]) -> Option<()> {
+        *self = match line {
+            b"serve" => Command::Event(Wish::Serve),
+            b"daa" => Command::Daa,
+            b"reset" => Command::Event(Wish::Reset),
+            b"list" => Command::Event(Wish::List),
+            b"open" => Command::Event(Wish::Open),
+            b"round" => Command::Event(Wish::Round),
+            b"end" => Command::Event(Wish::End),
+            b"show" => Command::Show,
+            b"symbols" => Command::Symbols,
+            [b'r', b'a', b'i', b's', b'e', b' ', words @ ..] => return self.read_raise(words),
+            _ => return self.read_words(line),
+        };
+        Some(())
+    }
+
+    /// Becomes a raise by the words behind its first: a name, and a byte if one is given.
+    fn read_raise(&mut self, line: &[u8]) -> Option<()> {
+        let mut words = Words::of(line);
+        let name = Name::parse(words.next()?)?;
+        let byte = match words.next() {
+            None => None,
+            Some(word) => Some(words::byte(word)?),
+        };
+        words.end()?;
+        *self = Command::Event(Wish::Raise { name, byte });
+        Some(())
+    }
+
+    /// Becomes the command of a line of several words, if it has a form.
+    // kept apart, as what follows, so that no raise pays for the room that these take on the stack
+    #[inline(never)]
+    fn read_words(&mut self, line: &[u8]) -> Option<()> {
+        let mut words = Words::of(line);
+        match words.next()? {
+            b"enec" => *self = Command::Event(Wish::Enec(parse_choice(&mut words)?)),
+            b"disec" => *self = Command::Event(Wish::Disec(parse_choice(&mut words)?)),
+            word => return self.read_longer(word, &mut words),
         }
+        Some(())
     }
-}
 
-/// The command of a line of several words, if it has a form.
-fn parse_words(line: &[u8]) -> Option<Command> {
-    let mut words = Words::of(line);
-    match words.next()? {
-        b"raise" => parse_raise(&mut words),
-        b"enec" => parse_enec(&mut words),
-        b"disec" => parse_disec(&mut words),
-        word => parse_longer(word, &mut words),
-    }
-}
-
-/// Any other of these, by its first word.
-// kept apart, so that no other line pays for the room that these take on the stack
-#[inline(never)]
-fn parse_longer(word: &[u8], words: &mut Words<'_>) -> Option<Command> {
-    match word {
-        b"read" => parse_read(words),
-        b"write" => parse_write(words),
-        b"handover" => parse_handover(words),
-        b"policy" => parse_policy(words),
-        b"cut" => parse_cut(words),
-        b"attach" => parse_attach(words),
-        b"drop" => parse_drop(words),
-        b"ask-join" => parse_ask_join(words),
-        b"ask-role" => parse_ask_role(words),
-        b"main" => parse_main(words),
-        b"legacy" => parse_legacy(words),
-        _ => None,
+    /// Becomes any other of these, by its first word.
+    #[inline(never)]
+    fn read_longer(&mut self, word: &[u8], words: &mut Words<'_>) -> Option<()> {
+        *self = match word {
+            b"read" => parse_read(words)?,
+            b"write" => parse_write(words)?,
+            b"handover" => parse_handover(words)?,
+            b"policy" => parse_policy(words)?,
+            b"cut" => parse_cut(words)?,
+            b"attach" => parse_attach(words)?,
+            b"drop" => parse_drop(words)?,
+            b"ask-join" => parse_ask_join(words)?,
+            b"ask-role" => parse_ask_role(words)?,
+            b"main" => parse_main(words)?,
+            b"legacy" => parse_legacy(words)?,
+            _ => return None,
+        };
+        Some(())
     }
 }
 
@@ -249,30 +273,7 @@ fn parse_cut(words: &mut Words<'_>) -> Option<Command> {
     Some(Command::Cut { name, bit })
 }
 
-/// The words of `raise`: a name, and a byte if one is given.
-fn parse_raise(words: &mut Words<'_>) -> Option<Command> {
-    let name = Name::parse(words.next()?)?;
-    let byte = match words.next() {
-        None => None,
-        Some(word) => Some(words::byte(word)?),
-    };
-    words.end()?;
-    Some(Command::Event(Wish::Raise { name, byte }))
-}
-
-/// The words of `enec`.
-fn parse_enec(words: &mut Words<'_>) -> Option<Command> {
-    let choice = parse_choice(words)?;
-    Some(Command::Event(Wish::Enec(choice)))
-}
-
-/// The words of `disec`.
-fn parse_disec(words: &mut Words<'_>) -> Option<Command> {
-    let choice = parse_choice(words)?;
-    Some(Command::Event(Wish::Disec(choice)))
-}
-
-/// The words of both: a byte, and an address if one is given.
+/// The words of `enec` and of `disec`: a byte, and an address if one is given.
 fn parse_choice(words: &mut Words<'_>) -> Option<Choice> {
     let kinds = words::kinds(words.next()?)?;
     let to = match words.next() {
