@@ -121,6 +121,8 @@ impl Command {
             b"show" => Command::Show,
             b"symbols" => Command::Symbols,
             [b'r', b'a', b'i', b's', b'e', b' ', words @ ..] => return self.read_raise(words),
+            [b'e', b'n', b'e', b'c', b' ', words @ ..] => return self.read_enec(words),
+            [b'd', b'i', b's', b'e', b'c', b' ', words @ ..] => return self.read_disec(words),
             _ => return self.read_words(line),
         };
         Some(())
@@ -139,23 +141,24 @@ impl Command {
         Some(())
     }
 
-    /// Becomes the command of a line of several words, if it has a form.
-    // kept apart, as what follows, so that no raise pays for the room that these take on the stack
-    #[inline(never)]
-    fn read_words(&mut self, line: &[u8]) -> Option<()> {
-        let mut words = Words::of(line);
-        match words.next()? {
-            b"enec" => *self = Command::Event(Wish::Enec(parse_choice(&mut words)?)),
-            b"disec" => *self = Command::Event(Wish::Disec(parse_choice(&mut words)?)),
-            word => return self.read_longer(word, &mut words),
-        }
+    /// Becomes the command that enables kinds of events, by the words behind its first.
+    fn read_enec(&mut self, line: &[u8]) -> Option<()> {
+        *self = Command::Event(Wish::Enec(parse_choice(line)?));
         Some(())
     }
 
-    /// Becomes any other of these, by its first word.
+    /// Becomes the command that disables kinds of events, by the words behind its first.
+    fn read_disec(&mut self, line: &[u8]) -> Option<()> {
+        *self = Command::Event(Wish::Disec(parse_choice(line)?));
+        Some(())
+    }
+
+    /// Becomes any other command of several words, if the line has its form.
+    // kept apart, so that no other line pays for the room that these take on the stack
     #[inline(never)]
-    fn read_longer(&mut self, word: &[u8], words: &mut Words<'_>) -> Option<()> {
-        *self = match word {
+    fn read_words(&mut self, line: &[u8]) -> Option<()> {
+        let words = &mut Words::of(line);
+        *self = match words.next()? {
             b"read" => parse_read(words)?,
             b"write" => parse_write(words)?,
             b"handover" => parse_handover(words)?,
@@ -274,7 +277,8 @@ fn parse_cut(words: &mut Words<'_>) -> Option<Command> {
 }
 
 /// The words of `enec` and of `disec`: a byte, and an address if one is given.
-fn parse_choice(words: &mut Words<'_>) -> Option<Choice> {
+fn parse_choice(line: &[u8]) -> Option<Choice> {
+    let mut words = Words::of(line);
     let kinds = words::kinds(words.next()?)?;
     let to = match words.next() {
         None => None,
