@@ -1,13 +1,13 @@
-ghost use Rattle.std.specs.Prelude.{◌≡◌, ◌↔◌, IsTrue, MatchOption};
+ghost use Rattle.std.specs.Prelude.{◌≡◌, ◌↔◌, IfSome, IsTrue, MatchOption};
 ghost use Rattle.i3c_base.specs.Cutting.{no_cuts};
 ghost use Rattle.i3c_base.specs.State.{IsPresent};
-ghost use Rattle.i3c_script.specs.Asking.{Asked, Attaches, IsTaken, cuts_left, cuts_taken, device_named};
+ghost use Rattle.i3c_script.specs.Asking.{Asked, Attaches, IsFrameOf, IsTaken, cuts_left, cuts_taken, device_named};
 ghost use Rattle.i3c_lines.specs.Naming.{place_named};
 ghost use Rattle.i3c_script.specs.Slots.{AllPresentBelow};
 
 use arrayvec::ArrayVec;
 use i3c_base::{Cuts, Fixed, SLOTS, Setup, Slot};
-use i3c_bus::{Bus, Event, WRITE_KEPT};
+use i3c_bus::{Bus, Command as Frame, Event, WRITE_KEPT};
 use i3c_lines::{Choice, Name, Names, Place, Refusal, Wish};
 use std::mem;
 
@@ -44,8 +44,32 @@ pub(crate) fn event_of(
     }
 }
 
+/// The frame under the role that a line sends, if it sends one.
+pub(crate) fn frame_of(wish: &Wish) -> Option<Frame>
+    ensures sent { IfSome result (λ frame. IsFrameOf wish.now frame) }
+{
+    match wish {
+        Wish::Serve => Some(Frame::Serve),
+        Wish::Enec(Choice { kinds, to }) => Some(Frame::Enec(*to, *kinds)),
+        Wish::Disec(Choice { kinds, to }) => Some(Frame::Disec(*to, *kinds)),
+        Wish::Reset => Some(Frame::Reset),
+        Wish::List => Some(Frame::SendList),
+        Wish::Read { at } => Some(Frame::ReadFrom(*at)),
+        Wish::Write { at, bytes } => Some(Frame::WriteTo(*at, copied(bytes))),
+        Wish::Attach { .. }
+        | Wish::DropOff { .. }
+        | Wish::Raise { .. }
+        | Wish::AskJoin { .. }
+        | Wish::AskRole { .. }
+        | Wish::HandOver { .. }
+        | Wish::Open
+        | Wish::Round
+        | Wish::End => None,
+    }
+}
+
 /// The same bytes.
-pub(crate) fn copied(bytes: &ArrayVec<u8, WRITE_KEPT>) -> ArrayVec<u8, WRITE_KEPT>
+fn copied(bytes: &ArrayVec<u8, WRITE_KEPT>) -> ArrayVec<u8, WRITE_KEPT>
     ensures { result ≡ bytes.now }
 {
     let mut copy = ArrayVec::new();

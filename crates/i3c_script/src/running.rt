@@ -2,7 +2,7 @@ ghost use Rattle.std.specs.Prelude.{◌≡◌, ◌⊎◌, None, Some, MatchResul
 ghost use Rattle.i3c_script.specs.Asking.{goes_on};
 ghost use Rattle.i3c_script.specs.Stops.{reply_stop};
 
-use crate::asking::{copied, event_of, slot_of_device};
+use crate::asking::{event_of, frame_of, slot_of_device};
 use crate::faults::{Stop, line_refusal};
 use crate::show::show;
 use crate::telling::{Origin, Subject, show_raised, subject_of, tell};
@@ -10,7 +10,7 @@ use crate::wires::Wires;
 use i3c_base::{Cuts, Fixed, RoundReply, SLOTS, Setup};
 use i3c_bus::{Bus, Command as Frame, Event, Hand, Reply};
 use i3c_legacy::Legacies;
-use i3c_lines::{ACCEPT_ALL, Choice, Command, Name, Names, Refusal, Text, Wish};
+use i3c_lines::{ACCEPT_ALL, Command, Name, Names, Refusal, Text, Wish};
 use std::alloc::Global;
 use std::marker::Model;
 use std::mem;
@@ -130,23 +130,10 @@ impl Running {
         match wish {
             Wish::Raise { name, byte } => self.raise(names, name, *byte, text),
             Wish::Serve => self.send(names, &Frame::Serve, text),
-            Wish::Enec(Choice { kinds, to }) => self.send(names, &Frame::Enec(*to, *kinds), text),
-            Wish::Disec(Choice { kinds, to }) => self.send(names, &Frame::Disec(*to, *kinds), text),
-            Wish::Reset => self.send(names, &Frame::Reset, text),
-            Wish::List => self.send(names, &Frame::SendList, text),
-            Wish::Read { at } => self.send(names, &Frame::ReadFrom(*at), text),
-            Wish::Write { at, bytes } => {
-                let frame = Frame::WriteTo(*at, copied(bytes));
-                self.send(names, &frame, text)
-            }
-            Wish::Attach { .. }
-            | Wish::DropOff { .. }
-            | Wish::AskJoin { .. }
-            | Wish::AskRole { .. }
-            | Wish::HandOver { .. }
-            | Wish::Open
-            | Wish::Round
-            | Wish::End => self.carry_event(names, Origin::Line, wish, text),
+            _ => match &frame_of(wish) {
+                Some(frame) => self.send(names, frame, text),
+                None => self.carry_event(names, Origin::Line, wish, text),
+            },
         }
     }
 
