@@ -103,49 +103,76 @@ pub enum Command {
 impl Command {
     /// The command of a line, if the line has a form. Its words are parted by exactly one space.
     pub fn parse(line: &[u8]) -> Option<Command> {
-        match line {
-            b"serve" => Some(Command::Event(Wish::Serve)),
-            b"daa" => Some(Command::Daa),
-            b"reset" => Some(Command::Event(Wish::Reset)),
-            b"list" => Some(Command::Event(Wish::List)),
-            b"open" => Some(Command::Event(Wish::Open)),
-            b"round" => Some(Command::Event(Wish::Round)),
-            b"end" => Some(Command::Event(Wish::End)),
-            b"show" => Some(Command::Show),
-            b"symbols" => Some(Command::Symbols),
-            _ => parse_words(line),
-        }
+        let mut command = Command::Show;
+        command.read(line)?;
+        Some(command)
     }
-}
 
-/// The command of a line of several words, if it has a form.
-fn parse_words(line: &[u8]) -> Option<Command> {
-    let mut words = Words::of(line);
-    match words.next()? {
-        b"raise" => parse_raise(&mut words),
-        b"enec" => parse_enec(&mut words),
-        b"disec" => parse_disec(&mut words),
-        word => parse_longer(word, &mut words),
+    /// Becomes the command of a line, if the line has a form.
+    pub fn read(&mut self, line: &[u8]) -> Option<()> {
+        *self = match line {
+            b"serve" => Command::Event(Wish::Serve),
+            b"daa" => Command::Daa,
+            b"reset" => Command::Event(Wish::Reset),
+            b"list" => Command::Event(Wish::List),
+            b"open" => Command::Event(Wish::Open),
+            b"round" => Command::Event(Wish::Round),
+            b"end" => Command::Event(Wish::End),
+            b"show" => Command::Show,
+            b"symbols" => Command::Symbols,
+            [b'r', b'a', b'i', b's', b'e', b' ', words @ ..] => return self.read_raise(words),
+            [b'e', b'n', b'e', b'c', b' ', words @ ..] => return self.read_enec(words),
+            [b'd', b'i', b's', b'e', b'c', b' ', words @ ..] => return self.read_disec(words),
+            _ => return self.read_words(line),
+        };
+        Some(())
     }
-}
 
-/// Any other of these, by its first word.
-// kept apart, so that no other line pays for the room that these take on the stack
-#[inline(never)]
-fn parse_longer(word: &[u8], words: &mut Words<'_>) -> Option<Command> {
-    match word {
-        b"read" => parse_read(words),
-        b"write" => parse_write(words),
-        b"handover" => parse_handover(words),
-        b"policy" => parse_policy(words),
-        b"cut" => parse_cut(words),
-        b"attach" => parse_attach(words),
-        b"drop" => parse_drop(words),
-        b"ask-join" => parse_ask_join(words),
-        b"ask-role" => parse_ask_role(words),
-        b"main" => parse_main(words),
-        b"legacy" => parse_legacy(words),
-        _ => None,
+    /// Becomes a raise by the words behind its first: a name, and a byte if one is given.
+    fn read_raise(&mut self, line: &[u8]) -> Option<()> {
+        let mut words = Words::of(line);
+        let name = Name::parse(words.next()?)?;
+        let byte = match words.next() {
+            None => None,
+            Some(word) => Some(words::byte(word)?),
+        };
+        words.end()?;
+        *self = Command::Event(Wish::Raise { name, byte });
+        Some(())
+    }
+
+    /// Becomes the command that enables kinds of events, by the words behind its first.
+    fn read_enec(&mut self, line: &[u8]) -> Option<()> {
+        *self = Command::Event(Wish::Enec(parse_choice(line)?));
+        Some(())
+    }
+
+    /// Becomes the command that disables kinds of events, by the words behind its first.
+    fn read_disec(&mut self, line: &[u8]) -> Option<()> {
+        *self = Command::Event(Wish::Disec(parse_choice(line)?));
+        Some(())
+    }
+
+    /// Becomes any other command of several words, if the line has its form.
+    // kept apart, so that no other line pays for the room that these take on the stack
+    #[inline(never)]
+    fn read_words(&mut self, line: &[u8]) -> Option<()> {
+        let words = &mut Words::of(line);
+        *self = match words.next()? {
+            b"read" => parse_read(words)?,
+            b"write" => parse_write(words)?,
+            b"handover" => parse_handover(words)?,
+            b"policy" => parse_policy(words)?,
+            b"cut" => parse_cut(words)?,
+            b"attach" => parse_attach(words)?,
+            b"drop" => parse_drop(words)?,
+            b"ask-join" => parse_ask_join(words)?,
+            b"ask-role" => parse_ask_role(words)?,
+            b"main" => parse_main(words)?,
+            b"legacy" => parse_legacy(words)?,
+            _ => return None,
+        };
+        Some(())
     }
 }
 
@@ -249,31 +276,9 @@ fn parse_cut(words: &mut Words<'_>) -> Option<Command> {
     Some(Command::Cut { name, bit })
 }
 
-/// The words of `raise`: a name, and a byte if one is given.
-fn parse_raise(words: &mut Words<'_>) -> Option<Command> {
-    let name = Name::parse(words.next()?)?;
-    let byte = match words.next() {
-        None => None,
-        Some(word) => Some(words::byte(word)?),
-    };
-    words.end()?;
-    Some(Command::Event(Wish::Raise { name, byte }))
-}
-
-/// The words of `enec`.
-fn parse_enec(words: &mut Words<'_>) -> Option<Command> {
-    let choice = parse_choice(words)?;
-    Some(Command::Event(Wish::Enec(choice)))
-}
-
-/// The words of `disec`.
-fn parse_disec(words: &mut Words<'_>) -> Option<Command> {
-    let choice = parse_choice(words)?;
-    Some(Command::Event(Wish::Disec(choice)))
-}
-
-/// The words of both: a byte, and an address if one is given.
-fn parse_choice(words: &mut Words<'_>) -> Option<Choice> {
+/// The words of `enec` and of `disec`: a byte, and an address if one is given.
+fn parse_choice(line: &[u8]) -> Option<Choice> {
+    let mut words = Words::of(line);
     let kinds = words::kinds(words.next()?)?;
     let to = match words.next() {
         None => None,

@@ -20,6 +20,16 @@ pub(crate) fn push_decimal(text: &mut Vec<u8>, number: u64) -> Result<(), AllocE
         push_four(text, number);
         return Ok(());
     }
+    push_longer(text, number)
+}
+
+/// Appends a number of any length, in decimal digits.
+// kept apart, so that a short number doesn't pay for the room that the digits of a long one take on the stack
+#[cold]
+#[inline(never)]
+fn push_longer(text: &mut Vec<u8>, number: u64) -> Result<(), AllocError>
+    ensures { OnOk result (text.new.items ≡ text.old.items ++ decimal number) }
+{
     let mut buffer = Buffer::new();
     text.extend_from_slice(buffer.format(number).as_bytes())
 }

@@ -4,5 +4,6 @@ pub mod Written
 pub mod TraceWritten
 pub mod TraceRead
 pub mod TraceOut
+pub mod Feeds
 pub mod ScriptRuns
 pub mod ScriptRead

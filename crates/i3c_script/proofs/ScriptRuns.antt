@@ -1,6 +1,6 @@
 -- What the lines of a script put out, piece by piece of its bytes.
 use Rattle.std.proofs.Common.{◌≡◌, ◌≢◌, ◌<◌, ◌∙◌, ℕ, zero, suc, ◌+◌, ◌-◌, List, [], ◌∷◌, ◌++◌, length, take, drop, min, arith, slice_get, Option, Some, None, Result, Ok, Err, MatchResult, ap, append_assoc, append-nil, refl, subst, sym}
-use Rattle.std.proofs.lemmas.List.{length-drop, take_all}
+use Rattle.std.proofs.lemmas.List.{length-drop, take-append-drop, take_all}
 use Rattle.std.proofs.lemmas.List.Elements.{All-append}
 use Rattle.std.specs.Io.KnownBytes.{Appends}
 use Rattle.i3c_lines.specs.declared.refusals.Refusal.{Refusal}
@@ -142,6 +142,18 @@ line_done line old new counted now one done =
 -- what is written of some texts, one behind the other
 some_after : (a b c : Option (List ℕ)) (first text : List ℕ) → Appends a b first → AppendsSome b c text → AppendsSome a c (first ++ text)
 some_after a b c first text all some = subst (λ t. AppendsSome a c (first ++ t)) (append-nil text) (some_out a b c first text [] all some)
+
+first_and_rest : (text : List ℕ) (n : ℕ) → take n text ++ take (length text - n) (drop n text) ≡ text
+first_and_rest text n = ap (λ rest. take n text ++ rest) (take_all (length text - n) (drop n text) (omega (arith, length-drop n text))) ∙ take-append-drop n text
+
+-- a text of which so much was written at first
+pub rest_written : (a b c : Option (List ℕ)) (text : List ℕ) (n : ℕ) (result : Result (Unit {0}) ScriptFault) → Appends a b (take n text)
+    → MatchResult result (λ _. Appends b c (take (length text - n) (drop n text))) (λ fault. (fault ≡ ScriptFault.Write) × AppendsSome b c (take (length text - n) (drop n text)))
+    → MatchResult result (λ _. Appends a c text) (λ fault. (fault ≡ ScriptFault.Write) × AppendsSome a c text)
+rest_written a b c text n (Ok done) first rest =
+    subst (Appends a c) (first_and_rest text n) (appends_both a b c (take n text) (take (length text - n) (drop n text)) first rest)
+rest_written a b c text n (Err fault) first rest =
+    (rest.0, subst (AppendsSome a c) (first_and_rest text n) (some_after a b c (take n text) (take (length text - n) (drop n text)) first rest.1))
 
 some_line : (line : List ℕ) (old new : Option (List ℕ)) → HasNoFeed line → LineLost line old new → RunStops (line ++ 10 ∷ []) old new ScriptFault.Write
 some_line line old new one lost =

@@ -1,11 +1,12 @@
 ghost use Rattle.std.specs.Prelude.{◌≡◌, ◌⊎◌, ℕ, ◌<◌, [], ◌∷◌, ◌++◌, codes, length, take, IfErr, MatchOption, MatchResult, OnOk, slice_get, Some};
 ghost use Rattle.std.specs.Io.KnownBytes.{Appends};
 ghost use Rattle.i3c_lines.specs.Refusing.{refusal_text};
+ghost use Rattle.memchr.specs.Find.{IsFirstByte, is_byte};
 ghost use Rattle.i3c_script.specs.Outcomes.{HasNoFeed, AppendsSome};
 
 use crate::faults::ScriptFault;
 use i3c_lines::{Refusal, Text};
-use memchr::memchr;
+use memchr::memchr_iter;
 use std::alloc::AllocError;
 use std::io::{ErrorKind, Write};
 
@@ -16,7 +17,14 @@ const LINE_FEED: u8 = b'\n';
 pub(crate) fn position_of_feed(bytes: &[u8]) -> Option<usize>
     ensures { MatchOption result (HasNoFeed bytes.now) (λ end. (end < length bytes.now) × (slice_get bytes.now end ≡ Some LINE_FEED) × HasNoFeed (take end bytes.now)) }
 {
-    memchr(LINE_FEED, bytes)
+    first_feed(bytes)
+}
+
+/// Where the first line feed stands. As a rule it is near, which a search for all of them begins with.
+fn first_feed(bytes: &[u8]) -> Option<usize>
+    ensures { IsFirstByte (is_byte LINE_FEED) bytes.now result }
+{
+    memchr_iter(LINE_FEED, bytes).next()
 }
 
 /// Prints that a line is refused, and why.
@@ -26,6 +34,34 @@ pub(crate) fn show_refusal(refusal: Refusal, text: &mut Text) -> Result<(), Allo
     text.push(b"refused ")?;
     refusal.push(text)?;
     text.end()
+}
+
+/// Writes what a line printed, as `write_out` does. As a rule the writer takes it at once.
+#[inline(always)]
+pub(crate) fn write_line<W: Write>(text: &[u8], out: &mut W) -> Result<(), ScriptFault>
+    ensures { MatchResult result (λ _. Appends (W.contents out.old) (W.contents out.new) text.now)
+        (λ fault. (fault ≡ ScriptFault.Write) × AppendsSome (W.contents out.old) (W.contents out.new) text.now) }
+{
+    if text.is_empty() {
+        return Ok(());
+    }
+    match out.write(text) {
+        Ok(count) if count == text.len() => Ok(()),
+        Ok(0) => Err(ScriptFault::Write),
+        Ok(count) => write_rest(&text[count..], out),
+        Err(error) if error.kind() == ErrorKind::Interrupted => write_rest(text, out),
+        Err(_) => Err(ScriptFault::Write),
+    }
+}
+
+/// Writes what is left of a line.
+#[cold]
+#[inline(never)]
+fn write_rest<W: Write>(text: &[u8], out: &mut W) -> Result<(), ScriptFault>
+    ensures { MatchResult result (λ _. Appends (W.contents out.old) (W.contents out.new) text.now)
+        (λ fault. (fault ≡ ScriptFault.Write) × AppendsSome (W.contents out.old) (W.contents out.new) text.now) }
+{
+    write_out(text, out)
 }
 
 /// Writes a text, or, where the writer fails or takes nothing, a part of it from its beginning.

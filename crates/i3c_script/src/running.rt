@@ -127,13 +127,13 @@ impl Running {
         ensures cuts { self.new.cuts ≡ cuts_left wish.now self.old.cuts }
         ensures carried { CarriesOut self.old names.old wish.now result self.new.state }
     {
-        if let Wish::Raise { name, byte } = wish {
-            return self.raise(names, name, *byte, text);
-        }
-        let frame = frame_of(wish);
-        match &frame {
-            Some(frame) => self.send(names, frame, text),
-            None => self.carry_event(names, wish, text),
+        match wish {
+            Wish::Raise { name, byte } => self.raise(names, name, *byte, text),
+            Wish::Serve => self.send(names, &Frame::Serve, text),
+            _ => match &frame_of(wish) {
+                Some(frame) => self.send(names, frame, text),
+                None => self.carry_event(names, wish, text),
+            },
         }
     }
 

@@ -8,7 +8,7 @@ ghost use Rattle.i3c_script.specs.ScriptSteps.{LineEnds, Obeys, ReadsAll, Runs, 
 ghost use Rattle.i3c_script.specs.Stops.{IsLineFault, refusals};
 
 use crate::faults::{ScriptFault, Stop};
-use crate::output::{position_of_feed, show_refusal, write_out};
+use crate::output::{position_of_feed, show_refusal, write_line};
 use crate::reading::{CHUNK, MOST_BYTES, Piece, read_piece};
 use crate::stage::Stage;
 use i3c_lines::{Command, Line, Names, Refusal, Text, is_skipped};
@@ -52,12 +52,14 @@ pub fn run_script<R: Read, W: Write>(
     }
 }
 
-/// A script that runs: what its lines led to, the line that is read, and what the line that is run prints.
+/// A script that runs: what its lines led to, the line that is read, and of the line that is run its command, which is
+/// read in place, and what it prints.
 struct Script {
     alloc: Global,
     stage: Stage,
     names: Names,
     line: Line,
+    command: Command,
     text: Text,
     refused: u64,
 }
@@ -73,6 +75,7 @@ impl Script {
             stage: Stage::new(),
             names: Names::new(alloc),
             line: Line::new(),
+            command: Command::Show,
             text: Text::new(alloc),
             refused: 0,
         }
@@ -174,7 +177,7 @@ impl Script {
         self.text.clear();
         let outcome = self.obey(line);
         self.settle(outcome)?;
-        write_out(self.text.as_bytes(), out)
+        write_line(self.text.as_bytes(), out)
     }
 
     /// Obeys a line, if it has a command.
@@ -188,11 +191,10 @@ impl Script {
             Ok(false) => {}
             Err(refusal) => return Err(Stop::Refused(refusal)),
         }
-        let command = Command::parse(line);
-        match &command {
-            Some(command) => {
+        match self.command.read(line) {
+            Some(()) => {
                 self.stage
-                    .obey(self.alloc, &mut self.names, command, &mut self.text)
+                    .obey(self.alloc, &mut self.names, &self.command, &mut self.text)
             }
             None => Err(Stop::Refused(Refusal::BadLine)),
         }
@@ -229,6 +231,7 @@ impl Script {
             stage,
             names: _,
             line: _,
+            command: _,
             text: _,
             refused,
         } = self;

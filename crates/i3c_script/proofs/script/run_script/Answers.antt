@@ -19,3 +19,6 @@ returns-in-Ok-outcome-clause-lines g c =
     let told = subst (λ n. ReadWhole known left old new c.new-script.result.refused n) (sym c.retire-refused.ensures) read in
     let whole = subst (λ n. ReadWhole known left old new n refused) c.new-script.ensures.refused told in
     whole_run known left old new refused whole c.in-Ok-outcome.ensures.whole small
+
+pub returns-clause-lines : goal.returns-clause-lines
+returns-clause-lines g c = c.in-Err.ensures.runs c.new-script.ensures.held
