@@ -183,12 +183,7 @@ impl Running {
     /// answers whether there is another round after it.
     // kept apart, so that raises and the frames under the role don't pay for the room that an event takes on the stack
     #[inline(never)]
-    fn carry_event(
-        &mut self,
-        names: &mut Names,
-        wish: &Wish,
-        text: &mut Text,
-    ) -> Result<bool, Stop>
+    fn carry_event(&mut self, names: &mut Names, wish: &Wish, text: &mut Text) -> Result<bool, Stop>
         ensures policy { self.new.policy ≡ self.old.policy }
         ensures cuts { self.new.cuts ≡ cuts_left wish.now self.old.cuts }
         ensures carried { CarriesOut self.old names.old wish.now result self.new.state }
