@@ -108,7 +108,8 @@ impl Command {
         Some(command)
     }
 
-    /// Becomes the command of a line, if the line has a form.
+    /// Becomes the command of a line, if the line has a form, and stays what it was else. So nothing of a command's size is
+    /// moved for each line.
     pub fn read(&mut self, line: &[u8]) -> Option<()> {
         *self = match line {
             b"serve" => Command::Event(Wish::Serve),
