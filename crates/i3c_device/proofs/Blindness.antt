@@ -1,15 +1,13 @@
 -- What happens to devices whichever of their kinds are enabled.
 use Rattle.std.proofs.Common.{◌≡◌, ℕ, Bool, true, false, if◌then◌else◌, List, Option, Some, None, is_none, option_map, refl}
-use Rattle.i3c_base.specs.declared.identity.Identity.{Identity}
 use Rattle.i3c_base.specs.declared.requests.Request.{Request}
 use Rattle.i3c_base.specs.declared.requests.Request.TheVariants.{Interrupt, Join, Role}
-use Rattle.i3c_base.specs.Cutting.{nobody}
 use Rattle.i3c_base.specs.Frames.{overwritten, unaddressed_device}
-use Rattle.i3c_base.specs.Round.{hears, unhearing, winner, wins}
+use Rattle.i3c_base.specs.Round.{hears, unhearing, winner}
 use Rattle.i3c_base.specs.Serve.{without_role}
 use Rattle.i3c_device.specs.Enabling.{under}
 use Rattle.i3c_device.specs.Raising.{wishing_join, wishing_role, with_raise}
-use Rattle.i3c_device.specs.Walks.{assigned_at, reaches_at, taken_from, written_at}
+use Rattle.i3c_device.specs.Walks.{reaches_at, taken_from, written_at}
 use Rattle.i3c_device.proofs.SeenLaws.{IsBlind}
 
 -- wishes, a raise, a reset and a session's end
@@ -53,14 +51,10 @@ blind_accept Join kinds s (Some d) = refl
 blind_accept (Role a) kinds s (Some d) = refl
 blind_accept (Interrupt a) kinds s (Some d) = refl
 
--- a round that was won, and a write
-pub blind_won : (i : Identity) (a : ℕ) → IsBlind (assigned_at nobody i a)
-blind_won i a kinds s None = refl
-blind_won i a kinds s (Some d) = go (wins nobody i s d)
-  where
-    go : (b : Bool) → Some (under kinds (if b then winner a d else d)) ≡ Some (if b then winner a (under kinds d) else under kinds d)
-    go true = refl
-    go false = refl
+-- an address that was won, and a write
+pub blind_won : (a : ℕ) → IsBlind (λ s place. option_map (winner a) place)
+blind_won a kinds s None = refl
+blind_won a kinds s (Some d) = refl
 
 pub blind_write : (active a : ℕ) (bytes : List ℕ) → IsBlind (written_at active a bytes)
 blind_write active a bytes kinds s None = refl

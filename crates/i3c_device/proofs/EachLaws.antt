@@ -1,14 +1,11 @@
 -- A change that happens in some slots, one after another, lowest first.
-use Rattle.std.proofs.Common.{◌≡◌, ℕ, zero, suc, ◌+◌, ◌<◌, Bool, true, false, not, ◌&&◌, ◌==◌, if◌then◌else◌, List, [], ◌∷◌, length, get_or, set, Option, Some, None, is_none, option_map, inl, inr, refl, sym, ap, subst, ◌∙◌, arith, length-set, zero-add}
+use Rattle.std.proofs.Common.{◌≡◌, ℕ, zero, suc, ◌+◌, ◌<◌, Bool, true, false, ◌==◌, if◌then◌else◌, List, [], ◌∷◌, length, get_or, set, Option, Some, None, is_none, option_map, inl, inr, refl, sym, ap, subst, ◌∙◌, arith, length-set, zero-add}
 use Rattle.std.proofs.lemmas.Bool.{cases_Bool, cases_eq, cond-true, cond-false, eq-eqb, ne_eqb}
 use Rattle.std.proofs.lemmas.List.{ext_get_or, get_or_default, get_or-set_other, get_or-set_same, set-get_or}
 use Rattle.i3c_base.specs.declared.range.TheConstants.{SLOTS}
-use Rattle.i3c_base.specs.declared.identity.Identity.{Identity}
 use Rattle.i3c_base.specs.declared.requests.Request.{Request}
-use Rattle.i3c_base.specs.Cutting.{Lost, nobody}
-use Rattle.i3c_base.specs.Numbers.{same_identity}
 use Rattle.i3c_base.specs.Places.{changed, changed_from}
-use Rattle.i3c_base.specs.Round.{hears, unhearing, winner}
+use Rattle.i3c_base.specs.Round.{hears, unhearing}
 use Rattle.i3c_base.specs.Serve.{without}
 use Rattle.i3c_base.specs.State.{Device, in_slot}
 use Rattle.i3c_base.proofs.Lookups.{length-changed}
@@ -17,7 +14,7 @@ use Rattle.i3c_device.specs.declared.sets.SlotSet.{SlotSet}
 use Rattle.i3c_device.specs.Finding.{within}
 use Rattle.i3c_device.specs.Marks.{AreMarks, IsSetOf}
 use Rattle.i3c_device.specs.Sets.{has}
-use Rattle.i3c_device.specs.Walks.{accepted_at, assigned_at, drives_at, taken_from}
+use Rattle.i3c_device.specs.Walks.{accepted_at, drives_at, taken_from}
 
 -- of `changed`, within the list
 changed_from_in : (f : ℕ → Option Device → Option Device) (n : ℕ) (xs : List (Option Device)) (k : ℕ) → k < length xs → get_or (changed_from n f xs) k None ≡ f (k + n) (get_or xs k None)
@@ -67,17 +64,6 @@ open_spares s (Some d) e = ap Some (cond-false (is_none d.address) (record d { h
 pub end_spares : (s : ℕ) (o : Option Device) → in_slot (λ d. d.hearing) o ≡ false → option_map unhearing o ≡ o
 end_spares s None e = refl
 end_spares s (Some d) e = λ t. Some (record d { hearing = sym e t })
-
--- a round that is won by those who hear and aren't lost
-pub won_alike : (lost : Lost) (i : Identity) (a s : ℕ) (o : Option Device) (among : SlotSet) → has among s ≡ (in_slot (λ d. d.hearing) o && not (lost s)) → within among (assigned_at nobody i a) s o ≡ assigned_at lost i a s o
-won_alike lost i a s None among e = elim (has among s) as (λ b. ◌≡◌ {A = Option Device} (if b then None else None) None) [ true ↦ refl | false ↦ refl ]
-won_alike lost i a s (Some d) among e =
-    ap (λ b. if b then assigned_at nobody i a s (Some d) else Some d) e ∙ go d.hearing (lost s) (same_identity d.identity i) (winner a d)
-  where
-    go : (h x m : Bool) (w : Device) → (if h && not x then Some (if h && (true && m) then w else d) else Some d) ≡ Some (if h && (not x && m) then w else d)
-    go true true m w = refl
-    go true false m w = refl
-    go false x m w = refl
 
 -- the slots that are left are as they were, and the others are changed; the marks are true all along
 pub record Walks (f : ℕ → Option Device → Option Device) (among left : SlotSet) (marks : Marks) (xs ys : List (Option Device)) : Type 0 where

@@ -9,4 +9,5 @@ pub mod SeenWalks
 pub mod KeyLaws
 pub mod FindLaws
 pub mod FirstLaws
+pub mod IdentityLaws
 pub mod ReadLaws

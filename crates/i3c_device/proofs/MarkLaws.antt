@@ -1,19 +1,22 @@
 -- What marks say of the places that they are of.
-use Rattle.std.proofs.Common.{◌≡◌, ℕ, zero, suc, ◌+◌, ◌/◌, ◌<◌, ◌≤◌, Bool, true, false, not, ◌&&◌, ◌==◌, if◌then◌else◌, List, [], ◌∷◌, length, length-set, get_or, set, replicate, Option, Some, None, is_none, is_some, slice_index, subst, inl, inr, refl, sym, ap, ◌∙◌, arith}
+use Rattle.std.proofs.Common.{◌≡◌, ℕ, zero, suc, ◌+◌, ◌/◌, ◌<◌, ◌≤◌, Bool, true, false, not, ◌&&◌, ◌==◌, if◌then◌else◌, List, [], ◌∷◌, length, length-set, get_or, set, replicate, Option, Some, None, is_none, is_some, option_map, slice_index, subst, inl, inr, refl, sym, ap, ◌∙◌, arith}
 use Rattle.std.proofs.lemmas.Bool.{and_parts, both_ways, cases_eq, cond-true, cond-false, eq-eqb, ne_eqb}
 use Rattle.std.proofs.lemmas.List.{get_or-replicate, get_or-set_other, length-replicate, get_or-set_same}
 use Rattle.i3c_base.specs.declared.range.TheConstants.{SLOTS}
 use Rattle.i3c_base.specs.declared.requests.Request.{Request}
+use Rattle.i3c_base.specs.declared.device.Waiting.{Waiting}
+use Rattle.i3c_base.specs.Round.{hears, unhearing}
 use Rattle.i3c_base.specs.Serve.{asks}
 use Rattle.i3c_base.specs.State.{Device, in_slot, is_the, no_devices}
 use Rattle.i3c_base.proofs.Lookups.{no_devices_at}
+use Rattle.i3c_device.specs.declared.marks.Marks.{Marks}
 use Rattle.i3c_device.specs.declared.sets.SlotSet.{SlotSet}
 use Rattle.i3c_device.specs.Addressing.{IsDynamicIn}
-use Rattle.i3c_device.specs.Marks.{AreKeys, IsSetOf, key_in}
+use Rattle.i3c_device.specs.Marks.{AreKeys, AreMarks, IsSetOf, key_in, requeued}
 use Rattle.i3c_device.specs.Sets.{has}
 use Rattle.i3c_device.specs.Walks.{drives_at}
 use Rattle.i3c_device.specs.Reading.{AreAt}
-use Rattle.i3c_device.specs.Wishing.{key_of}
+use Rattle.i3c_device.specs.Wishing.{key_of, wishes_interrupt, wishes_join, wishes_role}
 
 -- a place that holds a device
 pub present_is : (o : Option Device) → is_some o ≡ in_slot (λ d. true) o
@@ -110,3 +113,105 @@ keyed_at active a n keys places present unaddressed addressed keyed both slots p
     go true (Some d) = refl
     go false None = nobody (0 == a)
     go false (Some d) = device d.address d.role_wish
+
+-- a place anew that passes a test as before
+pub set_of_same : (test : Device → Bool) (slots : SlotSet) (places : List (Option Device)) (i : ℕ) (place : Option Device) → i < length places → IsSetOf test slots places → in_slot test place ≡ in_slot test (get_or places i None)
+    → IsSetOf test slots (set places i place)
+set_of_same test slots places i place low h same s l = elim (cases_eq s i) [
+  | inl e ↦ h s l ∙ (ap (λ k. in_slot test (get_or places k None)) e ∙ (sym same ∙ sym (ap (in_slot test) (ap (λ k. get_or (set places i place) k None) e ∙ get_or-set_same places i place None low))))
+  | inr ne ↦ h s l ∙ sym (ap (in_slot test) (get_or-set_other places i s place None ne))
+]
+
+-- and the same key
+pub keys_of_same : (keys : List ℕ) (places : List (Option Device)) (i : ℕ) (place : Option Device) → i < length places → AreKeys keys places → key_in place ≡ key_in (get_or places i None)
+    → (IsDynamicIn (get_or places i None) → IsDynamicIn place) → AreKeys keys (set places i place)
+keys_of_same keys places i place low are same dynamic = (
+  are.0,
+  λ s l. elim (cases_eq s i) [
+    | inl e ↦
+        let there : get_or (set places i place) s None ≡ place = ap (λ k. get_or (set places i place) k None) e ∙ get_or-set_same places i place None low in
+        let before : get_or places s None ≡ get_or places i None = ap (λ k. get_or places k None) e in
+        ((are.1 s l).0 ∙ (ap key_in before ∙ (sym same ∙ sym (ap key_in there))), subst IsDynamicIn (sym there) (dynamic (subst IsDynamicIn before (are.1 s l).1)))
+    | inr ne ↦
+        let there : get_or (set places i place) s None ≡ get_or places s None = get_or-set_other places i s place None ne in
+        ((are.1 s l).0 ∙ sym (ap key_in there), subst IsDynamicIn (sym there) (are.1 s l).1)
+  ],
+)
+
+-- whatever stands in a slot is as it was, but for what a change leaves out
+pub record Alike (place before : Option Device) : Type 0 where
+  pub present : in_slot (λ d. true) place ≡ in_slot (λ d. true) before
+  pub joining : in_slot wishes_join place ≡ in_slot wishes_join before
+  pub asking : in_slot wishes_role place ≡ in_slot wishes_role before
+  pub unaddressed : in_slot (λ d. is_none d.address) place ≡ in_slot (λ d. is_none d.address) before
+  pub key : key_in place ≡ key_in before
+  pub dynamic : IsDynamicIn before → IsDynamicIn place
+
+-- where it hears or hears no more
+pub alike_opened : (o : Option Device) → Alike (option_map hears o) o
+alike_opened None = record { present = refl; joining = refl; asking = refl; unaddressed = refl; key = refl; dynamic = λ x. x }
+alike_opened (Some d) = subst (λ (e : Device). Alike (Some e) (Some d)) (sym (rehearing d)) (record { present = refl; joining = refl; asking = refl; unaddressed = refl; key = refl; dynamic = λ x. x })
+  where
+    rehearing : (d : Device) → hears d ≡ record d { hearing = if is_none d.address then true else d.hearing }
+    rehearing d = go (is_none d.address)
+      where
+        go : (b : Bool) → (if b then record d { hearing = true } else d) ≡ record d { hearing = if b then true else d.hearing }
+        go true = refl
+        go false = refl
+
+pub alike_ended : (o : Option Device) → Alike (option_map unhearing o) o
+alike_ended None = record { present = refl; joining = refl; asking = refl; unaddressed = refl; key = refl; dynamic = λ x. x }
+alike_ended (Some d) = record { present = refl; joining = refl; asking = refl; unaddressed = refl; key = refl; dynamic = λ x. x }
+
+pub interrupts_opened : (o : Option Device) → in_slot wishes_interrupt (option_map hears o) ≡ in_slot wishes_interrupt o
+interrupts_opened None = refl
+interrupts_opened (Some d) = go (is_none d.address)
+  where
+    go : (b : Bool) → wishes_interrupt (if b then record d { hearing = true } else d) ≡ wishes_interrupt d
+    go true = refl
+    go false = refl
+
+pub interrupts_ended : (o : Option Device) → in_slot wishes_interrupt (option_map unhearing o) ≡ in_slot wishes_interrupt o
+interrupts_ended None = refl
+interrupts_ended (Some d) = refl
+
+-- where other interrupts wait
+pub alike_queued : (queue : Device → List Waiting) (o : Option Device) → Alike (option_map (requeued queue) o) o
+alike_queued queue None = record { present = refl; joining = refl; asking = refl; unaddressed = refl; key = refl; dynamic = λ x. x }
+alike_queued queue (Some d) = record { present = refl; joining = refl; asking = refl; unaddressed = refl; key = refl; dynamic = λ x. x }
+
+pub hearing_queued : (queue : Device → List Waiting) (o : Option Device) → in_slot (λ d. d.hearing) (option_map (requeued queue) o) ≡ in_slot (λ d. d.hearing) o
+hearing_queued queue None = refl
+hearing_queued queue (Some d) = refl
+
+-- the marks where whoever stands there hears or hears no more, and interrupts as before
+pub marks_heard : (marks more : Marks) (places : List (Option Device)) (i : ℕ) (place : Option Device) (b : Bool) → length places ≡ SLOTS → i < SLOTS → AreMarks marks places → Alike place (get_or places i None)
+    → in_slot wishes_interrupt place ≡ in_slot wishes_interrupt (get_or places i None) → b ≡ in_slot (λ d. d.hearing) place → more ≡ record marks { hearing = more.hearing }
+    → ((s : ℕ) → s < SLOTS → has more.hearing s ≡ (if s == i then b else has marks.hearing s)) → AreMarks more (set places i place)
+marks_heard marks more places i place b long here are alike interrupts is rest put =
+    let low : i < length places = omega (arith, here, long) in
+    subst (λ (m : Marks). AreMarks m (set places i place)) (sym rest) (record {
+      present = set_of_same (λ d. true) marks.present places i place low are.present alike.present;
+      joining = set_of_same wishes_join marks.joining places i place low are.joining alike.joining;
+      asking = set_of_same wishes_role marks.asking places i place low are.asking alike.asking;
+      interrupting = set_of_same wishes_interrupt marks.interrupting places i place low are.interrupting interrupts;
+      hearing = set_of_put (λ d. d.hearing) marks.hearing more.hearing places i place b low are.hearing is put;
+      unaddressed = set_of_same (λ d. is_none d.address) marks.unaddressed places i place low are.unaddressed alike.unaddressed;
+      keys = keys_of_same marks.keys places i place low are.keys alike.key alike.dynamic;
+    })
+
+-- the marks where other interrupts wait
+pub marks_queued : (marks more : Marks) (places : List (Option Device)) (i : ℕ) (place : Option Device) (b : Bool) → length places ≡ SLOTS → i < SLOTS → AreMarks marks places → Alike place (get_or places i None)
+    → in_slot (λ d. d.hearing) place ≡ in_slot (λ d. d.hearing) (get_or places i None) → b ≡ in_slot wishes_interrupt place → more ≡ record marks { interrupting = more.interrupting }
+    → ((s : ℕ) → s < SLOTS → has more.interrupting s ≡ (if s == i then b else has marks.interrupting s)) → AreMarks more (set places i place)
+marks_queued marks more places i place b long here are alike hearing is rest put =
+    let low : i < length places = omega (arith, here, long) in
+    subst (λ (m : Marks). AreMarks m (set places i place)) (sym rest) (record {
+      present = set_of_same (λ d. true) marks.present places i place low are.present alike.present;
+      joining = set_of_same wishes_join marks.joining places i place low are.joining alike.joining;
+      asking = set_of_same wishes_role marks.asking places i place low are.asking alike.asking;
+      interrupting = set_of_put wishes_interrupt marks.interrupting more.interrupting places i place b low are.interrupting is put;
+      hearing = set_of_same (λ d. d.hearing) marks.hearing places i place low are.hearing hearing;
+      unaddressed = set_of_same (λ d. is_none d.address) marks.unaddressed places i place low are.unaddressed alike.unaddressed;
+      keys = keys_of_same marks.keys places i place low are.keys alike.key alike.dynamic;
+    })

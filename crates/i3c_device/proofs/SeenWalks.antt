@@ -1,6 +1,6 @@
 -- Walks over devices as they are seen with their kinds.
-use Rattle.std.proofs.Common.{◌≡◌, ℕ, ◌+◌, ◌-◌, ◌*◌, ◌<◌, ◌↔◌, ◌⊎◌, slice_index, Bool, true, false, not, ◌&&◌, ◌||◌, ◌==◌, nat_le, if◌then◌else◌, List, length, get_or, Option, Some, None, Result, Ok, Err, IsTrue, MatchOption, OnOk, option_map, is_none, is_some, inl, inr, refl, sym, ap, subst, ◌∙◌, arith}
-use Rattle.std.proofs.lemmas.Bool.{and_parts, both_ways, cases_Bool, cases_lt, false_from_ne_true, le-leb, lt-leb, or_left, or_right}
+use Rattle.std.proofs.Common.{◌≡◌, ℕ, ◌+◌, ◌-◌, ◌*◌, ◌<◌, ◌≤◌, ◌↔◌, ◌⊎◌, slice_index, Bool, true, false, not, ◌&&◌, ◌||◌, ◌==◌, if◌then◌else◌, List, length, get_or, Option, Some, None, Result, Ok, Err, IsTrue, MatchOption, OnOk, option_map, is_none, is_some, inl, inr, refl, sym, ap, subst, ◌∙◌, arith}
+use Rattle.std.proofs.lemmas.Bool.{and_parts, both_ways, cases_Bool, cases_lt, false_from_ne_true, or_left, or_right}
 use Rattle.std.proofs.lemmas.List.{get_or_past}
 use Rattle.std.proofs.lemmas.Option.{none-some, same_Some}
 use Rattle.std.specs.Int.{bit_at}
@@ -10,7 +10,7 @@ use Rattle.i3c_base.specs.declared.requests.Request.{Request}
 use Rattle.i3c_base.specs.declared.requests.Request.TheVariants.{Interrupt, Join, Role}
 use Rattle.i3c_base.specs.Cutting.{CutList, Lost, lost_by}
 use Rattle.i3c_base.specs.Frames.{with_kinds, without_kinds}
-use Rattle.i3c_base.specs.Numbers.{KindSet}
+use Rattle.i3c_base.specs.Numbers.{IsInRange, KindSet, number_of}
 use Rattle.i3c_base.specs.Places.{changed}
 use Rattle.i3c_base.specs.Serve.{asks, is_empty}
 use Rattle.i3c_base.specs.State.{Device, in_slot, is_the}
@@ -27,7 +27,7 @@ use Rattle.i3c_device.specs.Marks.{AreMarks, IsSetOf}
 use Rattle.i3c_device.specs.Raising.{interrupting_if, next_fault}
 use Rattle.i3c_device.specs.Reading.{AreReadOf, PullsLow}
 use Rattle.i3c_device.specs.Sets.{SomeLeft, has}
-use Rattle.i3c_device.specs.Walks.{AreReached, AreWillingLost, IsHearerFrom, IsLowestWilling, NobodyHearsFrom, SomeReached, heard_at, reaches_at, willing_at}
+use Rattle.i3c_device.specs.Walks.{AreReached, AreWillingLost, IsFirstIdentity, IsLowestWilling, NobodyHears, SomeReached, hears_as, heard_at, reaches_at, willing_at}
 use Rattle.i3c_device.specs.Wishing.{asks_some, wishes_interrupt, wishes_join, wishes_role}
 use Rattle.i3c_device.proofs.EachLaws.{all_changed}
 use Rattle.i3c_device.proofs.SeenLaws.{kinds_seen, length_seen, seen_at, seen_turned}
@@ -177,26 +177,25 @@ unheard active to now = all_changed (λ s place. option_map (λ d. if reaches_at
     go s None = refl
     go s (Some d) = ap Some (same (reaches_at active to s d) d)
 
--- who hears from a slot on
-pub hears_nowhere : (now : List (Option Device)) (first : ℕ) (hearing left : SlotSet) → length now ≡ SLOTS → IsSetOf (λ d. d.hearing) hearing now → ((s : ℕ) → s < SLOTS → has left s ≡ (nat_le first s && has hearing s))
-    → ((s : ℕ) → s < SLOTS → has left s ≡ false) → NobodyHearsFrom first now
-hears_nowhere now first hearing left long of from none s above = false_from_ne_true (in_slot (λ d. d.hearing) (get_or now s None)) (λ t.
-    let there = there_in (λ d. d.hearing) (get_or now s None) t in
-    let l = within_slots now s there.0 long there.1 in
-    both_ways _ (none s l) (from s l ∙ (ap (λ b. b && has hearing s) (le-leb first s above) ∙ (of s l ∙ t))))
+-- who hears, and the first of them
+pub silent_seen : (e : Enabled) (xs now : List (Option Device)) → seen e xs ≡ now → NobodyHears xs → NobodyHears now
+silent_seen e xs now is none s = ap (in_slot (λ d. d.hearing)) (now_at e xs now s is) ∙ (test_seen e (λ d. d.hearing) s (get_or xs s None) (λ kinds d. refl) ∙ none s)
 
-pub hears_first : (now : List (Option Device)) (first : ℕ) (hearing left : SlotSet) (i : ℕ) → length now ≡ SLOTS → IsSetOf (λ d. d.hearing) hearing now → ((s : ℕ) → s < SLOTS → has left s ≡ (nat_le first s && has hearing s))
-    → i < SLOTS → has left i ≡ true → ((s : ℕ) → s < i → has left s ≡ false) → IsHearerFrom first now i
-hears_first now first hearing left i long of from low there below =
-    let parts = and_parts (nat_le first i) (has hearing i) (sym (from i low) ∙ there) in (
-      elim (cases_lt i first) [ inl l ↦ absurd (both_ways _ (not_below l) parts.0) | inr above ↦ above ],
-      sym (of i low) ∙ parts.1,
-      λ t above l. let m : t < SLOTS = omega (arith, l, low) in
-          sym (of t m) ∙ (sym (ap (λ b. b && has hearing t) (le-leb first t above)) ∙ (sym (from t m) ∙ below t l)),
-    )
-  where
-    not_below : i < first → nat_le first i ≡ false
-    not_below l = lt-leb first i l
+pub first_seen : (e : Enabled) (xs now : List (Option Device)) (first : ℕ × SlotSet) → seen e xs ≡ now → IsFirstIdentity xs first → IsFirstIdentity now first
+first_seen e xs now first is h = record {
+  holders = λ s l. h.holders s l ∙ sym (ap (hears_as first.0) (now_at e xs now s is) ∙ test_seen e (λ d. d.hearing && number_of d.identity == first.0) s (get_or xs s None) (λ kinds d. refl));
+  held = h.held;
+  least = λ s d there hears.
+      let u = unseen e s (get_or xs s None) d (sym (now_at e xs now s is) ∙ there) in
+      subst (λ (x : Device). first.0 ≤ number_of x.identity) (sym u.2) (h.least s u.0 u.1 (sym (ap (λ (x : Device). x.hearing) u.2) ∙ hears));
+  ranged = λ s d there hears.
+      let u = unseen e s (get_or xs s None) d (sym (now_at e xs now s is) ∙ there) in
+      subst (λ (x : Device). IsInRange x.identity) (sym u.2) (h.ranged s u.0 u.1 (sym (ap (λ (x : Device). x.hearing) u.2) ∙ hears));
+}
+
+pub first_or_none : (e : Enabled) (xs now : List (Option Device)) (first : Option (ℕ × SlotSet)) → seen e xs ≡ now → MatchOption first (NobodyHears xs) (IsFirstIdentity xs) → MatchOption first (NobodyHears now) (IsFirstIdentity now)
+first_or_none e xs now None is h = silent_seen e xs now is h
+first_or_none e xs now (Some first) is h = first_seen e xs now first is h
 
 -- whoever drives a request asks for something
 there : (a : ℕ) (o : Option ℕ) → is_the a o ≡ true → is_some o ≡ true

@@ -1,6 +1,7 @@
 -- In which slots a walk may find something.
 use Rattle.std.specs.Prelude.{◌≡◌, ℕ, Some, length, ◌<◌, Bool, true, List, Option, None, is_none, slice_index, slice_index_or}
 use Rattle.i3c_base.specs.declared.range.TheConstants.{SLOTS}
+use Rattle.i3c_base.specs.declared.device.Waiting.{Waiting}
 use Rattle.i3c_base.specs.State.{Device, in_slot}
 use Rattle.i3c_device.specs.declared.sets.SlotSet.{SlotSet}
 use Rattle.i3c_device.specs.declared.marks.Marks.{Marks}
@@ -20,6 +21,10 @@ key_in (Some d) = key_of d.address d.role_wish
 -- the keys of these places, whose addresses are dynamic ones
 abbrev pub AreKeys : List ℕ → List (Option Device) → Type 0
 AreKeys keys places = (length keys ≡ SLOTS) × ((s : ℕ) → s < SLOTS → (slice_index keys s ≡ key_in (slice_index_or places s None)) × IsDynamicIn (slice_index_or places s None))
+
+-- a device whose waiting interrupts are others
+abbrev pub requeued : (Device → List Waiting) → Device → Device
+requeued queue d = record d { waiting = queue d }
 
 -- the marks of these places
 pub record AreMarks (marks : Marks) (places : List (Option Device)) : Type 0 where

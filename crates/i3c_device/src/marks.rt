@@ -1,9 +1,12 @@
-ghost use Rattle.std.specs.Prelude.{◌≡◌, ◌<◌, ℕ, length, List, None, Option, Some, slice_set};
+ghost use Rattle.std.specs.Prelude.{◌≡◌, ◌<◌, ℕ, length, List, None, Option, Some, option_map, slice_index_or, slice_set};
 ghost use Rattle.i3c_base.specs.declared.range.TheConstants.{SLOTS as SLOT_COUNT};
+ghost use Rattle.i3c_base.specs.Round.{hears, unhearing};
+ghost use Rattle.i3c_base.specs.declared.device.Waiting.{Waiting as WaitingValue};
 ghost use Rattle.i3c_base.specs.State.{Device as DeviceState, no_devices};
-ghost use Rattle.i3c_device.specs.Marks.{AreMarks};
+ghost use Rattle.i3c_device.specs.Marks.{AreMarks, requeued};
 
 use crate::attached::Device;
+use crate::places::{hears, wishes_interrupt};
 use crate::sets::SlotSet;
 use i3c_base::SLOTS;
 
@@ -50,6 +53,40 @@ impl Marks {
         match place {
             Some(device) => self.taken(index, device),
             None => self.vacated(index),
+        }
+    }
+
+    /// The marks where a session was opened for whatever stands in a slot now.
+    pub(crate) fn opened(self, index: usize, place: &Option<Device>) -> Marks
+        requires { index < SLOT_COUNT }
+        ensures { (places : List (Option DeviceState)) → length places ≡ SLOT_COUNT → AreMarks self places → place.now ≡ option_map hears (slice_index_or places index None) → AreMarks result (slice_set places index place.now) }
+    {
+        Marks {
+            hearing: self.hearing.with(index, hears(place)),
+            ..self
+        }
+    }
+
+    /// The marks where a session ended for whatever stands in a slot now.
+    pub(crate) fn ended(self, index: usize, place: &Option<Device>) -> Marks
+        requires { index < SLOT_COUNT }
+        ensures { (places : List (Option DeviceState)) → length places ≡ SLOT_COUNT → AreMarks self places → place.now ≡ option_map unhearing (slice_index_or places index None) → AreMarks result (slice_set places index place.now) }
+    {
+        Marks {
+            hearing: self.hearing.with(index, hears(place)),
+            ..self
+        }
+    }
+
+    /// The marks where other interrupts wait at whatever stands in a slot now.
+    pub(crate) fn queued(self, index: usize, place: &Option<Device>) -> Marks
+        requires { index < SLOT_COUNT }
+        ensures { (places : List (Option DeviceState)) (queue : DeviceState → List WaitingValue) → length places ≡ SLOT_COUNT → AreMarks self places → place.now ≡ option_map (requeued queue) (slice_index_or places index None)
+            → AreMarks result (slice_set places index place.now) }
+    {
+        Marks {
+            interrupting: self.interrupting.with(index, wishes_interrupt(place)),
+            ..self
         }
     }
 

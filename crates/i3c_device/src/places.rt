@@ -1,18 +1,17 @@
 ghost use Rattle.std.specs.Prelude.{◌≡◌, ◌≤◌, ◌<◌, ◌+◌, ◌^◌, ◌&&◌, ℕ, true, false, option_map, length, is_none};
 ghost use Rattle.i3c_base.specs.declared.device.TheConstants.{REGISTERS as REGISTER_COUNT};
 ghost use Rattle.i3c_base.specs.declared.range.TheConstants.{SLOTS as SLOT_COUNT};
-ghost use Rattle.i3c_base.specs.Cutting.{nobody};
 ghost use Rattle.i3c_base.specs.Frames.{unaddressed_device};
-ghost use Rattle.i3c_base.specs.Numbers.{same_identity};
-ghost use Rattle.i3c_base.specs.Round.{hears, unhearing};
+ghost use Rattle.i3c_base.specs.Round.{hears, unhearing, winner};
 ghost use Rattle.i3c_base.specs.Serve.{without_role};
 ghost use Rattle.i3c_base.specs.State.{in_slot};
 ghost use Rattle.i3c_device.specs.Raising.{wishing_join, wishing_role};
 ghost use Rattle.i3c_device.specs.Reading.{IsDrivenFrom, IsRegisterFrom};
-ghost use Rattle.i3c_device.specs.Walks.{assigned_at, reaches_at, taken_from, willing_at, written_at};
+ghost use Rattle.i3c_device.specs.Walks.{reaches_at, taken_from, willing_at, written_at};
+ghost use Rattle.i3c_device.specs.Wishing.{wishes_interrupt};
 
 use crate::attached::Device;
-use i3c_base::{Addr7, Identity, Request, Slot};
+use i3c_base::{Addr7, Request, Slot};
 
 /// The device here, if there is one, wishes to join.
 pub(crate) fn wish_join(place: &mut Option<Device>)
@@ -165,24 +164,32 @@ pub(crate) fn silence(place: &mut Option<Device>)
     }
 }
 
-/// Whether a device that hears, and has this identity, stands in this slot.
-pub(crate) fn is_winner(place: &Option<Device>, identity: &Identity) -> bool
-    ensures { result ≡ in_slot (λ d. d.hearing && same_identity d.identity identity.now) place.now }
+/// Whether a device that hears the open session stands in this slot.
+pub(crate) fn hears(place: &Option<Device>) -> bool
+    ensures { result ≡ in_slot (λ d. d.hearing) place.now }
 {
     match place {
-        Some(device) => device.is_hearing() && device.identity() == *identity,
+        Some(device) => device.is_hearing(),
         None => false,
     }
 }
 
-/// This identity won a round: the device here takes the address if it hears and has the identity.
-pub(crate) fn assign(place: &mut Option<Device>, identity: &Identity, address: Addr7)
+/// Whether a device that wishes to interrupt, and not for the role, and has an address, stands in this slot.
+pub(crate) fn wishes_interrupt(place: &Option<Device>) -> bool
+    ensures { result ≡ in_slot wishes_interrupt place.now }
+{
+    match place {
+        Some(device) => device.wishes_interrupt(),
+        None => false,
+    }
+}
+
+/// The device here, if there is one, has won this address.
+pub(crate) fn win(place: &mut Option<Device>, address: Addr7)
     requires { 8 ≤ address }
-    ensures { (s : ℕ) → place.new ≡ assigned_at nobody identity.now address s place.old }
+    ensures { place.new ≡ option_map (winner address) place.old }
 {
     if let Some(device) = place {
-        if device.is_hearing() && device.identity() == *identity {
-            device.take_address(address);
-        }
+        device.take_address(address);
     }
 }

@@ -1,4 +1,5 @@
 ghost use Rattle.std.specs.Prelude.{◌≡◌, ◌<◌, ◌↔◌, ℕ, false, true, not, ◌&&◌, ◌||◌, ◌==◌, nat_le, if◌then◌else◌, IsTrue, MatchOption};
+ghost use Rattle.std.specs.List.{list_any};
 ghost use Rattle.i3c_base.specs.declared.range.TheConstants.{SLOTS as SLOT_COUNT};
 ghost use Rattle.i3c_base.specs.Cutting.{lost_by};
 ghost use Rattle.i3c_device.specs.Sets.{IsLowestOf, IsNone, SomeLeft, has};
@@ -50,6 +51,17 @@ impl SlotSet {
         SlotSet::none().with(index, true)
     }
 
+    /// These slots.
+    pub fn of(slots: &[Slot]) -> SlotSet
+        ensures { (s : ℕ) → s < SLOT_COUNT → has result s ≡ list_any (λ t. t == s) slots.now }
+    {
+        let mut set = SlotSet::none();
+        for slot in slots {
+            set = set.with(slot.index(), true);
+        }
+        set
+    }
+
     /// Its lowest slot, if there is one.
     pub fn lowest(self) -> Option<Slot>
         ensures { MatchOption result (IsNone self) (IsLowestOf self) }
@@ -66,11 +78,18 @@ impl SlotSet {
         self.with(slot.index(), false)
     }
 
+    /// Those of its slots that aren't lost by this bit.
+    pub fn left(self, cuts: &Cuts, last: u16) -> SlotSet
+        ensures { (s : ℕ) → s < SLOT_COUNT → has result s ≡ (has self s && not (lost_by cuts.now last s)) }
+    {
+        self.without(lost_slots(cuts, last))
+    }
+
     /// Whether one of its slots isn't lost by this bit.
     pub fn outlasts(self, cuts: &Cuts, last: u16) -> bool
         ensures { IsTrue result ↔ SomeLeft self (lost_by cuts.now last) }
     {
-        self.without(lost_slots(cuts, last)).lowest().is_some()
+        self.left(cuts, last).lowest().is_some()
     }
 
     /// Those of its slots that aren't in another set.
@@ -105,18 +124,6 @@ impl SlotSet {
         ensures { (s : ℕ) → has result s ≡ (is_so && has self s) }
     {
         if is_so { self } else { SlotSet::none() }
-    }
-
-    /// Those of its slots that aren't below this one.
-    pub(crate) fn from(self, first: usize) -> SlotSet
-        ensures { (s : ℕ) → s < SLOT_COUNT → has result s ≡ (nat_le first s && has self s) }
-    {
-        if first >= SLOTS {
-            return SlotSet::none();
-        }
-        SlotSet {
-            bits: self.bits & (u16::MAX << first),
-        }
     }
 
     /// Takes its lowest slot out of it, if there is one.

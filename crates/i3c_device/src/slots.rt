@@ -8,7 +8,7 @@ use crate::walks::{
     Accepted, Ended, Happening, JoinWished, Lost, Opened, Reset, RoleLost, RoleWished, Willing,
     Won, Written,
 };
-use i3c_base::{Addr7, Cuts, Identity, REGISTERS, RaiseRefusal, Request, Slot};
+use i3c_base::{Addr7, Cuts, REGISTERS, RaiseRefusal, Request, Slot};
 use i3c_ccc::Code;
 use i3c_word::Word;
 use std::marker::Model;
@@ -42,7 +42,7 @@ impl Devices {
     ghost use Rattle.i3c_base.specs.Cutting.{lost_by};
     ghost use Rattle.i3c_base.specs.Places.{changed};
     ghost use Rattle.i3c_device.specs.Enabling.{bare};
-    ghost use Rattle.i3c_device.specs.Walks.{accepted_at, assigned_at, heard_at, left_at, AreDrivers, AreReached, AreWillingLost, IsFirstDriven, IsHearerFrom, IsLowestWilling, NobodyDrives, NobodyHearsFrom, SomeReached, written_at};
+    ghost use Rattle.i3c_device.specs.Walks.{accepted_at, heard_at, left_at, taken_at, AreDrivers, AreHearers, AreReached, AreWillingLost, IsFirstDriven, IsFirstIdentity, IsLowestWilling, NobodyDrives, NobodyHears, SomeReached, written_at};
     ghost use Rattle.i3c_device.specs.Reading.{AreReadOf, IsRegisterOf};
     ghost use Rattle.i3c_device.specs.Sets.{has};
     ghost use Rattle.i3c_device.specs.Wishing.{asks_some};
@@ -286,24 +286,29 @@ impl Devices {
         self.occupants.each(hearing, &Ended);
     }
 
-    /// The lowest slot that isn't below this one and whose device hears the open session.
-    pub fn hearer_from(&self, first: usize) -> Option<Slot>
-        ensures hearer { MatchOption result (NobodyHearsFrom first self.now) (IsHearerFrom first self.now) }
+    /// The slots whose device hears the open session.
+    pub fn hearers(&self) -> SlotSet
+        ensures hearing { AreHearers result self.now }
         ensures slots { length self.now ≡ SLOT_COUNT }
     {
-        let mut left = self.occupants.marks().hearing.from(first);
-        let index = left.take_lowest()?;
-        Some(Slot::from_index(index))
+        self.occupants.marks().hearing
     }
 
-    /// An identity won a round: whoever hears, has it and isn't lost by this bit takes the address.
-    pub fn assign(&mut self, identity: &Identity, address: Addr7, cuts: &Cuts, last: u16)
-        requires { 8 ≤ address }
-        ensures { self.new ≡ changed (assigned_at (lost_by cuts.now last) identity.now address) self.old }
+    /// The least of the identities of those who hear the open session, as a number, and the slots that have it
+    /// (I3C Basic 5.1.4.2).
+    pub fn first_identity(&self) -> Option<(u64, SlotSet)>
+        ensures first { MatchOption result (NobodyHears self.now) (IsFirstIdentity self.now) }
+        ensures slots { length self.now ≡ SLOT_COUNT }
     {
-        let hearing = self.occupants.marks().hearing;
-        let left = hearing.without(lost_slots(cuts, last));
-        self.occupants.each(left, &Won { identity, address });
+        self.occupants.first_identity()
+    }
+
+    /// The devices in these slots won a round: each takes the address (I3C Basic 5.1.4.2).
+    pub fn take_address(&mut self, winners: SlotSet, address: Addr7)
+        requires { 8 ≤ address }
+        ensures { self.new ≡ changed (taken_at winners address) self.old }
+    {
+        self.occupants.each(winners, &Won { address });
     }
 
     /// A frame ends: the devices lost by this bit are gone.

@@ -1,19 +1,21 @@
-ghost use Rattle.std.specs.Prelude.{◌≡◌, ◌≤◌, ℕ, Bool, Option, None, false, length, option_map};
+ghost use Rattle.std.specs.Prelude.{◌≡◌, ◌≤◌, ◌<◌, ℕ, Bool, List, Option, None, false, length, option_map, slice_index_or, slice_set};
 ghost use Rattle.i3c_base.specs.declared.device.TheConstants.{REGISTERS as REGISTER_COUNT};
-ghost use Rattle.i3c_base.specs.Cutting.{nobody};
+ghost use Rattle.i3c_base.specs.declared.range.TheConstants.{SLOTS as SLOT_COUNT};
 ghost use Rattle.i3c_base.specs.Frames.{unaddressed_device};
-ghost use Rattle.i3c_base.specs.Round.{hears, unhearing};
+ghost use Rattle.i3c_base.specs.Round.{hears, unhearing, winner};
 ghost use Rattle.i3c_base.specs.Serve.{without_role};
 ghost use Rattle.i3c_base.specs.State.{Device as DeviceState};
+ghost use Rattle.i3c_device.specs.Marks.{AreMarks};
 ghost use Rattle.i3c_device.specs.Raising.{wishing_join, wishing_role};
-ghost use Rattle.i3c_device.specs.Walks.{assigned_at, taken_from, willing_at, written_at};
+ghost use Rattle.i3c_device.specs.Walks.{taken_from, willing_at, written_at};
 
 use crate::attached::Device;
+use crate::marks::Marks;
 use crate::places::{
-    accept, assign, is_willing, is_winner, lose_role_wish, open, reaches, reset, silence,
-    wish_join, wish_role, write,
+    accept, is_willing, lose_role_wish, open, reaches, reset, silence, win, wish_join, wish_role,
+    write,
 };
-use i3c_base::{Addr7, Identity, Request, Slot};
+use i3c_base::{Addr7, Request, Slot};
 
 /// What happens to whatever stands in some slots.
 pub(crate) trait Happening {
@@ -27,6 +29,15 @@ pub(crate) trait Happening {
     /// It happens in this slot.
     fn happen(&self, place: &mut Option<Device>, index: usize)
         ensures { place.new ≡ after self.now index place.old };
+
+    /// The marks after it happened in this slot, in which this stands then: all that is marked of the slot is marked
+    /// anew, unless what happened changes less.
+    fn noted(&self, marks: Marks, index: usize, place: &Option<Device>) -> Marks
+        requires { index < SLOT_COUNT }
+        ensures { (places : List (Option DeviceState)) → length places ≡ SLOT_COUNT → AreMarks marks places → place.now ≡ after self.now index (slice_index_or places index None) → AreMarks result (slice_set places index place.now) }
+    {
+        marks.noted(index, place)
+    }
 }
 
 /// This request was accepted, which is driven here.
@@ -44,6 +55,13 @@ impl Happening for Accepted<'_> {
 
     fn happen(&self, place: &mut Option<Device>, _index: usize) {
         accept(place, self.request);
+    }
+
+    fn noted(&self, marks: Marks, index: usize, place: &Option<Device>) -> Marks {
+        match self.request {
+            Request::Interrupt(_) => marks.queued(index, place),
+            _ => marks.noted(index, place),
+        }
     }
 }
 
@@ -125,6 +143,10 @@ impl Happening for Opened {
     fn happen(&self, place: &mut Option<Device>, _index: usize) {
         open(place);
     }
+
+    fn noted(&self, marks: Marks, index: usize, place: &Option<Device>) -> Marks {
+        marks.opened(index, place)
+    }
 }
 
 /// A session ends.
@@ -141,25 +163,28 @@ impl Happening for Ended {
     fn happen(&self, place: &mut Option<Device>, _index: usize) {
         silence(place);
     }
+
+    fn noted(&self, marks: Marks, index: usize, place: &Option<Device>) -> Marks {
+        marks.ended(index, place)
+    }
 }
 
-/// This identity won a round, and this address. No dynamic address is below `08`.
+/// The device won this address in a round. No dynamic address is below `08`.
 #[derive(Drop)]
-pub(crate) struct Won<'a> {
-    pub identity: &'a Identity,
+pub(crate) struct Won {
     pub address: Addr7,
     ghost dynamic: { 8 ≤ address },
 }
 
-impl Happening for Won<'_> {
-    ghost after = { λ h s place. assigned_at nobody h.identity.now h.address s place };
+impl Happening for Won {
+    ghost after = { λ h s place. option_map (winner h.address) place };
 
-    fn concerns(&self, place: &Option<Device>, _index: usize) -> bool {
-        is_winner(place, self.identity)
+    fn concerns(&self, _place: &Option<Device>, _index: usize) -> bool {
+        true
     }
 
     fn happen(&self, place: &mut Option<Device>, _index: usize) {
-        assign(place, self.identity, self.address);
+        win(place, self.address);
     }
 }
 

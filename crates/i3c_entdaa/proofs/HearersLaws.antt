@@ -1,13 +1,16 @@
 -- The contenders of a round: each is a hearer with its number, and each hearer is among them.
-use Rattle.std.proofs.Common.{◌≡◌, ℕ, zero, suc, ◌+◌, ◌-◌, ◌<◌, ◌≤◌, ◌^◌, true, false, List, [], ◌∷◌, ◌++◌, length, take, get_or, cond, Option, None, Some, inl, inr, refl, ap, sym, subst, ◌∙◌, arith, add-zero, zero-add, append-nil, append_assoc}
+use Rattle.std.proofs.Common.{◌≡◌, ℕ, Bool, zero, suc, ◌+◌, ◌-◌, ◌<◌, ◌≤◌, ◌^◌, ◌&&◌, ◌==◌, nat_le, if◌then◌else◌, true, false, List, [], ◌∷◌, ◌++◌, length, length-append, take, get_or, cond, Option, None, Some, inl, inr, refl, ap, sym, subst, ◌∙◌, arith, add-zero, zero-add, append-nil, append_assoc}
 use Rattle.std.specs.List.{All, Contains}
 use Rattle.std.proofs.lemmas.List.Elements.{All-append, All-nil, All-cons, Contains-append_left, Contains-push}
-use Rattle.std.proofs.lemmas.Bool.{both_ways, cases_eq, cases_lt, cond-false}
+use Rattle.std.proofs.lemmas.Bool.{and_parts, both_ways, cases_eq, cases_lt, cond-false, cond-true, eq-eqb, le-leb, lt-leb, ne_eqb}
 use Rattle.std.proofs.lemmas.List.{get_or_past, length-take-le, take_all, take_more}
 use Rattle.std.proofs.lemmas.Option.{none-some}
 use Rattle.i3c_base.specs.declared.range.TheConstants.{SLOTS}
 use Rattle.i3c_base.specs.State.{Device, in_slot}
 use Rattle.i3c_base.specs.Numbers.{IsInRange, number_of}
+use Rattle.i3c_device.specs.declared.sets.SlotSet.{SlotSet}
+use Rattle.i3c_device.specs.Sets.{has}
+use Rattle.i3c_device.specs.Walks.{AreHearers}
 use Rattle.i3c_entdaa.specs.Hearers.{contender, contenders_from, IsContenderKey}
 
 -- the contenders among the first slots
@@ -112,3 +115,62 @@ key_fits devices key h =
     let b : h.device.identity.bcr.0 < 2 ^ 8 = h.in_range.1 in
     let c : h.device.identity.dcr.0 < 2 ^ 8 = h.in_range.2 in
     let n : key.1 ≡ number_of h.device.identity = h.number in omega arith
+
+-- the hearers that are left are those from a slot on
+abbrev pub AreLeftFrom : List (Option Device) → ℕ → SlotSet → Type 0
+AreLeftFrom devices first left = (s : ℕ) → s < SLOTS → has left s ≡ (nat_le first s && in_slot (λ d. d.hearing) (get_or devices s None))
+
+pub left_first : (devices : List (Option Device)) (left : SlotSet) → AreHearers left devices → AreLeftFrom devices 0 left
+left_first devices left are s l = are s l ∙ ap (λ b. b && in_slot (λ d. d.hearing) (get_or devices s None)) (sym (le-leb 0 s (omega arith)))
+
+-- the lowest of them, and those after it
+pub taken_from : (devices : List (Option Device)) (first i : ℕ) (left : SlotSet) → AreLeftFrom devices first left → i < SLOTS → has left i ≡ true → (first ≤ i) × (in_slot (λ d. d.hearing) (get_or devices i None) ≡ true)
+taken_from devices first i left are low there =
+    let parts = and_parts (nat_le first i) (in_slot (λ d. d.hearing) (get_or devices i None)) (sym (are i low) ∙ there) in
+    (elim (cases_lt i first) [ inl l ↦ absurd (both_ways _ (lt-leb first i l) parts.0) | inr above ↦ above ], parts.1)
+
+pub silent_below : (devices : List (Option Device)) (first i : ℕ) (left : SlotSet) → AreLeftFrom devices first left → i < SLOTS → ((s : ℕ) → s < i → has left s ≡ false) → (t : ℕ) → first ≤ t → t < i
+    → in_slot (λ d. d.hearing) (get_or devices t None) ≡ false
+silent_below devices first i left are low below t above l =
+    sym (are t (omega (arith, l, low)) ∙ ap (λ b. b && in_slot (λ d. d.hearing) (get_or devices t None)) (le-leb first t above)) ∙ below t l
+
+pub left_more : (devices : List (Option Device)) (first i : ℕ) (left next : SlotSet) → AreLeftFrom devices first left → first ≤ i → ((s : ℕ) → s < i → has left s ≡ false)
+    → ((s : ℕ) → s < SLOTS → has next s ≡ (if s == i then false else has left s)) → AreLeftFrom devices (i + 1) next
+left_more devices first i left next are above below out s l = out s l ∙ elim (cases_lt s i) [
+  | inl m ↦
+      cond-false (s == i) false (has left s) (ne_eqb s i (λ e. omega (arith, e, m)))
+      ∙ (below s m ∙ sym (ap (λ b. b && in_slot (λ d. d.hearing) (get_or devices s None)) (lt-leb (i + 1) s (omega (arith, m)))))
+  | inr m ↦ elim (cases_eq s i) [
+    | inl e ↦ cond-true (s == i) false (has left s) (eq-eqb s i e) ∙ sym (ap (λ b. b && in_slot (λ d. d.hearing) (get_or devices s None)) (lt-leb (i + 1) s (omega (arith, e))))
+    | inr ne ↦
+        let past : i + 1 ≤ s = omega (arith, m, ne) in
+        cond-false (s == i) false (has left s) (ne_eqb s i ne)
+        ∙ (are s l ∙ (λ t. (le-leb first s (omega (arith, above, past)) ∙ sym (le-leb (i + 1) s past)) t && in_slot (λ d. d.hearing) (get_or devices s None)))
+  ]
+]
+
+-- nobody hears where none is left
+pub none_from : (devices : List (Option Device)) (first : ℕ) (left : SlotSet) → AreLeftFrom devices first left → ((s : ℕ) → s < SLOTS → has left s ≡ false) → (t : ℕ) → first ≤ t → t < SLOTS
+    → in_slot (λ d. d.hearing) (get_or devices t None) ≡ false
+none_from devices first left are none t above l = sym (are t l ∙ ap (λ b. b && in_slot (λ d. d.hearing) (get_or devices t None)) (le-leb first t above)) ∙ none t l
+
+-- all contenders of some places, as a list that nobody made
+at_most_one : (b : Bool) (key : ℕ × ℕ) → length (if b then key ∷ [] else []) ≤ 1
+at_most_one true key = omega arith
+at_most_one false key = omega arith
+
+one_contender : (slot : ℕ) (place : Option Device) → length (contender slot place) ≤ 1
+one_contender slot None = omega arith
+one_contender slot (Some d) = at_most_one d.hearing (slot, number_of d.identity)
+
+pub contenders_upto : (devices : List (Option Device)) (n : ℕ) → length devices ≡ SLOTS → n ≤ SLOTS → ((s : ℕ) (d : Device) → get_or devices s None ≡ Some d → d.hearing ≡ true → IsInRange d.identity)
+    → ContendersSoFar devices n (contenders_from 0 (take n devices))
+unfolding contenders_from
+contenders_upto devices zero sized low ranged = contenders_none devices
+contenders_upto devices (suc n) sized low ranged =
+    let before = contenders_upto devices n sized (omega (arith, low)) ranged in
+    let place = get_or devices n None in
+    let more = contenders_more devices n place (contenders_from 0 (take n devices)) (contenders_from 0 (take n devices) ++ contender n place) sized (omega (arith, low)) before refl refl
+    (omega (arith, length-append (contenders_from 0 (take n devices)) (contender n place), before.short, one_contender n place)) (ranged n) in
+    let same : n + 1 ≡ suc n = omega arith in
+    subst (λ k. ContendersSoFar devices k (contenders_from 0 (take k devices))) same (subst (ContendersSoFar devices (n + 1)) more.exact more)

@@ -1,22 +1,27 @@
 -- A round's answers and what each leaves, where a table is that of the state.
 use Rattle.std.specs.Prelude.{slice_index_or}
-use Rattle.std.proofs.Common.{◌≡◌, ℕ, Bool, true, false, inl, inr, List, Option, None, Some, option_map, set, refl, ap, sym, subst, ◌∙◌}
+use Rattle.std.proofs.Common.{◌≡◌, ℕ, ◌==◌, ◌&&◌, not, if◌then◌else◌, arith, length, get_or, Bool, true, false, inl, inr, List, Option, None, Some, option_map, set, refl, ap, sym, subst, ◌∙◌}
 use Rattle.std.proofs.Math.ListN.{get_or-map}
-use Rattle.std.proofs.lemmas.Bool.{both_ways}
+use Rattle.std.proofs.lemmas.Bool.{and_from, and_parts, both_ways, cases_Bool, cases_eq, eq-eqb, eqb-true, false_from_ne_true, ne_eqb}
 use Rattle.std.proofs.lemmas.Option.{none-some}
 use Rattle.i3c_base.specs.declared.answers.RoundReply.{RoundReply}
 use Rattle.i3c_base.specs.declared.device.LegacyTarget.{LegacyTarget}
 use Rattle.i3c_base.specs.declared.identity.Identity.{Identity}
 use Rattle.i3c_base.specs.Covered.{IsTable, Table}
 use Rattle.i3c_base.specs.Cutting.{CutList, Lost, lost_by}
-use Rattle.i3c_base.specs.Numbers.{IsInRange, number_of}
+use Rattle.i3c_base.specs.declared.range.TheConstants.{SLOTS}
+use Rattle.i3c_base.specs.Numbers.{IsInRange, number_of, same_identity}
 use Rattle.i3c_base.specs.Places.{changed}
-use Rattle.i3c_base.specs.Round.{AllHearersLost, AnyHears, IsAddressFor, IsWinner, Rounds, assigned}
+use Rattle.i3c_base.specs.Round.{AllHearersLost, AnyHears, IsAddressFor, IsWinner, Rounds, assigned, winner}
 use Rattle.i3c_base.specs.Serve.{emptied}
 use Rattle.i3c_base.specs.State.{Device, State, IsPick, IsPickIn, IsPickable, IsPickableIn, IsKeptIn, IsUnknownIn, kept_entry_of}
+use Rattle.i3c_base.proofs.Lookups.{length-changed}
 use Rattle.i3c_base.proofs.NumberLaws.{same_number}
-use Rattle.i3c_device.specs.Walks.{assigned_at, left_at}
-use Rattle.i3c_entdaa.specs.Parts.{IsAddressIn, IsContest}
+use Rattle.i3c_device.specs.declared.sets.SlotSet.{SlotSet}
+use Rattle.i3c_device.specs.Sets.{has}
+use Rattle.i3c_device.specs.Walks.{assigned_at, hears_as, left_at, taken_at}
+use Rattle.i3c_device.proofs.EachLaws.{all_changed, changed_in}
+use Rattle.i3c_entdaa.specs.Parts.{AreTakers, HearersAreRanged, IsAddressIn, IsContest}
 use Rattle.i3c_entdaa.specs.Rounds.{IsAcknowledged, IsHeard, IsRead, IsSent}
 use Rattle.i3c_entdaa.specs.declared.outcome.Round.{Round}
 
@@ -59,6 +64,49 @@ assigned_here st table after lost i a devices taken left same is e f put =
     let given : after.given ≡ set st.given a (Some (kept_entry_of i)) = ap (λ (t : Table). t.given) put ∙ ap (λ es. set es a (Some (kept_entry_of i))) is.0 in
     let listed : after.listed ≡ false = ap (λ (t : Table). t.listed) put in
     λ t. record st { devices = gone t; given = given t; listed = listed t }
+
+-- those who acknowledge take the address: the hearers with the identity that aren't lost
+same_test : (i j : Identity) (bits : ℕ) → IsInRange i → IsInRange j → number_of j ≡ bits → (number_of i == bits) ≡ same_identity i j
+same_test i j bits a b is = elim (cases_eq (number_of i) bits) [
+  | inl e ↦ eq-eqb (number_of i) bits e ∙ sym (same_parts i j (same_number i j a b (e ∙ sym is)))
+  | inr ne ↦ ne_eqb (number_of i) bits ne ∙ sym (false_from_ne_true (same_identity i j) (λ t. ne (equal_parts i j t ∙ is)))
+]
+  where
+    same_parts : (i j : Identity) → i ≡ j → same_identity i j ≡ true
+    same_parts i j e = and_from (i.pid == j.pid) ((i.bcr.0 == j.bcr.0) && (i.dcr.0 == j.dcr.0)) (eq-eqb i.pid j.pid (ap (λ (x : Identity). x.pid) e)) (and_from (i.bcr.0 == j.bcr.0) (i.dcr.0 == j.dcr.0) (eq-eqb i.bcr.0 j.bcr.0 (ap (λ (x : Identity). x.bcr.0) e)) (eq-eqb i.dcr.0 j.dcr.0 (ap (λ (x : Identity). x.dcr.0) e)))
+
+    equal_parts : (i j : Identity) → same_identity i j ≡ true → number_of i ≡ number_of j
+    equal_parts i j t =
+        let p = and_parts (i.pid == j.pid) ((i.bcr.0 == j.bcr.0) && (i.dcr.0 == j.dcr.0)) t in
+        let q = and_parts (i.bcr.0 == j.bcr.0) (i.dcr.0 == j.dcr.0) p.1 in
+        let pid = eqb-true i.pid j.pid p.0 in
+        let bcr = eqb-true i.bcr.0 j.bcr.0 q.0 in
+        let dcr = eqb-true i.dcr.0 j.dcr.0 q.1 in
+        omega (arith, pid, bcr, dcr)
+
+taken_alike : (lost : Lost) (i : Identity) (bits a s : ℕ) (o : Option Device) (takers : SlotSet) → number_of i ≡ bits → IsInRange i → ((d : Device) → o ≡ Some d → d.hearing ≡ true → IsInRange d.identity)
+    → has takers s ≡ (hears_as bits o && not (lost s)) → taken_at takers a s o ≡ assigned_at lost i a s o
+taken_alike lost i bits a s None takers is range ranged e = elim (has takers s) as (λ b. ◌≡◌ {A = Option Device} (if b then None else None) None) [ true ↦ refl | false ↦ refl ]
+taken_alike lost i bits a s (Some d) takers is range ranged e =
+    ap (λ b. if b then Some (winner a d) else Some d) e ∙ (elim (cases_Bool d.hearing) [
+      | inl h ↦
+          ap (λ b. if (d.hearing && b) && not (lost s) then Some (winner a d) else Some d) (same_test d.identity i bits (ranged d refl h) range is)
+          ∙ go d.hearing (lost s) (same_identity d.identity i)
+      | inr n ↦ ap (λ b. if (b && number_of d.identity == bits) && not (lost s) then Some (winner a d) else Some d) n ∙ sym (ap (λ b. Some (if b && (not (lost s) && same_identity d.identity i) then winner a d else d)) n)
+    ])
+  where
+    go : (h x m : Bool) → (if (h && m) && not x then Some (winner a d) else Some d) ≡ Some (if h && (not x && m) then winner a d else d)
+    go true true true = refl
+    go true true false = refl
+    go true false true = refl
+    go true false false = refl
+    go false x m = refl
+
+pub taken_assigned : (cuts : CutList) (i : Identity) (bits a : ℕ) (devices : List (Option Device)) (takers : SlotSet) → length devices ≡ SLOTS → number_of i ≡ bits → IsInRange i → HearersAreRanged devices
+    → AreTakers cuts devices bits takers → changed (taken_at takers a) devices ≡ changed (assigned_at (lost_by cuts 73) i a) devices
+taken_assigned cuts i bits a devices takers sized is range ranged are =
+    all_changed (assigned_at (lost_by cuts 73) i a) devices (changed (taken_at takers a) devices) (length-changed (taken_at takers a) devices)
+    (λ k l. changed_in (taken_at takers a) devices k l ∙ taken_alike (lost_by cuts 73) i bits a k (get_or devices k None) takers is range (ranged k) (are k (omega (arith, l, sized))))
 
 -- somebody heard the header
 any_hears : (st : State) (cuts : CutList) → IsHeard st cuts → AnyHears st

@@ -1,17 +1,16 @@
 ghost use Rattle.std.specs.Prelude.{◌≡◌, ◌≤◌, false, slice_set, Some};
 ghost use Rattle.i3c_base.specs.Covered.{IsTable};
-ghost use Rattle.i3c_base.specs.Cutting.{lost_by};
 ghost use Rattle.i3c_base.specs.Places.{changed};
 ghost use Rattle.i3c_base.specs.Round.{Rounds};
 ghost use Rattle.i3c_base.specs.State.{State, IsPickIn, kept_entry_of};
-ghost use Rattle.i3c_device.specs.Walks.{assigned_at};
+ghost use Rattle.i3c_device.specs.Walks.{taken_at};
 ghost use Rattle.i3c_entdaa.specs.Parts.{IsAddressIn};
 ghost use Rattle.i3c_entdaa.specs.Rounds.{IsAcknowledged, IsRead, reply_of};
 
 use crate::identities::{ADDRESS_ACK, HEADER_ACK, read_identity};
 use crate::outcome::Round;
 use i3c_base::{Addr7, Cuts, Identity};
-use i3c_device::Devices;
+use i3c_device::{Devices, SlotSet};
 use i3c_picker::pick;
 use i3c_table::{Row, Table};
 
@@ -28,13 +27,19 @@ fn address_for(table: &Table, identity: &Identity, picked: Addr7) -> Addr7
 }
 
 /// The winners acknowledged the address: they take it, and its row is put.
-fn give(devices: &mut Devices, table: &mut Table, identity: Identity, address: Addr7, cuts: &Cuts)
+fn give(
+    devices: &mut Devices,
+    table: &mut Table,
+    takers: SlotSet,
+    identity: Identity,
+    address: Addr7,
+)
     requires chosen { IsAddressIn table.old identity address }
     requires dynamic { 8 ≤ address }
-    ensures taken { devices.new ≡ changed (assigned_at (lost_by cuts.now 73) identity address) devices.old }
+    ensures taken { devices.new ≡ changed (taken_at takers address) devices.old }
     ensures put { table.new ≡ record table.old { given = slice_set table.old.given address (Some (kept_entry_of identity)); listed = false } }
 {
-    devices.assign(&identity, address, cuts, ADDRESS_ACK);
+    devices.take_address(takers, address);
     table.put(Row {
         address,
         bcr: identity.bcr,
@@ -71,7 +76,7 @@ pub fn round(devices: &mut Devices, table: &mut Table, cuts: &Cuts) -> Round
         devices.drop_lost(cuts, ADDRESS_ACK);
         return Round::Nobody { bits, address };
     }
-    give(devices, table, identity, address, cuts);
+    give(devices, table, read.takers, identity, address);
     devices.drop_lost(cuts, ADDRESS_ACK);
     Round::Assigned {
         bits,

@@ -2,26 +2,25 @@ ghost use Rattle.std.specs.Prelude.{◌≡◌, ◌+◌, ◌≤◌, ◌++◌, ℕ
 ghost use Rattle.std.specs.List.{All, Contains};
 ghost use Rattle.i3c_base.specs.declared.range.TheConstants.{SLOTS as SLOT_COUNT};
 ghost use Rattle.i3c_base.specs.Numbers.{IsInRange, number_of};
-ghost use Rattle.i3c_base.specs.State.{Device as DeviceState};
+ghost use Rattle.i3c_base.specs.State.{Device as DeviceState, in_slot};
 ghost use Rattle.i3c_entdaa.specs.Hearers.{contender, contenders_from, IsContenderKey};
 
 use arrayvec::ArrayVec;
 use i3c_base::{SLOTS, Slot};
 use i3c_device::Devices;
 
-/// Adds the contender of this slot, if its device hears.
+/// Adds the contender of this slot, whose device hears.
 fn enter(keys: &mut ArrayVec<(Slot, u64), SLOTS>, devices: &Devices, slot: Slot)
     requires room { length keys.old.items ≤ slot }
+    requires hears { in_slot (λ d. d.hearing) (slice_index_or devices.now slot None) ≡ true }
     ensures entered { keys.new.items ≡ keys.old.items ++ contender slot (slice_index_or devices.now slot None) }
     ensures short { length keys.new.items ≤ slot + 1 }
     ensures in_range { (d : DeviceState) → slice_index_or devices.now slot None ≡ Some d → d.hearing ≡ true → IsInRange d.identity }
-    ensures slots { length devices.now ≡ SLOT_COUNT }
 {
-    if let Some(device) = devices.get(slot) {
-        if device.is_hearing() {
-            keys.push((slot, device.identity().number()));
-        }
-    }
+    let Some(device) = devices.get(slot) else {
+        unreachable!()
+    };
+    keys.push((slot, device.identity().number()));
 }
 
 /// Those who hear, each with the number of its identity.
@@ -29,12 +28,14 @@ pub(crate) fn contenders(devices: &Devices) -> ArrayVec<(Slot, u64), SLOTS>
     ensures exact { result.items ≡ contenders_from 0 devices.now }
     ensures sound { All (IsContenderKey devices.now) result.items }
     ensures complete { (s : ℕ) (d : DeviceState) → slice_index_or devices.now s None ≡ Some d → d.hearing ≡ true → Contains result.items (s, number_of d.identity) }
+    ensures slots { length devices.now ≡ SLOT_COUNT }
 {
     let mut keys: ArrayVec<(Slot, u64), SLOTS> = ArrayVec::new();
     let mut first = 0;
-    while let Some(slot) = devices.hearer_from(first) {
-        enter(&mut keys, devices, slot);
-        first = slot.index() + 1;
+    let mut left = devices.hearers();
+    while let Some(index) = left.take_lowest() {
+        enter(&mut keys, devices, Slot::from_index(index));
+        first = index + 1;
     }
     keys
 }

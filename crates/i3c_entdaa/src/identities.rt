@@ -1,13 +1,14 @@
-ghost use Rattle.std.specs.Prelude.{◌≡◌, not, MatchOption};
+ghost use Rattle.std.specs.Prelude.{◌≡◌, length, not, IfSome, MatchOption};
 ghost use Rattle.std.specs.List.{list_all, list_any};
-ghost use Rattle.i3c_base.specs.Cutting.{lost_by};
+ghost use Rattle.i3c_base.specs.declared.range.TheConstants.{SLOTS as SLOT_COUNT};
+ghost use Rattle.i3c_base.specs.Cutting.{IsUncut, lost_by};
 ghost use Rattle.i3c_base.specs.Round.{AllHearersLost};
 ghost use Rattle.i3c_base.specs.State.{State};
-ghost use Rattle.i3c_entdaa.specs.Parts.{IsContest};
+ghost use Rattle.i3c_entdaa.specs.Parts.{AreTakers, HearersAreRanged, IsContest};
 
 use crate::hearers::contenders;
 use i3c_base::{Cuts, Slot};
-use i3c_device::Devices;
+use i3c_device::{Devices, SlotSet};
 use i3c_wires::contest;
 
 /// The ninth bit of `7E`/R, where those who hear acknowledge: a round's first bit.
@@ -22,11 +23,12 @@ const IDENTITY_BITS: u32 = 64;
 /// The ninth bit after the address byte, where the winners acknowledge: a round's last bit.
 pub(crate) const ADDRESS_ACK: u16 = 73;
 
-/// What is read of those who contend, and whether a winner acknowledges the address that is sent then.
+/// What is read of those who contend, and who acknowledges the address that is sent then.
 #[derive(Clone, Copy)]
 pub(crate) struct Contested {
     pub bits: u64,
     pub acknowledged: bool,
+    pub takers: SlotSet,
 }
 
 /// Whether each contender is lost by this bit.
@@ -45,7 +47,39 @@ fn is_left(slots: &[Slot], cuts: &Cuts, last: u16) -> bool
 
 /// The contest of a round: all who hear drive their identities at once. `None` where nobody acknowledges the header.
 pub(crate) fn read_identity(devices: &Devices, cuts: &Cuts) -> Option<Contested>
-    ensures { (st : State) → st.devices ≡ devices.now → MatchOption result (AllHearersLost st (lost_by cuts.now 0)) (λ read. IsContest st cuts.now read.bits read.acknowledged) }
+    ensures contest { (st : State) → st.devices ≡ devices.now → MatchOption result (AllHearersLost st (lost_by cuts.now 0)) (λ read. IsContest st cuts.now read.bits read.acknowledged) }
+    ensures takers { IfSome result (λ read. AreTakers cuts.now devices.now read.bits read.takers) }
+    ensures ranged { IfSome result (λ _. HearersAreRanged devices.now) }
+    ensures slots { length devices.now ≡ SLOT_COUNT }
+{
+    if cuts.is_empty() {
+        return read_uncut(devices, cuts);
+    }
+    read_cut(devices, cuts)
+}
+
+/// The contest where nobody is cut: all read the least identity.
+fn read_uncut(devices: &Devices, cuts: &Cuts) -> Option<Contested>
+    requires { IsUncut cuts.now }
+    ensures contest { (st : State) → st.devices ≡ devices.now → MatchOption result (AllHearersLost st (lost_by cuts.now 0)) (λ read. IsContest st cuts.now read.bits read.acknowledged) }
+    ensures takers { IfSome result (λ read. AreTakers cuts.now devices.now read.bits read.takers) }
+    ensures ranged { IfSome result (λ _. HearersAreRanged devices.now) }
+    ensures slots { length devices.now ≡ SLOT_COUNT }
+{
+    let (bits, takers) = devices.first_identity()?;
+    Some(Contested {
+        bits,
+        acknowledged: true,
+        takers,
+    })
+}
+
+/// The contest where somebody may be cut.
+fn read_cut(devices: &Devices, cuts: &Cuts) -> Option<Contested>
+    ensures contest { (st : State) → st.devices ≡ devices.now → MatchOption result (AllHearersLost st (lost_by cuts.now 0)) (λ read. IsContest st cuts.now read.bits read.acknowledged) }
+    ensures takers { IfSome result (λ read. AreTakers cuts.now devices.now read.bits read.takers) }
+    ensures ranged { IfSome result (λ _. HearersAreRanged devices.now) }
+    ensures slots { length devices.now ≡ SLOT_COUNT }
 {
     let keys = contenders(devices);
     if are_lost(&keys, cuts, HEADER_ACK) {
@@ -55,5 +89,6 @@ pub(crate) fn read_identity(devices: &Devices, cuts: &Cuts) -> Option<Contested>
     Some(Contested {
         bits: outcome.bits,
         acknowledged: is_left(&outcome.winners, cuts, ADDRESS_ACK),
+        takers: SlotSet::of(&outcome.winners).left(cuts, ADDRESS_ACK),
     })
 }

@@ -3,7 +3,7 @@ use crate::hand::{code_of, device_of, words_of};
 use crate::setting::Setting;
 use crate::told::{told, told_hex};
 use crate::words::{Place, Words};
-use i3c_base::{REGISTERS, Request, SLOTS, Slot};
+use i3c_base::{Identity, REGISTERS, Request, SLOTS, Slot};
 use i3c_device::{Device, Devices, SlotSet};
 use std::alloc::Global;
 
@@ -110,7 +110,7 @@ fn happen(
         "silence" => setting.devices.silence(),
         "accept-first" => accept_first(setting),
         "command" => command(alloc, setting, words)?,
-        "assign" => assign(setting, words)?,
+        "assign" => assign(alloc, setting, words)?,
         "write-to" => write_to(alloc, setting, words)?,
         _ => return Ok(false),
     }
@@ -133,18 +133,31 @@ fn command(alloc: Global, setting: &mut Setting, words: &mut Words) -> Result<()
     Ok(())
 }
 
-/// An identity wins a round.
-fn assign(setting: &mut Setting, words: &mut Words) -> Result<(), Fault> {
+/// An identity wins a round: those who hear and have it, and aren't cut by a bit, take an address.
+fn assign(alloc: Global, setting: &mut Setting, words: &mut Words) -> Result<(), Fault> {
     let identity = words.identity()?;
     let address = words.address()?;
     let last = words.bit()?;
     if address.get() < 8 {
         return Err(Fault::Unknown);
     }
-    setting
-        .devices
-        .assign(&identity, address, &setting.cuts, last);
+    let mut winners = Vec::new(alloc);
+    for slot in &slots_of(alloc, setting.devices.hearers())? {
+        if is_of(&setting.devices, *slot, &identity) {
+            winners.push(*slot)?;
+        }
+    }
+    let takers = SlotSet::of(&winners).left(&setting.cuts, last);
+    setting.devices.take_address(takers, address);
     Ok(())
+}
+
+/// Whether a slot's device has an identity.
+fn is_of(devices: &Devices, slot: Slot, identity: &Identity) -> bool {
+    match devices.get(slot) {
+        Some(device) => device.identity() == *identity,
+        None => false,
+    }
 }
 
 /// Bytes are written to an address.
@@ -176,7 +189,8 @@ pub(crate) fn ask(
         "outlasts" => outlasts(alloc, setting, words.bit()?)?,
         "is-heard" => is_heard(alloc, setting, words)?,
         "lowest-willing" => lowest_willing(alloc, setting, words)?,
-        "hearer-from" => told_slot(alloc, setting.devices.hearer_from(words.index()?))?,
+        "hearers" => told_slots(alloc, setting.devices.hearers())?,
+        "first-identity" => first_identity(alloc, setting)?,
         "read-from" => read_from(alloc, setting, words)?,
         _ => return Ok(None),
     }))
@@ -236,15 +250,40 @@ fn first(alloc: Global, setting: &Setting) -> Result<String, Fault> {
 
 /// The slots that drive the first request.
 fn drivers(alloc: Global, setting: &Setting) -> Result<String, Fault> {
+    told_slots(alloc, driving(setting)?)
+}
+
+/// The numbers of the slots of a set.
+fn told_slots(alloc: Global, set: SlotSet) -> Result<String, Fault> {
+    let mut indices = Vec::new(alloc);
+    for slot in &slots_of(alloc, set)? {
+        indices.push(slot.index())?;
+    }
+    told(alloc, &indices)
+}
+
+/// The slots of a set.
+fn slots_of(alloc: Global, set: SlotSet) -> Result<Vec<Slot>, Fault> {
     let mut slots = Vec::new(alloc);
-    let mut left = driving(setting)?;
+    let mut left = set;
     for _ in 0..SLOTS {
         let Some(index) = left.take_lowest() else {
             break;
         };
-        slots.push(index)?;
+        slots.push(Slot::from_index(index))?;
     }
-    told(alloc, &slots)
+    Ok(slots)
+}
+
+/// The least identity of those who hear, and their slots.
+fn first_identity(alloc: Global, setting: &Setting) -> Result<String, Fault> {
+    let Some((number, slots)) = setting.devices.first_identity() else {
+        return told(alloc, &None::<u64>);
+    };
+    let mut text = told_hex(alloc, number)?;
+    text.push_str(" in ")?;
+    text.push_str(&told_slots(alloc, slots)?)?;
+    Ok(text)
 }
 
 /// Who drives the first request.

@@ -1,11 +1,11 @@
-use Rattle.std.proofs.Common.{◌-◌, ◌≤◌}
+use Rattle.std.proofs.Common.{◌≤◌}
 use Rattle.i3c_base.specs.declared.range.TheConstants.{SLOTS}
-use Rattle.i3c_entdaa.proofs.HearersLaws.{ContendersSoFar}
+use Rattle.i3c_entdaa.proofs.HearersLaws.{AreLeftFrom, ContendersSoFar}
 use Rattle.i3c_entdaa.proofs.hearers.contenders.Given as goal
 
--- the contenders of the slots so far
-abbrev pub invariant-loop-slot : goal.invariant-loop-slot
-invariant-loop-slot l = record { so_far : ContendersSoFar l.devices l.first l.keys.items; low : l.first ≤ SLOTS }
+-- the contenders of the slots so far, and the hearers after them
+abbrev pub invariant-loop-index : goal.invariant-loop-index
+invariant-loop-index l = record { so_far : ContendersSoFar l.devices l.first l.keys.items; low : l.first ≤ SLOTS; left : AreLeftFrom l.devices l.first l.left }
 
-abbrev pub decreases-loop-slot : goal.decreases-loop-slot
-decreases-loop-slot l = SLOTS - l.first
+abbrev pub decreases-loop-index : goal.decreases-loop-index
+decreases-loop-index l = l.left.bits

@@ -24,7 +24,8 @@ loop-index-preserved-then-concerns g c =
     c.loop-index.invariant c.in-Some.ensures.taken.0 c.in-Some.ensures.taken.1 c.in-Some.ensures.taken.3
     (turned (g.H.Happening.after c.args.happening.now) ys i c.index-self-index-then-concerns.result c.happen.new.place low c.happen.ensures)
     (subst (λ place. AreMarks c.noted-self-inside.result (set ys i place)) (get_or-set_same ys i c.happen.new.place c.index-self-index-then-concerns-2.result low)
-    (c.noted-self-inside.ensures ys c.loop-index.invariant.long c.loop-index.invariant.marked))
+    (c.noted-self-inside.ensures ys c.loop-index.invariant.long c.loop-index.invariant.marked
+    (get_or-set_same ys i c.happen.new.place c.index-self-index-then-concerns-2.result low ∙ turned (g.H.Happening.after c.args.happening.now) ys i c.index-self-index-then-concerns.result c.happen.new.place low c.happen.ensures)))
 
 pub invariant_of-self : goal.invariant_of-self
 invariant_of-self g c = (c.loop-index.invariant.long, c.loop-index.invariant.marked)

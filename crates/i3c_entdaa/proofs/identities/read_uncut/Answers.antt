@@ -1,0 +1,12 @@
+use Rattle.std.proofs.Common.{MatchOption, subst, sym}
+use Rattle.i3c_base.specs.Cutting.{lost_by}
+use Rattle.i3c_base.specs.Round.{AllHearersLost}
+use Rattle.i3c_entdaa.specs.Parts.{IsContest}
+use Rattle.i3c_entdaa.proofs.ContestLaws.{none_heard, uncut_contest, uncut_takers}
+use Rattle.i3c_entdaa.proofs.identities.read_uncut.Goals as goal
+
+pub returns-clause-contest : goal.returns-clause-contest
+returns-clause-contest c st same = uncut_contest st c.args.devices.now c.args.cuts.now (c.in_ok-bits.bits, c.in_ok-bits.takers) same c.requires c.in_ok-bits.ensures.slots c.in_ok-bits.ensures.first
+
+pub returns-clause-takers : goal.returns-clause-takers
+returns-clause-takers c = uncut_takers c.args.devices.now c.args.cuts.now c.in_ok-bits.bits c.in_ok-bits.takers c.requires c.in_ok-bits.ensures.first.holders
