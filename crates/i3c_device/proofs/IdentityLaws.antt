@@ -87,9 +87,9 @@ alone left next xs i n d slots low here out is range only hearers before = recor
     other s l ne = elim (cases_Bool (has left s)) [
       | inl t ↦ gone (has next s) (hears_as n (get_or xs s None)) (still_in i left next out s l ne ∙ t)
       | inr f ↦ and_right (not (has next s)) (hears_as n (get_or xs s None)) (false_from_ne_true (hears_as n (get_or xs s None)) (λ t.
-            let w = as_whom n (get_or xs s None) t in
-            let number = w.3 in
-            elim (before s w.0 l (w.1, w.2)) [ inl k ↦ both_ways _ f k | inr k ↦ let m = k.0 in omega (arith, m, number) ]))
+          let w = as_whom n (get_or xs s None) t in
+          let number = w.3 in
+          elim (before s w.0 l (w.1, w.2)) [ inl k ↦ both_ways _ f k | inr k ↦ let m = k.0 in omega (arith, m, number) ]))
     ]
 
 -- the lowest of the hearers
@@ -158,10 +158,10 @@ leads_on left next xs least i n slots h low there out number above =
       | inl e ↦
           h.holders s l ∙ (gone (has left s) (hears_as least (get_or xs s None)) (ap (has left) e ∙ there)
           ∙ (sym (false_from_ne_true (hears_as least (get_or xs i None)) (λ t.
-              let w = as_whom least (get_or xs i None) t in
-              let its = (number w.0 w.1).0 in
-              let same = w.3 in
-              omega (arith, its, same, above)))
+          let w = as_whom least (get_or xs i None) t in
+          let its = (number w.0 w.1).0 in
+          let same = w.3 in
+          omega (arith, its, same, above)))
           ∙ sym (cond-true (s == i) (hears_as least (get_or xs i None)) (has slots s) (eq-eqb s i e))))
       | inr ne ↦ sym (cond-false (s == i) (hears_as least (get_or xs i None)) (has slots s) (ne_eqb s i ne))
     ])

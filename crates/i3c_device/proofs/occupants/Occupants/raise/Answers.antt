@@ -15,6 +15,6 @@ invariant_of-self-2 c =
     let there : get_or places i None ≡ Some c.in-Some.device = sym (get_or_default places i c.index-self-index.result None low) ∙ c.in-Some.is in (
       length-set places i _ ∙ c.self.invariant.0,
       subst (λ place. AreMarks c.queued-self-inside.result (set places i place)) (get_or-set_same places i _ c.index-self-index-2.result low)
-      (c.queued-self-inside.ensures places queue c.self.invariant.0 c.self.invariant.1
-      (get_or-set_same places i _ c.index-self-index-2.result low ∙ (ap Some c.in_ok-number.ensures.raised ∙ ap (option_map (requeued queue)) (sym there)))),
+          (c.queued-self-inside.ensures places queue c.self.invariant.0 c.self.invariant.1
+          (get_or-set_same places i _ c.index-self-index-2.result low ∙ (ap Some c.in_ok-number.ensures.raised ∙ ap (option_map (requeued queue)) (sym there)))),
     )
