@@ -280,7 +280,7 @@ fn first_identity(alloc: Global, setting: &Setting) -> Result<String, Fault> {
     let Some((number, slots)) = setting.devices.first_identity() else {
         return told(alloc, &None::<u64>);
     };
-    let mut text = told_hex(alloc, number)?;
+    let mut text = told_hex(alloc, &number)?;
     text.push_str(" in ")?;
     text.push_str(&told_slots(alloc, slots)?)?;
     Ok(text)
