@@ -1,8 +1,8 @@
 -- While the list is current, what was read of it is a copy of the table.
-use Rattle.std.proofs.Common.{◌≡◌, ℕ, suc, true, List, [], ◌∷◌, map, set, Option, Some, None, option_map, ap, refl, sym, ◌∙◌, subst}
+use Rattle.std.proofs.Common.{◌≡◌, ℕ, suc, true, false, List, [], ◌∷◌, map, set, Option, Some, None, option_map, ap, refl, sym, ◌∙◌, subst}
 use Rattle.std.proofs.lemmas.Bool.{both_ways}
 use Rattle.i3c_base.specs.declared.answers.RoundReply.{RoundReply}
-use Rattle.i3c_base.specs.Covered.{IsCopy, Table}
+use Rattle.i3c_base.specs.Covered.{Table}
 use Rattle.i3c_base.specs.Cutting.{CutList, Lost, lost_by}
 use Rattle.i3c_base.specs.Frames.{handed}
 use Rattle.i3c_base.specs.Places.{changed_from}
@@ -10,22 +10,19 @@ use Rattle.i3c_base.specs.Round.{Rounds}
 use Rattle.i3c_base.specs.Serve.{emptied, without_role}
 use Rattle.i3c_base.specs.State.{Device, State, device_at, unkept}
 use Rattle.i3c_deftgts.specs.declared.entries.Entry.{Entry}
-use Rattle.i3c_deftgts.specs.Copies.{table_of}
 use Rattle.i3c_bus.specs.Parts.{state_of}
-use Rattle.i3c_bus.specs.Whole.{IsCurrent}
+use Rattle.i3c_bus.specs.Whole.{IsCopyOf}
 
 -- the same list of a state with the same table
-emptied_current : (st new : State) (last : Lost) (list : Option (List Entry)) → new ≡ emptied last st → (st.listed ≡ true → IsCurrent st list) → new.listed ≡ true → IsCurrent new list
-emptied_current st new last None e h listed = h (ap (λ (s : State). s.listed) (sym e) ∙ listed)
-emptied_current st new last (Some entries) e h listed =
+emptied_current : (st new : State) (last : Lost) (list : List Entry) → new ≡ emptied last st → (st.listed ≡ true → IsCopyOf st list) → new.listed ≡ true → IsCopyOf new list
+emptied_current st new last list e h listed =
     let copy = h (ap (λ (s : State). s.listed) (sym e) ∙ listed) in
-    subst (λ (s : State). IsCurrent s (Some entries)) (sym e) copy
+    subst (λ (s : State). IsCopyOf s list) (sym e) copy
 
 -- after a round the list is current only where nothing was assigned
-pub current_round : (old : State) (cuts : CutList) (answer : RoundReply) (new : State) (list : Option (List Entry)) → Rounds old cuts answer new → new.listed ≡ true → (old.listed ≡ true → IsCurrent old list) → IsCurrent new list
-current_round old cuts RoundReply.NoAddress new None h listed copied = copied (ap (λ (s : State). s.listed) (sym h.1) ∙ listed)
-current_round old cuts RoundReply.NoAddress new (Some entries) h listed copied =
-    subst (λ (s : State). IsCurrent s (Some entries)) (sym h.1) (copied (ap (λ (s : State). s.listed) (sym h.1) ∙ listed))
+pub current_round : (old : State) (cuts : CutList) (answer : RoundReply) (new : State) (list : List Entry) → Rounds old cuts answer new → new.listed ≡ true → (old.listed ≡ true → IsCopyOf old list) → IsCopyOf new list
+current_round old cuts RoundReply.NoAddress new list h listed copied =
+    subst (λ (s : State). IsCopyOf s list) (sym h.1) (copied (ap (λ (s : State). s.listed) (sym h.1) ∙ listed))
 current_round old cuts RoundReply.Done new list h listed copied = emptied_current old new (lost_by cuts 0) list h.2 copied listed
 current_round old cuts RoundReply.Nobody new list h listed copied = emptied_current old new (lost_by cuts 73) list h.3 copied listed
 current_round old cuts (RoundReply.Assigned a i) new list h listed copied = absurd (both_ways _ (ap (λ (s : State). s.listed) h.3) listed)
@@ -35,9 +32,9 @@ map_from : {A : Type 0} (f : A → A) (n : ℕ) (xs : List A) → map f xs ≡ c
 map_from f n [] = refl
 map_from f n (x ∷ xs) = ap (λ ys. f x ∷ ys) (map_from f (suc n) xs)
 
--- the state whose active controller's table is a copy, as the role that was handed over leaves it
-pub handed_by : (st : State) (slot active : ℕ) (list : List Entry) (table : Table) (devices : List (Option Device)) → IsCopy st (table_of list) → devices ≡ set st.devices slot (option_map without_role (device_at st slot))
-    → active ≡ slot → table ≡ table_of list → state_of devices st.raised active table st.legacy st.in_session st.records ≡ handed slot st
-handed_by st slot active list table devices copy lost moved copied =
-    (λ t. state_of (lost t) st.raised (moved t) (copied t) st.legacy st.in_session st.records)
-    ∙ ap (λ given. record (handed slot st) { given = given }) (copy.0 ∙ map_from (option_map unkept) 0 st.given)
+-- the state whose table keeps no address for an identity, as the role that was handed over leaves it
+pub handed_by : (st : State) (slot active : ℕ) (table : Table) (devices : List (Option Device)) → table.given ≡ map (option_map unkept) st.given → table.listed ≡ false
+    → devices ≡ set st.devices slot (option_map without_role (device_at st slot)) → active ≡ slot → state_of devices st.raised active table st.legacy st.in_session st.records ≡ handed slot st
+handed_by st slot active table devices given listed lost moved =
+    (λ t. state_of (lost t) st.raised (moved t) (record { given = given t; legacy = table.legacy; listed = listed t }) st.legacy st.in_session st.records)
+    ∙ ap (λ given. record (handed slot st) { given = given }) (map_from (option_map unkept) 0 st.given)

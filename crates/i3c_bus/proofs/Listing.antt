@@ -1,5 +1,8 @@
 -- The list of a bus, written and read.
-use Rattle.std.proofs.Common.{◌≡◌, ℕ, ◌+◌, ◌*◌, Bool, true, false, if◌then◌else◌, count_by, is_some, List, [], ◌∷◌, map, Option, Some, None, option_map, refl, sym, ap, ◌∙◌, subst}
+use Rattle.std.proofs.Common.{◌≡◌, ℕ, ◌+◌, ◌*◌, Bool, true, false, if◌then◌else◌, count_by, is_some, ◌<◌, List, [], ◌∷◌, ◌++◌, length, take, get_or, map, Option, Some, None, option_map, refl, sym, ap, ◌∙◌, arith, subst}
+use Rattle.std.specs.List.{flat_map}
+use Rattle.std.proofs.lemmas.List.{flat_map_more, map-append, take_more}
+use Rattle.std.proofs.lemmas.List.Elements.{All-nil}
 use Rattle.i3c_base.specs.declared.device.LegacyTarget.{LegacyTarget}
 use Rattle.i3c_base.specs.declared.requests.Fixed.{Fixed}
 use Rattle.i3c_base.specs.declared.requests.Request.{Request}
@@ -15,31 +18,49 @@ use Rattle.i3c_base.proofs.Lookups.{each_at}
 use Rattle.i3c_deftgts.specs.declared.entries.Entry.{Entry}
 use Rattle.i3c_deftgts.specs.Copies.{copy_of, table_of}
 use Rattle.i3c_deftgts.specs.Entries.{entries_of}
-use Rattle.i3c_deftgts.specs.Layout.{Carry, list_bytes}
-use Rattle.i3c_deftgts.specs.Reading.{ReadAs}
+use Rattle.i3c_deftgts.specs.Layout.{bytes_of, list_bytes, Carry}
+use Rattle.i3c_deftgts.proofs.LayoutLaws.{carry_append}
+use Rattle.i3c_frame.specs.declared.symbols.Symbol.{Symbol}
+use Rattle.i3c_frame.specs.Taps.{Tells}
+use Rattle.i3c_frame.proofs.TapLaws.{NotesAll-append}
+use Rattle.i3c_word.specs.Parity.{HasOddParity}
 use Rattle.i3c_word.specs.declared.Word.{Word}
-use Rattle.i3c_bus.specs.Wire.{IsListOf}
+use Rattle.i3c_bus.specs.Wire.{AreWordsOf, IsListOf}
 
--- what stands at places
-somes : {A : Type 0} → List (Option A) → List A
-somes [] = []
-somes (None ∷ rest) = somes rest
-somes (Some x ∷ rest) = x ∷ somes rest
+-- four words, one by one
+pub four_words : (words : List Word) (blank : Word) → length words ≡ 4 → words ≡ get_or words 0 blank ∷ get_or words 1 blank ∷ get_or words 2 blank ∷ get_or words 3 blank ∷ []
+four_words (a ∷ b ∷ c ∷ d ∷ []) blank h = refl
+four_words [] blank h = absurd (omega (arith, h))
+four_words (a ∷ []) blank h = absurd (omega (arith, h))
+four_words (a ∷ b ∷ []) blank h = absurd (omega (arith, h))
+four_words (a ∷ b ∷ c ∷ []) blank h = absurd (omega (arith, h))
+four_words (a ∷ b ∷ c ∷ d ∷ e ∷ rest) blank h = absurd (omega (arith, h))
 
-somes_all : {A : Type 0} (xs : List A) → somes (map Some xs) ≡ xs
-unfolding somes
-somes_all [] = refl
-somes_all (x ∷ xs) = ap (λ ys. x ∷ ys) (somes_all xs)
+-- no words are told
+pub told_none : {T : Type 0} (gives : T → Symbol → T → Type 0) (tap : T) → Tells gives tap tap (AreWordsOf [])
+told_none gives tap = ([], refl, ([], record { same = refl; odd = All-nil HasOddParity }, refl))
 
--- words are read in one way
-pub read_once : (words : List Word) (xs ys : List Entry) → ReadAs words xs → ReadAs words ys → xs ≡ ys
-read_once words xs ys h k = sym (somes_all xs) ∙ (ap somes (sym h.same ∙ k.same) ∙ somes_all ys)
+-- the words of some bytes, and then those of others
+pub told_more : {T : Type 0} (gives : T → Symbol → T → Type 0) (old mid new : T) (bytes more : List ℕ) → Tells gives old mid (AreWordsOf bytes) → Tells gives mid new (AreWordsOf more) → Tells gives old new (AreWordsOf (bytes ++ more))
+told_more gives old mid new bytes more first second = (
+  first.0 ++ second.0,
+  NotesAll-append gives old first.0 mid second.0 new first.1 second.1,
+  (
+    first.2.0 ++ second.2.0,
+    carry_append bytes more first.2.0 second.2.0 first.2.1 second.2.1,
+    (λ t. first.2.2 t ++ second.2.2 t) ∙ sym (map-append Symbol.Word first.2.0 second.2.0),
+  ),
+)
 
--- what was read of the table's list is a copy
-pub copy_read : (st : State) (table : Table) (words : List Word) (entries list : List Entry) → IsTable st table → ReadAs words list → ReadAs words entries → table_of entries ≡ copy_of table → IsCopy st (table_of list)
-copy_read st table words entries list covered read written copied =
-    let same : table_of list ≡ copy_of table = ap table_of (read_once words list entries read written) ∙ copied in
-    (ap (λ (t : Table). t.given) same ∙ ap (map (option_map unkept)) covered.0, ap (λ (t : Table). t.legacy) same ∙ covered.1)
+-- the bytes of one entry more
+pub bytes_more : (entries : List Entry) (i : ℕ) (entry : Entry) → i < length entries → entry ≡ get_or entries i entry → flat_map bytes_of (take i entries) ++ bytes_of entry ≡ flat_map bytes_of (take (i + 1) entries)
+bytes_more entries i entry l is =
+    flat_map_more bytes_of [] (take i entries) entry ∙ ap (flat_map bytes_of) (ap (λ e. take i entries ++ e ∷ []) is ∙ sym (take_more entries i entry l))
+
+-- what a table's list gives is a copy
+pub copy_written : (st : State) (table : Table) (list : List Entry) → IsTable st table → table_of list ≡ copy_of table → IsCopy st (table_of list)
+copy_written st table list covered copied =
+    (ap (λ (t : Table). t.given) copied ∙ ap (map (option_map unkept)) covered.0, ap (λ (t : Table). t.legacy) copied ∙ covered.1)
 
 -- serving leaves the table, and the active controller its address
 pub record KeepsTable (old new : State) : Type 0 where

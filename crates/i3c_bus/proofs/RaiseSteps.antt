@@ -61,7 +61,7 @@ given_there None h = absurd (true≢false (sym h))
 given_there (Some a) h = (a, refl)
 
 -- a bus after a raise is whole
-pub whole_raise : (st : State) (table : Table) (list : Option (List Entry)) (more : List (Option Device)) (s index number : ℕ) (byte : Option ℕ) (d : Device)
+pub whole_raise : (st : State) (table : Table) (list : List Entry) (more : List (Option Device)) (s index number : ℕ) (byte : Option ℕ) (d : Device)
     → IsWhole st table list → index ≡ s → device_at st s ≡ Some d → (s == st.active) ≡ false
     → (number ≡ suc (slice_index st.raised index)) × (next_fault d byte (slice_index st.raised index) ≡ None)
     → more ≡ slice_set st.devices s (option_map (with_raise (suc (slice_index st.raised index)) byte) (device_at st s))

@@ -35,7 +35,7 @@ use Rattle.i3c_bus.specs.declared.tokens.Hand.{Hand}
 use Rattle.i3c_bus.specs.Beginning.{Begins, IsWay, LeavesBy}
 use Rattle.i3c_bus.specs.Calls.{Carries}
 use Rattle.i3c_bus.specs.Hands.{HandFits}
-use Rattle.i3c_bus.specs.Whole.{IsCurrent, IsWhole}
+use Rattle.i3c_bus.specs.Whole.{IsWhole}
 use Rattle.i3c_bus.specs.Wire.{IsFrameWire, IsReadPart, IsWire, IsWritePart}
 use Rattle.i3c_bus.proofs.Framing.{fits_left, frame_by, tells_frame}
 
@@ -193,21 +193,18 @@ lvrs_set bytes zero (place ∷ places) = ap (λ x. x ∷ map (option_map (λ (t 
 lvrs_set bytes (suc a) (place ∷ places) = ap (λ xs. option_map (λ (t : LegacyTarget). t.lvr) place ∷ xs) (lvrs_set bytes a places)
 
 -- so a write leaves a bus whole
-whole_written : (table : Table) (list : Option (List Entry)) (a : ℕ) (bytes : List ℕ) (st : State) → IsWhole st table list → IsWhole (written a bytes st) table list
+whole_written : (table : Table) (list : List Entry) (a : ℕ) (bytes : List ℕ) (st : State) → IsWhole st table list → IsWhole (written a bytes st) table list
 whole_written table list a bytes st whole =
     let same : lvrs (written a bytes st) ≡ lvrs st = lvrs_set bytes a st.legacy in record {
       sound = sound_written a bytes st whole.sound;
       covered = (whole.covered.0, whole.covered.1 ∙ sym same, whole.covered.2);
-      copied = λ listed. current list same (whole.copied listed);
+      copied = λ listed.
+          let copy = whole.copied listed in (
+            (copy.0.0, copy.0.1 ∙ sym same),
+            (copy.1.0, copy.1.1 ∙ ap (λ l. entries_of (record { given = st.given; legacy = l; listed = st.listed }) copy.1.0) (sym same)),
+          );
     }
-  where
-    current : (list : Option (List Entry)) → lvrs (written a bytes st) ≡ lvrs st → IsCurrent st list → IsCurrent (written a bytes st) list
-    current None same h = h
-    current (Some entries) same h = (
-      (h.0.0, h.0.1 ∙ sym same),
-      (h.1.0, h.1.1 ∙ ap (λ l. entries_of (record { given = st.given; legacy = l; listed = st.listed }) h.1.0) (sym same)),
-    )
 
-pub whole_writes : (table : Table) (list : Option (List Entry)) (a : ℕ) (bytes : List ℕ) (answer : Answer) (lost : Lost) (mid done : State) → Writes a bytes answer lost mid done → IsWhole mid table list → IsWhole done table list
+pub whole_writes : (table : Table) (list : List Entry) (a : ℕ) (bytes : List ℕ) (answer : Answer) (lost : Lost) (mid done : State) → Writes a bytes answer lost mid done → IsWhole mid table list → IsWhole done table list
 whole_writes table list a bytes answer lost mid done h whole =
     writes_keep (λ st next. IsWhole st table list → IsWhole next table list) a bytes (λ st w. w) (whole_written table list a bytes) answer lost mid done h whole

@@ -1,5 +1,5 @@
 -- What each bus keeps.
-use Rattle.std.specs.Prelude.{◌≡◌, ℕ, true, List, Option, Some, None}
+use Rattle.std.specs.Prelude.{◌≡◌, ℕ, true, List}
 use Rattle.i3c_base.specs.Covered.{IsCopy, IsTable, Table, lvrs}
 use Rattle.i3c_base.specs.State.{State}
 use Rattle.i3c_deftgts.specs.declared.entries.Entry.{Entry}
@@ -15,13 +15,8 @@ the_table st = record { given = st.given; legacy = lvrs st; listed = st.listed }
 abbrev pub IsCopyOf : State → List Entry → Type 0
 IsCopyOf st list = IsCopy st (table_of list) × ((own : ℕ) × (list ≡ entries_of (the_table st) own))
 
--- the list that was sent last is such
-abbrev pub IsCurrent : State → Option (List Entry) → Type 0
-IsCurrent st None = ⊥
-IsCurrent st (Some list) = IsCopyOf st list
-
 -- a sound bus that its active controller's table covers, and while the list is current what was read of it too
-pub record IsWhole (st : State) (table : Table) (list : Option (List Entry)) : Type 0 where
+pub record IsWhole (st : State) (table : Table) (list : List Entry) : Type 0 where
   pub sound : IsSound st
   pub covered : IsTable st table
-  pub copied : st.listed ≡ true → IsCurrent st list
+  pub copied : st.listed ≡ true → IsCopyOf st list

@@ -13,6 +13,7 @@ use Rattle.i3c_base.specs.State.{State, entry_at}
 use Rattle.i3c_base.specs.Serve.{IsFirst, IsWordBits, byte_due, drives, header_bits}
 use Rattle.i3c_base.specs.Frames.{AnyLeft, SomeLeftAt, active_has}
 use Rattle.i3c_word.specs.declared.Word.{Word}
+use Rattle.i3c_deftgts.specs.declared.entries.Entry.{Entry}
 use Rattle.i3c_deftgts.specs.Entries.{entries_of}
 use Rattle.i3c_deftgts.specs.Layout.{Carry, list_bytes}
 use Rattle.i3c_entdaa.specs.declared.outcome.Round.{Round}
@@ -90,6 +91,14 @@ IsResetWire wire = (code : Word) × IsWord 0x06 code × (wire ≡ Symbol.Word co
 -- DEFTGTS: the code 08 and the words of a list
 abbrev pub IsListWire : List Word → List Symbol → Type 0
 IsListWire words wire = (code : Word) × IsWord 0x08 code × (wire ≡ Symbol.Word code ∷ map Symbol.Word words ++ Stop ∷ [])
+
+-- these symbols are words that carry bytes
+abbrev pub AreWordsOf : List ℕ → List Symbol → Type 0
+AreWordsOf bytes wire = (words : List Word) × Carry bytes words × (wire ≡ map Symbol.Word words)
+
+-- DEFTGTS with the words of these entries
+abbrev pub IsWireOfList : List Entry → List Symbol → Type 0
+IsWireOfList entries wire = (words : List Word) × Carry (list_bytes entries) words × IsListWire words wire
 
 -- these words carry the list of the active controller's table, its own entry first
 abbrev pub IsListOf : State → List Word → Type 0

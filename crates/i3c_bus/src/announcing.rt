@@ -1,20 +1,17 @@
 use crate::parts::Bus;
 use crate::wire::{tell_list, tell_reset};
-use arrayvec::ArrayVec;
 use i3c_base::{Answer, Cuts};
 use i3c_ccc::Code;
-use i3c_deftgts::{WORDS, read_list, write_list};
 use i3c_frame::Tap;
 use i3c_handoff::Role;
 use i3c_ibi::Policy;
 use i3c_step::{FrameFault, Framed};
-use i3c_word::Word;
 
 /// The bits of a word, of which a code is one.
 const WORD_BITS: u16 = 9;
 
 impl Bus {
-    ghost use Rattle.std.specs.Prelude.{◌≡◌, ◌+◌, ◌*◌, length};
+    ghost use Rattle.std.specs.Prelude.{◌≡◌, ◌≤◌};
     ghost use Rattle.i3c_base.specs.Frames.{list, list_bits, reset};
     ghost use Rattle.i3c_frame.specs.Taps.{Tells};
     ghost use Rattle.i3c_step.specs.Giving.{given_by};
@@ -22,7 +19,7 @@ impl Bus {
     ghost use Rattle.i3c_bus.specs.Asking.{Asks};
     ghost use Rattle.i3c_bus.specs.Calls.{Carries};
     ghost use Rattle.i3c_bus.specs.Hands.{HandFits};
-    ghost use Rattle.i3c_bus.specs.Wire.{IsListOf};
+    ghost use Rattle.i3c_bus.specs.Wire.{IsListPart};
     ghost use Rattle.i3c_bus.specs.declared.tokens.Hand.{Hand};
     ghost use Rattle.i3c_step.specs.Replies.{announced_reply};
 
@@ -75,12 +72,8 @@ impl Bus {
         let Ok(begun) = self.begin_frame(policy, tap, cuts) else {
             return Err(FrameFault::OutOfMemory);
         };
-        let words = self.send_list();
-        tell_list(tap, &words);
-        self.drop_lost(
-            cuts,
-            begun.bits + WORD_BITS + WORD_BITS * words.len() as u16,
-        );
+        let bits = self.send_list(tap);
+        self.drop_lost(cuts, begun.bits + bits);
         Ok(Framed {
             served: begun.served,
             answer: Answer::Done,
@@ -101,22 +94,21 @@ impl Bus {
         self.table.clear(own);
     }
 
-    /// The words of the active controller's list are read, and the list is current.
-    fn send_list(&mut self) -> ArrayVec<Word, WORDS>
+    /// The words of the active controller's list are told, what is read of them is kept, and the list is current. It
+    /// answers how many bits they take with their code.
+    fn send_list<T: Tap>(&mut self, tap: &mut T) -> u16
         ensures state { self.new.state ≡ list self.old.state }
-        ensures words { IsListOf self.old.state result.items }
-        ensures long { 9 + 9 * length result.items ≡ list_bits self.old.state }
+        ensures told { Tells T.note_gives tap.old tap.new (IsListPart self.old.state) }
+        ensures bits { result ≡ list_bits self.old.state }
+        ensures few { result ≤ 4482 }
         ensures room { self.new.room ≡ self.old.room }
     {
         let Some(own) = self.address(self.active()) else {
             unreachable!();
         };
-        let words = write_list(&self.table, own);
-        let Ok(list) = read_list(&words) else {
-            unreachable!();
-        };
-        self.list = Some(list);
+        self.list.rewrite(&self.table, own);
         self.table.mark_listed();
-        words
+        tell_list(tap, &self.list);
+        WORD_BITS * (2 + 4 * self.list.len() as u16)
     }
 }

@@ -79,19 +79,16 @@ impl Bus {
         Ok(())
     }
 
-    /// The role passes to a slot, whose device's copy of the list is the table then.
+    /// The role passes to a slot. What its device's copy of the list gives is the table then: the one that there is, but
+    /// for the identities that addresses are kept for.
     fn hand(&mut self, role: Role, slot: Slot) -> Role
         requires own { role ≡ self.old.state.active }
-        requires listed { self.old.state.listed ≡ true }
         requires willing { (a : ℕ) × IsWillingAt self.old.state a slot }
         ensures state { self.new.state ≡ handed slot self.old.state }
         ensures held { result ≡ slot }
         ensures room { self.new.room ≡ self.old.room }
     {
-        let Some(list) = &self.list else {
-            unreachable!();
-        };
-        self.table = list.to_table();
+        self.table.forget_identities();
         self.devices.lose_role_wish(slot);
         give(&mut self.active, role, slot)
     }

@@ -47,7 +47,7 @@ pub struct Bus {
     pub(crate) active: Active,
     pub(crate) table: Table,
     // what each device that keeps the list read of the last one
-    pub(crate) list: Option<List>,
+    pub(crate) list: List,
     pub(crate) legacy: LegacyTargets,
     pub(crate) in_session: bool,
     pub(crate) records: Vec<Record>,
@@ -115,12 +115,13 @@ impl Bus {
         let mut devices = Devices::new();
         devices.put(holder, controller);
         let (active, role) = Active::new(holder);
+        let list = List::new();
         let bus = Bus {
             devices,
             raised: [0; SLOTS],
             active,
             table,
-            list: None,
+            list,
             legacy,
             in_session: false,
             records: Vec::new(alloc),
@@ -285,7 +286,7 @@ impl Bus {
         let device = self.devices.get(slot)?;
         let keeps = device.address().is_some() && device.identity().bcr.capable();
         if self.listed() && slot != self.active() && keeps {
-            self.list.as_ref()
+            Some(&self.list)
         } else {
             None
         }

@@ -88,3 +88,11 @@ entries_once table own g e apart =
     list_any-append (λ entry. address_of entry == own) others targets
     ∙ or_from (is_among own others) (is_among own targets) (among device_at (λ n x. refl) (set table.given own None) own ∙ none_else table.given own) (free own (ap is_some e)) in
     ap (λ es. has_twice (es ++ (others ++ targets))) (own_is table own g e) ∙ or_from (is_among own (others ++ targets)) (has_twice (others ++ targets)) alone rest
+
+-- the same where the own address was given
+pub owned_once : (table : Table) (own : ℕ) → is_some (entry_in table.given own) ≡ true → ((a : ℕ) → IfSome (entry_in table.given a) (λ _. IsFree table.legacy a)) → has_twice (entries_of table own) ≡ false
+owned_once table own stands apart = at (entry_in table.given own) refl stands
+  where
+    at : (o : Option Given) → entry_in table.given own ≡ o → is_some o ≡ true → has_twice (entries_of table own) ≡ false
+    at None e there = cc
+    at (Some g) e there = entries_once table own g e apart

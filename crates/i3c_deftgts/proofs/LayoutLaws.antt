@@ -1,8 +1,8 @@
 -- Words that carry bytes.
-use Rattle.std.proofs.Common.{◌≡◌, ℕ, ◌+◌, ◌*◌, ◌-◌, ◌≤◌, ◌<◌, List, [], ◌∷◌, ◌++◌, length, take, get_or, sym, refl, ap, ◌∙◌, arith, append_assoc, length-append}
+use Rattle.std.proofs.Common.{◌≡◌, ℕ, ◌+◌, ◌*◌, ◌-◌, ◌≤◌, ◌<◌, List, [], ◌∷◌, ◌++◌, length, take, get_or, sym, refl, ap, ◌∙◌, arith, length-append}
 use Rattle.std.specs.List.{flat_map}
-use Rattle.std.proofs.lemmas.List.{flat_map_more, length-map, length-take, map_push, take_all, take_more}
-use Rattle.std.proofs.lemmas.List.Elements.{All-push}
+use Rattle.std.proofs.lemmas.List.{flat_map_more, length-map, length-take, map-append, take_all, take_more}
+use Rattle.std.proofs.lemmas.List.Elements.{All-append, All-nil, All-push}
 use Rattle.i3c_word.specs.declared.Word.{Word}
 use Rattle.i3c_word.specs.Parity.{HasOddParity}
 use Rattle.i3c_deftgts.specs.declared.entries.Entry.{Entry}
@@ -12,17 +12,16 @@ use Rattle.i3c_deftgts.specs.Layout.{bytes_of, list_bytes, Carry}
 pub length-carried : (sent : List ℕ) (words : List Word) → Carry sent words → length words ≡ length sent
 length-carried sent words carried = sym (length-map words (λ (word : Word). word.byte)) ∙ ap length carried.same
 
--- one word more
-pub carry_push : (sent : List ℕ) (words : List Word) (word : Word) (byte : ℕ) → Carry sent words → word.byte ≡ byte → HasOddParity word → Carry (sent ++ byte ∷ []) (words ++ word ∷ [])
-carry_push sent words word byte carried is odd = record {
-  same = map_push (λ (w : Word). w.byte) words word ∙ (ap (λ b. b ++ word.byte ∷ []) carried.same ∙ ap (λ b. sent ++ b ∷ []) is);
-  odd = All-push HasOddParity words word carried.odd odd;
-}
+-- one word
+pub carry_one : (byte : ℕ) (word : Word) → word.byte ≡ byte → HasOddParity word → Carry (byte ∷ []) (word ∷ [])
+carry_one byte word is odd = record { same = ap (λ b. b ∷ []) is; odd = All-push HasOddParity [] word (All-nil HasOddParity) odd }
 
--- one byte more of some that are sent
-pub carry_more : (sent more : List ℕ) (i : ℕ) (words : List Word) (word : Word) → i < length more → Carry (sent ++ take i more) words → word.byte ≡ get_or more i 0 → HasOddParity word → Carry (sent ++ take (i + 1) more) (words ++ word ∷ [])
-carry_more sent more i words word l carried is odd =
-    rw (ap (λ b. sent ++ b) (take_more more i 0 l) ∙ sym (append_assoc sent (take i more) (get_or more i 0 ∷ []))) (carry_push (sent ++ take i more) words word (get_or more i 0) carried is odd)
+-- some words, and then others
+pub carry_append : (sent more : List ℕ) (words others : List Word) → Carry sent words → Carry more others → Carry (sent ++ more) (words ++ others)
+carry_append sent more words others first second = record {
+  same = map-append (λ (w : Word). w.byte) words others ∙ (λ t. first.same t ++ second.same t);
+  odd = All-append HasOddParity words others first.odd second.odd;
+}
 
 pub length-bytes_of : (entry : Entry) → length (bytes_of entry) ≡ 4
 length-bytes_of (Device address dcr bcr fixed) = refl

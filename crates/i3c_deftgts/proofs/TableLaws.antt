@@ -1,10 +1,9 @@
 -- The entries of a table's list, as they are found in it.
-use Rattle.std.proofs.Common.{◌≡◌, ◌≢◌, ◌↔◌, ℕ, zero, suc, ◌+◌, ◌-◌, ◌≤◌, ◌<◌, cond, if◌then◌else◌, Bool, true, false, List, [], ◌∷◌, ◌++◌, length, get_or, set, Option, Some, None, IsSome, option_map, is_some, count_by, inl, inr, sym, refl, ap, ◌∙◌, arith, length-append, zero-add, append_assoc}
+use Rattle.std.proofs.Common.{◌≡◌, ◌≢◌, ◌↔◌, ℕ, zero, suc, ◌+◌, ◌≤◌, ◌<◌, cond, if◌then◌else◌, Bool, true, false, List, [], ◌∷◌, ◌++◌, length, get_or, set, Option, Some, None, IsSome, option_map, is_some, count_by, inl, inr, sym, refl, ap, ◌∙◌, arith, length-append, zero-add, append_assoc}
 use Rattle.std.specs.Option.{option_to_list}
 use Rattle.std.proofs.lemmas.Bool.{both_ways, cases_eq, cases_lt, cond-true, cond-false}
 use Rattle.std.proofs.lemmas.List.{ext_get_or, get_or-set_other, get_or-set_same, get_or_past, length-set, set_past}
 use Rattle.std.proofs.lemmas.List.Sums.{sum_by-set}
-use Rattle.i3c_base.specs.declared.identity.Lvr.{Lvr}
 use Rattle.i3c_base.specs.Covered.{Table}
 use Rattle.i3c_base.specs.Places.{changed_from}
 use Rattle.i3c_base.specs.State.{Entry as Given, entry_in}
@@ -108,13 +107,6 @@ length-own_and_others table own =
     let many = length-upwards device_at (set table.given own None) 0 in
     let counted = count_own (device_at own) table.given own in
     omega (arith, many, counted)
-
-pub second_room : (table : Table) (own : ℕ) (two : List Entry) (lvrs : List (Option Lvr)) → two ≡ own_entry table own ++ upwards device_at 0 (set table.given own None) → length two + length (upwards legacy_at 0 lvrs) ≡ count_by is_some table.given + count_by is_some lvrs
-second_room table own two lvrs is =
-    let whole = length-append (own_entry table own) (upwards device_at 0 (set table.given own None)) in
-    let targets = length-upwards legacy_at lvrs 0 in
-    let long = ap length is in
-    omega (arith, long, whole, targets, length-own_and_others table own)
 
 pub length-entries_of : (table : Table) (own : ℕ) → length (entries_of table own) ≡ count_by is_some table.given + count_by is_some table.legacy
 length-entries_of table own =

@@ -38,6 +38,14 @@ module _ {A : Type 0} (entry : ℕ → A → Entry) where
       let more : count_by (is_some {T = A}) (Some x ∷ rest) ≡ 1 + count_by (is_some {T = A}) rest = sum_by-cons (λ o. cond (is_some o) 1 0) (Some x) rest in
       omega (arith, length-upwards rest (suc a), more)
 
+  -- nothing stands anywhere
+  pub upwards_nothing : (xs : List (Option A)) (a : ℕ) → count_by is_some xs ≡ 0 → upwards entry a xs ≡ []
+  upwards_nothing xs a none = empty (upwards entry a xs) (length-upwards xs a ∙ none)
+    where
+      empty : (entries : List Entry) → length entries ≡ 0 → entries ≡ []
+      empty [] h = refl
+      empty (e ∷ rest) h = absurd (omega (arith, h))
+
   -- while entries are appended there is room for those that are left
   pub room_here : (xs : List (Option A)) (i : ℕ) (o : Option A) (x : A) (items before : List Entry) (most : ℕ) → i < length xs → o ≡ get_or xs i o → o ≡ Some x
       → items ++ upwards entry i (drop i xs) ≡ before ++ upwards entry 0 xs → length before + length (upwards entry 0 xs) ≤ most → length items < most

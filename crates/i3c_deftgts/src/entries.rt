@@ -52,7 +52,7 @@ impl Entry {
 /// Clauses see the entries.
 #[derive(Drop)]
 pub struct List {
-    entries: ArrayVec<Entry, ENTRIES>,
+    pub(crate) entries: ArrayVec<Entry, ENTRIES>,
 }
 
 impl Model for List {
@@ -69,8 +69,17 @@ impl Model for List {
 }
 
 impl List {
-    ghost use Rattle.std.specs.Prelude.{◌≡◌, ◌↔◌, IsTrue, length};
+    ghost use Rattle.std.specs.Prelude.{◌≡◌, ◌↔◌, [], IsTrue, length};
     ghost use Rattle.i3c_deftgts.specs.Entries.{HaveOwnAddresses};
+
+    /// A list without entries.
+    pub fn new() -> List
+        ensures { result ≡ [] }
+    {
+        List {
+            entries: ArrayVec::new(),
+        }
+    }
 
     /// The entries, in the order of the words.
     pub fn entries(&self) -> &[Entry]

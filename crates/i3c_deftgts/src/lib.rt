@@ -13,6 +13,7 @@
 mod copies;
 mod entries;
 mod faults;
+mod listing;
 mod reading;
 mod writing;
 

@@ -1,22 +1,17 @@
-ghost use Rattle.std.specs.Prelude.{◌≡◌, ◌+◌, ◌*◌, ◌≤◌, ◌++◌, List, ℕ, [], ◌∷◌, IsSome, count_by, is_some, length};
+ghost use Rattle.std.specs.Prelude.{◌≡◌, ◌+◌, ◌*◌, ◌≤◌, ◌++◌, List as ListOf, ℕ, IsSome, count_by, is_some, length};
 ghost use Rattle.arrayvec.specs.ArrayVec.{array_vec_len};
 ghost use Rattle.i3c_base.specs.State.{entry_in};
-ghost use Rattle.i3c_table.specs.Rows.{entry_of_row};
-ghost use Rattle.i3c_word.specs.declared.Word.{Word as WordValue};
 ghost use Rattle.i3c_deftgts.specs.Copies.{copy_of, table_of};
-ghost use Rattle.i3c_deftgts.specs.Entries.{device_at, entries_of, given_in, legacy_at, upwards};
+ghost use Rattle.i3c_deftgts.specs.Entries.{entries_of};
 ghost use Rattle.i3c_deftgts.specs.Layout.{bytes_of, list_bytes, static_byte, Carry};
 ghost use Rattle.i3c_deftgts.specs.Reading.{ReadAs};
 
-use crate::entries::Entry;
+use crate::entries::{Entry, List};
+use crate::listing::WRITTEN;
 use arrayvec::ArrayVec;
-use i3c_base::{ADDRESSES, Addr7, Lvr};
-use i3c_legacy::LEGACIES;
-use i3c_table::{Addresses, ROWS, Row, Table};
+use i3c_base::Addr7;
+use i3c_table::Table;
 use i3c_word::{Word, write_word};
-
-/// The most entries that a table's list has: a row's or a legacy target's each.
-const WRITTEN: usize = ROWS + LEGACIES;
 
 /// The most words that a table's list has: the count, and four words for each entry.
 pub const WORDS: usize = 1 + 4 * WRITTEN;
@@ -33,81 +28,53 @@ pub fn write_list(table: &Table, own: Addr7) -> ArrayVec<Word, WORDS>
     ensures read { ReadAs result.items (entries_of table.now own) }
     ensures copied { table_of (entries_of table.now own) ≡ copy_of table.now }
 {
-    let entries = entries_of(table, own);
+    let mut list = List::new();
+    list.rewrite(table, own);
     let mut words = ArrayVec::new();
-    words.push(write_word((entries.len() - 1) as u8));
-    for entry in entries.iter() {
+    words.push(list.count_word());
+    for entry in list.entries() {
         push_entry(&mut words, entry);
     }
     words
 }
 
-// The entries of a table's list.
-fn entries_of(table: &Table, own: Addr7) -> ArrayVec<Entry, WRITTEN>
-    requires { IsSome (entry_in table.now.given own) }
-    ensures items { result.items ≡ entries_of table.now own }
-    ensures long { length result.items ≡ count_by is_some table.now.given + count_by is_some table.now.legacy }
-    ensures read { (words : List WordValue) → Carry (list_bytes result.items) words → ReadAs words result.items }
-    ensures copied { table_of result.items ≡ copy_of table.now }
-{
-    let mut entries = ArrayVec::new();
-    if let Some(row) = table.row_of(own) {
-        entries.push(device_entry(&row));
-    }
-    push_devices(&mut entries, table, table.given_addresses().without(own));
-    push_legacies(&mut entries, &table.legacies().by_address());
-    entries
-}
-
-// Appends the entries of the devices that were given these addresses, upwards.
-fn push_devices(entries: &mut ArrayVec<Entry, WRITTEN>, table: &Table, addresses: Addresses)
-    requires { array_vec_len entries.old + length (upwards device_at 0 (given_in addresses.0 table.now.given)) ≤ WRITTEN }
-    ensures { entries.new.items ≡ entries.old.items ++ upwards device_at 0 (given_in addresses.0 table.now.given) }
-{
-    let mut left = addresses;
-    while let Some(address) = left.lowest() {
-        left = left.without(address);
-        if let Some(row) = table.row_of(address) {
-            entries.push(device_entry(&row));
-        }
-    }
-}
-
-// Appends the entries of legacy targets, each at the place of its address.
-fn push_legacies(entries: &mut ArrayVec<Entry, WRITTEN>, lvrs: &[Option<Lvr>])
-    requires room { array_vec_len entries.old + length (upwards legacy_at 0 lvrs.now) ≤ WRITTEN }
-    requires places { length lvrs.now ≡ ADDRESSES }
-    ensures { entries.new.items ≡ entries.old.items ++ upwards legacy_at 0 lvrs.now }
-{
-    for (place, lvr) in lvrs.iter().enumerate() {
-        if let Some(lvr) = lvr {
-            entries.push(Entry::Legacy {
-                address: Addr7::new(place as u8).unwrap(),
-                lvr: *lvr,
-            });
-        }
-    }
-}
-
-// The entry of a row, whose device has no static address.
-fn device_entry(row: &Row) -> Entry
-    ensures { result ≡ device_at row.now.address (entry_of_row row.now) }
-{
-    Entry::Device {
-        address: row.address,
-        dcr: row.dcr,
-        bcr: row.bcr,
-        fixed: None,
-    }
-}
-
 // Appends the four words of an entry.
 fn push_entry(words: &mut ArrayVec<Word, WORDS>, entry: &Entry)
     requires { array_vec_len words.old + 4 ≤ WORDS }
-    ensures { (bytes : List ℕ) → Carry bytes words.old.items → Carry (bytes ++ bytes_of entry.now) words.new.items }
+    ensures { (bytes : ListOf ℕ) → Carry bytes words.old.items → Carry (bytes ++ bytes_of entry.now) words.new.items }
 {
-    for byte in bytes_of(entry) {
-        words.push(write_word(byte));
+    for word in entry.words() {
+        words.push(word);
+    }
+}
+
+impl List {
+    ghost use Rattle.std.specs.Prelude.{◌≡◌, ◌-◌, length};
+    ghost use Rattle.i3c_word.specs.Parity.{HasOddParity};
+
+    /// The word before those of the entries: how many follow the first one.
+    pub fn count_word(&self) -> Word
+        ensures count { result.byte ≡ length self.now - 1 }
+        ensures odd { HasOddParity result }
+    {
+        write_word(self.entries.len().saturating_sub(1) as u8)
+    }
+}
+
+impl Entry {
+    ghost use Rattle.i3c_deftgts.specs.Layout.{bytes_of, Carry};
+
+    /// Its four words.
+    pub fn words(&self) -> [Word; 4]
+        ensures { Carry (bytes_of self.now) result }
+    {
+        let [address, code, bcr, fixed] = bytes_of(self);
+        [
+            write_word(address),
+            write_word(code),
+            write_word(bcr),
+            write_word(fixed),
+        ]
     }
 }
 

@@ -32,7 +32,7 @@ pub none_takes : (st : State) (a : ℕ) (lost : Lost) (devices : List (Option De
 none_takes st a lost devices active has h some = both_ways _ some.2 (nobody_takes st a lost devices active has h some.0 some.1)
 
 -- whoever is left at a later bit was left before
-takes_before : (st : State) (a : ℕ) (cuts : CutList) (first last : ℕ) → first ≤ last → SomeTakes st a (lost_by cuts last) → SomeTakes st a (lost_by cuts first)
+pub takes_before : (st : State) (a : ℕ) (cuts : CutList) (first last : ℕ) → first ≤ last → SomeTakes st a (lost_by cuts last) → SomeTakes st a (lost_by cuts first)
 takes_before st a cuts first last l some = (some.0, some.1, left_before cuts first last some.0 l some.2)
 
 -- the bits of a byte from bit j of the wire on, where it reads ones, and before it

@@ -39,13 +39,13 @@ pub fn offer(devices: &Devices, active: Slot, to: Addr7, cuts: &Cuts, begun: u16
     ensures read { (st : State) → HasDevices st devices.now active → IsReadAs st to cuts.now (begun + 19) result }
 {
     let ack = begun + ACK_BITS;
+    if let Some(slot) = devices.lowest_willing(active, to, cuts, ack + WORD_BITS) {
+        return Offer::Taken(slot);
+    }
     if devices.lowest_willing(active, to, cuts, ack).is_none() {
         return Offer::Nobody;
     }
-    match devices.lowest_willing(active, to, cuts, ack + WORD_BITS) {
-        Some(slot) => Offer::Taken(slot),
-        None => Offer::Torn(torn_byte(devices, active, to, cuts, ack)),
-    }
+    Offer::Torn(torn_byte(devices, active, to, cuts, ack))
 }
 
 /// The bits of a handover: the code and the target's header, and after its ACK the byte (I3C Basic 5.1.9.3.16).

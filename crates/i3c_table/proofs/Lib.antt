@@ -4,3 +4,4 @@ pub mod Known
 pub mod Open
 pub mod Placed
 pub mod Reset
+mod Unkept

@@ -54,7 +54,7 @@ impl Table {
     ghost use Rattle.std.specs.Int.{bit_at};
     ghost use Rattle.i3c_table.specs.Rows.{entry_of_row};
     ghost use Rattle.i3c_table.specs.Sets.{is_in};
-    ghost use Rattle.i3c_table.specs.Putting.{cleared, with_row, MayPut};
+    ghost use Rattle.i3c_table.specs.Putting.{cleared, unkept_table, with_row, MayPut};
 
     /// A table in which no address was given.
     pub fn new(legacies: Legacies) -> Table
@@ -157,6 +157,15 @@ impl Table {
         self.listed = false;
         self.kept = Addresses(0);
         self.held = self.held.only(own);
+    }
+
+    /// Keeps no address for an identity any more, as a controller has it that knows its bus by a list alone. The list is
+    /// out of date then.
+    pub fn forget_identities(&mut self)
+        ensures { self.new ≡ unkept_table self.old }
+    {
+        self.listed = false;
+        self.kept.0 = 0;
     }
 
     /// The list of this table was sent: it is current (DEFTGTS, I3C Basic 5.1.9.3.7).

@@ -1,30 +1,26 @@
--- The code, each word of the list, and STOP.
-use Rattle.std.proofs.Common.{List, [], ◌∷◌, ◌++◌, map, take, refl, sym, subst, ◌∙◌}
-use Rattle.std.proofs.lemmas.List.{map_more, take_all}
+-- The code, the count, the words of each entry, and STOP.
+use Rattle.std.proofs.Common.{[], ◌∷◌, ◌++◌, ◌-◌, length, ap, refl, subst, ◌∙◌}
+use Rattle.std.specs.List.{flat_map}
+use Rattle.i3c_deftgts.specs.Layout.{bytes_of, list_bytes, Carry}
+use Rattle.i3c_deftgts.proofs.LayoutLaws.{carry_append, carry_one}
 use Rattle.i3c_frame.proofs.TapLaws.{NotesAll-push}
-use Rattle.i3c_frame.specs.Taps.{NotesAll}
-use Rattle.i3c_frame.specs.declared.symbols.Symbol.{Symbol}
 use Rattle.i3c_frame.specs.declared.symbols.Symbol.TheVariants.{Stop, Word}
 use Rattle.i3c_bus.proofs.wire.tell_list.Goals as goal
 
-pub loop-word-init : goal.loop-word-init
-loop-word-init g c = refl
-
-pub loop-word-preserved : goal.loop-word-preserved
-loop-word-preserved g c =
-    subst (λ (told : List Symbol). NotesAll g.T.Tap.note_gives c.note.new.self told c.note-in-loop-word.new.self)
-    (sym (map_more Word c.args.words.now c.loop-word.word-index _ c.loop-word-test.true))
-    (NotesAll-push g.T.Tap.note_gives c.note.new.self (map Word (take c.loop-word.word-index c.args.words.now)) c.loop-word.tap _ c.note-in-loop-word.new.self c.loop-word.invariant c.note-in-loop-word.ensures)
-
 pub returns : goal.returns
 returns g c =
-    let all = take_all c.loop-word.word-index c.args.words.now c.loop-word-test.false in (
-      Word c.write_word.result ∷ map Word c.args.words.now ++ Stop ∷ [],
+    let told = c.tell_entries.ensures in
+    let count = length c.args.list.now - 1 in (
+      Word c.write_word.result ∷ Word c.count_word.result ∷ told.0 ++ Stop ∷ [],
       (
         c.note.new.self,
         c.note.ensures,
-        NotesAll-push g.T.Tap.note_gives c.note.new.self (map Word c.args.words.now) c.loop-word.tap Stop c.note-2.new.self
-            (subst (λ words. NotesAll g.T.Tap.note_gives c.note.new.self (map Word words) c.loop-word.tap) all c.loop-word.invariant) c.note-2.ensures,
+        (c.note-2.new.self, c.note-2.ensures, NotesAll-push g.T.Tap.note_gives c.note-2.new.self told.0 c.tell_entries.new.tap Stop c.note-3.new.self told.1 c.note-3.ensures),
       ),
-      (c.write_word.result, (c.write_word.ensures.byte ∙ c.byte_of.ensures, c.write_word.ensures.odd), refl),
+      (
+        c.count_word.result ∷ told.2.0,
+        carry_append (count ∷ []) (flat_map bytes_of c.args.list.now) (c.count_word.result ∷ []) told.2.0 (carry_one count c.count_word.result c.count_word.ensures.count c.count_word.ensures.odd)
+            (subst (λ entries. Carry (flat_map bytes_of entries) told.2.0) c.entries.ensures.same told.2.1),
+        (c.write_word.result, (c.write_word.ensures.byte ∙ c.byte_of.ensures, c.write_word.ensures.odd), ap (λ symbols. Word c.write_word.result ∷ Word c.count_word.result ∷ symbols ++ Stop ∷ []) told.2.2),
+      ),
     )

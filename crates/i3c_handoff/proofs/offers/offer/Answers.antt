@@ -2,7 +2,7 @@ use Rattle.std.proofs.Common.{◌≡◌, ◌+◌, arith, subst}
 use Rattle.i3c_handoff.specs.Offers.{IsTornByte}
 use Rattle.i3c_handoff.proofs.offers.offer.Goals as goal
 
-pub returns-in-None-clause-read : goal.returns-in-None-clause-read
-returns-in-None-clause-read c st has =
+pub returns-clause-read : goal.returns-clause-read
+returns-clause-read c st has =
     let next : c.args.begun + 18 + 1 ≡ c.args.begun + 19 = omega arith in
     subst (λ first. IsTornByte st c.args.to c.args.cuts.now first c.torn_byte.result) next (c.torn_byte.ensures st has)

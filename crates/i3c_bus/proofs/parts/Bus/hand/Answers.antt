@@ -1,32 +1,28 @@
--- The table is the copy of the device that takes the role.
-use Rattle.std.proofs.Common.{◌≡◌, ◌∙◌, ℕ, true, ap, refl, subst, sym}
+-- The table keeps no address for an identity, as the copy of the device that takes the role.
+use Rattle.std.proofs.Common.{◌≡◌, ◌∙◌, ℕ, ap, refl, subst, sym}
 use Rattle.std.proofs.lemmas.Bool.{both_ways}
-use Rattle.i3c_base.specs.Covered.{IsCopy, Table}
+use Rattle.i3c_base.specs.Covered.{Table}
 use Rattle.i3c_base.specs.Frames.{IsWillingAt, handed}
 use Rattle.i3c_base.specs.State.{Held}
-use Rattle.i3c_deftgts.specs.Copies.{table_of}
 use Rattle.i3c_bus.specs.Parts.{state_of}
-use Rattle.i3c_bus.specs.Whole.{IsCurrent}
 use Rattle.i3c_bus.proofs.Currency.{handed_by}
 use Rattle.i3c_bus.proofs.Seen.{seen}
 use Rattle.i3c_step.specs.Sound.{IsSound}
 use Rattle.i3c_step.proofs.Soundness.{sound_handed}
 use Rattle.i3c_bus.proofs.parts.Bus.hand.Goals as goal
 
-copy : (c : goal.After-give) → IsCopy (seen c.self.inside) (table_of c.in-Some.list)
-copy c = (subst (IsCurrent (seen c.self.inside)) c.in-Some.is (c.self.invariant.copied (subst (λ (h : Held). h.state.listed ≡ true) (sym c.self.view_is) c.requires.listed))).0
-
 after : (c : goal.After-give)
-    → state_of c.lose_role_wish.new.self c.self.inside.raised c.give.new.active c.to_table-self-inside.result c.self.inside.legacy c.self.inside.in_session c.self.inside.records.items ≡ handed c.args.slot (seen c.self.inside)
-after c = handed_by (seen c.self.inside) c.args.slot c.give.new.active c.in-Some.list c.to_table-self-inside.result c.lose_role_wish.new.self (copy c) c.lose_role_wish.ensures c.give.ensures.kept c.to_table-self-inside.ensures
+    → state_of c.lose_role_wish.new.self c.self.inside.raised c.give.new.active c.forget_identities.new.self c.self.inside.legacy c.self.inside.in_session c.self.inside.records.items ≡ handed c.args.slot (seen c.self.inside)
+after c = handed_by (seen c.self.inside) c.args.slot c.give.new.active c.forget_identities.new.self c.lose_role_wish.new.self
+    (ap (λ (t : Table). t.given) c.forget_identities.ensures) (ap (λ (t : Table). t.listed) c.forget_identities.ensures) c.lose_role_wish.ensures c.give.ensures.kept
 
 pub invariant_of-self : goal.invariant_of-self
 invariant_of-self c =
     let willing : (a : ℕ) × IsWillingAt (seen c.self.inside) a c.args.slot = subst (λ (h : Held). (a : ℕ) × IsWillingAt h.state a c.args.slot) (sym c.self.view_is) c.requires.willing in
     record {
       sound = subst IsSound (sym (after c)) (sound_handed c.args.slot willing.0 (seen c.self.inside) willing.1 c.self.invariant.sound);
-      covered = (refl, ap (λ (t : Table). t.legacy) c.to_table-self-inside.ensures ∙ (copy c).1, refl);
-      copied = λ listed. absurd (both_ways _ (ap (λ (t : Table). t.listed) c.to_table-self-inside.ensures) listed);
+      covered = (refl, ap (λ (t : Table). t.legacy) c.forget_identities.ensures ∙ c.self.invariant.covered.1, refl);
+      copied = λ listed. absurd (both_ways _ (ap (λ (t : Table). t.listed) c.forget_identities.ensures) listed);
     }
 
 pub returns-clause-state : goal.returns-clause-state

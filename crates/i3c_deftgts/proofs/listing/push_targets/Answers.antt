@@ -3,15 +3,15 @@ use Rattle.i3c_base.specs.declared.identity.Lvr.{Lvr}
 use Rattle.std.proofs.lemmas.List.{get_or_default}
 use Rattle.i3c_deftgts.specs.Entries.{legacy_at}
 use Rattle.i3c_deftgts.proofs.UpwardLaws.{all_pushed, passed, pushed, room_here}
-use Rattle.i3c_deftgts.proofs.writing.push_legacies.Goals as goal
-use Rattle.i3c_deftgts.proofs.writing.push_legacies.Goals.{in-Some, in_default}
+use Rattle.i3c_deftgts.proofs.listing.push_targets.Goals as goal
+use Rattle.i3c_deftgts.proofs.listing.push_targets.Goals.{in-Some, in_default}
 
 any_default : (lvrs : List (Option Lvr)) (i : ℕ) → i < length lvrs → get_or lvrs i None ≡ get_or lvrs i (get_or lvrs i None)
 any_default lvrs i l = get_or_default lvrs i None (get_or lvrs i None) l
 
 pub push-requires : goal.push-requires
 push-requires c =
-    let room : length c.loop-place.entries.items < 124 = room_here legacy_at c.args.lvrs.now c.loop-place.place (get_or c.args.lvrs.now c.loop-place.place None) c.in-Some.lvr c.loop-place.entries.items c.args.entries.now.items 124
+    let room : length c.loop-place.entries.items < 128 = room_here legacy_at c.args.lvrs.now c.loop-place.place (get_or c.args.lvrs.now c.loop-place.place None) c.in-Some.lvr c.loop-place.entries.items c.args.entries.now.items 128
     c.loop-place-test.true (any_default c.args.lvrs.now c.loop-place.place c.loop-place-test.true) c.in-Some.is c.loop-place.invariant c.requires.room in
     (omega arith, room)
 

@@ -1,18 +1,17 @@
-use Rattle.std.proofs.Common.{◌≡◌, ◌∙◌, ◌++◌, ◌∷◌, [], ◌<◌, Some, List, append-nil, length-append, ap, arith, length, sym, refl}
+use Rattle.std.proofs.Common.{◌∙◌, ◌++◌, ◌∷◌, [], ◌<◌, List, append-nil, length-append, ap, arith, length, sym}
 use Rattle.std.specs.Option.{option_to_list}
 use Rattle.std.proofs.Common.{option_map}
-use Rattle.i3c_base.specs.State.{entry_in}
 use Rattle.i3c_table.specs.Rows.{entry_of_row}
 use Rattle.i3c_deftgts.specs.declared.entries.Entry.{Entry}
 use Rattle.i3c_deftgts.specs.Entries.{device_at, given_in, upwards}
-use Rattle.i3c_deftgts.proofs.TableLaws.{entry_here, lowest_first, none_left, pushed_here, room_for}
-use Rattle.i3c_deftgts.proofs.writing.push_devices.Goals as goal
+use Rattle.i3c_deftgts.proofs.TableLaws.{none_left, pushed_here, room_for}
+use Rattle.i3c_deftgts.proofs.listing.push_devices.Goals as goal
 
 pub push-requires : goal.push-requires
 push-requires c =
     let given = c.args.table.now.given in
     let before : List Entry = c.loop-address.entries.items in
-    let room : length before < 124 = room_for given c.loop-address.left.0 c.without-left.result.0 c.in-Some.address 124 (entry_of_row c.in-Some-row_of.row) before _ c.in-Some.ensures c.without-left.ensures.not_in_it c.without-left.ensures.others
+    let room : length before < 128 = room_for given c.loop-address.left.0 c.without-left.result.0 c.in-Some.address 128 (entry_of_row c.in-Some-row_of.row) before _ c.in-Some.ensures c.without-left.ensures.not_in_it c.without-left.ensures.others
     c.in-Some-row_of.ensures.found.1 c.loop-address.invariant (omega (arith, c.requires, length-append c.args.entries.now.items (upwards device_at 0 (given_in c.args.addresses.0 given)))) in
     (omega arith, room)
 
