@@ -125,8 +125,10 @@ fn write_pairs(places: &mut [u8], bytes: &[u8])
     ensures { places.new ≡ bytes_text bytes.now }
 {
     for (index, byte) in bytes.iter().enumerate() {
-        places[2 * index] = high_digit(*byte);
-        places[2 * index + 1] = low_digit(*byte);
+        let high = high_digit(*byte);
+        let low = low_digit(*byte);
+        places[2 * index] = high;
+        places[2 * index + 1] = low;
     }
 }
 
