@@ -1,6 +1,6 @@
 -- The bytes that pairs of digits write, as far as there are places.
 use Rattle.std.proofs.Common.{◌≡◌, ◌∙◌, ℕ, zero, suc, ◌-◌, ◌<◌, ◌≤◌, List, [], ◌∷◌, ◌++◌, length, take, Option, Some, None, arith, ap, refl, sym}
-use Rattle.std.proofs.lemmas.List.{append_assoc, append-nil, length-append}
+use Rattle.std.proofs.lemmas.List.{append_assoc, append-nil, length-append, take_all}
 use Rattle.std.specs.Option.{IfSome}
 use Rattle.std.specs.Str.Parse.{digits_value}
 use Rattle.i3c_lines.specs.Words.{pair_values}
@@ -45,3 +45,8 @@ pub pushed_if : (result : Option (Unit {0})) (most : ℕ) (had now new digits re
     → IfSome result (λ _. new ≡ now ++ take (most - length now) (pair_values rest)) → IfSome result (λ _. new ≡ had ++ take (most - length had) (pair_values digits))
 pushed_if None most had now new digits rest high low byte shape e grown h = tt
 pushed_if (Some done) most had now new digits rest high low byte shape e grown h = pushed most had now new digits rest high low byte shape e grown h
+
+-- a byte is pushed where there is a place
+pub kept : (most : ℕ) (had now : List ℕ) (byte : ℕ) → length had < most → now ≡ had ++ byte ∷ [] → now ≡ had ++ take (most - length had) (byte ∷ [])
+kept most had now byte room grown =
+    grown ∙ ap (λ xs. had ++ xs) (sym (take_all (most - length had) (byte ∷ []) (omega arith)))

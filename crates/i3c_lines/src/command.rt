@@ -122,6 +122,8 @@ impl Command {
             b"show" => Command::Show,
             b"symbols" => Command::Symbols,
             [b'r', b'a', b'i', b's', b'e', b' ', words @ ..] => return self.read_raise(words),
+            [b'r', b'e', b'a', b'd', b' ', word @ ..] => return self.read_read(word),
+            [b'w', b'r', b'i', b't', b'e', b' ', words @ ..] => return self.read_write(words),
             [b'e', b'n', b'e', b'c', b' ', words @ ..] => return self.read_enec(words),
             [b'd', b'i', b's', b'e', b'c', b' ', words @ ..] => return self.read_disec(words),
             _ => return self.read_words(line),
@@ -139,6 +141,29 @@ impl Command {
         };
         words.end()?;
         *self = Command::Event(Wish::Raise { name, byte });
+        Some(())
+    }
+
+    /// Becomes a private read by the word behind its first: an address.
+    fn read_read(&mut self, word: &[u8]) -> Option<()> {
+        let at = words::address(word)?;
+        *self = Command::Event(Wish::Read { at });
+        Some(())
+    }
+
+    /// Becomes a private write by the words behind its first: an address, and bytes if there are some.
+    // kept apart, so that no other line pays for the room that the bytes take on the stack
+    #[inline(never)]
+    fn read_write(&mut self, line: &[u8]) -> Option<()> {
+        let (address, rest) = line.split_at_checked(2)?;
+        let at = words::address(address)?;
+        let bytes = match rest {
+            [] => ArrayVec::new(),
+            [b' '] => return None,
+            [b' ', digits @ ..] => words::bytes(digits)?,
+            _ => return None,
+        };
+        *self = Command::Event(Wish::Write { at, bytes });
         Some(())
     }
 
@@ -160,8 +185,6 @@ impl Command {
     fn read_words(&mut self, line: &[u8]) -> Option<()> {
         let words = &mut Words::of(line);
         *self = match words.next()? {
-            b"read" => parse_read(words)?,
-            b"write" => parse_write(words)?,
             b"handover" => parse_handover(words)?,
             b"policy" => parse_policy(words)?,
             b"cut" => parse_cut(words)?,
@@ -233,25 +256,6 @@ fn parse_ask_role(words: &mut Words<'_>) -> Option<Command> {
     let name = Name::parse(words.next()?)?;
     words.end()?;
     Some(Command::Event(Wish::AskRole { name }))
-}
-
-/// The word of `read`: an address.
-fn parse_read(words: &mut Words<'_>) -> Option<Command> {
-    let at = words::address(words.next()?)?;
-    words.end()?;
-    Some(Command::Event(Wish::Read { at }))
-}
-
-/// The words of `write`: an address, and bytes if there are some.
-fn parse_write(words: &mut Words<'_>) -> Option<Command> {
-    let at = words::address(words.next()?)?;
-    let bytes = match words.next() {
-        None => ArrayVec::new(),
-        Some(b"") => return None,
-        Some(word) => words::bytes(word)?,
-    };
-    words.end()?;
-    Some(Command::Event(Wish::Write { at, bytes }))
 }
 
 /// The word of `handover`: an address.

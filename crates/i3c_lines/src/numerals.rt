@@ -1,4 +1,4 @@
-ghost use Rattle.std.specs.Prelude.{◌≡◌, ◌+◌, ◌*◌, ◌%◌, ◌<◌, ◌≤◌, ◌++◌, length, true, vec_capacity, vec_len, OnOk};
+ghost use Rattle.std.specs.Prelude.{◌≡◌, ◌+◌, ◌*◌, ◌/◌, ◌%◌, ◌<◌, ◌≤◌, ◌++◌, length, true, vec_capacity, vec_len, OnOk};
 ghost use Rattle.std.specs.Fmt.{decimal, digit_glyph};
 ghost use Rattle.i3c_lines.specs.Hex.{byte_text, bytes_text, hex_text};
 
@@ -7,6 +7,19 @@ use std::alloc::AllocError;
 
 /// The hex digits, each at its value.
 static DIGITS: [u8; 16] = *b"0123456789ABCDEF";
+
+/// The two hex digits of each byte, one byte after another.
+static PAIRS: [u8; 512] = *b"000102030405060708090A0B0C0D0E0F101112131415161718191A1B1C1D1E1F\
+    202122232425262728292A2B2C2D2E2F303132333435363738393A3B3C3D3E3F\
+    404142434445464748494A4B4C4D4E4F505152535455565758595A5B5C5D5E5F\
+    606162636465666768696A6B6C6D6E6F707172737475767778797A7B7C7D7E7F\
+    808182838485868788898A8B8C8D8E8F909192939495969798999A9B9C9D9E9F\
+    A0A1A2A3A4A5A6A7A8A9AAABACADAEAFB0B1B2B3B4B5B6B7B8B9BABBBCBDBEBF\
+    C0C1C2C3C4C5C6C7C8C9CACBCCCDCECFD0D1D2D3D4D5D6D7D8D9DADBDCDDDEDF\
+    E0E1E2E3E4E5E6E7E8E9EAEBECEDEEEFF0F1F2F3F4F5F6F7F8F9FAFBFCFDFEFF";
+
+/// How many hex digits a number has, with the zeros that lead it.
+const MOST_DIGITS: usize = 16;
 
 /// Numbers below this have at most four digits.
 const FIVE_DIGITS: u64 = 10_000;
@@ -91,49 +104,80 @@ fn last_digit(number: u64) -> u8
 pub(crate) fn push_byte(text: &mut Vec<u8>, byte: u8) -> Result<(), AllocError>
     ensures { OnOk result (text.new.items ≡ text.old.items ++ byte_text byte) }
 {
-    text.reserve(2)?;
-    push_pair(text, byte);
-    Ok(())
-}
-
-/// Appends a byte in two hex digits, for which there is room.
-fn push_pair(text: &mut Vec<u8>, byte: u8)
-    requires { vec_len text.old + 2 ≤ vec_capacity text.old }
-    ensures digits { text.new.items ≡ text.old.items ++ byte_text byte }
-    ensures len { vec_len text.new ≡ vec_len text.old + 2 }
-    ensures capacity { vec_capacity text.new ≡ vec_capacity text.old }
-{
-    text.push_reserved(digit(byte / 16));
-    text.push_reserved(digit(byte % 16));
+    text.extend_from_slice(&[high_digit(byte), low_digit(byte)])
 }
 
 /// Appends bytes to a text, each in two hex digits.
 pub(crate) fn push_bytes(text: &mut Vec<u8>, bytes: &[u8]) -> Result<(), AllocError>
     ensures { OnOk result (text.new.items ≡ text.old.items ++ bytes_text bytes.now) }
 {
-    text.reserve(2 * bytes.len())?;
-    push_pairs(text, bytes);
+    let start = text.len();
+    let more = 2 * bytes.len();
+    text.reserve(more)?;
+    text.resize(start + more, 0)?;
+    write_pairs(&mut text[start..], bytes);
     Ok(())
 }
 
-/// Appends bytes in two hex digits each, for which there is room.
-fn push_pairs(text: &mut Vec<u8>, bytes: &[u8])
-    requires { vec_len text.old + 2 * length bytes.now ≤ vec_capacity text.old }
-    ensures { text.new.items ≡ text.old.items ++ bytes_text bytes.now }
+/// Writes bytes into these places, each in two hex digits.
+fn write_pairs(places: &mut [u8], bytes: &[u8])
+    requires { length places.old ≡ 2 * length bytes.now }
+    ensures { places.new ≡ bytes_text bytes.now }
 {
-    if let Some((first, rest)) = bytes.split_first() {
-        push_pair(text, *first);
-        push_pairs(text, rest);
+    for (index, byte) in bytes.iter().enumerate() {
+        let high = high_digit(*byte);
+        let low = low_digit(*byte);
+        places[2 * index] = high;
+        places[2 * index + 1] = low;
     }
+}
+
+/// The first hex digit of a byte.
+#[tactic(auto, using(crate::proofs::HexTexts::high_at))]
+fn high_digit(byte: u8) -> u8
+    ensures { result ≡ digit_glyph true (byte / 16) }
+{
+    PAIRS[2 * usize::from(byte)]
+}
+
+/// The second hex digit of a byte.
+#[tactic(auto, using(crate::proofs::HexTexts::low_at))]
+fn low_digit(byte: u8) -> u8
+    ensures { result ≡ digit_glyph true (byte % 16) }
+{
+    PAIRS[2 * usize::from(byte) + 1]
 }
 
 /// Appends the last hex digits of a number to a text, so many.
 pub(crate) fn push_hex(text: &mut Vec<u8>, number: u64, count: usize) -> Result<(), AllocError>
     ensures { OnOk result (text.new.items ≡ text.old.items ++ hex_text count number) }
 {
+    if count > MOST_DIGITS {
+        return push_longer_hex(text, number, count);
+    }
+    let digits = hex_digits(number);
+    text.extend_from_slice(&digits[MOST_DIGITS - count..])
+}
+
+/// Appends the hex digits of a number, more than it has.
+// kept apart, since nobody asks for so many
+#[cold]
+#[inline(never)]
+fn push_longer_hex(text: &mut Vec<u8>, number: u64, count: usize) -> Result<(), AllocError>
+    ensures { OnOk result (text.new.items ≡ text.old.items ++ hex_text count number) }
+{
     text.reserve(count)?;
     push_digits(text, number, count);
     Ok(())
+}
+
+/// The hex digits of a number, with the zeros that lead it.
+fn hex_digits(number: u64) -> [u8; MOST_DIGITS]
+    ensures { result ≡ hex_text MOST_DIGITS number }
+{
+    let mut digits = [0; MOST_DIGITS];
+    write_pairs(&mut digits, &number.to_be_bytes());
+    digits
 }
 
 /// Appends the last hex digits of a number, for which there is room.
@@ -144,10 +188,8 @@ fn push_digits(text: &mut Vec<u8>, number: u64, count: usize)
     ensures len { vec_len text.new ≡ vec_len text.old + count }
     ensures capacity { vec_capacity text.new ≡ vec_capacity text.old }
 {
-    if count > 1 {
-        push_digits(text, number / 256, count - 2);
-        push_pair(text, (number % 256) as u8);
-    } else if count == 1 {
+    if count > 0 {
+        push_digits(text, number / 16, count - 1);
         text.push_reserved(digit((number % 16) as u8));
     }
 }

@@ -10,6 +10,24 @@ use i3c_base::{Addr7, Kinds, Pid};
 use i3c_step::WRITE_KEPT;
 use std::str;
 
+/// More than any hex digit is worth.
+const NO_DIGIT: u8 = 16;
+
+/// What each byte is worth as a hex digit. Letters are upper case.
+static WORTHS: [u8; 256] = [
+    16, 16, 16, 16, 16, 16, 16, 16, 16, 16, 16, 16, 16, 16, 16, 16, 16, 16, 16, 16, 16, 16, 16, 16,
+    16, 16, 16, 16, 16, 16, 16, 16, 16, 16, 16, 16, 16, 16, 16, 16, 16, 16, 16, 16, 16, 16, 16, 16,
+    0, 1, 2, 3, 4, 5, 6, 7, 8, 9, 16, 16, 16, 16, 16, 16, 16, 10, 11, 12, 13, 14, 15, 16, 16, 16,
+    16, 16, 16, 16, 16, 16, 16, 16, 16, 16, 16, 16, 16, 16, 16, 16, 16, 16, 16, 16, 16, 16, 16, 16,
+    16, 16, 16, 16, 16, 16, 16, 16, 16, 16, 16, 16, 16, 16, 16, 16, 16, 16, 16, 16, 16, 16, 16, 16,
+    16, 16, 16, 16, 16, 16, 16, 16, 16, 16, 16, 16, 16, 16, 16, 16, 16, 16, 16, 16, 16, 16, 16, 16,
+    16, 16, 16, 16, 16, 16, 16, 16, 16, 16, 16, 16, 16, 16, 16, 16, 16, 16, 16, 16, 16, 16, 16, 16,
+    16, 16, 16, 16, 16, 16, 16, 16, 16, 16, 16, 16, 16, 16, 16, 16, 16, 16, 16, 16, 16, 16, 16, 16,
+    16, 16, 16, 16, 16, 16, 16, 16, 16, 16, 16, 16, 16, 16, 16, 16, 16, 16, 16, 16, 16, 16, 16, 16,
+    16, 16, 16, 16, 16, 16, 16, 16, 16, 16, 16, 16, 16, 16, 16, 16, 16, 16, 16, 16, 16, 16, 16, 16,
+    16, 16, 16, 16, 16, 16, 16, 16, 16, 16, 16, 16, 16, 16,
+];
+
 /// What parts the words of a line.
 const SPACE: u8 = b' ';
 
@@ -157,17 +175,26 @@ fn push_pairs(digits: &[u8], bytes: &mut ArrayVec<u8, WRITE_KEPT>) -> Option<()>
     };
     let (low, rest) = rest.split_first()?;
     let byte = 16 * digit(*high)? + digit(*low)?;
-    keep(bytes, byte);
+    if bytes.is_full() {
+        return check_pairs(rest);
+    }
+    bytes.push(byte);
     push_pairs(rest, bytes)
 }
 
-/// Appends a byte, if there is a place.
-fn keep(bytes: &mut ArrayVec<u8, WRITE_KEPT>, byte: u8)
-    ensures { bytes.new.items ≡ bytes.old.items ++ take (WRITE_KEPT - length bytes.old.items) (byte ∷ []) }
+/// Nothing, if a word is of pairs of hex digits.
+#[cold]
+#[inline(never)]
+fn check_pairs(digits: &[u8]) -> Option<()>
+    ensures { IsSome result ↔ AreBytes digits.now }
 {
-    if !bytes.is_full() {
-        bytes.push(byte);
-    }
+    let Some((high, rest)) = digits.split_first() else {
+        return Some(());
+    };
+    let (low, rest) = rest.split_first()?;
+    digit(*high)?;
+    digit(*low)?;
+    check_pairs(rest)
 }
 
 /// The value of a hex digit. Letters are upper case.
@@ -175,9 +202,6 @@ fn digit(byte: u8) -> Option<u8>
     ensures form { IsSome result ↔ IsHexDigit byte }
     ensures value { IfSome result (λ value. (value ≡ digit_value byte) × (value < 16)) }
 {
-    match byte {
-        b'0'..=b'9' => Some(byte - b'0'),
-        b'A'..=b'F' => Some(byte - b'A' + 10),
-        _ => None,
-    }
+    let worth = WORTHS[usize::from(byte)];
+    if worth < NO_DIGIT { Some(worth) } else { None }
 }
