@@ -1,5 +1,5 @@
 -- The parts of a text, one after another.
-use Rattle.std.proofs.Common.{◌≡◌, ℕ, suc, ◌+◌, ◌-◌, ◌<◌, Bool, true, false, nat_lt, List, [], ◌∷◌, length, get_or, take, drop, filter, Some, None, not, position, unwrap_or, arith, refl, ap, sym, ◌∙◌, lt-ltb, ltb-false, length-drop, add-zero}
+use Rattle.std.proofs.Common.{◌≡◌, ℕ, suc, ◌+◌, ◌-◌, ◌<◌, ◌≤◌, Bool, true, false, nat_lt, List, [], ◌∷◌, length, get_or, take, drop, filter, Some, None, not, position, unwrap_or, arith, refl, ap, sym, ◌∙◌, lt-ltb, ltb-false, length-drop, add-zero}
 use Rattle.std.proofs.Math.Seq.{drop-length, take-length}
 use Rattle.std.proofs.lemmas.List.{get_or-drop}
 use Rattle.std.proofs.lemmas.List.Folds.{length-prefix_len}
@@ -120,7 +120,7 @@ parts_step text start here =
     sym skipped ∙ parts_first rest some ∙ ap (λ end. take end rest ∷ parts (drop end rest)) (sym (position_is is_separator rest))
 
 -- the rest of a text, as a slice to its end gives it
-rest_is : (text : List ℕ) (start : ℕ) → take (length text - start) (drop start text) ≡ drop start text
+pub rest_is : (text : List ℕ) (start : ℕ) → take (length text - start) (drop start text) ≡ drop start text
 rest_is text start = ap (λ k. take k (drop start text)) (sym (length-drop start text)) ∙ take-length (drop start text)
 
 -- the first part, as it is cut off
@@ -134,3 +134,8 @@ parts_cut text front back start end here ends begins follows =
     ∙ ap (λ k. take k (drop start text) ∷ parts (drop k (drop start text))) (sym stop)
     ∙ ap (λ rest. take end rest ∷ parts (drop end rest)) (sym rest)
     ∙ (λ i. sym begins i ∷ parts (sym follows i))
+
+-- past a separator at the front of a text
+pub parts_past_first : (text : List ℕ) → 1 ≤ length text → is_separator (get_or text 0 0) ≡ true → parts (take (length text - 1) (drop 1 text)) ≡ parts text
+parts_past_first [] some here = absurd (omega arith)
+parts_past_first (byte ∷ text) some here = ap parts (rest_is (byte ∷ text) 1) ∙ sym (parts_past byte text here)

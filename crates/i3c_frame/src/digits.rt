@@ -33,6 +33,7 @@ fn write_digit<W: fmt::Write>(f: &mut fmt::Formatter<W>, value: u8) -> fmt::Resu
 }
 
 /// The value of a digit, if it is one.
+#[inline(always)]
 fn value_of(digit: u8) -> Option<u8>
     ensures value { IfSome result (λ value. (value < 16) × (digit_glyph true value ≡ digit)) }
     ensures every { (value : ℕ) → value < 16 → digit_glyph true value ≡ digit → IsSome result }
@@ -59,9 +60,10 @@ pub(crate) fn read_digits(digits: &[u8]) -> Option<u64>
 }
 
 /// The byte of two digits, if they are digits.
+#[inline(always)]
 pub(crate) fn read_byte(high: u8, low: u8) -> Option<u8>
     ensures digits { IfSome result (λ byte. digits_of 2 byte ≡ high ∷ low ∷ []) }
     ensures every { (n : ℕ) → digits_of 2 n ≡ high ∷ low ∷ [] → IsSome result }
 {
-    Some(read_digits(&[high, low])? as u8)
+    Some(16 * value_of(high)? + value_of(low)?)
 }

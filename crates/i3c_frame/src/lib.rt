@@ -2,6 +2,7 @@
 #![tactic(auto)]
 
 mod digits;
+mod firsts;
 mod laws;
 mod parts;
 mod symbols;
@@ -11,4 +12,4 @@ mod traces;
 pub use laws::{printed_is_read_back, texts_differ};
 pub use symbols::Symbol;
 pub use taps::{Silent, Tap};
-pub use traces::{TraceFault, read_trace};
+pub use traces::{TraceFault, read_trace, read_trace_bytes};

@@ -15,6 +15,16 @@ impl<'a> Parts<'a> {
     {
         Parts { text }
     }
+
+    /// What wasn't gone through yet, without a separator at its front.
+    pub fn rest(&self) -> &'a [u8]
+        ensures { parts result.now ≡ parts self.now.text.now }
+    {
+        match self.text {
+            [byte, rest @ ..] if parts_symbols(*byte) => rest,
+            text => text,
+        }
+    }
 }
 
 impl<'a> Iterator for Parts<'a> {
@@ -49,7 +59,7 @@ fn end_of(text: &[u8]) -> Option<usize>
 }
 
 /// Whether a byte parts symbols: a space or a line feed.
-fn parts_symbols(byte: u8) -> bool
+pub(crate) fn parts_symbols(byte: u8) -> bool
     ensures { result ≡ is_separator byte }
 {
     byte == b' ' || byte == b'\n'

@@ -7,16 +7,16 @@ use i3c_word::Word;
 use std::fmt;
 
 /// Begins the text of an address byte.
-const AT_SIGN: u8 = b'@';
+pub(crate) const AT_SIGN: u8 = b'@';
 
 /// Begins the text of an identity.
-const EQUALS: u8 = b'=';
+pub(crate) const EQUALS: u8 = b'=';
 
 /// Stands before a direction.
-const SLASH: u8 = b'/';
+pub(crate) const SLASH: u8 = b'/';
 
 /// Stands before a T bit.
-const DOT: u8 = b'.';
+pub(crate) const DOT: u8 = b'.';
 
 /// The address that every I3C device hears (I3C Basic 5.1.2.2.1).
 const BROADCAST: u8 = 0x7E;
@@ -138,7 +138,8 @@ pub(crate) fn read_symbol(text: &[u8]) -> Option<Symbol>
 }
 
 /// The symbol of one letter.
-fn read_letter(letter: u8) -> Option<Symbol>
+#[inline(always)]
+pub(crate) fn read_letter(letter: u8) -> Option<Symbol>
     ensures text { IfSome result (HasText (letter ∷ [])) }
     ensures every { FindsSymbol (letter ∷ []) result }
 {
@@ -150,7 +151,8 @@ fn read_letter(letter: u8) -> Option<Symbol>
 }
 
 /// The symbol of two letters.
-fn read_pair(first: u8, second: u8) -> Option<Symbol>
+#[inline(always)]
+pub(crate) fn read_pair(first: u8, second: u8) -> Option<Symbol>
     ensures text { IfSome result (HasText (first ∷ second ∷ [])) }
     ensures every { FindsSymbol (first ∷ second ∷ []) result }
 {
@@ -176,7 +178,8 @@ fn read_four(first: u8, second: u8, third: u8, fourth: u8) -> Option<Symbol>
 }
 
 /// A header: an address, a slash, a direction and an answer.
-fn read_header(high: u8, low: u8, slash: u8, direction: u8, ack: u8) -> Option<Symbol>
+#[inline(always)]
+pub(crate) fn read_header(high: u8, low: u8, slash: u8, direction: u8, ack: u8) -> Option<Symbol>
     ensures text { IfSome result (HasText (high ∷ low ∷ slash ∷ direction ∷ ack ∷ [])) }
     ensures every { FindsSymbol (high ∷ low ∷ slash ∷ direction ∷ ack ∷ []) result }
 {
@@ -190,7 +193,8 @@ fn read_header(high: u8, low: u8, slash: u8, direction: u8, ack: u8) -> Option<S
 }
 
 /// A word: a byte and its T bit.
-fn read_word(high: u8, low: u8, t: u8) -> Option<Symbol>
+#[inline(always)]
+pub(crate) fn read_word(high: u8, low: u8, t: u8) -> Option<Symbol>
     ensures text { IfSome result (HasText (high ∷ low ∷ DOT ∷ t ∷ [])) }
     ensures every { FindsSymbol (high ∷ low ∷ DOT ∷ t ∷ []) result }
 {
@@ -200,7 +204,8 @@ fn read_word(high: u8, low: u8, t: u8) -> Option<Symbol>
 }
 
 /// The bits of an identity: an equals sign and 16 digits. Shorter texts are those of other symbols.
-fn read_identity(equals: u8, digits: &[u8]) -> Option<Symbol>
+#[inline(always)]
+pub(crate) fn read_identity(equals: u8, digits: &[u8]) -> Option<Symbol>
     requires { 5 ≤ length digits.now }
     ensures text { IfSome result (HasText (equals ∷ digits.now)) }
     ensures every { FindsSymbol (equals ∷ digits.now) result }
@@ -213,7 +218,8 @@ fn read_identity(equals: u8, digits: &[u8]) -> Option<Symbol>
 }
 
 /// An address byte of a round, and its answer.
-fn read_address_byte(high: u8, low: u8, ack: u8) -> Option<Symbol>
+#[inline(always)]
+pub(crate) fn read_address_byte(high: u8, low: u8, ack: u8) -> Option<Symbol>
     ensures text { IfSome result (HasText (AT_SIGN ∷ high ∷ low ∷ ack ∷ [])) }
     ensures every { FindsSymbol (AT_SIGN ∷ high ∷ low ∷ ack ∷ []) result }
 {
@@ -223,7 +229,8 @@ fn read_address_byte(high: u8, low: u8, ack: u8) -> Option<Symbol>
 }
 
 /// A byte of a legacy target, and its answer.
-fn read_legacy_word(high: u8, low: u8, ack: u8) -> Option<Symbol>
+#[inline(always)]
+pub(crate) fn read_legacy_word(high: u8, low: u8, ack: u8) -> Option<Symbol>
     ensures text { IfSome result (HasText (high ∷ low ∷ ack ∷ [])) }
     ensures every { FindsSymbol (high ∷ low ∷ ack ∷ []) result }
 {

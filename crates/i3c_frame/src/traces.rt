@@ -4,10 +4,13 @@ ghost use Rattle.i3c_frame.specs.Parts.{parts};
 ghost use Rattle.i3c_frame.specs.Texts.{IsInRange, text_of};
 ghost use Rattle.i3c_frame.specs.Traces.{IsFirstFault, IsTrace, after, misplaced};
 
-use crate::parts::Parts;
-use crate::symbols::{Symbol, read_symbol};
+use crate::firsts::{First, first_of};
+use crate::symbols::Symbol;
 use std::alloc::Global;
 use thiserror::Error;
+
+/// How many bytes of a trace are a symbol and what parts it from the next, as a rule.
+const BYTES_A_SYMBOL: usize = 4;
 
 /// Why a text is no trace. Symbols are counted from 1.
 #[derive(Clone, Copy, Debug, PartialEq, Eq, Drop, Error)]
@@ -73,11 +76,27 @@ pub fn read_trace(alloc: Global, text: &str) -> Result<Vec<Symbol>, TraceFault>
         → map text_of symbols ≡ parts text.now
         → MatchResult result (λ trace. trace.items ≡ symbols) (λ fault. fault ≡ TraceFault.OutOfMemory) }
 {
-    let mut symbols = Vec::new(alloc);
+    read_trace_bytes(alloc, text.as_bytes())
+}
+
+/// Reads a trace as `read_trace` does, from any bytes.
+pub fn read_trace_bytes(alloc: Global, bytes: &[u8]) -> Result<Vec<Symbol>, TraceFault>
+    ensures sound { IfOk result (λ trace. IsTrace trace.items × (map text_of trace.items ≡ parts bytes.now)) }
+    ensures range { IfOk result (λ trace. All IsInRange trace.items) }
+    ensures fault { IfErr result (λ fault.
+        (fault ≡ TraceFault.OutOfMemory) ⊎ IsFirstFault (parts bytes.now) fault) }
+    ensures complete { (symbols : List SymbolValue) → All IsInRange symbols → IsTrace symbols
+        → map text_of symbols ≡ parts bytes.now
+        → MatchResult result (λ trace. trace.items ≡ symbols) (λ fault. fault ≡ TraceFault.OutOfMemory) }
+{
+    let Ok(mut symbols) = Vec::with_capacity(alloc, bytes.len() / BYTES_A_SYMBOL) else {
+        return Err(TraceFault::OutOfMemory);
+    };
     let mut place = Place::Outside;
-    for part in Parts::new(text.as_bytes()) {
+    let mut rest = bytes;
+    while let Some(first) = first_of(rest) {
         let number = symbols.len() + 1;
-        let Some(symbol) = read_symbol(part) else {
+        let First::Symbol(symbol, left) = first else {
             return Err(TraceFault::BadSymbol(number));
         };
         let Some(next) = after(&place, &symbol) else {
@@ -87,6 +106,7 @@ pub fn read_trace(alloc: Global, text: &str) -> Result<Vec<Symbol>, TraceFault>
         if symbols.push(symbol).is_err() {
             return Err(TraceFault::OutOfMemory);
         }
+        rest = left;
     }
     match place {
         Place::Outside => Ok(symbols),

@@ -52,7 +52,7 @@ pub(crate) fn read_entries(alloc: Global, symbols: &[Symbol], before: usize) -> 
 fn leading_words(alloc: Global, symbols: &[Symbol]) -> Result<Vec<Word>, AllocError>
     ensures { IfOk result (λ words. words.items ≡ words_in symbols.now) }
 {
-    let mut words = Vec::new(alloc);
+    let mut words = Vec::with_capacity(alloc, symbols.len())?;
     let mut rest = symbols;
     while let [Symbol::Word(word), more @ ..] = rest {
         words.push(*word)?;

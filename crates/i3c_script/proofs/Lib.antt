@@ -7,3 +7,4 @@ pub mod TraceOut
 pub mod Feeds
 pub mod ScriptRuns
 pub mod ScriptRead
+pub mod AsciiLaws

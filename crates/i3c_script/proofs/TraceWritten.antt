@@ -1,5 +1,5 @@
 -- What goes out of a trace, line by line.
-use Rattle.std.proofs.Common.{◌≡◌, ◌≤◌, ◌∙◌, ℕ, ◌+◌, List, [], ◌++◌, length, take, arith, Option, Some, None, ap, length-append, min, refl, subst, sym}
+use Rattle.std.proofs.Common.{◌≡◌, ◌≤◌, ◌∙◌, ℕ, ◌+◌, List, [], ◌++◌, length, take, arith, Option, Some, None, ap, append_assoc, length-append, min, refl, subst, sym}
 use Rattle.std.proofs.Math.Seq.{take-append-add}
 use Rattle.std.proofs.lemmas.List.{append-nil, take-append-le, take_all}
 use Rattle.std.specs.Io.KnownBytes.{Appends, Keeps}
@@ -41,3 +41,12 @@ front_out a b first rest all =
 pub count_on : (counted more next rest : ℕ) → next ≡ min (counted + more) 18446744073709551615
     → min (counted + (more + rest)) 18446744073709551615 ≡ min (next + rest) 18446744073709551615
 count_on counted more next rest is = omega (arith, is)
+
+-- one line more is gathered behind what went out and a text
+pub gathered_on : (all first text line more : List ℕ) → all ≡ first ++ (text ++ (line ++ more)) → all ≡ first ++ ((text ++ line) ++ more)
+gathered_on all first text line more is = is ∙ ap (λ rest. first ++ rest) (sym (append_assoc text line more))
+
+-- the front of the text goes out too
+pub written_on : (all first text front left more : List ℕ) → all ≡ first ++ (text ++ more) → text ≡ front ++ left → all ≡ (first ++ front) ++ (left ++ more)
+written_on all first text front left more is cut =
+    is ∙ ap (λ text. first ++ (text ++ more)) cut ∙ ap (λ rest. first ++ rest) (append_assoc front left more) ∙ sym (append_assoc first front (left ++ more))

@@ -1,16 +1,16 @@
-ghost use Rattle.std.specs.Prelude.{◌≡◌, ◌<◌, ◌≤◌, [], ◌++◌, length, map, min, option_to_list, string_bytes, IfErr, IfOk, IfSome, IsErr, MatchResult, OnOk};
+ghost use Rattle.std.specs.Prelude.{◌≡◌, ◌<◌, ◌≤◌, [], ◌++◌, length, map, min, option_to_list, IfErr, IfOk, IfSome, IsErr, MatchResult, OnOk};
 ghost use Rattle.std.specs.Io.KnownBytes.{Appends, Consumes, IsAtEnd, Keeps};
 ghost use Rattle.i3c_monitor.specs.Lines.{line_text};
 ghost use Rattle.i3c_monitor.specs.Trace.{to_come, trace_told};
 ghost use Rattle.i3c_script.specs.Outcomes.{AppendsSome};
 ghost use Rattle.i3c_script.specs.Stops.{IsLineFault};
-ghost use Rattle.i3c_script.specs.Traces.{ascii, fault_line, refusals_in, refused_in, trace_text, GoesOut};
+ghost use Rattle.i3c_script.specs.Traces.{ascii, fault_line, refusals_in, refused_in, trace_text, GoesOut, WritesFront};
 
 use crate::faults::ScriptFault;
 use crate::output::write_out;
 use crate::reading::{CHUNK, MOST_BYTES, Piece, read_piece};
 use crate::script::Tally;
-use i3c_frame::{Symbol, TraceFault, read_trace};
+use i3c_frame::{Symbol, TraceFault, read_trace_bytes};
 use i3c_lines::Text;
 use i3c_monitor::{Monitor, Seen};
 use std::alloc::{AllocError, Global};
@@ -18,6 +18,9 @@ use std::io::{Read, Write};
 
 /// What stands for a byte that isn't ASCII. No symbol has it.
 const UNKNOWN: u8 = b'?';
+
+/// Lines are written out once so many bytes of them are gathered.
+const GATHERED: usize = 1024;
 
 /// Tells what a trace says: a line for each frame, and below it a line for each thing that was seen in it; or one line
 /// with the trace's first fault. A trace is read whole, and has at most 1,048,576 bytes.
@@ -35,11 +38,9 @@ pub fn run_trace<R: Read, W: Write>(
     let Ok(mut chunk) = vec![in alloc; 0u8; CHUNK] else {
         return Err(ScriptFault::Memory);
     };
-    let bytes = read_whole(alloc, reader, &mut chunk)?;
-    let Ok(text) = ascii_text(alloc, &bytes) else {
-        return Err(ScriptFault::Memory);
-    };
-    match read_trace(alloc, text.as_str()) {
+    let mut bytes = read_whole(alloc, reader, &mut chunk)?;
+    mark_unknown(&mut bytes);
+    match read_trace_bytes(alloc, &bytes) {
         Ok(symbols) => tell_trace(alloc, &symbols, writer),
         Err(fault) => tell_fault(alloc, &fault, writer),
     }
@@ -57,7 +58,9 @@ fn read_whole<R: Read>(
     ensures fits { IfOk result (λ read. length read.items ≤ MOST_BYTES) }
     ensures large { result ≡ Err ScriptFault.TooLarge → IfSome (R.remaining reader.old) (λ bytes. MOST_BYTES < length bytes) }
 {
-    let mut bytes = Vec::new(alloc);
+    let Ok(mut bytes) = Vec::with_capacity(alloc, MOST_BYTES) else {
+        return Err(ScriptFault::Memory);
+    };
     let mut left = MOST_BYTES;
     for _ in 0..u64::MAX {
         match read_piece(reader, chunk, left)? {
@@ -74,16 +77,21 @@ fn read_whole<R: Read>(
     unreachable!()
 }
 
-/// A text of bytes, with a question mark for each that isn't ASCII.
-fn ascii_text(alloc: Global, bytes: &[u8]) -> Result<String, AllocError>
-    ensures { IfOk result (λ text. string_bytes text ≡ map ascii bytes.now) }
+/// Puts a question mark in place of each byte that isn't ASCII.
+fn mark_unknown(bytes: &mut [u8])
+    ensures { bytes.new ≡ map ascii bytes.old }
 {
-    let mut text = String::new(alloc);
-    for byte in bytes {
-        let letter = if *byte < 128 { *byte } else { UNKNOWN };
-        text.push(char::from(letter))?;
+    for byte in bytes.iter_mut() {
+        *byte = ascii_byte(*byte);
     }
-    Ok(text)
+}
+
+/// A byte, or a question mark for one that isn't ASCII.
+#[inline(always)]
+fn ascii_byte(byte: u8) -> u8
+    ensures { result ≡ ascii byte }
+{
+    if byte < 128 { byte } else { UNKNOWN }
 }
 
 /// Writes the lines of a trace, one after another.
@@ -96,10 +104,25 @@ fn tell_trace<W: Write>(alloc: Global, trace: &[Symbol], out: &mut W) -> Result<
     let mut text = Text::new(alloc);
     let mut refused: u64 = 0;
     while let Some(seen) = next_seen(&mut monitor)? {
-        tell_seen(&seen, trace, &mut text, out)?;
+        push_seen(&seen, trace, &mut text)?;
         refused = refused.saturating_add(refusals(&seen));
+        write_gathered(&mut text, out)?;
     }
+    write_out(text.as_bytes(), out)?;
     Ok(Tally { refused })
+}
+
+/// Writes lines out, once they are long enough together.
+#[inline(always)]
+fn write_gathered<W: Write>(text: &mut Text, out: &mut W) -> Result<(), ScriptFault>
+    ensures { MatchResult result (λ _. WritesFront (W.contents out.old) (W.contents out.new) text.old text.new)
+        (λ fault. (fault ≡ ScriptFault.Write) × AppendsSome (W.contents out.old) (W.contents out.new) text.old) }
+{
+    if text.as_bytes().len() >= GATHERED {
+        write_out(text.as_bytes(), out)?;
+        text.clear();
+    }
+    Ok(())
 }
 
 /// What comes next in a trace.
@@ -124,19 +147,13 @@ fn refusals(seen: &Seen) -> u64
     }
 }
 
-/// Writes the line of what was seen.
-fn tell_seen<W: Write>(
-    seen: &Seen,
-    trace: &[Symbol],
-    text: &mut Text,
-    out: &mut W,
-) -> Result<(), ScriptFault>
-    ensures { MatchResult result (λ _. Appends (W.contents out.old) (W.contents out.new) (line_text trace.now seen.now))
-        (λ fault. IsLineFault fault × AppendsSome (W.contents out.old) (W.contents out.new) (line_text trace.now seen.now)) }
+/// Appends the line of what was seen.
+fn push_seen(seen: &Seen, trace: &[Symbol], text: &mut Text) -> Result<(), ScriptFault>
+    ensures { MatchResult result (λ _. text.new ≡ text.old ++ line_text trace.now seen.now)
+        (λ fault. fault ≡ ScriptFault.Memory) }
 {
-    text.clear();
     match seen.push(trace, text) {
-        Ok(()) => write_out(text.as_bytes(), out),
+        Ok(()) => Ok(()),
         Err(_) => Err(ScriptFault::Memory),
     }
 }

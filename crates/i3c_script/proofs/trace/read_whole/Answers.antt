@@ -4,7 +4,7 @@ use Rattle.i3c_script.proofs.TraceRead.{more_read, none_read, read_on, too_many}
 use Rattle.i3c_script.proofs.trace.read_whole.Goals as goal
 
 pub loop-init : goal.loop-init
-loop-init g c = (omega arith, ap (λ items. length items + 1048576) c.new-bytes.ensures.items, none_read (g.R.Read.remaining c.args.reader.now) c.new-bytes.result.items c.new-bytes.ensures.items)
+loop-init g c = (omega arith, ap (λ items. length items + 1048576) c.in-Ok.ensures.items, none_read (g.R.Read.remaining c.args.reader.now) c.in-Ok.bytes.items c.in-Ok.ensures.items)
 
 pub returns-in-End-clause-bytes : goal.returns-in-End-clause-bytes
 returns-in-End-clause-bytes g c =
@@ -27,7 +27,7 @@ loop-preserved g c =
     let new = g.R.Read.remaining c.read_piece.new.reader in
     let piece = subst (IsPiece old new c.loop.left c.read_piece.new.chunk) c.in-Within.is c.in_ok-read_piece.ensures in
     let chunk = c.read_piece.new.chunk in
-    let grown : c.extend_from_slice.new.self.items ≡ c.loop.bytes.items ++ take c.in-Within.count chunk = c.in-Ok.ensures.items in
+    let grown : c.extend_from_slice.new.self.items ≡ c.loop.bytes.items ++ take c.in-Within.count chunk = c.in-Ok-extend_from_slice.ensures.items in
     let longer : length c.extend_from_slice.new.self.items ≡ length (c.loop.bytes.items ++ take c.in-Within.count chunk) = ap length grown in
     let some : 0 < c.in-Within.count = piece.0 in
     let within : c.in-Within.count ≤ c.loop.left = piece.1 in

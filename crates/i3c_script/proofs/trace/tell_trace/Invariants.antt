@@ -4,11 +4,11 @@ use Rattle.i3c_monitor.specs.Trace.{to_come, trace_told}
 use Rattle.i3c_script.specs.Traces.{lines_text, refused_in, trace_text}
 use Rattle.i3c_script.proofs.trace.tell_trace.Given as goal
 
--- some lines went out, and the others are to come
+-- some lines went out, some are gathered, and the others are to come
 abbrev pub invariant-loop-text : goal.invariant-loop-text
 invariant-loop-text g l =
     (first : List ℕ) × Appends (g.W.Write.contents l.initial.out) (g.W.Write.contents l.out) first
-    × (trace_text l.trace ≡ first ++ lines_text l.trace (to_come l.monitor))
+    × (trace_text l.trace ≡ first ++ (l.text ++ lines_text l.trace (to_come l.monitor)))
     × (min (refused_in (trace_told l.trace)) 18446744073709551615 ≡ min (l.refused + refused_in (to_come l.monitor)) 18446744073709551615)
     × (l.refused ≤ 18446744073709551615)
 
