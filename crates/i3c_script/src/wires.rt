@@ -1,5 +1,5 @@
-ghost use Rattle.std.specs.Prelude.{◌≡◌, [], ◌∷◌, ◌++◌, IfOk};
-ghost use Rattle.circular_buffer.specs.Buffer.{keep_last};
+ghost use Rattle.std.specs.Prelude.{◌≡◌, [], ◌∷◌, ◌++◌, vec_capacity, vec_len, IfOk};
+ghost use Rattle.circular_buffer.specs.Buffer.{buffer, keep_last};
 ghost use Rattle.i3c_script.specs.declared.wires.TheConstants.{SYMBOLS};
 
 use circular_buffer::HeapCircularBuffer;
@@ -8,29 +8,53 @@ use i3c_lines::Text;
 use std::alloc::{AllocError, Global};
 use std::fmt;
 use std::fmt::Write;
+use std::marker::Model;
 
 /// How many symbols are kept.
 const SYMBOLS: usize = 256;
 
+/// How many symbols may wait to be kept, of which the last ones are.
+const FRESH: usize = 1024;
+
 /// The last symbols of the wire, at most 256 of them.
+///
+/// Clauses see these symbols.
 #[derive(Drop)]
 pub(crate) struct Wires {
-    symbols: HeapCircularBuffer<Symbol>,
-    ghost sized: { symbols.capacity ≡ SYMBOLS },
+    kept: HeapCircularBuffer<Symbol>,
+    // those that came since, of which the last ones are kept when there is no more room
+    fresh: Vec<Symbol>,
+}
+
+impl Model for Wires {
+    ghost use Rattle.std.specs.Prelude.{◌≡◌, ◌≤◌, ◌++◌, length, vec_capacity, List};
+    ghost use Rattle.circular_buffer.specs.Buffer.{keep_last};
+    ghost use Rattle.i3c_frame.specs.declared.symbols.Symbol.{Symbol as SymbolValue};
+    ghost use Rattle.i3c_script.specs.declared.wires.TheConstants.{FRESH, SYMBOLS};
+
+    ghost Value = { List SymbolValue };
+
+    ghost view = { λ w. keep_last SYMBOLS (w.kept.items ++ w.fresh.items) };
+
+    ghost invariant = { λ w. (w.kept.capacity ≡ SYMBOLS) × (FRESH ≤ vec_capacity w.fresh) × (length w.fresh.items ≤ FRESH) };
 }
 
 impl Wires {
     /// Before the first frame.
     pub fn new(alloc: Global) -> Result<Wires, AllocError>
-        ensures { IfOk result (λ wires. wires.symbols.items ≡ []) }
+        ensures { IfOk result (λ wires. wires ≡ []) }
     {
-        let symbols = HeapCircularBuffer::with_capacity(alloc, SYMBOLS)?;
-        Ok(Wires { symbols })
+        let kept = HeapCircularBuffer::with_capacity(alloc, SYMBOLS)?;
+        let fresh = Vec::with_capacity(alloc, FRESH)?;
+        Ok(Wires { kept, fresh })
     }
 
-    /// Prints the symbols that were kept, the oldest first, on one line.
-    pub fn show(&self, text: &mut Text) -> fmt::Result {
-        for (index, symbol) in self.symbols.iter().enumerate() {
+    /// Prints the symbols, the oldest first, on one line.
+    pub fn show(&mut self, text: &mut Text) -> fmt::Result
+        ensures { self.new ≡ self.old }
+    {
+        keep(&mut self.kept, &mut self.fresh);
+        for (index, symbol) in self.kept.iter().enumerate() {
             if index > 0 {
                 write!(text, " ")?;
             }
@@ -41,9 +65,26 @@ impl Wires {
 }
 
 impl Tap for Wires {
-    ghost note_gives = { λ old symbol new. new.symbols.items ≡ keep_last SYMBOLS (old.symbols.items ++ symbol ∷ []) };
+    ghost note_gives = { λ old symbol new. new ≡ keep_last SYMBOLS (old ++ symbol ∷ []) };
 
     fn note(&mut self, symbol: Symbol) {
-        self.symbols.push_back(symbol);
+        if self.fresh.len() == FRESH {
+            keep(&mut self.kept, &mut self.fresh);
+        }
+        self.fresh.push_reserved(symbol);
     }
+}
+
+/// Keeps the symbols that came since.
+// kept apart, since it comes once for many symbols
+#[cold]
+#[inline(never)]
+fn keep(kept: &mut HeapCircularBuffer<Symbol>, fresh: &mut Vec<Symbol>)
+    ensures kept { kept.new ≡ buffer (keep_last kept.old.capacity (kept.old.items ++ fresh.old.items)) kept.old.capacity }
+    ensures none { fresh.new.items ≡ [] }
+    ensures len { vec_len fresh.new ≡ 0 }
+    ensures room { vec_capacity fresh.new ≡ vec_capacity fresh.old }
+{
+    kept.extend_from_slice(fresh);
+    fresh.clear();
 }
