@@ -28,7 +28,7 @@ fn a_reply_is_48_bytes(rt: HostRuntime) -> Result<(), Fail> {
 // for each address, a list of all addresses, and legacy targets with sixteen registers: all inline, so that a frame wants
 // no memory but for a record.
 #[test]
-fn a_bus_is_5728_bytes(rt: HostRuntime) -> Result<(), Fail> {
-    assert_eq!(rt; size_of::<Bus>(), 5728);
+fn a_bus_is_5712_bytes(rt: HostRuntime) -> Result<(), Fail> {
+    assert_eq!(rt; size_of::<Bus>(), 5712);
     Ok(())
 }

@@ -1,6 +1,7 @@
 use super::{FailingReader, Flaky, FullWriter};
 use crate::checks::{holds, same, same_in};
 use i3c_script::{ScriptFault, Tally, run_trace};
+use std::alloc::{AllocError, Global};
 use std::io::ErrorKind;
 
 /// A trace of two frames.
@@ -61,24 +62,43 @@ fn one_read_of_a_trace_fails(rt: HostRuntime) {
     same(&rt, failures, TRACE.len() as u64 / 7 + 2);
 }
 
-// A write that fails alone ends it, though later ones would go on; there is one for each line.
+/// How many frames a long trace has.
+const FRAMES: u64 = 150;
+
+/// A trace of many frames, and what it tells.
+fn long_trace(alloc: Global) -> Result<(Vec<u8>, Vec<u8>), AllocError> {
+    let mut trace = Vec::new(alloc);
+    let mut told = Vec::new(alloc);
+    for frame in 1..FRAMES + 1 {
+        trace.extend_from_slice(b"S 09/R+ 11.0 P\n")?;
+        let number = format!(in alloc; "frame {frame}\n")?;
+        told.extend_from_slice(number.as_bytes())?;
+        told.extend_from_slice(b"request interrupt 09 accepted 11\n")?;
+    }
+    Ok((trace, told))
+}
+
+// A write that fails alone ends it, though later ones would go on. Lines go out together, once they are 1,024 bytes or
+// more, and the last of them at the end.
 #[test]
-fn one_write_of_a_trace_fails(rt: HostRuntime) {
+fn one_write_of_a_trace_fails(rt: HostRuntime) -> Result<(), AllocError> {
+    let (trace, told) = long_trace(rt.alloc())?;
     let mut failures = 0u64;
     for before in 0..1_000 {
-        let mut reader = TRACE;
+        let mut reader = trace.as_slice();
         let mut writer = Flaky::new(rt.alloc(), b"", before);
         let outcome = run_trace(rt.alloc(), &mut reader, &mut writer);
         if !writer.has_failed {
             same(&rt, outcome, Ok(Tally { refused: 0 }));
-            same(&rt, writer.printed.as_slice(), TOLD);
+            same(&rt, writer.printed.as_slice(), told.as_slice());
             break;
         }
         failures = before + 1;
         same_in(&rt, before, outcome, Err(ScriptFault::Write));
         let count = writer.printed.len();
-        holds(&rt, count < TOLD.len(), "fewer bytes are printed");
-        same(&rt, writer.printed.as_slice(), &TOLD[..count]);
+        holds(&rt, count < told.len(), "fewer bytes are printed");
+        same(&rt, writer.printed.as_slice(), &told[..count]);
     }
-    same(&rt, failures, 6);
+    same(&rt, failures, 7);
+    Ok(())
 }
