@@ -20,6 +20,7 @@ use Rattle.i3c_wires.proofs.Reading.{Reading, read_each, read_in_width}
 use Rattle.i3c_device.specs.declared.sets.SlotSet.{SlotSet}
 use Rattle.i3c_device.specs.Sets.{has}
 use Rattle.i3c_device.specs.Walks.{IsFirstIdentity, NobodyHears, hears_as}
+use Rattle.i3c_device.proofs.IdentityLaws.{as_whom, hears_so}
 use Rattle.i3c_entdaa.specs.Hearers.{IsContenderKey, contenders_from}
 use Rattle.i3c_entdaa.specs.Parts.{AreTakers, HearersAreRanged, IsContest}
 use Rattle.i3c_entdaa.specs.Rounds.{IsTaken}
@@ -172,14 +173,6 @@ contest_of st devices cuts counted keys winners bits acknowledged same shift exa
     none is = ap (list_any (λ s. not (lost_by cuts 73 s))) (sym held) ∙ (sym ack ∙ is)
 
 -- ---- who acknowledges the address
-
--- whoever hears with a number stands there
-as_whom : (n : ℕ) (o : Option Device) → hears_as n o ≡ true → (d : Device) × (o ≡ Some d) × (d.hearing ≡ true) × (number_of d.identity ≡ n)
-as_whom n None h = absurd (both_ways _ refl h)
-as_whom n (Some d) h = let parts = and_parts d.hearing (number_of d.identity == n) h in (d, refl, parts.0, eqb-true (number_of d.identity) n parts.1)
-
-hears_so : (n : ℕ) (o : Option Device) (d : Device) → o ≡ Some d → d.hearing ≡ true → number_of d.identity ≡ n → hears_as n o ≡ true
-hears_so n o d e h is = ap (hears_as n) e ∙ (ap (λ b. b && number_of d.identity == n) h ∙ eq-eqb (number_of d.identity) n is)
 
 same_truth : (a b : Bool) → (a ≡ true → b ≡ true) → (b ≡ true → a ≡ true) → a ≡ b
 same_truth true b there back = sym (there refl)
