@@ -1,5 +1,5 @@
 -- What it comes to that a line is carried out which names no device.
-use Rattle.std.proofs.Common.{◌≡◌, ◌⊎◌, ◌∙◌, ℕ, ◌+◌, Bool, true, false, arith, List, [], ◌∷◌, length, Option, None, Some, MatchResult, Result, Ok, Err, ap, inl, inr, refl, subst}
+use Rattle.std.proofs.Common.{◌≡◌, ◌⊎◌, ◌∙◌, ℕ, ◌+◌, Bool, true, false, arith, List, [], ◌∷◌, length, Option, None, Some, MatchOption, MatchResult, Result, Ok, Err, ap, inl, inr, refl, subst, sym}
 use Rattle.i3c_base.specs.declared.answers.RoundReply.{RoundReply}
 use Rattle.i3c_base.specs.declared.range.TheConstants.{SLOTS}
 use Rattle.i3c_base.specs.Cutting.{CutList, no_cuts}
@@ -8,14 +8,17 @@ use Rattle.i3c_step.specs.declared.events.Command.{Command as Frame}
 use Rattle.i3c_step.specs.declared.events.Event.{Event}
 use Rattle.i3c_step.specs.Commands.{event_of}
 use Rattle.i3c_step.specs.declared.replies.Reply.{Reply}
-use Rattle.i3c_step.specs.Step.{Step}
+use Rattle.i3c_step.specs.Step.{Acts, IsShort, Step, cuts_active, first_refusal}
+use Rattle.i3c_step.specs.declared.replies.Refusal.{Refusal as BusRefusal}
+use Rattle.i3c_bus.specs.declared.tokens.Hand.{Hand}
+use Rattle.i3c_bus.specs.Hands.{HandFits, is_session}
 use Rattle.i3c_lines.specs.declared.command.Wish.{Wish}
 use Rattle.i3c_lines.specs.declared.refusals.Refusal.{Refusal}
 use Rattle.i3c_script.specs.declared.faults.Stop.{Stop}
 use Rattle.i3c_lines.specs.Naming.{place_named, slot_named}
 use Rattle.i3c_lines.specs.declared.names.Name.{Name}
 use Rattle.i3c_lines.specs.declared.names.Names.{Names}
-use Rattle.i3c_script.specs.Asking.{AreOver, Asked, AsksForNone, Assigns, Carries, CarriesOut, ComesOf, EndsRounds, GoOn, IsFrameOf, Ran, Rounds, RoundsAndEnd, RoundsUp, goes_on, in_its_slot}
+use Rattle.i3c_script.specs.Asking.{AreOver, Asked, AsksForNone, Assigns, Carries, ComesOf, Does, EndsRounds, GoOn, IsFrameOf, Ran, Rounds, RoundsUp, goes_on, in_its_slot}
 use Rattle.i3c_script.specs.Stops.{reply_stop}
 
 -- a line that is refused asks for no event
@@ -51,31 +54,20 @@ pub raised_by : (ran : Ran) (names : Names) (name : Name) (byte : Option ℕ) (s
 raised_by ran names name byte slot reply new is step = (Event.Raise slot byte, ap (in_its_slot (λ slot. Event.Raise slot byte)) is, step)
 
 -- what a line comes to whose reply is told
-pub told_so : (ran : Ran) (names : Names) (wish : Wish) (reply : Reply) (new : State) (result : Result Bool Stop) → Carries ran names wish reply new
-    → MatchResult result (λ more. (reply_stop reply ≡ None) × (more ≡ goes_on reply)) (λ stop. (stop ≡ Stop.Memory) ⊎ (reply_stop reply ≡ Some stop)) → CarriesOut ran names wish result new
-told_so ran names wish reply new (Ok more) carried told = (reply, carried, told.0, told.1)
+pub told_so : (ran : Ran) (names : Names) (wish : Wish) (reply : Reply) (new : State) (result : Result (Unit {0}) Stop) → Carries ran names wish reply new
+    → MatchResult result (λ _. reply_stop reply ≡ None) (λ stop. (stop ≡ Stop.Memory) ⊎ (reply_stop reply ≡ Some stop)) → Does ran names wish result new
+told_so ran names wish reply new (Ok done) carried told = (reply, carried, told)
 told_so ran names wish reply new (Err stop) carried told = inr (reply, carried, told)
 
--- what a part of `daa` comes to whose reply is told
-pub comes_so : (old : State) (event : Event) (reply : Reply) (new : State) (result : Result Bool Stop) → Step old event reply new
-    → MatchResult result (λ more. (reply_stop reply ≡ None) × (more ≡ goes_on reply)) (λ stop. (stop ≡ Stop.Memory) ⊎ (reply_stop reply ≡ Some stop)) → ComesOf old event result new
-comes_so old event reply new (Ok more) step told = (reply, step, told.0, told.1)
-comes_so old event reply new (Err stop) step told = (reply, step, told)
-
--- an opening with the cuts that waited, after which its session comes
-pub opens : (ran : Ran) (opened new : State) (cuts : CutList) (more : Bool) (result : Result (Unit {0}) Stop) → cuts ≡ ran.cuts → ComesOf ran.state (Event.OpenDaa cuts) (Ok more) opened → RoundsAndEnd result opened new
-    → Assigns ran.state ran.cuts result new
-opens ran opened new cuts more result same (reply, step, none, goes) session = (opened, reply, subst (λ waited. Step ran.state (Event.OpenDaa waited) reply opened) same step, inr (none, session))
-
--- one at which the line stops
-pub opens_no_more : (ran : Ran) (new : State) (cuts : CutList) (stop : Stop) → cuts ≡ ran.cuts → ComesOf ran.state (Event.OpenDaa cuts) (Err stop) new → Assigns ran.state ran.cuts (Err stop) new
-opens_no_more ran new cuts stop same (reply, step, inl short) = (new, reply, subst (λ waited. Step ran.state (Event.OpenDaa waited) reply new) same step, inl (refl, inl (ap Err short)))
-opens_no_more ran new cuts stop same (reply, step, inr is) = (new, reply, subst (λ waited. Step ran.state (Event.OpenDaa waited) reply new) same step, inl (refl, inr (stop, is, refl)))
-
--- the end of a session, be what it prints refused or not
-pub ends : (old new : State) (r : Result Bool Stop) → ComesOf old Event.EndDaa r new → (ended : Reply) × Step old Event.EndDaa ended new
-ends old new (Ok more) (reply, step, none, goes) = (reply, step)
-ends old new (Err stop) (reply, step, why) = (reply, step)
+-- while a session is open none is opened
+pub stays_open : (hand : Hand) (session : ℕ) (st : State) (cuts : CutList) → hand ≡ Hand.Session session → HandFits hand st → Assigns st cuts (Err (Stop.Refused Refusal.SessionOpen)) st
+stays_open hand session st cuts is fits =
+    let opened : st.in_session ≡ true = fits.1 ∙ ap is_session is in
+    let refused : Step st (Event.OpenDaa cuts) (Reply.Refused BusRefusal.SessionOpen) st =
+    subst (λ b. MatchOption (first_refusal ((b, BusRefusal.SessionOpen) ∷ (cuts_active st cuts, BusRefusal.ActiveStays) ∷ []))
+    (IsShort st (Event.OpenDaa cuts) (Reply.Refused BusRefusal.SessionOpen) st ⊎ Acts st (Event.OpenDaa cuts) (Reply.Refused BusRefusal.SessionOpen) st)
+    (λ why. (Reply.Refused BusRefusal.SessionOpen ≡ Reply.Refused why) × (st ≡ st))) (sym opened) (refl, refl) in
+    (st, Reply.Refused BusRefusal.SessionOpen, refused, inl (refl, inr (Stop.Refused Refusal.SessionOpen, refl, refl)))
 
 -- so many rounds, each of which goes on
 abbrev pub SoFar : State → State → ℕ → Type 0
@@ -128,11 +120,3 @@ ends_rounds (Stop.Refused refusal) reply replies (inr e) = inl (stopped reply (S
 pub no_more : (first now new : State) (cuts : CutList) (count : ℕ) (stop : Stop) → cuts ≡ no_cuts → SoFar first now count → ComesOf now (Event.Round cuts) (Err stop) new → RoundsUp (Err stop) first new
 no_more first now new cuts count stop uncut (replies, before, on, e) (reply, step, why) =
     (reply ∷ replies, (now, before, on, uncut_round now new cuts reply uncut step), ends_rounds stop reply replies why)
-
-over_anyway : (stop : Stop) (replies : List Reply) → AreOver replies → EndsRounds (Err stop) replies
-over_anyway Stop.Memory replies over = tt
-over_anyway (Stop.Refused why) replies over = over
-
--- rounds that are over are so for whatever the line comes to
-pub up_anyway : (stop : Stop) (old new : State) → RoundsUp (Ok tt) old new → RoundsUp (Err stop) old new
-up_anyway stop old new (replies, rounds, over) = (replies, rounds, over_anyway stop replies over)

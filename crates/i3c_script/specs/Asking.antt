@@ -120,11 +120,6 @@ goes_on (Reply.Opened served) = false
 goes_on (Reply.Handed served) = false
 goes_on Reply.Ended = false
 
--- a line's event is carried out, and whether there is another round after it; or the line stops
-abbrev pub CarriesOut : Ran → Names → Wish → Result Bool Stop → State → Type 0
-CarriesOut ran names wish (Ok more) new = (reply : Reply) × Carries ran names wish reply new × (reply_stop reply ≡ None) × (more ≡ goes_on reply)
-CarriesOut ran names wish (Err stop) new = StopsAt ran names wish stop new
-
 -- an event is carried out, and this is whether there is another round after its reply; or the line stops at its reply, or since memory is short for what it prints
 abbrev pub ComesOf : State → Event → Result Bool Stop → State → Type 0
 ComesOf old event (Ok more) new = (reply : Reply) × Step old event reply new × (reply_stop reply ≡ None) × (more ≡ goes_on reply)

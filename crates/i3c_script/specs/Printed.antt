@@ -14,7 +14,6 @@ use Rattle.i3c_lines.specs.Hex.{byte_text, bytes_text, hex_text}
 use Rattle.i3c_lines.specs.Naming.{letters, slot_names}
 use Rattle.i3c_lines.specs.Refusing.{refusal_text}
 use Rattle.i3c_script.specs.declared.faults.Stop.{Stop}
-use Rattle.i3c_script.specs.declared.telling.Origin.{Origin}
 use Rattle.i3c_script.specs.declared.telling.Subject.{Subject}
 
 -- what a line's end prints: its refusal, if it is refused
@@ -56,19 +55,9 @@ answer_text Answer.NoEnd = []
 abbrev pub framed_text : Framed → List ℕ
 framed_text framed = request_text framed.served ++ answer_text framed.answer
 
--- that a session is open, where the line is its opening
-abbrev pub open_text : Origin → List ℕ
-open_text Origin.Line = codes "open" ++ 10 ∷ []
-open_text Origin.Daa = []
-
 -- what an opening served, and that the session is open
-abbrev pub opened_text : Origin → Served → List ℕ
-opened_text origin served = request_text served ++ open_text origin
-
--- that a session is ended, where the line is its end
-abbrev pub ended_text : Origin → List ℕ
-ended_text Origin.Line = codes "ended" ++ 10 ∷ []
-ended_text Origin.Daa = []
+abbrev pub opened_text : Served → List ℕ
+opened_text served = request_text served ++ (codes "open" ++ 10 ∷ [])
 
 -- a register of an identity, after a space
 abbrev pub field_text : ℕ → List ℕ
@@ -133,17 +122,17 @@ handed_text Subject.Nothing served = []
 abbrev pub raised_text : ℕ → List ℕ
 raised_text number = number_text (codes "raised ") number
 
--- a reply to an event that a line is, or that is a part of `daa`; of the event the text has no more than its subject
-abbrev pub reply_text : Names → Origin → Subject → Reply → List ℕ
-reply_text names origin subject (Reply.Refused why) = []
-reply_text names origin subject Reply.OutOfMemory = []
-reply_text names origin subject Reply.Attached = attached_text names subject
-reply_text names origin subject Reply.Dropped = codes "dropped" ++ 10 ∷ []
-reply_text names origin subject (Reply.Raised number) = raised_text number
-reply_text names origin subject Reply.Asked = codes "asked" ++ 10 ∷ []
-reply_text names origin subject (Reply.Served served) = served_text served
-reply_text names origin subject (Reply.Framed framed) = framed_text framed
-reply_text names origin subject (Reply.Opened served) = opened_text origin served
-reply_text names origin subject (Reply.Handed served) = handed_text subject served
-reply_text names origin subject (Reply.Round answer) = round_text answer
-reply_text names origin subject Reply.Ended = ended_text origin
+-- a reply to an event that a line is; of the event the text has no more than its subject
+abbrev pub reply_text : Names → Subject → Reply → List ℕ
+reply_text names subject (Reply.Refused why) = []
+reply_text names subject Reply.OutOfMemory = []
+reply_text names subject Reply.Attached = attached_text names subject
+reply_text names subject Reply.Dropped = codes "dropped" ++ 10 ∷ []
+reply_text names subject (Reply.Raised number) = raised_text number
+reply_text names subject Reply.Asked = codes "asked" ++ 10 ∷ []
+reply_text names subject (Reply.Served served) = served_text served
+reply_text names subject (Reply.Framed framed) = framed_text framed
+reply_text names subject (Reply.Opened served) = opened_text served
+reply_text names subject (Reply.Handed served) = handed_text subject served
+reply_text names subject (Reply.Round answer) = round_text answer
+reply_text names subject Reply.Ended = codes "ended" ++ 10 ∷ []

@@ -2,12 +2,13 @@
 //! are told in lines.
 //!
 //! A line of one event takes one path: `asking` reads it to an event, `running` has the bus answer, `telling` prints the
-//! reply; `daa` takes it for each event of a whole session. `stage` is where a script stands, before its bus and with it;
+//! reply. `assigning` plays the whole session of a `daa`. `stage` is where a script stands, before its bus and with it;
 //! `script` parts the bytes into lines and counts the refusals, `output` writes what a line printed. `trace` tells what a
 //! trace says. Both read by `reading`.
 #![tactic(auto)]
 
 mod asking;
+mod assigning;
 mod faults;
 mod output;
 mod reading;

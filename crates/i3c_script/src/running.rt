@@ -1,13 +1,13 @@
-ghost use Rattle.std.specs.Prelude.{◌≡◌, ◌⊎◌, None, Some, MatchResult};
-ghost use Rattle.i3c_script.specs.Asking.{goes_on};
-ghost use Rattle.i3c_script.specs.Stops.{reply_stop};
+ghost use Rattle.std.specs.Prelude.{◌≡◌, Some, None};
+ghost use Rattle.i3c_bus.specs.declared.tokens.Hand.{Hand as HandValue};
 
 use crate::asking::{event_of, frame_of, slot_of_device};
+use crate::assigning;
 use crate::faults::{Stop, line_refusal};
 use crate::show::show;
-use crate::telling::{Origin, Subject, show_raised, subject_of, tell};
+use crate::telling::{Subject, show_raised, subject_of, tell};
 use crate::wires::Wires;
-use i3c_base::{Cuts, Fixed, RoundReply, SLOTS, Setup};
+use i3c_base::{Cuts, Fixed, Setup};
 use i3c_bus::{Bus, Command as Frame, Event, Hand, Reply};
 use i3c_legacy::Legacies;
 use i3c_lines::{ACCEPT_ALL, Command, Name, Names, Refusal, Text, Wish};
@@ -48,7 +48,7 @@ impl Running {
     ghost use Rattle.i3c_base.specs.declared.requests.Verdict.TheVariants.{Accept};
     ghost use Rattle.i3c_lines.specs.declared.command.Wish.{Wish as WishValue};
     ghost use Rattle.i3c_step.specs.Step.{Step};
-    ghost use Rattle.i3c_script.specs.Asking.{AsksForNone, Asked, Assigns, CarriesOut, ComesOf, IsFrameOf, Moves, RoundsAndEnd, RoundsUp, comes_to, cut_named, cuts_after, cuts_left, device_named};
+    ghost use Rattle.i3c_script.specs.Asking.{AsksForNone, Asked, Assigns, Does, IsFrameOf, Moves, comes_to, cut_named, cuts_after, cuts_left, device_named};
     ghost use Rattle.i3c_lines.specs.Naming.{place_named};
     ghost use Rattle.i3c_lines.specs.Policies.{each_kind};
 
@@ -91,18 +91,13 @@ impl Running {
     {
         match command {
             Command::Legacy { .. } | Command::Main { .. } => Err(Refusal::BusMade.into()),
-            Command::Event(wish) => {
-                match self.carry_out(names, wish, text) {
-                    Ok(_) => Ok(()),
-                    Err(stop) => Err(stop),
-                }
-            }
+            Command::Event(wish) => self.carry_out(names, wish, text),
             Command::Policy(named) => {
                 self.policy = *named;
                 Ok(())
             }
             Command::Cut { name, bit } => self.cut(names, name, *bit),
-            Command::Daa => self.assign(names, text),
+            Command::Daa => self.assign(text),
             Command::Show => show(&self.bus, names, text).map_err(Stop::from),
             Command::Symbols => self.wires.show(text).map_err(Stop::from),
         }
@@ -121,11 +116,11 @@ impl Running {
         Ok(())
     }
 
-    /// A line that is one event. It answers whether there is another round after it.
-    fn carry_out(&mut self, names: &mut Names, wish: &Wish, text: &mut Text) -> Result<bool, Stop>
+    /// A line that is one event.
+    fn carry_out(&mut self, names: &mut Names, wish: &Wish, text: &mut Text) -> Result<(), Stop>
         ensures policy { self.new.policy ≡ self.old.policy }
         ensures cuts { self.new.cuts ≡ cuts_left wish.now self.old.cuts }
-        ensures carried { CarriesOut self.old names.old wish.now result self.new.state }
+        ensures carried { Does self.old names.old wish.now result self.new.state }
     {
         match wish {
             Wish::Raise { name, byte } => self.raise(names, name, *byte, text),
@@ -144,10 +139,10 @@ impl Running {
         name: &Name,
         byte: Option<u8>,
         text: &mut Text,
-    ) -> Result<bool, Stop>
+    ) -> Result<(), Stop>
         ensures policy { self.new.policy ≡ self.old.policy }
         ensures cuts { self.new.cuts ≡ self.old.cuts }
-        ensures carried { CarriesOut self.old names.now (Wish.Raise name.now byte) result self.new.state }
+        ensures carried { Does self.old names.now (Wish.Raise name.now byte) result self.new.state }
     {
         let slot = match names.slot_of(name) {
             Ok(slot) => slot,
@@ -155,7 +150,7 @@ impl Running {
         };
         match self.bus.raise(slot, byte) {
             Ok(number) => match show_raised(number, text) {
-                Ok(()) => Ok(false),
+                Ok(()) => Ok(()),
                 Err(_) => Err(Stop::Memory),
             },
             Err(why) => Err(Stop::Refused(line_refusal(why.into()))),
@@ -163,10 +158,10 @@ impl Running {
     }
 
     /// A line that sends a frame under the role. The frame takes the cuts that wait.
-    fn send(&mut self, names: &Names, frame: &Frame, text: &mut Text) -> Result<bool, Stop>
+    fn send(&mut self, names: &Names, frame: &Frame, text: &mut Text) -> Result<(), Stop>
         ensures policy { self.new.policy ≡ self.old.policy }
         ensures cuts { self.new.cuts ≡ no_cuts }
-        ensures carried { (wish : WishValue) → IsFrameOf wish frame.now → CarriesOut self.old names.now wish result self.new.state }
+        ensures carried { (wish : WishValue) → IsFrameOf wish frame.now → Does self.old names.now wish result self.new.state }
     {
         let Some(hand) = &self.hand else {
             unreachable!()
@@ -176,21 +171,20 @@ impl Running {
             .bus
             .command(hand, frame, &mut policy, &mut self.wires, &self.cuts);
         self.cuts = Cuts::new();
-        come_of(names, Origin::Line, Subject::Nothing, &reply, text)
+        tell(names, Subject::Nothing, &reply, text)
     }
 
-    /// Any other event that is a line: the wish is read to the event, the bus answers, and the reply is printed. It
-    /// answers whether there is another round after it.
+    /// Any other event that is a line: the wish is read to the event, the bus answers, and the reply is printed.
     // kept apart, so that raises and the frames under the role don't pay for the room that an event takes on the stack
     #[inline(never)]
-    fn carry_event(&mut self, names: &mut Names, wish: &Wish, text: &mut Text) -> Result<bool, Stop>
+    fn carry_event(&mut self, names: &mut Names, wish: &Wish, text: &mut Text) -> Result<(), Stop>
         ensures policy { self.new.policy ≡ self.old.policy }
         ensures cuts { self.new.cuts ≡ cuts_left wish.now self.old.cuts }
-        ensures carried { CarriesOut self.old names.old wish.now result self.new.state }
+        ensures carried { Does self.old names.old wish.now result self.new.state }
     {
         let event = self.asked(names, wish)?;
         let reply = self.step(&event);
-        come_of(names, Origin::Line, subject_of(&event), &reply, text)
+        tell(names, subject_of(&event), &reply, text)
     }
 
     /// The event that a line asks for, with the cuts that wait if it sends a frame. A device that is attached gets its
@@ -219,77 +213,24 @@ impl Running {
         ensures cuts { self.new.cuts ≡ self.old.cuts }
         ensures step { Step self.old.state event.now result self.new.state }
     {
-        let Some(hand) = self.hand.take() else {
-            unreachable!()
-        };
+        let hand = take(&mut self.hand);
         let (hand, reply) = self.bus.step(hand, event, &mut self.wires);
-        match mem::replace(&mut self.hand, Some(hand)) {
-            None => {}
-            Some(_) => unreachable!(),
-        }
+        give(&mut self.hand, hand);
         reply
     }
 
-    /// `daa`: opens a session, runs its rounds and ends it. Whoever asks while it is opened is turned down. The cuts that
-    /// wait are its opening's.
+    /// `daa`: a whole session. The cuts that wait are its opening's.
     #[inline(never)]
-    fn assign(&mut self, names: &Names, text: &mut Text) -> Result<(), Stop>
+    fn assign(&mut self, text: &mut Text) -> Result<(), Stop>
         ensures assigns { Assigns self.old.state self.old.cuts result self.new.state }
         ensures policy { self.new.policy ≡ self.old.policy }
         ensures cuts { self.new.cuts ≡ no_cuts }
     {
-        let opening = Event::OpenDaa(mem::replace(&mut self.cuts, Cuts::new()));
-        match self.part(names, &opening, text) {
-            Ok(_) => self.finish(names, text),
-            Err(stop) => Err(stop),
-        }
-    }
-
-    /// Runs the rounds of a session and ends it, whatever they came to.
-    fn finish(&mut self, names: &Names, text: &mut Text) -> Result<(), Stop>
-        ensures session { RoundsAndEnd result self.old.state self.new.state }
-        ensures policy { self.new.policy ≡ self.old.policy }
-        ensures cuts { self.new.cuts ≡ self.old.cuts }
-    {
-        let outcome = self.rounds(names, text);
-        let ended = self.part(names, &Event::EndDaa, text);
-        match outcome {
-            Err(stop) => Err(stop),
-            Ok(()) => match ended {
-                Ok(_) => Ok(()),
-                Err(stop) => Err(stop),
-            },
-        }
-    }
-
-    /// Runs the rounds of a session, in which nobody is cut, and prints each, until nobody hears it any more or no address
-    /// is left.
-    fn rounds(&mut self, names: &Names, text: &mut Text) -> Result<(), Stop>
-        ensures rounds { RoundsUp result self.old.state self.new.state }
-        ensures policy { self.new.policy ≡ self.old.policy }
-        ensures cuts { self.new.cuts ≡ self.old.cuts }
-    {
-        let round = Event::Round(Cuts::new());
-        // of so many rounds one is the last, by the law `sessions_end` of the bus
-        for _ in 0..SLOTS {
-            match self.part(names, &round, text) {
-                Ok(true) => {}
-                Ok(false) => break,
-                Err(stop) => return Err(stop),
-            }
-        }
-        Ok(())
-    }
-
-    /// A part of `daa`: the bus answers the event, and the reply is printed. It answers whether there is another round
-    /// after it.
-    fn part(&mut self, names: &Names, event: &Event, text: &mut Text) -> Result<bool, Stop>
-        ensures policy { self.new.policy ≡ self.old.policy }
-        ensures cuts { self.new.cuts ≡ self.old.cuts }
-        ensures answered { ComesOf self.old.state event.now result self.new.state }
-    {
-        let reply = self.step(event);
-        come_of(names, Origin::Daa, Subject::Nothing, &reply, text)
+        let cuts = mem::replace(&mut self.cuts, Cuts::new());
+        let hand = take(&mut self.hand);
+        let (hand, outcome) = assigning::assign(hand, &mut self.bus, &mut self.wires, &cuts, text);
+        give(&mut self.hand, hand);
+        outcome
     }
 
     /// Takes the bus apart. A session that is open ends so.
@@ -310,28 +251,25 @@ impl Running {
     }
 }
 
-/// Prints the reply to an event, and answers whether there is another round after it, or what stops the line.
-fn come_of(
-    names: &Names,
-    origin: Origin,
-    subject: Subject,
-    reply: &Reply,
-    text: &mut Text,
-) -> Result<bool, Stop>
-    ensures { MatchResult result (λ more. (reply_stop reply.now ≡ None) × (more ≡ goes_on reply.now)) (λ stop. (stop ≡ Stop.Memory) ⊎ (reply_stop reply.now ≡ Some stop)) }
+/// The role or session, which the bus takes for a while.
+fn take(place: &mut Option<Hand>) -> Hand
+    requires { (hand : HandValue) × (place.old ≡ Some hand) }
+    ensures taken { place.old ≡ Some result }
+    ensures none { place.new ≡ None }
 {
-    match tell(names, origin, subject, reply, text) {
-        Ok(()) => Ok(goes_on(reply)),
-        Err(stop) => Err(stop),
-    }
+    let Some(hand) = place.take() else {
+        unreachable!()
+    };
+    hand
 }
 
-/// Whether there is another round after one with this reply: an address was given, or its acknowledgment was missing.
-fn goes_on(reply: &Reply) -> bool
-    ensures { result ≡ goes_on reply.now }
+/// The bus gives it back.
+fn give(place: &mut Option<Hand>, hand: Hand)
+    requires { place.old ≡ None }
+    ensures { place.new ≡ Some hand }
 {
-    matches!(
-        reply,
-        Reply::Round(RoundReply::Assigned(..) | RoundReply::Nobody)
-    )
+    match mem::replace(place, Some(hand)) {
+        None => {}
+        Some(_) => unreachable!(),
+    }
 }

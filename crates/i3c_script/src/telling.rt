@@ -1,6 +1,6 @@
 ghost use Rattle.std.specs.Prelude.{◌≡◌, ◌⊎◌, [], ◌∷◌, ◌++◌, None, Some, MatchResult, OnOk};
 ghost use Rattle.std.specs.Fmt.{decimal};
-ghost use Rattle.i3c_script.specs.Printed.{assigned_text, attached_text, ended_text, field_text, framed_text, handed_text, identity_text, opened_text, raised_text, reply_text, request_text, round_text, served_text, subject_of};
+ghost use Rattle.i3c_script.specs.Printed.{assigned_text, attached_text, field_text, framed_text, handed_text, identity_text, opened_text, raised_text, reply_text, request_text, round_text, served_text, subject_of};
 ghost use Rattle.i3c_script.specs.Stops.{reply_stop};
 ghost use Rattle.i3c_script.specs.declared.faults.Stop.TheVariants.{Memory};
 
@@ -12,15 +12,6 @@ use std::alloc::AllocError;
 
 /// How many hex digits a provisioned ID has.
 const PID_DIGITS: usize = 12;
-
-/// What an event is carried out for, by which some replies print less.
-#[derive(Clone, Copy)]
-pub(crate) enum Origin {
-    /// The line is the event.
-    Line,
-    /// The line is `daa`, of whose opening and end nothing is printed but what was served.
-    Daa,
-}
 
 /// What of its event a reply's text has in it.
 #[derive(Clone, Copy)]
@@ -47,15 +38,14 @@ pub(crate) fn subject_of(event: &Event) -> Subject
 /// Prints the bus's reply to an event. What the line is refused or stopped by is answered, and not printed here.
 pub(crate) fn tell(
     names: &Names,
-    origin: Origin,
     subject: Subject,
     reply: &Reply,
     text: &mut Text,
 ) -> Result<(), Stop>
     ensures stop { MatchResult result (λ _. reply_stop reply.now ≡ None) (λ stop. (stop ≡ Stop.Memory) ⊎ (reply_stop reply.now ≡ Some stop)) }
-    ensures told { OnOk result (text.new ≡ text.old ++ reply_text names.now origin subject reply.now) }
+    ensures told { OnOk result (text.new ≡ text.old ++ reply_text names.now subject reply.now) }
 {
-    show_reply(names, origin, subject, reply, text)?;
+    show_reply(names, subject, reply, text)?;
     match Stop::of_reply(reply) {
         Some(stop) => Err(stop),
         None => Ok(()),
@@ -65,12 +55,11 @@ pub(crate) fn tell(
 /// Prints what a reply has to say, but for refusals.
 fn show_reply(
     names: &Names,
-    origin: Origin,
     subject: Subject,
     reply: &Reply,
     text: &mut Text,
 ) -> Result<(), AllocError>
-    ensures { OnOk result (text.new ≡ text.old ++ reply_text names.now origin subject reply.now) }
+    ensures { OnOk result (text.new ≡ text.old ++ reply_text names.now subject reply.now) }
 {
     match reply {
         Reply::Refused(_) | Reply::OutOfMemory => Ok(()),
@@ -80,10 +69,10 @@ fn show_reply(
         Reply::Asked => text.push(b"asked\n"),
         Reply::Served(served) => show_served(served, text),
         Reply::Framed(framed) => show_framed(framed, text),
-        Reply::Opened(served) => show_opened(origin, served, text),
+        Reply::Opened(served) => show_opened(served, text),
         Reply::Handed(served) => show_handed(subject, served, text),
         Reply::Round(answer) => show_round(answer, text),
-        Reply::Ended => show_ended(origin, text),
+        Reply::Ended => text.push(b"ended\n"),
     }
 }
 
@@ -138,7 +127,7 @@ fn show_served(served: &Served, text: &mut Text) -> Result<(), AllocError>
 }
 
 /// Prints what a frame served before its own part, unless nobody asked.
-fn show_request(served: &Served, text: &mut Text) -> Result<(), AllocError>
+pub(crate) fn show_request(served: &Served, text: &mut Text) -> Result<(), AllocError>
     ensures { OnOk result (text.new ≡ text.old ++ request_text served.now) }
 {
     match served {
@@ -163,15 +152,12 @@ fn show_framed(framed: &Framed, text: &mut Text) -> Result<(), AllocError>
     }
 }
 
-/// Prints what was served while a session was opened, and that it is open, if the line is that.
-fn show_opened(origin: Origin, served: &Served, text: &mut Text) -> Result<(), AllocError>
-    ensures { OnOk result (text.new ≡ text.old ++ opened_text origin served.now) }
+/// Prints what was served while a session was opened, and that it is open.
+fn show_opened(served: &Served, text: &mut Text) -> Result<(), AllocError>
+    ensures { OnOk result (text.new ≡ text.old ++ opened_text served.now) }
 {
     show_request(served, text)?;
-    match origin {
-        Origin::Line => text.push(b"open\n"),
-        Origin::Daa => Ok(()),
-    }
+    text.push(b"open\n")
 }
 
 /// Prints what was served while the role was handed over, and the address of who has it.
@@ -187,18 +173,8 @@ fn show_handed(subject: Subject, served: &Served, text: &mut Text) -> Result<(),
     text.end()
 }
 
-/// Prints that a session is ended, if the line is that.
-fn show_ended(origin: Origin, text: &mut Text) -> Result<(), AllocError>
-    ensures { OnOk result (text.new ≡ text.old ++ ended_text origin) }
-{
-    match origin {
-        Origin::Line => text.push(b"ended\n"),
-        Origin::Daa => Ok(()),
-    }
-}
-
 /// Prints a round.
-fn show_round(answer: &RoundReply, text: &mut Text) -> Result<(), AllocError>
+pub(crate) fn show_round(answer: &RoundReply, text: &mut Text) -> Result<(), AllocError>
     ensures { OnOk result (text.new ≡ text.old ++ round_text answer.now) }
 {
     match answer {
