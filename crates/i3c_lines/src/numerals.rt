@@ -30,29 +30,37 @@ const MOST_DIGITS: usize = 16;
 /// Numbers below this have at most four digits.
 const FIVE_DIGITS: u64 = 10_000;
 
+/// How many places at most four digits take.
+const FOUR_PLACES: usize = 4;
+
+/// How many places at most four digits and a line's end take.
+const ENDED_PLACES: usize = FOUR_PLACES + 1;
+
 /// Appends a number to a text, in decimal digits.
 pub(crate) fn push_decimal(text: &mut Vec<u8>, number: u64) -> Result<(), AllocError>
     ensures { OnOk result (text.new.items ≡ text.old.items ++ decimal number) }
 {
-    if number < FIVE_DIGITS {
-        text.reserve(4)?;
-        push_four(text, number);
-        return Ok(());
+    let room = text.capacity() - text.len();
+    if number >= FIVE_DIGITS || room < FOUR_PLACES {
+        return push_longer(text, number);
     }
-    push_longer(text, number)
+    push_four(text, number as u32);
+    Ok(())
 }
 
-/// Appends a number in decimal digits, and the line's end.
-pub(crate) fn push_ended(text: &mut Vec<u8>, number: u64) -> Result<(), AllocError>
-    ensures { OnOk result (text.new.items ≡ text.old.items ++ (decimal number ++ 10 ∷ [])) }
+/// Appends some words and a number in decimal digits to a text, and ends the line.
+// where the words are known, appending them takes two or three writes
+#[inline(always)]
+pub(crate) fn push_numbered(text: &mut Vec<u8>, words: &[u8], number: u64) -> Result<(), AllocError>
+    ensures { OnOk result (text.new.items ≡ text.old.items ++ (words.now ++ (decimal number ++ 10 ∷ []))) }
 {
-    if number < FIVE_DIGITS {
-        text.reserve(5)?;
-        push_four(text, number);
-        text.push_reserved(b'\n');
-        return Ok(());
+    let room = text.capacity() - text.len();
+    if number >= FIVE_DIGITS || room < words.len().saturating_add(ENDED_PLACES) {
+        return push_longer_numbered(text, words, number);
     }
-    push_longer_ended(text, number)
+    text.extend_from_slice(words)?;
+    push_ended(text, number as u32);
+    Ok(())
 }
 
 /// Appends a number of any length, in decimal digits.
@@ -66,22 +74,34 @@ fn push_longer(text: &mut Vec<u8>, number: u64) -> Result<(), AllocError>
     text.extend_from_slice(buffer.format(number).as_bytes())
 }
 
-/// Appends a number of any length, and the line's end.
+/// Appends some words and a number of any length, and ends the line.
+// kept apart with its calls, so that a short number for which there is room pays for none
 #[cold]
 #[inline(never)]
-fn push_longer_ended(text: &mut Vec<u8>, number: u64) -> Result<(), AllocError>
-    ensures { OnOk result (text.new.items ≡ text.old.items ++ (decimal number ++ 10 ∷ [])) }
+fn push_longer_numbered(text: &mut Vec<u8>, words: &[u8], number: u64) -> Result<(), AllocError>
+    ensures { OnOk result (text.new.items ≡ text.old.items ++ (words.now ++ (decimal number ++ 10 ∷ []))) }
 {
+    text.extend_from_slice(words)?;
     push_longer(text, number)?;
     text.extend_from_slice(b"\n")
 }
 
-/// Appends at most four decimal digits, for which there is room.
-fn push_four(text: &mut Vec<u8>, number: u64)
+/// Appends at most four decimal digits and the line's end, for which there is room.
+fn push_ended(text: &mut Vec<u8>, number: u32)
     requires short { number < FIVE_DIGITS }
-    requires room { vec_len text.old + 4 ≤ vec_capacity text.old }
+    requires room { vec_len text.old + ENDED_PLACES ≤ vec_capacity text.old }
+    ensures { text.new.items ≡ text.old.items ++ (decimal number ++ 10 ∷ []) }
+{
+    push_four(text, number);
+    text.push_reserved(b'\n');
+}
+
+/// Appends at most four decimal digits, for which there is room.
+fn push_four(text: &mut Vec<u8>, number: u32)
+    requires short { number < FIVE_DIGITS }
+    requires room { vec_len text.old + FOUR_PLACES ≤ vec_capacity text.old }
     ensures digits { text.new.items ≡ text.old.items ++ decimal number }
-    ensures len { vec_len text.new ≤ vec_len text.old + 4 }
+    ensures len { vec_len text.new ≤ vec_len text.old + FOUR_PLACES }
     ensures capacity { vec_capacity text.new ≡ vec_capacity text.old }
 {
     if number < 100 {
@@ -93,7 +113,7 @@ fn push_four(text: &mut Vec<u8>, number: u64)
 }
 
 /// Appends one or two, for which there is room.
-fn push_two(text: &mut Vec<u8>, number: u64)
+fn push_two(text: &mut Vec<u8>, number: u32)
     requires short { number < 100 }
     requires room { vec_len text.old + 2 ≤ vec_capacity text.old }
     ensures digits { text.new.items ≡ text.old.items ++ decimal number }
@@ -108,7 +128,7 @@ fn push_two(text: &mut Vec<u8>, number: u64)
 }
 
 /// Appends two digits, a zero before a number that has but one.
-fn push_pair(text: &mut Vec<u8>, number: u64)
+fn push_pair(text: &mut Vec<u8>, number: u32)
     requires short { number < 100 }
     requires room { vec_len text.old + 2 ≤ vec_capacity text.old }
     ensures digits { text.new.items ≡ text.old.items ++ (48 + number / 10) ∷ (48 + number % 10) ∷ [] }

@@ -1,4 +1,4 @@
-use crate::numerals::{push_byte, push_bytes, push_decimal, push_ended, push_hex};
+use crate::numerals::{push_byte, push_bytes, push_decimal, push_hex, push_numbered};
 use std::alloc::{AllocError, Global};
 use std::fmt;
 use std::marker::Model;
@@ -60,13 +60,11 @@ impl Text {
     }
 
     /// Appends some words and a number in decimal digits, and ends the line.
-    // where the words are known, appending them takes two or three writes
     #[inline(always)]
     pub fn push_numbered(&mut self, words: &[u8], number: u64) -> Result<(), AllocError>
         ensures { OnOk result (self.new ≡ self.old ++ (words.now ++ (decimal number ++ 10 ∷ []))) }
     {
-        self.bytes.extend_from_slice(words)?;
-        push_ended(&mut self.bytes, number)
+        push_numbered(&mut self.bytes, words, number)
     }
 
     /// Appends a byte, in two hex digits.
