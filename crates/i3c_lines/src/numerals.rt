@@ -1,4 +1,4 @@
-ghost use Rattle.std.specs.Prelude.{◌≡◌, ◌+◌, ◌*◌, ◌/◌, ◌%◌, ◌<◌, ◌≤◌, ◌++◌, length, true, vec_capacity, vec_len, OnOk};
+ghost use Rattle.std.specs.Prelude.{◌≡◌, ◌+◌, ◌*◌, ◌/◌, ◌%◌, ◌<◌, ◌≤◌, ◌++◌, ◌∷◌, [], length, true, vec_capacity, vec_len, OnOk};
 ghost use Rattle.std.specs.Fmt.{decimal, digit_glyph};
 ghost use Rattle.i3c_lines.specs.Hex.{byte_text, bytes_text, hex_text};
 
@@ -18,22 +18,49 @@ static PAIRS: [u8; 512] = *b"000102030405060708090A0B0C0D0E0F1011121314151617181
     C0C1C2C3C4C5C6C7C8C9CACBCCCDCECFD0D1D2D3D4D5D6D7D8D9DADBDCDDDEDF\
     E0E1E2E3E4E5E6E7E8E9EAEBECEDEEEFF0F1F2F3F4F5F6F7F8F9FAFBFCFDFEFF";
 
+/// The two decimal digits of each number below 100, one number after another.
+static TENS: [u8; 200] = *b"0001020304050607080910111213141516171819202122232425262728293031\
+    3233343536373839404142434445464748495051525354555657585960616263\
+    6465666768697071727374757677787980818283848586878889909192939495\
+    96979899";
+
 /// How many hex digits a number has, with the zeros that lead it.
 const MOST_DIGITS: usize = 16;
 
 /// Numbers below this have at most four digits.
 const FIVE_DIGITS: u64 = 10_000;
 
+/// How many places at most four digits take.
+const FOUR_PLACES: usize = 4;
+
+/// How many places at most four digits and a line's end take.
+const ENDED_PLACES: usize = FOUR_PLACES + 1;
+
 /// Appends a number to a text, in decimal digits.
 pub(crate) fn push_decimal(text: &mut Vec<u8>, number: u64) -> Result<(), AllocError>
     ensures { OnOk result (text.new.items ≡ text.old.items ++ decimal number) }
 {
-    if number < FIVE_DIGITS {
-        text.reserve(4)?;
-        push_four(text, number);
-        return Ok(());
+    let room = text.capacity() - text.len();
+    if number >= FIVE_DIGITS || room < FOUR_PLACES {
+        return push_longer(text, number);
     }
-    push_longer(text, number)
+    push_four(text, number as u32);
+    Ok(())
+}
+
+/// Appends some words and a number in decimal digits to a text, and ends the line.
+// where the words are known, appending them takes two or three writes
+#[inline(always)]
+pub(crate) fn push_numbered(text: &mut Vec<u8>, words: &[u8], number: u64) -> Result<(), AllocError>
+    ensures { OnOk result (text.new.items ≡ text.old.items ++ (words.now ++ (decimal number ++ 10 ∷ []))) }
+{
+    let room = text.capacity() - text.len();
+    if number >= FIVE_DIGITS || room < words.len().saturating_add(ENDED_PLACES) {
+        return push_longer_numbered(text, words, number);
+    }
+    text.extend_from_slice(words)?;
+    push_ended(text, number as u32);
+    Ok(())
 }
 
 /// Appends a number of any length, in decimal digits.
@@ -47,38 +74,46 @@ fn push_longer(text: &mut Vec<u8>, number: u64) -> Result<(), AllocError>
     text.extend_from_slice(buffer.format(number).as_bytes())
 }
 
-/// Appends at most four decimal digits, for which there is room.
-fn push_four(text: &mut Vec<u8>, number: u64)
-    requires short { number < FIVE_DIGITS }
-    requires room { vec_len text.old + 4 ≤ vec_capacity text.old }
-    ensures { text.new.items ≡ text.old.items ++ decimal number }
+/// Appends some words and a number of any length, and ends the line.
+// kept apart with its calls, so that a short number for which there is room pays for none
+#[cold]
+#[inline(never)]
+fn push_longer_numbered(text: &mut Vec<u8>, words: &[u8], number: u64) -> Result<(), AllocError>
+    ensures { OnOk result (text.new.items ≡ text.old.items ++ (words.now ++ (decimal number ++ 10 ∷ []))) }
 {
-    if number < 10 {
-        text.push_reserved(last_digit(number));
-        return;
-    }
-    push_three(text, number / 10);
-    text.push_reserved(last_digit(number));
+    text.extend_from_slice(words)?;
+    push_longer(text, number)?;
+    text.extend_from_slice(b"\n")
 }
 
-/// Appends at most three, for which there is room.
-fn push_three(text: &mut Vec<u8>, number: u64)
-    requires short { number < 1000 }
-    requires room { vec_len text.old + 3 ≤ vec_capacity text.old }
+/// Appends at most four decimal digits and the line's end, for which there is room.
+fn push_ended(text: &mut Vec<u8>, number: u32)
+    requires short { number < FIVE_DIGITS }
+    requires room { vec_len text.old + ENDED_PLACES ≤ vec_capacity text.old }
+    ensures { text.new.items ≡ text.old.items ++ (decimal number ++ 10 ∷ []) }
+{
+    push_four(text, number);
+    text.push_reserved(b'\n');
+}
+
+/// Appends at most four decimal digits, for which there is room.
+fn push_four(text: &mut Vec<u8>, number: u32)
+    requires short { number < FIVE_DIGITS }
+    requires room { vec_len text.old + FOUR_PLACES ≤ vec_capacity text.old }
     ensures digits { text.new.items ≡ text.old.items ++ decimal number }
-    ensures len { vec_len text.new ≤ vec_len text.old + 3 }
+    ensures len { vec_len text.new ≤ vec_len text.old + FOUR_PLACES }
     ensures capacity { vec_capacity text.new ≡ vec_capacity text.old }
 {
-    if number < 10 {
-        text.push_reserved(last_digit(number));
+    if number < 100 {
+        push_two(text, number);
         return;
     }
-    push_two(text, number / 10);
-    text.push_reserved(last_digit(number));
+    push_two(text, number / 100);
+    push_pair(text, number % 100);
 }
 
 /// Appends one or two, for which there is room.
-fn push_two(text: &mut Vec<u8>, number: u64)
+fn push_two(text: &mut Vec<u8>, number: u32)
     requires short { number < 100 }
     requires room { vec_len text.old + 2 ≤ vec_capacity text.old }
     ensures digits { text.new.items ≡ text.old.items ++ decimal number }
@@ -86,18 +121,23 @@ fn push_two(text: &mut Vec<u8>, number: u64)
     ensures capacity { vec_capacity text.new ≡ vec_capacity text.old }
 {
     if number < 10 {
-        text.push_reserved(last_digit(number));
+        text.push_reserved(b'0' + number as u8);
         return;
     }
-    text.push_reserved(last_digit(number / 10));
-    text.push_reserved(last_digit(number));
+    push_pair(text, number);
 }
 
-/// The last decimal digit of a number.
-fn last_digit(number: u64) -> u8
-    ensures { result ≡ 48 + number % 10 }
+/// Appends two digits, a zero before a number that has but one.
+fn push_pair(text: &mut Vec<u8>, number: u32)
+    requires short { number < 100 }
+    requires room { vec_len text.old + 2 ≤ vec_capacity text.old }
+    ensures digits { text.new.items ≡ text.old.items ++ (48 + number / 10) ∷ (48 + number % 10) ∷ [] }
+    ensures len { vec_len text.new ≡ vec_len text.old + 2 }
+    ensures capacity { vec_capacity text.new ≡ vec_capacity text.old }
 {
-    b'0' + (number % 10) as u8
+    let place = 2 * number as usize;
+    text.push_reserved(TENS[place]);
+    text.push_reserved(TENS[place + 1]);
 }
 
 /// Appends a byte to a text, in two hex digits.

@@ -1,4 +1,4 @@
-use crate::numerals::{push_byte, push_bytes, push_decimal, push_hex};
+use crate::numerals::{push_byte, push_bytes, push_decimal, push_hex, push_numbered};
 use std::alloc::{AllocError, Global};
 use std::fmt;
 use std::marker::Model;
@@ -57,6 +57,14 @@ impl Text {
         ensures { OnOk result (self.new ≡ self.old ++ decimal number) }
     {
         push_decimal(&mut self.bytes, number)
+    }
+
+    /// Appends some words and a number in decimal digits, and ends the line.
+    #[inline(always)]
+    pub fn push_numbered(&mut self, words: &[u8], number: u64) -> Result<(), AllocError>
+        ensures { OnOk result (self.new ≡ self.old ++ (words.now ++ (decimal number ++ 10 ∷ []))) }
+    {
+        push_numbered(&mut self.bytes, words, number)
     }
 
     /// Appends a byte, in two hex digits.
