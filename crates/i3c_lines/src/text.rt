@@ -18,7 +18,7 @@ impl Model for Text {
 }
 
 impl Text {
-    ghost use Rattle.std.specs.Prelude.{◌≡◌, [], ◌∷◌, ◌++◌, OnOk};
+    ghost use Rattle.std.specs.Prelude.{◌≡◌, [], ◌∷◌, ◌++◌, OnErr, OnOk};
     ghost use Rattle.std.specs.Fmt.{decimal};
     ghost use Rattle.i3c_lines.specs.Hex.{byte_text, bytes_text, hex_text};
 
@@ -45,9 +45,10 @@ impl Text {
         self.bytes.as_slice()
     }
 
-    /// Appends some words.
+    /// Appends some words. For want of memory it appends nothing.
     pub fn push(&mut self, words: &[u8]) -> Result<(), AllocError>
-        ensures { OnOk result (self.new ≡ self.old ++ words.now) }
+        ensures appended { OnOk result (self.new ≡ self.old ++ words.now) }
+        ensures unchanged { OnErr result (self.new ≡ self.old) }
     {
         self.bytes.extend_from_slice(words)
     }

@@ -5,6 +5,7 @@ pub mod TraceWritten
 pub mod TraceRead
 pub mod TraceOut
 pub mod Feeds
+pub mod Gathered
 pub mod ScriptRuns
 pub mod ScriptRead
 pub mod AsciiLaws

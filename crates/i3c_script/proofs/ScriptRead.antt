@@ -5,9 +5,11 @@ use Rattle.std.proofs.Math.Seq.{take-append_seam}
 use Rattle.std.specs.Io.KnownBytes.{Consumes, IsAtEnd, Keeps}
 use Rattle.i3c_script.specs.declared.faults.ScriptFault.{ScriptFault}
 use Rattle.i3c_script.specs.Reading.{Leaves}
-use Rattle.i3c_script.specs.Scripts.{IsPart, LineRun, LinesGoOut, OutBefore, lines_bytes}
+use Rattle.i3c_script.specs.Scripts.{IsPart, LineRun, LinesGoOut, OutBefore, lines_bytes, lines_out}
 use Rattle.i3c_script.specs.ScriptSteps.{OutOf, ReadSoFar, ReadsAll, ReadWhole, Runs, RunsTo, RunStops}
-use Rattle.i3c_script.proofs.ScriptRuns.{no_feed_in_none, no_line, nothing_out, runs_both, runs_stop, stops_before}
+use Rattle.i3c_script.specs.Outcomes.{written}
+use Rattle.i3c_script.proofs.Gathered.{nothing_out, puts_whole}
+use Rattle.i3c_script.proofs.ScriptRuns.{no_feed_in_none, no_line, runs_both, runs_stop, stops_before}
 use Rattle.i3c_script.proofs.TraceRead.{more_read, none_read}
 
 -- the known bytes that are left
@@ -31,13 +33,13 @@ ended_is (Some xs) (Some ys) read bytes consumed end same =
     sym same ∙ ap (λ b. b ++ 10 ∷ []) (sym (append-nil read) ∙ ap (λ b. read ++ b) (sym end) ∙ sym consumed)
 
 -- a fault at a line
-out_of : (fault : ScriptFault) (known left old new : Option (List ℕ)) (lines : List LineRun) → OutOf fault lines old new → OutBefore fault known left old new lines
-out_of ScriptFault.Memory known left old new lines out = out
+out_of : (fault : ScriptFault) (known left old new : Option (List ℕ)) (lines : List LineRun) → OutOf fault lines (written old) (written new) → OutBefore fault known left old new lines
+out_of ScriptFault.Memory known left old new lines out = puts_whole old new (lines_out lines) out
 out_of ScriptFault.Write known left old new lines out = out
 out_of ScriptFault.Read known left old new lines out = absurd out
 out_of ScriptFault.TooLarge known left old new lines out = absurd out
 
-pub stopped_part : (known left old new : Option (List ℕ)) (fault : ScriptFault) (read : List ℕ) → Consumes known left read → RunStops read old new fault → IsPart known left old new fault
+pub stopped_part : (known left old new : Option (List ℕ)) (fault : ScriptFault) (read : List ℕ) → Consumes known left read → RunStops read (written old) (written new) fault → IsPart known left old new fault
 stopped_part known left old new fault read consumed stops = record {
   lines = stops.lines;
   rest = stops.rest ++ (unread left ++ 10 ∷ []);
@@ -47,7 +49,7 @@ stopped_part known left old new fault read consumed stops = record {
 }
 
 -- a fault at the last line
-last_part : (known left old new : Option (List ℕ)) (fault : ScriptFault) (read : List ℕ) → Consumes known left read → IsAtEnd left → RunStops (read ++ 10 ∷ []) old new fault → IsPart known left old new fault
+last_part : (known left old new : Option (List ℕ)) (fault : ScriptFault) (read : List ℕ) → Consumes known left read → IsAtEnd left → RunStops (read ++ 10 ∷ []) (written old) (written new) fault → IsPart known left old new fault
 last_part known left old new fault read consumed end stops = record {
   lines = stops.lines;
   rest = stops.rest;
@@ -71,13 +73,13 @@ unread_part known now left old new held counted refused room so_far kept =
       rest = so_far.rest ++ (unread left ++ 10 ∷ []);
       run = so_far.runs.run;
       first = script_is known left so_far.read (lines_bytes so_far.runs.lines) so_far.rest consumed so_far.runs.same;
-      out = (so_far.runs.out, (so_far.rest, so_far.runs.one, subst (Consumes known left) so_far.runs.same consumed));
+      out = (puts_whole old new (lines_out so_far.runs.lines) so_far.runs.out, (so_far.rest, so_far.runs.one, subst (Consumes known left) so_far.runs.same consumed));
     }
 
 -- nothing was read
 pub none_so_far : (known old : Option (List ℕ)) (held : List ℕ) (counted : ℕ) → held ≡ [] → ReadSoFar known known old old held counted counted 1048576
 none_so_far known old held counted none =
-    record { read = []; rest = []; consumed = none_read known [] refl; few = omega arith; runs = no_line [] old counted no_feed_in_none; begun = none }
+    record { read = []; rest = []; consumed = none_read known [] refl; few = omega arith; runs = no_line [] (written old) counted no_feed_in_none; begun = none }
 
 no_part : (known old : Option (List ℕ)) → IsPart known known old old ScriptFault.Memory
 no_part known old = record {
@@ -109,19 +111,19 @@ none_run known old = no_part known old
 -- a piece more
 pub more_so_far : (known now next old mid new : Option (List ℕ)) (held held2 chunk : List ℕ) (counted c1 c2 left count : ℕ)
     → (so_far : ReadSoFar known now old mid held counted c1 left) → count ≤ left → count ≤ length chunk → Consumes now next (take count chunk)
-    → (rest : List ℕ) → RunsTo (so_far.rest ++ take count chunk) rest mid new c1 c2 → held2 ≡ take 257 rest → ReadSoFar known next old new held2 counted c2 (left - count)
+    → (rest : List ℕ) → RunsTo (so_far.rest ++ take count chunk) rest (written mid) (written new) c1 c2 → held2 ≡ take 257 rest → ReadSoFar known next old new held2 counted c2 (left - count)
 more_so_far known now next old mid new held held2 chunk counted c1 c2 left count so_far within room consumed rest runs begun = record {
   read = so_far.read ++ take count chunk;
   rest = rest;
   consumed = more_read known now next so_far.read (take count chunk) (so_far.read ++ take count chunk) so_far.consumed consumed refl;
   few = omega (arith, so_far.few, length-append so_far.read (take count chunk), length-take count chunk, within, room);
-  runs = runs_both so_far.read so_far.rest (take count chunk) rest old mid new counted c1 c2 so_far.runs runs;
+  runs = runs_both so_far.read so_far.rest (take count chunk) rest (written old) (written mid) (written new) counted c1 c2 so_far.runs runs;
   begun = begun;
 }
 
 -- a piece at one of whose lines the run stops
 pub stopped_in : (known now next old mid new : Option (List ℕ)) (held chunk : List ℕ) (counted c1 left count n : ℕ) (fault : ScriptFault)
-    → (so_far : ReadSoFar known now old mid held counted c1 left) → count ≤ n → Consumes now next (take n chunk) → RunStops (so_far.rest ++ take count chunk) mid new fault → IsPart known next old new fault
+    → (so_far : ReadSoFar known now old mid held counted c1 left) → count ≤ n → Consumes now next (take n chunk) → RunStops (so_far.rest ++ take count chunk) (written mid) (written new) fault → IsPart known next old new fault
 stopped_in known now next old mid new held chunk counted c1 left count n fault so_far within consumed stops =
     let piece = take count chunk in
     let more = drop count (take n chunk) in
@@ -129,7 +131,7 @@ stopped_in known now next old mid new held chunk counted c1 left count n fault s
     let read : so_far.read ++ take n chunk ≡ (so_far.read ++ piece) ++ more = ap (λ bytes. so_far.read ++ bytes) all ∙ sym (append_assoc so_far.read piece more) in
     stopped_part known next old new fault ((so_far.read ++ piece) ++ more)
     (more_read known now next so_far.read (take n chunk) ((so_far.read ++ piece) ++ more) so_far.consumed consumed (sym read))
-    (stops_before (so_far.read ++ piece) more old new fault (runs_stop so_far.read so_far.rest piece old mid new counted c1 fault so_far.runs stops))
+    (stops_before (so_far.read ++ piece) more (written old) (written new) fault (runs_stop so_far.read so_far.rest piece (written old) (written mid) (written new) counted c1 fault so_far.runs stops))
 
 -- the most bytes that a script may have, and more
 front_is : (known left : Option (List ℕ)) (first more front : List ℕ) → Consumes known left (first ++ more) → length first ≡ 1048576 → first ≡ front → IfSome known (λ script. take 1048576 script ≡ front)
@@ -141,7 +143,7 @@ front_is (Some xs) (Some ys) first more front consumed most same =
 
 pub large_part : (known now next old mid new : Option (List ℕ)) (held chunk : List ℕ) (counted c1 c2 left n : ℕ)
     → (so_far : ReadSoFar known now old mid held counted c1 left) → left < n → n ≤ length chunk → Consumes now next (take n chunk)
-    → (rest : List ℕ) → RunsTo (so_far.rest ++ take left chunk) rest mid new c1 c2 → IsPart known next old new ScriptFault.TooLarge
+    → (rest : List ℕ) → RunsTo (so_far.rest ++ take left chunk) rest (written mid) (written new) c1 c2 → IsPart known next old new ScriptFault.TooLarge
 large_part known now next old mid new held chunk counted c1 c2 left n so_far within room consumed rest runs =
     let piece = take left chunk in
     let more = drop left (take n chunk) in
@@ -149,7 +151,7 @@ large_part known now next old mid new held chunk counted c1 c2 left n so_far wit
     let first = so_far.read ++ piece in
     let read : so_far.read ++ take n chunk ≡ first ++ more = ap (λ bytes. so_far.read ++ bytes) all ∙ sym (append_assoc so_far.read piece more) in
     let consumed2 : Consumes known next (first ++ more) = more_read known now next so_far.read (take n chunk) (first ++ more) so_far.consumed consumed (sym read) in
-    let both : RunsTo first rest old new counted c2 = runs_both so_far.read so_far.rest piece rest old mid new counted c1 c2 so_far.runs runs in
+    let both : RunsTo first rest (written old) (written new) counted c2 = runs_both so_far.read so_far.rest piece rest (written old) (written mid) (written new) counted c1 c2 so_far.runs runs in
     let most : length first ≡ 1048576 = omega (arith, so_far.few, length-append so_far.read piece, length-take left chunk, within, room) in
     let split : first ++ more ≡ lines_bytes both.lines ++ (rest ++ more) = ap (λ bytes. bytes ++ more) both.same ∙ append_assoc (lines_bytes both.lines) rest more in
     record {
@@ -157,21 +159,21 @@ large_part known now next old mid new held chunk counted c1 c2 left n so_far wit
       rest = (rest ++ more) ++ (unread next ++ 10 ∷ []);
       run = both.run;
       first = script_is known next (first ++ more) (lines_bytes both.lines) (rest ++ more) consumed2 split;
-      out = (both.out, (rest, both.one, front_is known next first more (lines_bytes both.lines ++ rest) consumed2 most both.same));
+      out = (puts_whole old new (lines_out both.lines) both.out, (rest, both.one, front_is known next first more (lines_bytes both.lines ++ rest) consumed2 most both.same));
     }
 
 -- the end of a script, which ends its last line
 pub all_so_far : (known now left old mid new : Option (List ℕ)) (held : List ℕ) (counted c1 c2 room : ℕ) (result : Result (Unit {0}) ScriptFault)
-    → (so_far : ReadSoFar known now old mid held counted c1 room) → Consumes now left [] → IsAtEnd left → Runs (so_far.rest ++ ([] ++ 10 ∷ [])) [] mid new c1 c2 result
+    → (so_far : ReadSoFar known now old mid held counted c1 room) → Consumes now left [] → IsAtEnd left → Runs (so_far.rest ++ 10 ∷ []) [] (written mid) (written new) c1 c2 result
     → ReadsAll known left old new counted c2 result
 all_so_far known now left old mid new held counted c1 c2 room (Ok done) so_far consumed end runs = record {
   read = so_far.read;
   consumed = more_read known now left so_far.read [] so_far.read so_far.consumed consumed (sym (append-nil so_far.read));
-  runs = runs_both so_far.read so_far.rest (10 ∷ []) [] old mid new counted c1 c2 so_far.runs runs;
+  runs = runs_both so_far.read so_far.rest (10 ∷ []) [] (written old) (written mid) (written new) counted c1 c2 so_far.runs runs;
 }
 all_so_far known now left old mid new held counted c1 c2 room (Err fault) so_far consumed end stops =
     last_part known left old new fault so_far.read (more_read known now left so_far.read [] so_far.read so_far.consumed consumed (sym (append-nil so_far.read))) end
-    (runs_stop so_far.read so_far.rest (10 ∷ []) old mid new counted c1 fault so_far.runs stops)
+    (runs_stop so_far.read so_far.rest (10 ∷ []) (written old) (written mid) (written new) counted c1 fault so_far.runs stops)
 
 -- a script that was run to its end
 pub whole_run : (known left old new : Option (List ℕ)) (refused : ℕ) → ReadWhole known left old new 0 refused → IsAtEnd left → refused ≤ 18446744073709551615 → LinesGoOut known left old new (Ok (record { refused = refused }))
@@ -179,6 +181,6 @@ whole_run known left old new refused whole end small = record {
   lines = whole.runs.lines;
   run = whole.runs.run;
   all = ended_is known left whole.read (lines_bytes whole.runs.lines) whole.consumed end (whole.runs.same ∙ append-nil (lines_bytes whole.runs.lines));
-  out = whole.runs.out;
+  out = puts_whole old new (lines_out whole.runs.lines) whole.runs.out;
   counted = omega (arith, whole.runs.count, small);
 }

@@ -1,18 +1,17 @@
 -- What the lines of a script put out, piece by piece of its bytes.
-use Rattle.std.proofs.Common.{◌≡◌, ◌≢◌, ◌<◌, ◌∙◌, ℕ, zero, suc, ◌+◌, ◌-◌, List, [], ◌∷◌, ◌++◌, length, take, drop, min, arith, slice_get, Option, Some, None, Result, Ok, Err, MatchResult, ap, append_assoc, append-nil, refl, subst, sym}
+use Rattle.std.proofs.Common.{◌≡◌, ◌≢◌, ◌<◌, ◌∙◌, ℕ, zero, suc, ◌+◌, ◌-◌, List, [], ◌∷◌, ◌++◌, length, take, drop, min, arith, slice_get, Option, Some, None, Result, Ok, Err, MatchResult, ap, inl, inr, append_assoc, append-nil, refl, subst, sym}
 use Rattle.std.proofs.lemmas.List.{length-drop, take-append-drop, take_all}
 use Rattle.std.proofs.lemmas.List.Elements.{All-append}
-use Rattle.std.specs.Io.KnownBytes.{Appends}
 use Rattle.i3c_lines.specs.declared.refusals.Refusal.{Refusal}
 use Rattle.i3c_script.specs.declared.faults.ScriptFault.{ScriptFault}
 use Rattle.i3c_script.specs.declared.faults.Stop.{Stop}
-use Rattle.i3c_script.specs.Outcomes.{AppendsSome, HasNoFeed}
+use Rattle.std.specs.Io.KnownBytes.{Appends}
+use Rattle.i3c_script.specs.Outcomes.{AppendsSome, GoesLast, HasNoFeed, Output, Puts, PutsOrFails, PutsSome, written}
 use Rattle.i3c_script.specs.Printed.{end_text}
 use Rattle.i3c_script.specs.Scripts.{AreRun, IsRead, LineRun, lines_bytes, lines_out, lines_refused, refusals_of, refused_text, run_text}
 use Rattle.i3c_script.specs.ScriptSteps.{LineDone, LineEnds, LineLost, LineStops, Obeys, OutOf, Runs, RunsTo, RunStops, Takes}
 use Rattle.i3c_script.specs.Stops.{refusals}
-use Rattle.i3c_script.proofs.TraceWritten.{keeps_all, some_out}
-use Rattle.i3c_script.proofs.Written.{appends_both}
+use Rattle.i3c_script.proofs.Gathered.{flush_all, flush_some, puts_both, puts_none, some_puts}
 
 -- the refusal that a line comes to
 pub refusal_in : Result (Unit {0}) Stop → Option Refusal
@@ -118,16 +117,12 @@ first_line bytes end h e =
     feed_at bytes end h e
     ∙ ap (λ b. (take end bytes ++ 10 ∷ []) ++ b) (ap (λ n. drop n bytes) next ∙ sym (take_all (length bytes - (end + 1)) (drop (end + 1) bytes) (omega (arith, length-drop (end + 1) bytes))))
 
-pub nothing_out : (out : Option (List ℕ)) → Appends out out []
-nothing_out None = tt
-nothing_out (Some xs) = sym (append-nil xs)
-
 -- bytes in which no line ends
-pub no_line : (bytes : List ℕ) (out : Option (List ℕ)) (counted : ℕ) → HasNoFeed bytes → RunsTo bytes bytes out out counted counted
-no_line bytes out counted none = record { lines = []; run = tt; same = refl; one = none; out = nothing_out out; count = omega arith }
+pub no_line : (bytes : List ℕ) (out : Output) (counted : ℕ) → HasNoFeed bytes → RunsTo bytes bytes out out counted counted
+no_line bytes out counted none = record { lines = []; run = tt; same = refl; one = none; out = puts_none out; count = omega arith }
 
 -- one line and its feed
-pub line_done : (line : List ℕ) (old new : Option (List ℕ)) (counted now : ℕ) → HasNoFeed line → LineDone line old new counted now → RunsTo (line ++ 10 ∷ []) [] old new counted now
+pub line_done : (line : List ℕ) (old new : Output) (counted now : ℕ) → HasNoFeed line → LineDone line old new counted now → RunsTo (line ++ 10 ∷ []) [] old new counted now
 line_done line old new counted now one done =
     let run : LineRun = record { line = line; said = done.said; refused = done.refused } in
     record {
@@ -135,27 +130,11 @@ line_done line old new counted now one done =
       run = (record { one = one; read = done.read }, tt);
       same = sym (append-nil (line ++ 10 ∷ []));
       one = no_feed_in_none;
-      out = subst (Appends old new) (sym (append-nil (done.said ++ refused_text done.refused))) done.out;
+      out = subst (Puts old new) (sym (append-nil (done.said ++ refused_text done.refused))) done.out;
       count = omega (arith, done.count);
     }
 
--- what is written of some texts, one behind the other
-some_after : (a b c : Option (List ℕ)) (first text : List ℕ) → Appends a b first → AppendsSome b c text → AppendsSome a c (first ++ text)
-some_after a b c first text all some = subst (λ t. AppendsSome a c (first ++ t)) (append-nil text) (some_out a b c first text [] all some)
-
-first_and_rest : (text : List ℕ) (n : ℕ) → take n text ++ take (length text - n) (drop n text) ≡ text
-first_and_rest text n = ap (λ rest. take n text ++ rest) (take_all (length text - n) (drop n text) (omega (arith, length-drop n text))) ∙ take-append-drop n text
-
--- a text of which so much was written at first
-pub rest_written : (a b c : Option (List ℕ)) (text : List ℕ) (n : ℕ) (result : Result (Unit {0}) ScriptFault) → Appends a b (take n text)
-    → MatchResult result (λ _. Appends b c (take (length text - n) (drop n text))) (λ fault. (fault ≡ ScriptFault.Write) × AppendsSome b c (take (length text - n) (drop n text)))
-    → MatchResult result (λ _. Appends a c text) (λ fault. (fault ≡ ScriptFault.Write) × AppendsSome a c text)
-rest_written a b c text n (Ok done) first rest =
-    subst (Appends a c) (first_and_rest text n) (appends_both a b c (take n text) (take (length text - n) (drop n text)) first rest)
-rest_written a b c text n (Err fault) first rest =
-    (rest.0, subst (AppendsSome a c) (first_and_rest text n) (some_after a b c (take n text) (take (length text - n) (drop n text)) first rest.1))
-
-some_line : (line : List ℕ) (old new : Option (List ℕ)) → HasNoFeed line → LineLost line old new → RunStops (line ++ 10 ∷ []) old new ScriptFault.Write
+some_line : (line : List ℕ) (old new : Output) → HasNoFeed line → LineLost line old new → RunStops (line ++ 10 ∷ []) old new ScriptFault.Write
 some_line line old new one lost =
     let run : LineRun = record { line = line; said = lost.said; refused = lost.refused } in
     record {
@@ -163,36 +142,36 @@ some_line line old new one lost =
       rest = [];
       run = (record { one = one; read = lost.read }, tt);
       same = sym (append-nil (line ++ 10 ∷ []));
-      out = subst (AppendsSome old new) (sym (append-nil (lost.said ++ refused_text lost.refused))) lost.out;
+      out = subst (PutsSome old new) (sym (append-nil (lost.said ++ refused_text lost.refused))) lost.out;
     }
 
 -- a line at which the run stops
-pub line_stops : (fault : ScriptFault) (line : List ℕ) (old new : Option (List ℕ)) → HasNoFeed line → LineStops fault line old new → RunStops (line ++ 10 ∷ []) old new fault
-line_stops ScriptFault.Memory line old new one stops = record { lines = []; rest = line ++ 10 ∷ []; run = tt; same = refl; out = keeps_all old new stops }
+pub line_stops : (fault : ScriptFault) (line : List ℕ) (old new : Output) → HasNoFeed line → LineStops fault line old new → RunStops (line ++ 10 ∷ []) old new fault
+line_stops ScriptFault.Memory line old new one stops = record { lines = []; rest = line ++ 10 ∷ []; run = tt; same = refl; out = stops }
 line_stops ScriptFault.Write line old new one stops = some_line line old new one stops
 line_stops ScriptFault.Read line old new one stops = absurd stops
 line_stops ScriptFault.TooLarge line old new one stops = absurd stops
 
 -- lines and then others
-pub runs_both : (a mid b rest : List ℕ) (o1 o2 o3 : Option (List ℕ)) (c1 c2 c3 : ℕ) → RunsTo a mid o1 o2 c1 c2 → RunsTo (mid ++ b) rest o2 o3 c2 c3 → RunsTo (a ++ b) rest o1 o3 c1 c3
+pub runs_both : (a mid b rest : List ℕ) (o1 o2 o3 : Output) (c1 c2 c3 : ℕ) → RunsTo a mid o1 o2 c1 c2 → RunsTo (mid ++ b) rest o2 o3 c2 c3 → RunsTo (a ++ b) rest o1 o3 c1 c3
 runs_both a mid b rest o1 o2 o3 c1 c2 c3 one two = record {
   lines = one.lines ++ two.lines;
   run = run_both one.lines two.lines one.run two.run;
   same = ap (λ bytes. bytes ++ b) one.same ∙ append_assoc (lines_bytes one.lines) mid b ∙ ap (λ bytes. lines_bytes one.lines ++ bytes) two.same
       ∙ sym (append_assoc (lines_bytes one.lines) (lines_bytes two.lines) rest) ∙ ap (λ bytes. bytes ++ rest) (sym (bytes_both one.lines two.lines));
   one = two.one;
-  out = subst (Appends o1 o3) (sym (out_both one.lines two.lines)) (appends_both o1 o2 o3 (lines_out one.lines) (lines_out two.lines) one.out two.out);
+  out = subst (Puts o1 o3) (sym (out_both one.lines two.lines)) (puts_both o1 o2 o3 (lines_out one.lines) (lines_out two.lines) one.out two.out);
   count = omega (arith, one.count, two.count, refused_both one.lines two.lines);
 }
 
-out_after : (fault : ScriptFault) (l1 l2 : List LineRun) (o1 o2 o3 : Option (List ℕ)) → Appends o1 o2 (lines_out l1) → OutOf fault l2 o2 o3 → OutOf fault (l1 ++ l2) o1 o3
-out_after ScriptFault.Memory l1 l2 o1 o2 o3 all out = subst (Appends o1 o3) (sym (out_both l1 l2)) (appends_both o1 o2 o3 (lines_out l1) (lines_out l2) all out)
-out_after ScriptFault.Write l1 l2 o1 o2 o3 all out = subst (AppendsSome o1 o3) (sym (out_both l1 l2)) (some_after o1 o2 o3 (lines_out l1) (lines_out l2) all out)
+out_after : (fault : ScriptFault) (l1 l2 : List LineRun) (o1 o2 o3 : Output) → Puts o1 o2 (lines_out l1) → OutOf fault l2 o2 o3 → OutOf fault (l1 ++ l2) o1 o3
+out_after ScriptFault.Memory l1 l2 o1 o2 o3 all out = subst (Puts o1 o3) (sym (out_both l1 l2)) (puts_both o1 o2 o3 (lines_out l1) (lines_out l2) all out)
+out_after ScriptFault.Write l1 l2 o1 o2 o3 all out = subst (PutsSome o1 o3) (sym (out_both l1 l2)) (some_puts o1 o2 o3 (lines_out l1) (lines_out l2) all out)
 out_after ScriptFault.Read l1 l2 o1 o2 o3 all out = absurd out
 out_after ScriptFault.TooLarge l1 l2 o1 o2 o3 all out = absurd out
 
 -- lines, and then a fault at another
-pub runs_stop : (a mid b : List ℕ) (o1 o2 o3 : Option (List ℕ)) (c1 c2 : ℕ) (fault : ScriptFault) → RunsTo a mid o1 o2 c1 c2 → RunStops (mid ++ b) o2 o3 fault → RunStops (a ++ b) o1 o3 fault
+pub runs_stop : (a mid b : List ℕ) (o1 o2 o3 : Output) (c1 c2 : ℕ) (fault : ScriptFault) → RunsTo a mid o1 o2 c1 c2 → RunStops (mid ++ b) o2 o3 fault → RunStops (a ++ b) o1 o3 fault
 runs_stop a mid b o1 o2 o3 c1 c2 fault one two = record {
   lines = one.lines ++ two.lines;
   rest = two.rest;
@@ -203,7 +182,7 @@ runs_stop a mid b o1 o2 o3 c1 c2 fault one two = record {
 }
 
 -- a fault before the last of these bytes is one before more of them
-pub stops_before : (a b : List ℕ) (old new : Option (List ℕ)) (fault : ScriptFault) → RunStops a old new fault → RunStops (a ++ b) old new fault
+pub stops_before : (a b : List ℕ) (old new : Output) (fault : ScriptFault) → RunStops a old new fault → RunStops (a ++ b) old new fault
 stops_before a b old new fault stops = record {
   lines = stops.lines;
   rest = stops.rest ++ b;
@@ -212,18 +191,18 @@ stops_before a b old new fault stops = record {
   out = stops.out;
 }
 
-done_whole : (line : List ℕ) (old new : Option (List ℕ)) (counted now : ℕ) → LineDone (take 257 line) old new counted now → LineDone line old new counted now
+done_whole : (line : List ℕ) (old new : Output) (counted now : ℕ) → LineDone (take 257 line) old new counted now → LineDone line old new counted now
 done_whole line old new counted now done =
     record { said = done.said; refused = done.refused; read = read_whole_line line done.said done.refused done.read; out = done.out; count = done.count }
 
-stops_whole : (fault : ScriptFault) (line : List ℕ) (old new : Option (List ℕ)) → LineStops fault (take 257 line) old new → LineStops fault line old new
+stops_whole : (fault : ScriptFault) (line : List ℕ) (old new : Output) → LineStops fault (take 257 line) old new → LineStops fault line old new
 stops_whole ScriptFault.Memory line old new stops = stops
 stops_whole ScriptFault.Write line old new stops = record { said = stops.said; refused = stops.refused; read = read_whole_line line stops.said stops.refused stops.read; out = stops.out }
 stops_whole ScriptFault.Read line old new stops = stops
 stops_whole ScriptFault.TooLarge line old new stops = stops
 
 -- a line that had begun, and its last bytes
-pub held_runs : (begun bytes : List ℕ) (old new : Option (List ℕ)) (counted now : ℕ) (result : Result (Unit {0}) ScriptFault) → HasNoFeed begun → HasNoFeed bytes
+pub held_runs : (begun bytes : List ℕ) (old new : Output) (counted now : ℕ) (result : Result (Unit {0}) ScriptFault) → HasNoFeed begun → HasNoFeed bytes
     → LineEnds (take 257 (begun ++ bytes)) old new counted now result → Runs (begun ++ (bytes ++ 10 ∷ [])) [] old new counted now result
 held_runs begun bytes old new counted now (Ok done) one two ends =
     subst (λ b. RunsTo b [] old new counted now) (append_assoc begun bytes (10 ∷ [])) (line_done (begun ++ bytes) old new counted now (no_feed_in_both begun bytes one two) (done_whole (begun ++ bytes) old new counted now ends))
@@ -231,35 +210,27 @@ held_runs begun bytes old new counted now (Err fault) one two ends =
     subst (λ b. RunStops b old new fault) (append_assoc begun bytes (10 ∷ [])) (line_stops fault (begun ++ bytes) old new (no_feed_in_both begun bytes one two) (stops_whole fault (begun ++ bytes) old new ends))
 
 -- what was read of a line that is run
-pub line_ran : (line text : List ℕ) (outcome : Result (Unit {0}) Stop) (old new : Option (List ℕ)) (counted now : ℕ)
-    → IsRead line text (refusal_in outcome) → Appends old new (text ++ end_text outcome) → now ≡ min (counted + refusals outcome) 18446744073709551615 → LineDone line old new counted now
+pub line_ran : (line text : List ℕ) (outcome : Result (Unit {0}) Stop) (old new : Output) (counted now : ℕ)
+    → IsRead line text (refusal_in outcome) → Puts old new (text ++ end_text outcome) → now ≡ min (counted + refusals outcome) 18446744073709551615 → LineDone line old new counted now
 line_ran line text outcome old new counted now read out count = record {
   said = text;
   refused = refusal_in outcome;
   read = read;
-  out = subst (λ t. Appends old new (text ++ t)) (its_text outcome) out;
+  out = subst (λ t. Puts old new (text ++ t)) (its_text outcome) out;
   count = count ∙ ap (λ n. min (counted + n) 18446744073709551615) (its_refusals outcome);
 }
 
-pub line_lost : (line text : List ℕ) (outcome : Result (Unit {0}) Stop) (old new : Option (List ℕ))
-    → IsRead line text (refusal_in outcome) → AppendsSome old new (text ++ end_text outcome) → LineLost line old new
+pub line_lost : (line text : List ℕ) (outcome : Result (Unit {0}) Stop) (old new : Output)
+    → IsRead line text (refusal_in outcome) → PutsSome old new (text ++ end_text outcome) → LineLost line old new
 line_lost line text outcome old new read out = record {
   said = text;
   refused = refusal_in outcome;
   read = read;
-  out = subst (λ t. AppendsSome old new (text ++ t)) (its_text outcome) out;
+  out = subst (λ t. PutsSome old new (text ++ t)) (its_text outcome) out;
 }
 
--- what a line comes to whose text is written, whole or in part
-pub line_written : (line text : List ℕ) (outcome : Result (Unit {0}) Stop) (old new : Option (List ℕ)) (counted now : ℕ) (result : Result (Unit {0}) ScriptFault)
-    → IsRead line text (refusal_in outcome) → now ≡ min (counted + refusals outcome) 18446744073709551615
-    → MatchResult result (λ _. Appends old new (text ++ end_text outcome)) (λ fault. (fault ≡ ScriptFault.Write) × AppendsSome old new (text ++ end_text outcome))
-    → LineEnds line old new counted now result
-line_written line text outcome old new counted now (Ok done) read count out = line_ran line text outcome old new counted now read out count
-line_written line text outcome old new counted now (Err fault) read count (is, out) = subst (λ f. LineStops f line old new) (sym is) (line_lost line text outcome old new read out)
-
 -- a line that had begun is ended, and others are run
-pub takes_both : (begun bytes line after held : List ℕ) (o1 o2 o3 : Option (List ℕ)) (c1 c2 c3 : ℕ) (result : Result (Unit {0}) ScriptFault) → bytes ≡ (line ++ 10 ∷ []) ++ after
+pub takes_both : (begun bytes line after held : List ℕ) (o1 o2 o3 : Output) (c1 c2 c3 : ℕ) (result : Result (Unit {0}) ScriptFault) → bytes ≡ (line ++ 10 ∷ []) ++ after
     → RunsTo (begun ++ (line ++ 10 ∷ [])) [] o1 o2 c1 c2 → Takes after held o2 o3 c2 c3 result → Takes (begun ++ bytes) held o1 o3 c1 c3 result
 takes_both begun bytes line after held o1 o2 o3 c1 c2 c3 (Ok done) all one (rest, two, begins) =
     let split : (begun ++ (line ++ 10 ∷ [])) ++ after ≡ begun ++ bytes = append_assoc begun (line ++ 10 ∷ []) after ∙ ap (λ b. begun ++ b) (sym all) in
@@ -269,8 +240,64 @@ takes_both begun bytes line after held o1 o2 o3 c1 c2 c3 (Err fault) all one two
     subst (λ b. RunStops b o1 o3 fault) split (runs_stop (begun ++ (line ++ 10 ∷ [])) [] after o1 o2 o3 c1 c2 fault one two)
 
 -- a line that had begun is ended, and the run stops at it
-pub takes_none : (begun bytes line after : List ℕ) (old new : Option (List ℕ)) (fault : ScriptFault) → bytes ≡ (line ++ 10 ∷ []) ++ after
+pub takes_none : (begun bytes line after : List ℕ) (old new : Output) (fault : ScriptFault) → bytes ≡ (line ++ 10 ∷ []) ++ after
     → RunStops (begun ++ (line ++ 10 ∷ [])) old new fault → RunStops (begun ++ bytes) old new fault
 takes_none begun bytes line after old new fault all stops =
     let split : (begun ++ (line ++ 10 ∷ [])) ++ after ≡ begun ++ bytes = append_assoc begun (line ++ 10 ∷ []) after ∙ ap (λ b. begun ++ b) (sym all) in
     subst (λ b. RunStops b old new fault) split (stops_before (begun ++ (line ++ 10 ∷ [])) after old new fault stops)
+
+-- what lines put behind goes out in the end, or some of it
+runs_flushed : (bytes rest : List ℕ) (old mid : Output) (new : Option (List ℕ)) (counted now : ℕ) → RunsTo bytes rest old mid counted now → Appends mid.out new mid.gathered → RunsTo bytes rest old (written new) counted now
+runs_flushed bytes rest old mid new counted now runs all =
+    record { lines = runs.lines; run = runs.run; same = runs.same; one = runs.one; out = flush_all old mid new (lines_out runs.lines) runs.out all; count = runs.count }
+
+runs_lost : (bytes rest : List ℕ) (old mid : Output) (new : Option (List ℕ)) (counted now : ℕ) → RunsTo bytes rest old mid counted now → AppendsSome mid.out new mid.gathered → RunStops bytes old (written new) ScriptFault.Write
+runs_lost bytes rest old mid new counted now runs some =
+    record { lines = runs.lines; rest = rest; run = runs.run; same = runs.same; out = flush_some old mid new (lines_out runs.lines) runs.out some }
+
+stops_flushed : (bytes : List ℕ) (old mid : Output) (new : Option (List ℕ)) (fault : ScriptFault) (result : Result (Unit {0}) ScriptFault) → RunStops bytes old mid fault
+    → GoesLast mid.out new mid.gathered (Err fault) result → MatchResult result (λ _. ⊥) (RunStops bytes old (written new))
+stops_flushed bytes old mid new ScriptFault.Memory result stops (inl (is, all)) =
+    subst (λ r. MatchResult r (λ _. ⊥) (RunStops bytes old (written new))) (sym is)
+    (record { lines = stops.lines; rest = stops.rest; run = stops.run; same = stops.same; out = flush_all old mid new (lines_out stops.lines) stops.out all })
+stops_flushed bytes old mid new ScriptFault.Memory result stops (inr (is, some)) =
+    subst (λ r. MatchResult r (λ _. ⊥) (RunStops bytes old (written new))) (sym is)
+    (record { lines = stops.lines; rest = stops.rest; run = stops.run; same = stops.same; out = flush_some old mid new (lines_out stops.lines) stops.out some })
+stops_flushed bytes old mid new ScriptFault.Write result stops (is, same) =
+    subst (λ r. MatchResult r (λ _. ⊥) (RunStops bytes old (written new))) (sym is)
+    (record { lines = stops.lines; rest = stops.rest; run = stops.run; same = stops.same; out = subst (λ out. AppendsSome old.out out (old.gathered ++ lines_out stops.lines)) (sym same) stops.out })
+stops_flushed bytes old mid new ScriptFault.Read result stops last = absurd stops.out
+stops_flushed bytes old mid new ScriptFault.TooLarge result stops last = absurd stops.out
+
+stopped : (Q : Type 0) (P : ScriptFault → Type 0) (result : Result (Unit {0}) ScriptFault) → MatchResult result (λ _. ⊥) P → MatchResult result (λ _. Q) P
+stopped Q P (Ok done) h = absurd h
+stopped Q P (Err fault) h = h
+
+-- what was gathered of bytes goes out in the end
+pub takes_flushed : (bytes held : List ℕ) (old mid : Output) (new : Option (List ℕ)) (counted now : ℕ) (outcome result : Result (Unit {0}) ScriptFault) → Takes bytes held old mid counted now outcome
+    → GoesLast mid.out new mid.gathered outcome result → Takes bytes held old (written new) counted now result
+takes_flushed bytes held old mid new counted now (Ok done) result (rest, runs, begins) (inl (is, all)) =
+    subst (Takes bytes held old (written new) counted now) (sym is) (rest, runs_flushed bytes rest old mid new counted now runs all, begins)
+takes_flushed bytes held old mid new counted now (Ok done) result (rest, runs, begins) (inr (is, some)) =
+    subst (Takes bytes held old (written new) counted now) (sym is) (runs_lost bytes rest old mid new counted now runs some)
+takes_flushed bytes held old mid new counted now (Err fault) result stops last =
+    stopped ((rest : List ℕ) × RunsTo bytes rest old (written new) counted now × (held ≡ take 257 rest)) (RunStops bytes old (written new)) result (stops_flushed bytes old mid new fault result stops last)
+
+pub runs_flushed_last : (bytes rest : List ℕ) (old mid : Output) (new : Option (List ℕ)) (counted now : ℕ) (outcome result : Result (Unit {0}) ScriptFault) → Runs bytes rest old mid counted now outcome
+    → GoesLast mid.out new mid.gathered outcome result → Runs bytes rest old (written new) counted now result
+runs_flushed_last bytes rest old mid new counted now (Ok done) result runs (inl (is, all)) =
+    subst (Runs bytes rest old (written new) counted now) (sym is) (runs_flushed bytes rest old mid new counted now runs all)
+runs_flushed_last bytes rest old mid new counted now (Ok done) result runs (inr (is, some)) =
+    subst (Runs bytes rest old (written new) counted now) (sym is) (runs_lost bytes rest old mid new counted now runs some)
+runs_flushed_last bytes rest old mid new counted now (Err fault) result stops last =
+    stopped (RunsTo bytes rest old (written new) counted now) (RunStops bytes old (written new)) result (stops_flushed bytes old mid new fault result stops last)
+
+-- a line whose text is put behind
+pub line_put : (line text : List ℕ) (outcome : Result (Unit {0}) Stop) (old new : Output) (counted now : ℕ) (result : Result (Unit {0}) ScriptFault)
+    → IsRead line text (refusal_in outcome) → now ≡ min (counted + refusals outcome) 18446744073709551615
+    → PutsOrFails old new (text ++ end_text outcome) result → LineEnds line old new counted now result
+line_put line text outcome old new counted now (Ok done) read count put = line_ran line text outcome old new counted now read put count
+line_put line text outcome old new counted now (Err ScriptFault.Memory) read count put = put
+line_put line text outcome old new counted now (Err ScriptFault.Write) read count put = line_lost line text outcome old new read put
+line_put line text outcome old new counted now (Err ScriptFault.Read) read count put = absurd put
+line_put line text outcome old new counted now (Err ScriptFault.TooLarge) read count put = absurd put

@@ -70,7 +70,3 @@ GoesOut known old new result =
     MatchResult result
     (λ tally. (lines : List ℕ) × CameTo known lines tally.refused × Appends old new lines)
     (λ _. Keeps old new ⊎ ((lines : List ℕ) × (refused : ℕ) × CameTo known lines refused × AppendsSome old new lines))
-
--- known bytes grow by the front of a text, of which this is left
-abbrev pub WritesFront : Option (List ℕ) → Option (List ℕ) → List ℕ → List ℕ → Type 0
-WritesFront old new text left = (front : List ℕ) × Appends old new front × (text ≡ front ++ left)

@@ -2,13 +2,16 @@ ghost use Rattle.std.specs.Prelude.{◌≡◌, ◌⊎◌, ℕ, ◌<◌, [], ◌�
 ghost use Rattle.std.specs.Io.KnownBytes.{Appends};
 ghost use Rattle.i3c_lines.specs.Refusing.{refusal_text};
 ghost use Rattle.memchr.specs.Find.{IsFirstByte, is_byte};
-ghost use Rattle.i3c_script.specs.Outcomes.{HasNoFeed, AppendsSome};
+ghost use Rattle.i3c_script.specs.Outcomes.{AppendsSome, GoesLast, HasNoFeed, PutsOrFails, WritesFront, output};
 
 use crate::faults::ScriptFault;
 use i3c_lines::{Refusal, Text};
 use memchr::memchr_iter;
 use std::alloc::AllocError;
 use std::io::{ErrorKind, Write};
+
+/// What lines print goes out once so many bytes of it are gathered.
+const GATHERED: usize = 1024;
 
 /// What ends a line.
 const LINE_FEED: u8 = b'\n';
@@ -36,32 +39,54 @@ pub(crate) fn show_refusal(refusal: Refusal, text: &mut Text) -> Result<(), Allo
     text.end()
 }
 
-/// Writes what a line printed, as `write_out` does. As a rule the writer takes it at once.
+/// Gathers what a line printed behind what waits to go out.
 #[inline(always)]
-pub(crate) fn write_line<W: Write>(text: &[u8], out: &mut W) -> Result<(), ScriptFault>
-    ensures { MatchResult result (λ _. Appends (W.contents out.old) (W.contents out.new) text.now)
-        (λ fault. (fault ≡ ScriptFault.Write) × AppendsSome (W.contents out.old) (W.contents out.new) text.now) }
+pub(crate) fn gather<W: Write>(
+    text: &[u8],
+    gathered: &mut Text,
+    out: &mut W,
+) -> Result<(), ScriptFault>
+    ensures { PutsOrFails (output (W.contents out.old) gathered.old) (output (W.contents out.new) gathered.new) text.now result }
 {
-    if text.is_empty() {
-        return Ok(());
-    }
-    match out.write(text) {
-        Ok(count) if count == text.len() => Ok(()),
-        Ok(0) => Err(ScriptFault::Write),
-        Ok(count) => write_rest(&text[count..], out),
-        Err(error) if error.kind() == ErrorKind::Interrupted => write_rest(text, out),
-        Err(_) => Err(ScriptFault::Write),
+    match write_gathered(gathered, out) {
+        Ok(()) => match gathered.push(text) {
+            Ok(()) => Ok(()),
+            Err(_) => Err(ScriptFault::Memory),
+        },
+        Err(fault) => Err(fault),
     }
 }
 
-/// Writes what is left of a line.
-#[cold]
-#[inline(never)]
-fn write_rest<W: Write>(text: &[u8], out: &mut W) -> Result<(), ScriptFault>
-    ensures { MatchResult result (λ _. Appends (W.contents out.old) (W.contents out.new) text.now)
-        (λ fault. (fault ≡ ScriptFault.Write) × AppendsSome (W.contents out.old) (W.contents out.new) text.now) }
+/// Writes out what is gathered, once it is long enough.
+#[inline(always)]
+pub(crate) fn write_gathered<W: Write>(gathered: &mut Text, out: &mut W) -> Result<(), ScriptFault>
+    ensures { MatchResult result (λ _. WritesFront (W.contents out.old) (W.contents out.new) gathered.old gathered.new)
+        (λ fault. (fault ≡ ScriptFault.Write) × AppendsSome (W.contents out.old) (W.contents out.new) gathered.old) }
 {
-    write_out(text, out)
+    if gathered.as_bytes().len() >= GATHERED {
+        write_out(gathered.as_bytes(), out)?;
+        gathered.clear();
+    }
+    Ok(())
+}
+
+/// Writes out what is gathered in the end, whatever the lines came to. But to a writer that failed nothing is written.
+pub(crate) fn write_last<W: Write>(
+    outcome: Result<(), ScriptFault>,
+    gathered: &[u8],
+    out: &mut W,
+) -> Result<(), ScriptFault>
+    ensures { GoesLast (W.contents out.old) (W.contents out.new) gathered.now outcome result }
+{
+    match outcome {
+        Err(ScriptFault::Write) => Err(ScriptFault::Write),
+        Ok(()) | Err(ScriptFault::Memory | ScriptFault::Read | ScriptFault::TooLarge) => {
+            match write_out(gathered, out) {
+                Ok(()) => outcome,
+                Err(fault) => Err(fault),
+            }
+        }
+    }
 }
 
 /// Writes a text, or, where the writer fails or takes nothing, a part of it from its beginning.

@@ -1,14 +1,14 @@
 ghost use Rattle.std.specs.Prelude.{◌≡◌, ℕ, List, ◌+◌, ◌<◌, ◌≤◌, [], ◌∷◌, ◌++◌, length, min, take, IfErr, IfSome, MatchResult, OnOk};
 ghost use Rattle.std.specs.Io.KnownBytes.{IsAtEnd};
 ghost use Rattle.i3c_lines.specs.Gathering.{gathered};
-ghost use Rattle.i3c_script.specs.Outcomes.{HasNoFeed};
+ghost use Rattle.i3c_script.specs.Outcomes.{HasNoFeed, output, written};
 ghost use Rattle.i3c_script.specs.Printed.{end_text};
 ghost use Rattle.i3c_script.specs.Scripts.{LinesGoOut};
 ghost use Rattle.i3c_script.specs.ScriptSteps.{LineEnds, Obeys, ReadsAll, Runs, RunsTo, RunStops, Takes};
 ghost use Rattle.i3c_script.specs.Stops.{IsLineFault, refusals};
 
 use crate::faults::{ScriptFault, Stop};
-use crate::output::{position_of_feed, show_refusal, write_line};
+use crate::output::{gather, position_of_feed, show_refusal, write_last};
 use crate::reading::{CHUNK, MOST_BYTES, Piece, read_piece};
 use crate::stage::Stage;
 use i3c_lines::{Command, Line, Names, Refusal, Text, is_skipped};
@@ -52,8 +52,8 @@ pub fn run_script<R: Read, W: Write>(
     }
 }
 
-/// A script that runs: what its lines led to, the line that is read, and of the line that is run its command, which is
-/// read in place, and what it prints.
+/// A script that runs: what its lines led to, the line that is read, of the line that is run its command, which is read in
+/// place, and what it prints, and what lines before it printed that waits to go out.
 struct Script {
     alloc: Global,
     stage: Stage,
@@ -61,6 +61,7 @@ struct Script {
     line: Line,
     command: Command,
     text: Text,
+    gathered: Text,
     refused: u64,
 }
 
@@ -77,6 +78,7 @@ impl Script {
             line: Line::new(),
             command: Command::Show,
             text: Text::new(alloc),
+            gathered: Text::new(alloc),
             refused: 0,
         }
     }
@@ -102,7 +104,7 @@ impl Script {
             };
             match piece {
                 // the last line may lack its line feed
-                Piece::End => return self.end_held_line(&[], out),
+                Piece::End => return self.end(out),
                 Piece::Within(count) => match self.take(&chunk[..count], out) {
                     Ok(()) => left -= count,
                     Err(fault) => return Err(fault),
@@ -116,11 +118,34 @@ impl Script {
         unreachable!()
     }
 
-    /// Takes bytes as they were read, and runs each line that they end. The first of them may have begun before.
+    /// Takes bytes as they were read, and runs each line that they end. The first of them may have begun before. All that
+    /// they print is written then.
     fn take<W: Write>(&mut self, bytes: &[u8], out: &mut W) -> Result<(), ScriptFault>
         ensures fault { IfErr result IsLineFault }
         ensures runs { (begun : List ℕ) → gathered self.old.line ≡ take 257 begun → HasNoFeed begun →
-            Takes (begun ++ bytes.now) (gathered self.new.line) (W.contents out.old) (W.contents out.new) self.old.refused self.new.refused result }
+            Takes (begun ++ bytes.now) (gathered self.new.line) (written (W.contents out.old)) (written (W.contents out.new)) self.old.refused self.new.refused result }
+    {
+        self.gathered.clear();
+        let outcome = self.take_lines(bytes, out);
+        write_last(outcome, self.gathered.as_bytes(), out)
+    }
+
+    /// The script ends, and with it the line that was begun, which may lack its line feed.
+    fn end<W: Write>(&mut self, out: &mut W) -> Result<(), ScriptFault>
+        ensures fault { IfErr result IsLineFault }
+        ensures runs { (begun : List ℕ) → gathered self.old.line ≡ take 257 begun → HasNoFeed begun →
+            Runs (begun ++ 10 ∷ []) [] (written (W.contents out.old)) (written (W.contents out.new)) self.old.refused self.new.refused result }
+    {
+        self.gathered.clear();
+        let outcome = self.end_held_line(&[], out);
+        write_last(outcome, self.gathered.as_bytes(), out)
+    }
+
+    /// Runs each line that these bytes end, and begins the one that they don't. The first of them may have begun before.
+    fn take_lines<W: Write>(&mut self, bytes: &[u8], out: &mut W) -> Result<(), ScriptFault>
+        ensures fault { IfErr result IsLineFault }
+        ensures runs { (begun : List ℕ) → gathered self.old.line ≡ take 257 begun → HasNoFeed begun →
+            Takes (begun ++ bytes.now) (gathered self.new.line) (output (W.contents out.old) self.old.gathered) (output (W.contents out.new) self.new.gathered) self.old.refused self.new.refused result }
     {
         match position_of_feed(bytes) {
             None => {
@@ -141,7 +166,7 @@ impl Script {
         ensures fault { IfErr result IsLineFault }
         ensures held { gathered self.new.line ≡ [] }
         ensures runs { (begun : List ℕ) → gathered self.old.line ≡ take 257 begun → HasNoFeed begun → HasNoFeed bytes.now →
-            Runs (begun ++ (bytes.now ++ 10 ∷ [])) [] (W.contents out.old) (W.contents out.new) self.old.refused self.new.refused result }
+            Runs (begun ++ (bytes.now ++ 10 ∷ [])) [] (output (W.contents out.old) self.old.gathered) (output (W.contents out.new) self.new.gathered) self.old.refused self.new.refused result }
     {
         let mut line = mem::replace(&mut self.line, Line::new());
         line.extend(bytes);
@@ -152,7 +177,7 @@ impl Script {
     fn run_lines<W: Write>(&mut self, bytes: &[u8], out: &mut W) -> Result<(), ScriptFault>
         ensures fault { IfErr result IsLineFault }
         ensures runs { gathered self.old.line ≡ [] →
-            Takes bytes.now (gathered self.new.line) (W.contents out.old) (W.contents out.new) self.old.refused self.new.refused result }
+            Takes bytes.now (gathered self.new.line) (output (W.contents out.old) self.old.gathered) (output (W.contents out.new) self.new.gathered) self.old.refused self.new.refused result }
     {
         let mut rest = bytes;
         while let Some(end) = position_of_feed(rest) {
@@ -168,21 +193,22 @@ impl Script {
         Ok(())
     }
 
-    /// Runs a line, and writes what it prints.
+    /// Runs a line, and gathers what it prints.
     fn run_line<W: Write>(&mut self, line: &[u8], out: &mut W) -> Result<(), ScriptFault>
         ensures fault { IfErr result IsLineFault }
         ensures held { self.new.line ≡ self.old.line }
-        ensures ends { LineEnds line.now (W.contents out.old) (W.contents out.new) self.old.refused self.new.refused result }
+        ensures ends { LineEnds line.now (output (W.contents out.old) self.old.gathered) (output (W.contents out.new) self.new.gathered) self.old.refused self.new.refused result }
     {
         self.text.clear();
         let outcome = self.obey(line);
         self.settle(outcome)?;
-        write_line(self.text.as_bytes(), out)
+        gather(self.text.as_bytes(), &mut self.gathered, out)
     }
 
     /// Obeys a line, if it has a command.
     fn obey(&mut self, line: &[u8]) -> Result<(), Stop>
         ensures held { self.new.line ≡ self.old.line }
+        ensures gathered { self.new.gathered ≡ self.old.gathered }
         ensures refused { self.new.refused ≡ self.old.refused }
         ensures obeys { Obeys line.now result self.old.text self.new.text }
     {
@@ -207,6 +233,7 @@ impl Script {
         ensures told { OnOk result (self.new.text ≡ self.old.text ++ end_text outcome) }
         ensures counted { self.new.refused ≡ min (self.old.refused + refusals outcome) u64.MAX }
         ensures held { self.new.line ≡ self.old.line }
+        ensures gathered { self.new.gathered ≡ self.old.gathered }
     {
         let refused = self.refused;
         match outcome {
@@ -233,6 +260,7 @@ impl Script {
             line: _,
             command: _,
             text: _,
+            gathered: _,
             refused,
         } = self;
         stage.retire();

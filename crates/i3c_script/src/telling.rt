@@ -87,9 +87,7 @@ pub(crate) fn show_raised(number: u64, text: &mut Text) -> Result<(), AllocError
 fn show_number(words: &[u8], number: u64, text: &mut Text) -> Result<(), AllocError>
     ensures { OnOk result (text.new ≡ text.old ++ (words.now ++ (decimal number ++ 10 ∷ []))) }
 {
-    text.push(words)?;
-    text.push_decimal(number)?;
-    text.end()
+    text.push_numbered(words, number)
 }
 
 /// Prints the name and the slot of a device that was attached.

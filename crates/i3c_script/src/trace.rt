@@ -4,10 +4,10 @@ ghost use Rattle.i3c_monitor.specs.Lines.{line_text};
 ghost use Rattle.i3c_monitor.specs.Trace.{to_come, trace_told};
 ghost use Rattle.i3c_script.specs.Outcomes.{AppendsSome};
 ghost use Rattle.i3c_script.specs.Stops.{IsLineFault};
-ghost use Rattle.i3c_script.specs.Traces.{ascii, fault_line, refusals_in, refused_in, trace_text, GoesOut, WritesFront};
+ghost use Rattle.i3c_script.specs.Traces.{ascii, fault_line, refusals_in, refused_in, trace_text, GoesOut};
 
 use crate::faults::ScriptFault;
-use crate::output::write_out;
+use crate::output::{write_gathered, write_out};
 use crate::reading::{CHUNK, MOST_BYTES, Piece, read_piece};
 use crate::script::Tally;
 use i3c_frame::{Symbol, TraceFault, read_trace_bytes};
@@ -18,9 +18,6 @@ use std::io::{Read, Write};
 
 /// What stands for a byte that isn't ASCII. No symbol has it.
 const UNKNOWN: u8 = b'?';
-
-/// Lines are written out once so many bytes of them are gathered.
-const GATHERED: usize = 1024;
 
 /// Tells what a trace says: a line for each frame, and below it a line for each thing that was seen in it; or one line
 /// with the trace's first fault. A trace is read whole, and has at most 1,048,576 bytes.
@@ -110,19 +107,6 @@ fn tell_trace<W: Write>(alloc: Global, trace: &[Symbol], out: &mut W) -> Result<
     }
     write_out(text.as_bytes(), out)?;
     Ok(Tally { refused })
-}
-
-/// Writes lines out, once they are long enough together.
-#[inline(always)]
-fn write_gathered<W: Write>(text: &mut Text, out: &mut W) -> Result<(), ScriptFault>
-    ensures { MatchResult result (λ _. WritesFront (W.contents out.old) (W.contents out.new) text.old text.new)
-        (λ fault. (fault ≡ ScriptFault.Write) × AppendsSome (W.contents out.old) (W.contents out.new) text.old) }
-{
-    if text.as_bytes().len() >= GATHERED {
-        write_out(text.as_bytes(), out)?;
-        text.clear();
-    }
-    Ok(())
 }
 
 /// What comes next in a trace.

@@ -7,5 +7,5 @@ use Rattle.i3c_script.proofs.telling.show_assigned.Goals as goal
 pub returns : goal.returns
 returns c =
     on_ok c.show_identity.result
-    (four c.args.text.now (codes "assigned ") (byte_text c.args.address) (codes " ") (identity_text c.args.identity.now) c.push.new.self c.push_byte.new.self c.push-2.new.self c.show_identity.new.text c.in_ok-push.ensures (c.in_ok-push_byte.ensures ∙ ap (λ a. c.push.new.self ++ byte_text a) c.get.ensures.same) c.in_ok-push-2.ensures)
+    (four c.args.text.now (codes "assigned ") (byte_text c.args.address) (codes " ") (identity_text c.args.identity.now) c.push.new.self c.push_byte.new.self c.push-2.new.self c.show_identity.new.text c.in_ok-push.ensures.appended (c.in_ok-push_byte.ensures ∙ ap (λ a. c.push.new.self ++ byte_text a) c.get.ensures.same) c.in_ok-push-2.ensures.appended)
     c.show_identity.ensures

@@ -65,7 +65,7 @@ loop-text-preserved g c =
     c.saturating_add-refused.ensures ∙ ap (λ n. min (c.loop-text.refused + n) 18446744073709551615) c.refusals.ensures in (
       inv.0 ++ wrote.0,
       appends_both old mid new inv.0 wrote.0 inv.1 wrote.1,
-      written_on (trace_text trace) inv.0 (c.loop-text.text ++ line_text trace seen) wrote.0 c.write_gathered.new.text (lines_text trace rest) all (sym grown ∙ wrote.2),
+      written_on (trace_text trace) inv.0 (c.loop-text.text ++ line_text trace seen) wrote.0 c.write_gathered.new.gathered (lines_text trace rest) all (sym grown ∙ wrote.2),
       inv.3 ∙ ap (λ seen. min (c.loop-text.refused + refused_in seen) 18446744073709551615) told
           ∙ count_on c.loop-text.refused (refusals_in seen) c.saturating_add-refused.result (refused_in rest) counted,
       omega (arith, counted),

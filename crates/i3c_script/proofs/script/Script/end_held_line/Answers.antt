@@ -1,13 +1,14 @@
 use Rattle.std.proofs.Common.{◌≡◌, ◌∙◌, ◌++◌, take, ap, subst}
 use Rattle.i3c_lines.specs.Gathering.{gathered}
 use Rattle.i3c_script.specs.ScriptSteps.{LineEnds}
+use Rattle.i3c_script.specs.Outcomes.{output}
 use Rattle.i3c_script.proofs.ScriptRuns.{held_runs, take_both}
 use Rattle.i3c_script.proofs.script.Script.end_held_line.Goals as goal
 
 pub returns-clause-runs : goal.returns-clause-runs
 returns-clause-runs g c begun held one two =
-    let old = g.W.Write.contents c.args.out.now in
-    let new = g.W.Write.contents c.run_line.new.out in
+    let old = output (g.W.Write.contents c.args.out.now) c.args.self.now.gathered in
+    let new = output (g.W.Write.contents c.run_line.new.out) c.run_line.new.self.gathered in
     let bytes = c.args.bytes.now in
     let counted = c.args.self.now.refused in
     let now = c.run_line.new.self.refused in

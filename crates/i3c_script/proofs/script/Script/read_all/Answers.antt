@@ -1,11 +1,11 @@
 use Rattle.std.proofs.Common.{◌≤◌, ◌++◌, arith, subst, sym, take}
 use Rattle.i3c_lines.specs.Gathering.{gathered}
+use Rattle.i3c_script.specs.Outcomes.{written}
 use Rattle.i3c_script.specs.Reading.{IsPiece}
 use Rattle.i3c_script.specs.Scripts.{IsPart}
 use Rattle.i3c_script.specs.ScriptSteps.{RunsTo}
 use Rattle.i3c_script.specs.declared.reading.TheConstants.{MOST_BYTES}
 use Rattle.i3c_script.proofs.ScriptRead.{all_so_far, large_part, leaves_all, leaves_more, more_so_far, none_so_far, stopped_in, unread_part}
-use Rattle.i3c_script.proofs.ScriptRuns.{no_feed_in_none}
 use Rattle.i3c_script.proofs.script.Script.read_all.Goals as goal
 
 pub loop-init : goal.loop-init
@@ -31,11 +31,11 @@ returns-in-End-clause-runs g c none =
     let next = g.R.Read.remaining c.read_piece.new.reader in
     let old = g.W.Write.contents c.args.out.now in
     let mid = g.W.Write.contents c.loop.out in
-    let new = g.W.Write.contents c.end_held_line.new.out in
+    let new = g.W.Write.contents c.end.new.out in
     let so_far = c.loop.invariant.2 none in
     let piece = subst (IsPiece now next c.loop.left c.read_piece.new.chunk) c.in-End.is c.in-Ok.ensures in
-    all_so_far known now next old mid new (gathered c.loop.self.line) c.args.self.now.refused c.loop.self.refused c.end_held_line.new.self.refused c.loop.left c.end_held_line.result so_far piece.1 piece.2
-    (c.end_held_line.ensures.runs so_far.rest so_far.begun so_far.runs.one no_feed_in_none)
+    all_so_far known now next old mid new (gathered c.loop.self.line) c.args.self.now.refused c.loop.self.refused c.end.new.self.refused c.loop.left c.end.result so_far piece.1 piece.2
+    (c.end.ensures.runs so_far.rest so_far.begun so_far.runs.one)
 
 pub returns-in-Err-take-clause-runs : goal.returns-in-Err-take-clause-runs
 returns-in-Err-take-clause-runs g c none =
@@ -86,7 +86,7 @@ returns-in-Ok-take-2-clause-runs g c none =
     let (more, larger, room, consumed) = piece.3 in
     let (rest, runs, begins) = c.in-Ok-take-2.ensures.runs so_far.rest so_far.begun so_far.runs.one in
     large_part known now next old mid new (gathered c.loop.self.line) chunk c.args.self.now.refused c1 c2 c.loop.left more so_far larger room consumed rest
-    (subst (λ n. RunsTo (so_far.rest ++ take n chunk) rest mid new c1 c2) piece.0 runs)
+    (subst (λ n. RunsTo (so_far.rest ++ take n chunk) rest (written mid) (written new) c1 c2) piece.0 runs)
 
 pub loop-preserved : goal.loop-preserved
 loop-preserved g c =

@@ -1,15 +1,15 @@
 use Rattle.std.proofs.Common.{◌≡◌, ◌∙◌, ◌-◌, [], ◌∷◌, ◌++◌, length, take, drop, ap, append_assoc, rules, subst, sym}
 use Rattle.i3c_lines.specs.Gathering.{gathered}
-use Rattle.i3c_script.specs.Outcomes.{HasNoFeed}
+use Rattle.i3c_script.specs.Outcomes.{HasNoFeed, output}
 use Rattle.i3c_script.specs.ScriptSteps.{RunStops}
 use Rattle.i3c_script.proofs.ScriptRuns.{line_done, line_stops, next_line, runs_both, runs_stop, stops_before}
 use Rattle.i3c_script.proofs.script.Script.run_lines.Goals as goal
 
 pub loop-end-preserved : goal.loop-end-preserved
 loop-end-preserved g c =
-    let old = g.W.Write.contents c.args.out.now in
-    let mid = g.W.Write.contents c.loop-end.out in
-    let new = g.W.Write.contents c.run_line.new.out in
+    let old = output (g.W.Write.contents c.args.out.now) c.args.self.now.gathered in
+    let mid = output (g.W.Write.contents c.loop-end.out) c.loop-end.self.gathered in
+    let new = output (g.W.Write.contents c.run_line.new.out) c.run_line.new.self.gathered in
     let (held, (before, all, runs)) = c.loop-end.invariant in
     let line = c.split_at.result.0.now in
     let after = c.split_at.result.1.now in
@@ -28,9 +28,9 @@ loop-end-preserved g c =
 
 pub returns-in-Err-clause-runs : goal.returns-in-Err-clause-runs
 returns-in-Err-clause-runs g c none =
-    let old = g.W.Write.contents c.args.out.now in
-    let mid = g.W.Write.contents c.loop-end.out in
-    let new = g.W.Write.contents c.run_line.new.out in
+    let old = output (g.W.Write.contents c.args.out.now) c.args.self.now.gathered in
+    let mid = output (g.W.Write.contents c.loop-end.out) c.loop-end.self.gathered in
+    let new = output (g.W.Write.contents c.run_line.new.out) c.run_line.new.self.gathered in
     let fault = c.in-Err.fault in
     let (held, (before, all, runs)) = c.loop-end.invariant in
     let line = c.split_at.result.0.now in

@@ -1,29 +1,19 @@
-use Rattle.std.proofs.Common.{◌∙◌, ◌+◌, ◌-◌, ◌++◌, length, take, drop, ap}
-use Rattle.i3c_script.proofs.ScriptRuns.{first_line, no_feed_in_both, no_line, take_both, takes_both, takes_none}
+use Rattle.std.proofs.Common.{◌++◌, subst}
+use Rattle.i3c_lines.specs.Gathering.{gathered}
+use Rattle.i3c_script.specs.Outcomes.{GoesLast, output, written}
+use Rattle.i3c_script.specs.ScriptSteps.{Takes}
+use Rattle.i3c_script.proofs.ScriptRuns.{takes_flushed}
 use Rattle.i3c_script.proofs.script.Script.take.Goals as goal
 
-pub returns-in-None-clause-runs : goal.returns-in-None-clause-runs
-returns-in-None-clause-runs g c begun held one =
-    let bytes = c.args.bytes.now in
-    (begun ++ bytes, no_line (begun ++ bytes) (g.W.Write.contents c.args.out.now) c.args.self.now.refused (no_feed_in_both begun bytes one c.in-None.ensures), c.extend.ensures ∙ ap (λ l. take 257 (l ++ bytes)) held ∙ take_both 257 begun bytes)
-
-pub returns-in-Ok-clause-runs : goal.returns-in-Ok-clause-runs
-returns-in-Ok-clause-runs g c begun held one =
+pub returns-clause-runs : goal.returns-clause-runs
+returns-clause-runs g c begun held one =
     let old = g.W.Write.contents c.args.out.now in
-    let mid = g.W.Write.contents c.end_held_line.new.out in
-    let new = g.W.Write.contents c.run_lines.new.out in
-    let bytes = c.args.bytes.now in
-    let end = c.in-Some.end in
-    let found = c.in-Some.ensures in
-    takes_both begun bytes (take end bytes) (take (length bytes - (end + 1)) (drop (end + 1) bytes)) _ old mid new c.args.self.now.refused c.end_held_line.new.self.refused c.run_lines.new.self.refused c.run_lines.result
-    (first_line bytes end found.0 found.1) (c.in-Ok.ensures.runs begun held one found.2) (c.run_lines.ensures.runs c.in-Ok.ensures.held)
-
-pub returns-in-Err-clause-runs : goal.returns-in-Err-clause-runs
-returns-in-Err-clause-runs g c begun held one =
-    let old = g.W.Write.contents c.args.out.now in
-    let new = g.W.Write.contents c.end_held_line.new.out in
-    let bytes = c.args.bytes.now in
-    let end = c.in-Some.end in
-    let found = c.in-Some.ensures in
-    takes_none begun bytes (take end bytes) (take (length bytes - (end + 1)) (drop (end + 1) bytes)) old new c.in-Err.fault
-    (first_line bytes end found.0 found.1) (c.in-Err.ensures.runs begun held one found.2)
+    let mid = g.W.Write.contents c.take_lines-outcome.new.out in
+    let new = g.W.Write.contents c.write_last.new.out in
+    let waits = c.take_lines-outcome.new.self.gathered in
+    let outcome = c.take_lines-outcome.result in
+    let line = gathered c.take_lines-outcome.new.self.line in
+    let now = c.take_lines-outcome.new.self.refused in
+    takes_flushed (begun ++ c.args.bytes.now) line (written old) (output mid waits) new c.args.self.now.refused now outcome c.write_last.result
+    (subst (λ w. Takes (begun ++ c.args.bytes.now) line (output old w) (output mid waits) c.args.self.now.refused now outcome) c.clear.ensures (c.take_lines-outcome.ensures.runs begun held one))
+    (subst (λ w. GoesLast mid new w outcome c.write_last.result) c.as_bytes.ensures c.write_last.ensures)
