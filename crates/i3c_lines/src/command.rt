@@ -133,13 +133,12 @@ impl Command {
 
     /// Becomes a raise by the words behind its first: a name, and a byte if one is given.
     fn read_raise(&mut self, line: &[u8]) -> Option<()> {
-        let mut words = Words::of(line);
-        let name = Name::parse(words.next()?)?;
-        let byte = match words.next() {
-            None => None,
-            Some(word) => Some(words::byte(word)?),
+        let (name, rest) = Name::split_from(line)?;
+        let byte = match rest {
+            [] => None,
+            [b' ', word @ ..] => Some(words::byte(word)?),
+            _ => return None,
         };
-        words.end()?;
         *self = Command::Event(Wish::Raise { name, byte });
         Some(())
     }
@@ -283,12 +282,12 @@ fn parse_cut(words: &mut Words<'_>) -> Option<Command> {
 
 /// The words of `enec` and of `disec`: a byte, and an address if one is given.
 fn parse_choice(line: &[u8]) -> Option<Choice> {
-    let mut words = Words::of(line);
-    let kinds = words::kinds(words.next()?)?;
-    let to = match words.next() {
-        None => None,
-        Some(word) => Some(words::address(word)?),
+    let (byte, rest) = line.split_at_checked(2)?;
+    let kinds = words::kinds(byte)?;
+    let to = match rest {
+        [] => None,
+        [b' ', word @ ..] => Some(words::address(word)?),
+        _ => return None,
     };
-    words.end()?;
     Some(Choice { kinds, to })
 }
