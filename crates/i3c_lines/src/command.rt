@@ -111,24 +111,71 @@ impl Command {
     /// Becomes the command of a line, if the line has a form, and stays what it was else. So nothing of a command's size is
     /// moved for each line.
     pub fn read(&mut self, line: &[u8]) -> Option<()> {
-        *self = match line {
-            b"serve" => Command::Event(Wish::Serve),
-            b"daa" => Command::Daa,
-            b"reset" => Command::Event(Wish::Reset),
-            b"list" => Command::Event(Wish::List),
-            b"open" => Command::Event(Wish::Open),
-            b"round" => Command::Event(Wish::Round),
-            b"end" => Command::Event(Wish::End),
-            b"show" => Command::Show,
-            b"symbols" => Command::Symbols,
-            [b'r', b'a', b'i', b's', b'e', b' ', words @ ..] => return self.read_raise(words),
-            [b'r', b'e', b'a', b'd', b' ', word @ ..] => return self.read_read(word),
-            [b'w', b'r', b'i', b't', b'e', b' ', words @ ..] => return self.read_write(words),
-            [b'e', b'n', b'e', b'c', b' ', words @ ..] => return self.read_enec(words),
-            [b'd', b'i', b's', b'e', b'c', b' ', words @ ..] => return self.read_disec(words),
-            _ => return self.read_words(line),
-        };
+        match line {
+            [b'r', tail @ ..] => self.read_r(tail),
+            [b's', tail @ ..] => self.read_s(tail),
+            [b'e', tail @ ..] => self.read_e(tail),
+            [b'd', tail @ ..] => self.read_d(tail, line),
+            [b'w', b'r', b'i', b't', b'e', b' ', words @ ..] => self.read_write(words),
+            b"list" => self.set(Command::Event(Wish::List)),
+            b"open" => self.set(Command::Event(Wish::Open)),
+            _ => self.read_words(line),
+        }
+    }
+
+    /// Becomes this command.
+    fn set(&mut self, command: Command) -> Option<()> {
+        *self = command;
         Some(())
+    }
+
+    /// Becomes a command whose first letter is an `r`, by the line behind that.
+    fn read_r(&mut self, tail: &[u8]) -> Option<()> {
+        if let Some(words) = tail.strip_prefix(b"aise ") {
+            return self.read_raise(words);
+        }
+        if let Some(word) = tail.strip_prefix(b"ead ") {
+            return self.read_read(word);
+        }
+        match tail {
+            b"eset" => self.set(Command::Event(Wish::Reset)),
+            b"ound" => self.set(Command::Event(Wish::Round)),
+            _ => None,
+        }
+    }
+
+    /// Becomes a command whose first letter is an `s`, by the line behind that.
+    fn read_s(&mut self, tail: &[u8]) -> Option<()> {
+        if let Some([]) = tail.strip_prefix(b"erve") {
+            return self.set(Command::Event(Wish::Serve));
+        }
+        match tail {
+            b"how" => self.set(Command::Show),
+            b"ymbols" => self.set(Command::Symbols),
+            _ => None,
+        }
+    }
+
+    /// Becomes a command whose first letter is an `e`, by the line behind that.
+    fn read_e(&mut self, tail: &[u8]) -> Option<()> {
+        if let Some(words) = tail.strip_prefix(b"nec ") {
+            return self.read_enec(words);
+        }
+        match tail {
+            b"nd" => self.set(Command::Event(Wish::End)),
+            _ => None,
+        }
+    }
+
+    /// Becomes a command whose first letter is a `d`, by the line behind that, or by the line.
+    fn read_d(&mut self, tail: &[u8], line: &[u8]) -> Option<()> {
+        if let Some(words) = tail.strip_prefix(b"isec ") {
+            return self.read_disec(words);
+        }
+        match tail {
+            b"aa" => self.set(Command::Daa),
+            _ => self.read_words(line),
+        }
     }
 
     /// Becomes a raise by the words behind its first: a name, and a byte if one is given.

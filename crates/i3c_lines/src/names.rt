@@ -110,7 +110,7 @@ impl PartialEq for Name {
     ghost laws = { on_per letters (partial_equiv_from_equiv nat_list_eq_equiv) };
 
     fn eq(&self, other: &Self) -> bool {
-        self.length == other.length && self.bytes == other.bytes
+        self.as_bytes() == other.as_bytes()
     }
 }
 
