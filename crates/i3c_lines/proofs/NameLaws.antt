@@ -1,7 +1,6 @@
 -- The letters of names, and that names stay known.
 use Rattle.std.proofs.Common.{◌≡◌, ◌∙◌, ℕ, zero, suc, ◌+◌, ◌-◌, ◌<◌, ◌≤◌, ◌⊎◌, Bool, true, false, ◌&&◌, T, cond, nat_eq, nat_lt, if◌then◌else◌, eqb, eqb→eq, eq-zero-or-pos, get_or, inl, inr, List, [], ◌∷◌, ◌++◌, All, drop, length, replicate, set, take, Option, Some, IsTrue, ap, arith, refl, sym, subst}
 use Rattle.std.proofs.lemmas.List.{drop-drop, drop-replicate, drop-set-lt, get_or-take, get_or_default, length-take-le, take_more, take_more_set}
-use Rattle.std.specs.Cmp.Lexicographic.{bytes_decides, pointwise}
 use Rattle.std.specs.Option.{IsSome}
 use lib.Ieee.Fits.{and_l, and_r}
 use Rattle.i3c_lines.specs.Words.{IsNameLetter}
@@ -65,14 +64,6 @@ mark_here byte at e h = subst (λ k. IsMark byte (get_or LETTERS k 0)) (sym e) (
 pub letter_test : (byte mark : ℕ) → IsMark byte mark → (IsTrue (nat_eq mark 1) → IsNameLetter byte) × (IsNameLetter byte → IsTrue (nat_eq mark 1))
 letter_test byte mark (inl is) = (λ _. is.0, λ _. grind (arith, is.1))
 letter_test byte mark (inr not_one) = (λ t. absurd (grind (arith, not_one.1, t)), λ letter. absurd (not_one.0 letter))
-
--- lists that end alike are the same if they begin alike
-pub same_ends : (n : ℕ) (xs ys : List ℕ) → drop n xs ≡ drop n ys → pointwise nat_eq xs ys ≡ pointwise nat_eq (take n xs) (take n ys)
-same_ends zero xs ys e = (bytes_decides xs ys).1 e
-same_ends (suc n) [] [] e = refl
-same_ends (suc n) [] (y ∷ ys) e = refl
-same_ends (suc n) (x ∷ xs) [] e = refl
-same_ends (suc n) (x ∷ xs) (y ∷ ys) e = ap (λ same. nat_eq x y && same) (same_ends n xs ys e)
 
 -- after a letter is put behind those before it
 pub letter_put : (bytes line : List ℕ) (i byte : ℕ) → length bytes ≡ 16 → i < 16 → i < length line → byte ≡ get_or line i 0 → take i bytes ≡ take i line → drop i bytes ≡ replicate (16 - i) 0

@@ -6,6 +6,18 @@ use i3c_base::{Addr7, Bcr, Dcr, Fixed, Identity, Kinds, Lvr, Setup};
 use i3c_step::WRITE_KEPT;
 use std::str;
 
+/// `raise` and a space, behind the first letter. Letters that are compared at once take fewer steps than one by one.
+const RAISE: &[u8] = b"aise ";
+
+/// `serve`, behind the first letter.
+const SERVE: &[u8] = b"erve";
+
+/// `enec` and a space, behind the first letter.
+const ENEC: &[u8] = b"nec ";
+
+/// `disec` and a space, behind the first letter.
+const DISEC: &[u8] = b"isec ";
+
 /// Kinds of events, and the address of the devices that are meant. Without one all are but the active controller.
 #[derive(Clone, Copy)]
 pub struct Choice {
@@ -111,14 +123,15 @@ impl Command {
     /// Becomes the command of a line, if the line has a form, and stays what it was else. So nothing of a command's size is
     /// moved for each line.
     pub fn read(&mut self, line: &[u8]) -> Option<()> {
-        match line {
-            [b'r', tail @ ..] => self.read_r(tail),
-            [b's', tail @ ..] => self.read_s(tail),
-            [b'e', tail @ ..] => self.read_e(tail),
-            [b'd', tail @ ..] => self.read_d(tail, line),
-            [b'w', b'r', b'i', b't', b'e', b' ', words @ ..] => self.read_write(words),
-            b"list" => self.set(Command::Event(Wish::List)),
-            b"open" => self.set(Command::Event(Wish::Open)),
+        let (first, tail) = line.split_first()?;
+        match *first {
+            b'r' => self.read_r(tail),
+            b's' => self.read_s(tail),
+            b'e' => self.read_e(tail),
+            b'd' => self.read_d(tail, line),
+            b'l' => self.read_l(tail, line),
+            b'o' => self.read_o(tail),
+            b'w' => self.read_w(tail),
             _ => self.read_words(line),
         }
     }
@@ -131,13 +144,11 @@ impl Command {
 
     /// Becomes a command whose first letter is an `r`, by the line behind that.
     fn read_r(&mut self, tail: &[u8]) -> Option<()> {
-        if let Some(words) = tail.strip_prefix(b"aise ") {
-            return self.read_raise(words);
-        }
-        if let Some(word) = tail.strip_prefix(b"ead ") {
-            return self.read_read(word);
+        if tail.starts_with(RAISE) {
+            return self.read_raise(&tail[RAISE.len()..]);
         }
         match tail {
+            [b'e', b'a', b'd', b' ', word @ ..] => self.read_read(word),
             b"eset" => self.set(Command::Event(Wish::Reset)),
             b"ound" => self.set(Command::Event(Wish::Round)),
             _ => None,
@@ -146,7 +157,7 @@ impl Command {
 
     /// Becomes a command whose first letter is an `s`, by the line behind that.
     fn read_s(&mut self, tail: &[u8]) -> Option<()> {
-        if let Some([]) = tail.strip_prefix(b"erve") {
+        if tail.len() == SERVE.len() && tail.starts_with(SERVE) {
             return self.set(Command::Event(Wish::Serve));
         }
         match tail {
@@ -158,8 +169,8 @@ impl Command {
 
     /// Becomes a command whose first letter is an `e`, by the line behind that.
     fn read_e(&mut self, tail: &[u8]) -> Option<()> {
-        if let Some(words) = tail.strip_prefix(b"nec ") {
-            return self.read_enec(words);
+        if tail.starts_with(ENEC) {
+            return self.read_enec(&tail[ENEC.len()..]);
         }
         match tail {
             b"nd" => self.set(Command::Event(Wish::End)),
@@ -169,12 +180,36 @@ impl Command {
 
     /// Becomes a command whose first letter is a `d`, by the line behind that, or by the line.
     fn read_d(&mut self, tail: &[u8], line: &[u8]) -> Option<()> {
-        if let Some(words) = tail.strip_prefix(b"isec ") {
-            return self.read_disec(words);
+        if tail.starts_with(DISEC) {
+            return self.read_disec(&tail[DISEC.len()..]);
         }
         match tail {
             b"aa" => self.set(Command::Daa),
             _ => self.read_words(line),
+        }
+    }
+
+    /// Becomes a command whose first letter is an `l`, by the line behind that, or by the line.
+    fn read_l(&mut self, tail: &[u8], line: &[u8]) -> Option<()> {
+        match tail {
+            b"ist" => self.set(Command::Event(Wish::List)),
+            _ => self.read_words(line),
+        }
+    }
+
+    /// Becomes the command whose first letter is an `o`, by the line behind that.
+    fn read_o(&mut self, tail: &[u8]) -> Option<()> {
+        match tail {
+            b"pen" => self.set(Command::Event(Wish::Open)),
+            _ => None,
+        }
+    }
+
+    /// Becomes the command whose first letter is a `w`, by the line behind that.
+    fn read_w(&mut self, tail: &[u8]) -> Option<()> {
+        match tail {
+            [b'r', b'i', b't', b'e', b' ', words @ ..] => self.read_write(words),
+            _ => None,
         }
     }
 
