@@ -1,15 +1,20 @@
 -- What the names that were given stand for.
-use Rattle.std.specs.Prelude.{◌≡◌, ◌≢◌, ℕ, Bool, List, Option, Some, None, Result, Ok, Err, if◌then◌else◌, nat_eq, slice_index_or, take, MatchOption}
+use Rattle.std.specs.Prelude.{◌≡◌, ◌≢◌, ℕ, Bool, ◌-◌, List, ◌++◌, Option, Some, None, Result, Ok, Err, if◌then◌else◌, length, nat_eq, replicate, slice_index_or, take, MatchOption}
 use Rattle.std.specs.Cmp.Lexicographic.{pointwise}
 use Rattle.indexmap.specs.IndexMap.{get_by}
 use Rattle.i3c_lines.specs.declared.refusals.Refusal.{Refusal}
 use Rattle.i3c_lines.specs.declared.names.Name.{Name}
 use Rattle.i3c_lines.specs.declared.names.Names.{Names}
+use Rattle.i3c_lines.specs.declared.names.TheConstants.{NAME_LENGTH}
 use Rattle.i3c_lines.specs.declared.names.Place.{Place}
 
 -- a name's letters
 abbrev pub letters : Name → List ℕ
 letters name = take name.length name.bytes
+
+-- some letters, and zeros in the places that are left
+abbrev pub padded : List ℕ → List ℕ
+padded letters = letters ++ replicate (NAME_LENGTH - length letters) 0
 
 -- the name that was last given to each slot
 abbrev pub slot_names : Names → List (Option Name)

@@ -6,6 +6,18 @@ use i3c_base::{Addr7, Bcr, Dcr, Fixed, Identity, Kinds, Lvr, Setup};
 use i3c_step::WRITE_KEPT;
 use std::str;
 
+/// `raise` and a space, behind the first letter. Letters that are compared at once take fewer steps than one by one.
+const RAISE: &[u8] = b"aise ";
+
+/// `serve`, behind the first letter.
+const SERVE: &[u8] = b"erve";
+
+/// `enec` and a space, behind the first letter.
+const ENEC: &[u8] = b"nec ";
+
+/// `disec` and a space, behind the first letter.
+const DISEC: &[u8] = b"isec ";
+
 /// Kinds of events, and the address of the devices that are meant. Without one all are but the active controller.
 #[derive(Clone, Copy)]
 pub struct Choice {
@@ -111,35 +123,104 @@ impl Command {
     /// Becomes the command of a line, if the line has a form, and stays what it was else. So nothing of a command's size is
     /// moved for each line.
     pub fn read(&mut self, line: &[u8]) -> Option<()> {
-        *self = match line {
-            b"serve" => Command::Event(Wish::Serve),
-            b"daa" => Command::Daa,
-            b"reset" => Command::Event(Wish::Reset),
-            b"list" => Command::Event(Wish::List),
-            b"open" => Command::Event(Wish::Open),
-            b"round" => Command::Event(Wish::Round),
-            b"end" => Command::Event(Wish::End),
-            b"show" => Command::Show,
-            b"symbols" => Command::Symbols,
-            [b'r', b'a', b'i', b's', b'e', b' ', words @ ..] => return self.read_raise(words),
-            [b'r', b'e', b'a', b'd', b' ', word @ ..] => return self.read_read(word),
-            [b'w', b'r', b'i', b't', b'e', b' ', words @ ..] => return self.read_write(words),
-            [b'e', b'n', b'e', b'c', b' ', words @ ..] => return self.read_enec(words),
-            [b'd', b'i', b's', b'e', b'c', b' ', words @ ..] => return self.read_disec(words),
-            _ => return self.read_words(line),
-        };
+        let (first, tail) = line.split_first()?;
+        match *first {
+            b'r' => self.read_r(tail),
+            b's' => self.read_s(tail),
+            b'e' => self.read_e(tail),
+            b'd' => self.read_d(tail, line),
+            b'l' => self.read_l(tail, line),
+            b'o' => self.read_o(tail),
+            b'w' => self.read_w(tail),
+            _ => self.read_words(line),
+        }
+    }
+
+    /// Becomes this command.
+    fn set(&mut self, command: Command) -> Option<()> {
+        *self = command;
         Some(())
+    }
+
+    /// Becomes a command whose first letter is an `r`, by the line behind that.
+    fn read_r(&mut self, tail: &[u8]) -> Option<()> {
+        if tail.starts_with(RAISE) {
+            return self.read_raise(&tail[RAISE.len()..]);
+        }
+        match tail {
+            [b'e', b'a', b'd', b' ', word @ ..] => self.read_read(word),
+            b"eset" => self.set(Command::Event(Wish::Reset)),
+            b"ound" => self.set(Command::Event(Wish::Round)),
+            _ => None,
+        }
+    }
+
+    /// Becomes a command whose first letter is an `s`, by the line behind that.
+    fn read_s(&mut self, tail: &[u8]) -> Option<()> {
+        if tail.len() == SERVE.len() && tail.starts_with(SERVE) {
+            return self.set(Command::Event(Wish::Serve));
+        }
+        match tail {
+            b"how" => self.set(Command::Show),
+            b"ymbols" => self.set(Command::Symbols),
+            _ => None,
+        }
+    }
+
+    /// Becomes a command whose first letter is an `e`, by the line behind that.
+    fn read_e(&mut self, tail: &[u8]) -> Option<()> {
+        if tail.starts_with(ENEC) {
+            return self.read_enec(&tail[ENEC.len()..]);
+        }
+        match tail {
+            b"nd" => self.set(Command::Event(Wish::End)),
+            _ => None,
+        }
+    }
+
+    /// Becomes a command whose first letter is a `d`, by the line behind that, or by the line.
+    fn read_d(&mut self, tail: &[u8], line: &[u8]) -> Option<()> {
+        if tail.starts_with(DISEC) {
+            return self.read_disec(&tail[DISEC.len()..]);
+        }
+        match tail {
+            b"aa" => self.set(Command::Daa),
+            _ => self.read_words(line),
+        }
+    }
+
+    /// Becomes a command whose first letter is an `l`, by the line behind that, or by the line.
+    fn read_l(&mut self, tail: &[u8], line: &[u8]) -> Option<()> {
+        match tail {
+            b"ist" => self.set(Command::Event(Wish::List)),
+            _ => self.read_words(line),
+        }
+    }
+
+    /// Becomes the command whose first letter is an `o`, by the line behind that.
+    fn read_o(&mut self, tail: &[u8]) -> Option<()> {
+        match tail {
+            b"pen" => self.set(Command::Event(Wish::Open)),
+            _ => None,
+        }
+    }
+
+    /// Becomes the command whose first letter is a `w`, by the line behind that.
+    fn read_w(&mut self, tail: &[u8]) -> Option<()> {
+        match tail {
+            [b'r', b'i', b't', b'e', b' ', words @ ..] => self.read_write(words),
+            _ => None,
+        }
     }
 
     /// Becomes a raise by the words behind its first: a name, and a byte if one is given.
     fn read_raise(&mut self, line: &[u8]) -> Option<()> {
-        let mut words = Words::of(line);
-        let name = Name::parse(words.next()?)?;
-        let byte = match words.next() {
-            None => None,
-            Some(word) => Some(words::byte(word)?),
+        let (name, rest) = Name::split_from(line)?;
+        let byte = match rest {
+            [] => None,
+            [b' ', word @ ..] => Some(words::byte(word)?),
+            _ => return None,
         };
-        words.end()?;
         *self = Command::Event(Wish::Raise { name, byte });
         Some(())
     }
@@ -283,12 +364,12 @@ fn parse_cut(words: &mut Words<'_>) -> Option<Command> {
 
 /// The words of `enec` and of `disec`: a byte, and an address if one is given.
 fn parse_choice(line: &[u8]) -> Option<Choice> {
-    let mut words = Words::of(line);
-    let kinds = words::kinds(words.next()?)?;
-    let to = match words.next() {
-        None => None,
-        Some(word) => Some(words::address(word)?),
+    let (byte, rest) = line.split_at_checked(2)?;
+    let kinds = words::kinds(byte)?;
+    let to = match rest {
+        [] => None,
+        [b' ', word @ ..] => Some(words::address(word)?),
+        _ => return None,
     };
-    words.end()?;
     Some(Choice { kinds, to })
 }

@@ -1,4 +1,4 @@
-ghost use Rattle.std.specs.Prelude.{◌≡◌, ◌<◌, ◌≤◌, ◌↔◌, All, IsTrue, IsSome, IfSome};
+ghost use Rattle.std.specs.Prelude.{◌≡◌, ◌<◌, ◌≤◌, ◌-◌, ◌↔◌, ◌++◌, All, IsTrue, IsSome, IfSome, drop, length, replicate, slice_index_or, take};
 ghost use Rattle.i3c_lines.specs.Words.{IsNameLetter};
 ghost use Rattle.i3c_lines.specs.declared.names.TheConstants.{NAME_LENGTH};
 
@@ -11,21 +11,36 @@ use std::hash::{Hash, Hasher};
 /// The longest name.
 const NAME_LENGTH: usize = 16;
 
+/// What stands for a letter in the table below.
+const LETTER: u8 = 1;
+
+/// Which bytes are letters of names: `a` to `z` and `0` to `9`.
+static LETTERS: [u8; 256] = [
+    0, 0, 0, 0, 0, 0, 0, 0, 0, 0, 0, 0, 0, 0, 0, 0, 0, 0, 0, 0, 0, 0, 0, 0, 0, 0, 0, 0, 0, 0, 0, 0,
+    0, 0, 0, 0, 0, 0, 0, 0, 0, 0, 0, 0, 0, 0, 0, 0, 1, 1, 1, 1, 1, 1, 1, 1, 1, 1, 0, 0, 0, 0, 0, 0,
+    0, 0, 0, 0, 0, 0, 0, 0, 0, 0, 0, 0, 0, 0, 0, 0, 0, 0, 0, 0, 0, 0, 0, 0, 0, 0, 0, 0, 0, 0, 0, 0,
+    0, 1, 1, 1, 1, 1, 1, 1, 1, 1, 1, 1, 1, 1, 1, 1, 1, 1, 1, 1, 1, 1, 1, 1, 1, 1, 1, 0, 0, 0, 0, 0,
+    0, 0, 0, 0, 0, 0, 0, 0, 0, 0, 0, 0, 0, 0, 0, 0, 0, 0, 0, 0, 0, 0, 0, 0, 0, 0, 0, 0, 0, 0, 0, 0,
+    0, 0, 0, 0, 0, 0, 0, 0, 0, 0, 0, 0, 0, 0, 0, 0, 0, 0, 0, 0, 0, 0, 0, 0, 0, 0, 0, 0, 0, 0, 0, 0,
+    0, 0, 0, 0, 0, 0, 0, 0, 0, 0, 0, 0, 0, 0, 0, 0, 0, 0, 0, 0, 0, 0, 0, 0, 0, 0, 0, 0, 0, 0, 0, 0,
+    0, 0, 0, 0, 0, 0, 0, 0, 0, 0, 0, 0, 0, 0, 0, 0, 0, 0, 0, 0, 0, 0, 0, 0, 0, 0, 0, 0, 0, 0, 0, 0,
+];
+
 /// The name of a device or a legacy target: 1 to 16 of `a` to `z` and `0` to `9`.
 #[derive(Clone, Copy)]
 pub struct Name {
-    // its letters, and then nothing that counts
+    // its letters, and then zeros
     bytes: [u8; NAME_LENGTH],
     length: u8,
     ghost short: { length ≤ NAME_LENGTH },
+    ghost padded: { drop length bytes ≡ replicate (NAME_LENGTH - length) 0 },
 }
 
-/// Whether a word is of a name's letters alone.
-fn is_of_letters(word: &[u8]) -> bool
-    ensures { IsTrue result ↔ All IsNameLetter word.now }
+/// Whether a byte is a letter of names.
+fn is_letter(byte: u8) -> bool
+    ensures { IsTrue result ↔ IsNameLetter byte }
 {
-    word.iter()
-        .all(|byte| matches!(*byte, b'a'..=b'z' | b'0'..=b'9'))
+    LETTERS[usize::from(byte)] == LETTER
 }
 
 impl Name {
@@ -37,13 +52,44 @@ impl Name {
         ensures form { IsSome result ↔ IsName NAME_LENGTH word.now }
         ensures same { IfSome result (λ name. letters name ≡ word.now) }
     {
-        if word.is_empty() || word.len() > NAME_LENGTH || !is_of_letters(word) {
+        let name = Name::leading(word);
+        if word.is_empty() || usize::from(name.length) != word.len() {
             return None;
         }
+        Some(name)
+    }
+
+    /// The name that a line begins with, and what stands behind it.
+    pub(crate) fn split_from(line: &[u8]) -> Option<(Name, &[u8])>
+        ensures name { IfSome result (λ parts. IsName NAME_LENGTH (letters parts.0)) }
+        ensures parts { IfSome result (λ parts. line.now ≡ letters parts.0 ++ parts.1.now) }
+    {
+        let name = Name::leading(line);
+        if name.length == 0 {
+            return None;
+        }
+        Some((name, &line[usize::from(name.length)..]))
+    }
+
+    /// The letters that a line begins with, no more than a name may have.
+    fn leading(line: &[u8]) -> Name
+        ensures within { result.length ≤ length line.now }
+        ensures first { letters result ≡ take result.length line.now }
+        ensures letters { All IsNameLetter (letters result) }
+        ensures longest { result.length < NAME_LENGTH → result.length < length line.now → IsNameLetter (slice_index_or line.now result.length 0) → ⊥ }
+    {
+        let most = line.len().min(NAME_LENGTH);
         let mut bytes = [0; NAME_LENGTH];
-        bytes[..word.len()].copy_from_slice(word);
-        let length = word.len() as u8;
-        Some(Name { bytes, length })
+        for place in 0..most {
+            let byte = line[place];
+            if !is_letter(byte) {
+                let length = place as u8;
+                return Name { bytes, length };
+            }
+            bytes[place] = byte;
+        }
+        let length = most as u8;
+        Name { bytes, length }
     }
 
     /// Its letters.
@@ -80,14 +126,15 @@ impl Hash for Name {
     ghost use Rattle.std.specs.Prelude.{[], ◌∷◌};
     ghost use Rattle.std.specs.Hash.{on_Alike, same_Alike};
     ghost use Rattle.std.specs.Cmp.Lexicographic.{bytes_decides};
-    ghost use Rattle.i3c_lines.specs.Naming.{letters};
+    ghost use Rattle.i3c_lines.specs.Naming.{letters, padded};
 
-    ghost hash_input = { λ name. letters name ∷ [] };
+    ghost hash_input = { λ name. padded (letters name) ∷ [] };
 
-    ghost respects_eq = { (on_Alike letters (same_Alike (λ bytes. bytes ∷ []) bytes_decides)).fed };
+    ghost respects_eq = { (on_Alike letters (same_Alike (λ bytes. padded bytes ∷ []) bytes_decides)).fed };
 
+    // a length that is known takes fewer steps than the letters alone
     fn hash<H: Hasher>(&self, state: &mut H) {
-        state.write(self.as_bytes());
+        state.write(&self.bytes);
     }
 }
 
