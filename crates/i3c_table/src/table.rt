@@ -31,9 +31,9 @@ pub struct Table {
     registers: [Registers; ADDRESSES],
     // at each address that is kept, the number of its identity
     numbers: [u64; ADDRESSES],
-    // the addresses that are kept, by these numbers
-    order: Order,
     legacies: Legacies,
+    // the addresses that are kept, by their numbers
+    order: Order,
     listed: bool,
 }
 
@@ -68,8 +68,8 @@ impl Table {
             kept: Addresses(0),
             registers: [Registers::default(); ADDRESSES],
             numbers: [0; ADDRESSES],
-            order: Order::new(),
             legacies,
+            order: Order::new(),
             listed: false,
         }
     }
