@@ -1,4 +1,6 @@
 pub mod SetLaws
+pub mod Ranking
+pub mod Ordering
 pub mod StoredLaws
 pub mod Known
 pub mod Open

@@ -1,7 +1,7 @@
 -- All rows, each at its address.
-use Rattle.std.proofs.Common.{◌≡◌, ◌≢◌, ℕ, zero, suc, ◌+◌, ◌<◌, ◌≤◌, Bool, true, false, List, [], ◌∷◌, length, get_or, set, map, replicate, count_by, Option, Some, None, is_some, option_map, IfSome, MatchOption, sym, refl, ap, ◌∙◌, inl, inr, arith, subst, zero-add, cond}
+use Rattle.std.proofs.Common.{◌≡◌, ◌≢◌, ℕ, suc, ◌+◌, ◌<◌, ◌≤◌, true, false, List, [], ◌∷◌, length, get_or, set, map, replicate, count_by, Option, Some, None, is_some, option_map, IfSome, MatchOption, sym, ap, ◌∙◌, inl, inr, arith, subst, zero-add, cond}
 use Rattle.std.specs.List.{range_with_len}
-use Rattle.std.proofs.lemmas.Bool.{both_ways, cases_eq, cases_lt}
+use Rattle.std.proofs.lemmas.Bool.{cases_eq, cases_lt}
 use Rattle.std.proofs.lemmas.List.{ext_get_or, get_or-map, get_or-replicate, get_or_past, get_or-set_other, get_or-set_same, length-map}
 use Rattle.std.proofs.lemmas.List.Sums.{sum_by-cons}
 use Rattle.i3c_base.specs.declared.identity.Lvr.{Lvr}
@@ -9,7 +9,7 @@ use Rattle.i3c_base.specs.State.{Entry, IsFree, IsUsable, entry_in}
 use Rattle.i3c_table.specs.declared.row.Row.{Row}
 use Rattle.i3c_table.specs.declared.table.Registers.{Registers}
 use Rattle.i3c_table.specs.Rows.{entry_of_row}
-use Rattle.i3c_table.specs.Sets.{is_in, IsLowest}
+use Rattle.i3c_table.specs.Sets.{is_in}
 use Rattle.i3c_table.specs.Stored.{IsWhole, stored}
 use Rattle.i3c_table.proofs.SetLaws.{is_usable, is_usable-true}
 use Rattle.i3c_table.proofs.StoredLaws.{IsSmall, entry_stored, length-stored, out_of, small_whole, some_or_none}

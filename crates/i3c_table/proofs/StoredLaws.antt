@@ -1,6 +1,5 @@
 -- What stands at an address of what a table stores.
-use Rattle.std.proofs.Common.{◌≡◌, ◌≢◌, ◌↔◌, ℕ, zero, suc, ◌+◌, ◌-◌, ◌*◌, ◌/◌, ◌%◌, ◌^◌, ◌<◌, ◌≤◌, ◌==◌, Bool, true, false, List, [], ◌∷◌, length, get_or, set, map, count_by, Option, Some, None, is_some, option_map, IfSome, MatchOption, ◌⊎◌, if◌then◌else◌, sym, refl, ap, ◌∙◌, inl, inr, arith, subst, zero-add}
-use Rattle.std.specs.List.{range_with_len}
+use Rattle.std.proofs.Common.{◌≡◌, ◌≢◌, ℕ, ◌^◌, ◌<◌, ◌≤◌, ◌==◌, Bool, true, false, List, length, get_or, set, Option, Some, None, option_map, ◌⊎◌, if◌then◌else◌, sym, refl, ap, ◌∙◌, inl, inr, arith, subst, zero-add}
 use Rattle.std.proofs.lemmas.Bool.{both_ways, cases_eq, cases_lt, cond-true, cond-false, eq-eqb, ne_eqb}
 use Rattle.std.proofs.lemmas.List.{ext_get_or, get_or_past, get_or-set_other, get_or-set_same, length-set}
 use Rattle.std.proofs.lemmas.List.FromFn.{get_or-map-range_with_len, length-map-range_with_len}
@@ -151,6 +150,25 @@ new_row held kept registers numbers table row view fits (inl pickable) out = (pi
 new_row held kept registers numbers table row view fits (inr keeps) out =
     let none = ap (λ g. kept_of (entry_in g row.address)) (sym view) ∙ ap kept_of (entry_stored held kept registers numbers row.address fits ∙ out_of held kept registers numbers row.address out) in
     absurd (none-some keeps.0 (sym none ∙ keeps.2.0))
+
+-- at an address that is kept, a row with an identity is of the same number
+pub kept_row : (held kept : ℕ) (registers : List Registers) (numbers : List ℕ) (table : Table) (row : Row) (i : Identity) → stored held kept registers numbers ≡ table.given → IsSmall held
+    → ((b : ℕ) → is_in kept b ≡ true → is_in held b ≡ true) → MayPut table row → row.identity ≡ Some i → is_in kept row.address ≡ true → get_or numbers row.address 0 ≡ number_of i
+kept_row held kept registers numbers table row i view fits among (inl pickable) is has =
+    absurd (both_ways (is_in held row.address) (free_stored held kept registers numbers row.address fits (subst (λ g. IsFree g row.address) (sym view) pickable.1)) (among row.address has))
+kept_row held kept registers numbers table row i view fits among (inr keeps) is has =
+    let here = kept_stored held kept registers numbers row.address fits among ∙ cond-true (is_in kept row.address) _ None has in
+    let its : identity_of (get_or numbers row.address 0) ≡ keeps.0 = same_Some _ _ (sym here ∙ (ap (λ g. kept_of (entry_in g row.address)) view ∙ keeps.2.0)) in
+    sym (number_again (get_or numbers row.address 0)) ∙ ap number_of (its ∙ same_Some _ _ (sym keeps.1 ∙ is))
+
+-- and one without comes to an address that isn't kept
+pub unkept_row : (held kept : ℕ) (registers : List Registers) (numbers : List ℕ) (table : Table) (row : Row) → stored held kept registers numbers ≡ table.given → IsSmall held
+    → ((b : ℕ) → is_in kept b ≡ true → is_in held b ≡ true) → MayPut table row → row.identity ≡ None → is_in kept row.address ≡ false
+unkept_row held kept registers numbers table row view fits among (inl pickable) is = elim (some_or_none (is_in kept row.address)) [
+  | inr out ↦ out
+  | inl has ↦ absurd (both_ways (is_in held row.address) (free_stored held kept registers numbers row.address fits (subst (λ g. IsFree g row.address) (sym view) pickable.1)) (among row.address has))
+]
+unkept_row held kept registers numbers table row view fits among (inr keeps) is = absurd (none-some keeps.0 (sym is ∙ keeps.1))
 
 only_at_at : (own : ℕ) (given : List (Option Entry)) (a : ℕ) → entry_in (only_at own given) a ≡ (if a == own then option_map unkept (entry_in given a) else None)
 only_at_at own given a = changed_at (λ b place. if b == own then option_map unkept place else None) given a None (none_if (a == own))

@@ -1,4 +1,5 @@
 pub mod Sets
+pub mod Ranks
 pub mod Stored
 pub mod Rows
 pub mod Putting

@@ -1,11 +1,13 @@
 -- What a table stores at each address, seen as the entries there.
-use Rattle.std.specs.Prelude.{◌≡◌, ℕ, ◌/◌, ◌%◌, ◌==◌, true, List, map, Option, Some, None, if◌then◌else◌, slice_index_or}
-use Rattle.std.specs.List.{range_with_len}
+use Rattle.std.specs.Prelude.{◌≡◌, ℕ, ◌/◌, ◌%◌, true, List, map, Option, Some, None, if◌then◌else◌, count_by, length, slice_index_or}
+use Rattle.std.specs.List.{range_with_len, Contains}
+use Rattle.std.specs.List.Sorted.{IsNonDecreasingBy}
 use Rattle.i3c_base.specs.declared.identity.Identity.{Identity}
 use Rattle.i3c_base.specs.declared.identity.Lvr.{Lvr}
 use Rattle.i3c_base.specs.declared.range.TheConstants.{ADDRESSES}
 use Rattle.i3c_base.specs.State.{Entry, IsFree, IsUsable}
 use Rattle.i3c_table.specs.declared.table.Registers.{Registers}
+use Rattle.i3c_table.specs.Ranks.{rank}
 use Rattle.i3c_table.specs.Sets.{is_in}
 
 -- the identity of a number
@@ -34,3 +36,10 @@ pub record IsWhole (held kept : ℕ) (legacy : List (Option Lvr)) : Type 0 where
   pub usable : (a : ℕ) → is_in held a ≡ true → IsUsable a
   pub apart : (a : ℕ) → is_in held a ≡ true → IsFree legacy a
   pub among : (a : ℕ) → is_in kept a ≡ true → is_in held a ≡ true
+
+-- the list has the addresses that are kept, each once, by their numbers
+pub record IsInOrder (kept : ℕ) (numbers order : List ℕ) : Type 0 where
+  pub ranked : IsNonDecreasingBy (rank numbers) order
+  pub all : (a : ℕ) → is_in kept a ≡ true → Contains order a
+  pub alone : (a : ℕ) → Contains order a → is_in kept a ≡ true
+  pub once : length order ≡ count_by (is_in kept) (range_with_len 0 ADDRESSES)

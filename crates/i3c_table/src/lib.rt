@@ -2,6 +2,7 @@
 #![tactic(auto)]
 
 mod addresses;
+mod order;
 mod row;
 mod table;
 

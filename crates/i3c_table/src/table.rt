@@ -1,4 +1,5 @@
 use crate::addresses::Addresses;
+use crate::order::Order;
 use crate::row::Row;
 use i3c_base::{ADDRESSES, Addr7, Bcr, Dcr, Identity, Lvr};
 use i3c_legacy::Legacies;
@@ -31,6 +32,8 @@ pub struct Table {
     // at each address that is kept, the number of its identity
     numbers: [u64; ADDRESSES],
     legacies: Legacies,
+    // the addresses that are kept, by their numbers
+    order: Order,
     listed: bool,
 }
 
@@ -39,11 +42,11 @@ impl Model for Table {
 
     ghost Value = { TableValue };
 
-    ghost use Rattle.i3c_table.specs.Stored.{stored, IsWhole};
+    ghost use Rattle.i3c_table.specs.Stored.{stored, IsInOrder, IsWhole};
 
     ghost view = { λ t. record { given = stored t.held.0 t.kept.0 t.registers t.numbers; legacy = t.legacies; listed = t.listed } };
 
-    ghost invariant = { λ t. IsWhole t.held.0 t.kept.0 t.legacies };
+    ghost invariant = { λ t. IsWhole t.held.0 t.kept.0 t.legacies × IsInOrder t.kept.0 t.numbers t.order };
 }
 
 impl Table {
@@ -66,6 +69,7 @@ impl Table {
             registers: [Registers::default(); ADDRESSES],
             numbers: [0; ADDRESSES],
             legacies,
+            order: Order::new(),
             listed: false,
         }
     }
@@ -114,15 +118,7 @@ impl Table {
             (λ a. IsKeptIn self.now.given identity.now a) }
         ensures usable { IfSome result IsUsable }
     {
-        let number = identity.number();
-        let mut left = self.kept;
-        while let Some(address) = left.lowest() {
-            if self.numbers[address.get() as usize] == number {
-                return Some(address);
-            }
-            left = left.without(address);
-        }
-        None
+        self.order.first_of(&self.numbers, identity.number())
     }
 
     /// Enters a row, at an address that may be picked or that is kept for the row's identity. There is always room.
@@ -140,6 +136,7 @@ impl Table {
         let kept = match identity {
             Some(identity) => {
                 self.numbers[place] = identity.number();
+                self.order.keep(&self.numbers, self.kept, address);
                 self.kept.with(address)
             }
             None => self.kept.without(address),
@@ -156,6 +153,7 @@ impl Table {
     {
         self.listed = false;
         self.kept = Addresses(0);
+        self.order.clear();
         self.held = self.held.only(own);
     }
 
@@ -166,6 +164,7 @@ impl Table {
     {
         self.listed = false;
         self.kept.0 = 0;
+        self.order.clear();
     }
 
     /// The list of this table was sent: it is current (DEFTGTS, I3C Basic 5.1.9.3.7).

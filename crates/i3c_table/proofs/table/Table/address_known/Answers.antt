@@ -1,25 +1,21 @@
-use Rattle.std.proofs.Common.{◌≡◌, ◌∙◌, ap, get_or, length, subst, sym}
-use Rattle.i3c_base.specs.State.{IsKeptIn, IsUnknownIn}
-use Rattle.i3c_table.proofs.Known.{known_at, known_nowhere, searched_more, searched_none}
+use Rattle.std.proofs.Common.{ap, sym}
+use Rattle.i3c_table.proofs.Known.{known_is, known_small, known_usable}
 use Rattle.i3c_table.proofs.StoredLaws.{small_whole}
 use Rattle.i3c_table.proofs.table.Table.address_known.Goals as goal
 
-pub loop-address-init : goal.loop-address-init
-loop-address-init c = searched_none c.self.inside.kept.0 c.self.inside.numbers c.number-number.result
+pub first_of-requires-clause-ordered : goal.first_of-requires-clause-ordered
+first_of-requires-clause-ordered c = c.self.invariant.1.ranked
 
-pub loop-address-preserved : goal.loop-address-preserved
-loop-address-preserved c =
-    searched_more c.self.inside.kept.0 c.self.inside.numbers c.number-number.result c.loop-address.left.0 c.without-left.result.0 c.in-Some.address c.loop-address.invariant
-    (rw c.get.ensures.same at c.if-self-get.false) c.without-left.ensures.not_in_it c.without-left.ensures.others
-
-pub returns-then-self-get-clause-kept : goal.returns-then-self-get-clause-kept
-returns-then-self-get-clause-kept c =
-    let inside = c.self.inside in
-    rw (ap (λ t. t.given) (sym c.self.view_is)) (known_at inside.held.0 inside.kept.0 inside.registers inside.numbers c.args.identity.now c.loop-address.left.0 c.in-Some.address (small_whole _ _ _ c.self.invariant) c.self.invariant.among
-    c.number-number.ensures.in_range (rw c.number-number.ensures.same at c.loop-address.invariant) c.in-Some.ensures (rw (c.get.ensures.same, c.number-number.ensures.same) at c.if-self-get.true))
+pub first_of-requires-clause-small : goal.first_of-requires-clause-small
+first_of-requires-clause-small c = known_small c.self.inside.held.0 c.self.inside.kept.0 c.self.inside.numbers c.self.inside.order c.self.inside.legacies c.self.invariant.0 c.self.invariant.1
 
 pub returns-clause-kept : goal.returns-clause-kept
 returns-clause-kept c =
     let inside = c.self.inside in
-    rw (ap (λ t. t.given) (sym c.self.view_is)) (known_nowhere inside.held.0 inside.kept.0 inside.registers inside.numbers c.args.identity.now c.loop-address.left.0 (small_whole _ _ _ c.self.invariant) c.self.invariant.among
-    (rw c.number-number.ensures.same at c.loop-address.invariant) c.in_default.ensures)
+    rw (ap (λ t. t.given) (sym c.self.view_is)) (known_is inside.held.0 inside.kept.0 inside.registers inside.numbers inside.order c.args.identity.now c.first_of.result (small_whole _ _ _ c.self.invariant.0) c.self.invariant.0.among
+    c.number.ensures.in_range c.self.invariant.1 (rw c.number.ensures.same at c.first_of.ensures))
+
+pub returns-clause-usable : goal.returns-clause-usable
+returns-clause-usable c =
+    let inside = c.self.inside in
+    known_usable inside.held.0 inside.kept.0 inside.numbers inside.order inside.legacies c.self.invariant.0 c.self.invariant.1 c.number.result c.first_of.result c.first_of.ensures

@@ -1,4 +1,6 @@
-use Rattle.std.proofs.Common.{◌∙◌, ap, false}
+use Rattle.std.proofs.Common.{◌∙◌, ap, false, subst, sym}
+use Rattle.i3c_table.specs.Stored.{IsInOrder}
+use Rattle.i3c_table.proofs.Ordering.{order_none}
 use Rattle.i3c_table.specs.Putting.{unkept_table}
 use Rattle.i3c_table.proofs.Unkept.{unkept_stored, whole_unkept}
 use Rattle.i3c_table.proofs.table.Table.forget_identities.Goals as goal
@@ -6,7 +8,7 @@ use Rattle.i3c_table.proofs.table.Table.forget_identities.Goals as goal
 pub invariant_of-self : goal.invariant_of-self
 invariant_of-self c =
     let inside = c.self.inside in
-    whole_unkept inside.held.0 inside.kept.0 inside.legacies c.self.invariant
+    (whole_unkept inside.held.0 inside.kept.0 inside.legacies c.self.invariant.0, subst (IsInOrder 0 inside.numbers) (sym c.clear.ensures) (order_none inside.numbers))
 
 pub returns : goal.returns
 returns c =
