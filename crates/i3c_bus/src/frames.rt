@@ -125,22 +125,106 @@ impl Bus {
             return Reply::Refused(Refusal::SessionOpen);
         };
         match command {
-            Command::Serve => Reply::from(self.serve(role, policy, tap, cuts)),
+            Command::Serve => self.served(role, policy, tap, cuts),
             Command::Enec(to, kinds) => {
-                Reply::from(self.enec(role, *to, *kinds, policy, tap, cuts))
+                self.rekinded(role, Change::Enable, *to, *kinds, policy, tap, cuts)
             }
             Command::Disec(to, kinds) => {
-                Reply::from(self.disec(role, *to, *kinds, policy, tap, cuts))
+                self.rekinded(role, Change::Disable, *to, *kinds, policy, tap, cuts)
             }
-            Command::Reset => Reply::from(self.reset(role, policy, tap, cuts)),
-            Command::SendList => Reply::from(self.list(role, policy, tap, cuts)),
-            Command::ReadFrom(from) => Reply::from(self.read(role, *from, policy, tap, cuts)),
+            Command::Reset => self.reset_kept(role, policy, tap, cuts),
+            Command::SendList => self.list_kept(role, policy, tap, cuts),
+            Command::ReadFrom(from) => self.read_kept(role, *from, policy, tap, cuts),
             Command::WriteTo(to, bytes) => self.write_kept(role, *to, bytes, policy, tap, cuts),
         }
     }
 
-    /// ENEC or DISEC: serves the first request, and goes on with the command.
+    /// `serve`, with its answer as a reply.
     #[inline(never)]
+    fn served<P: Policy, T: Tap>(
+        &mut self,
+        role: &Role,
+        policy: &mut P,
+        tap: &mut T,
+        cuts: &Cuts,
+    ) -> Reply
+        requires fits { HandFits (Hand.Role role.now) self.old.state }
+        ensures asks { Asks P.verdict_gives policy.old policy.new self.old.state result }
+        ensures carried { Carries self.old self.new (Event.Serve (given_by result) cuts.now) result (Hand.Role role.now) (Tells T.note_gives tap.old tap.new) }
+    {
+        Reply::from(self.serve(role, policy, tap, cuts))
+    }
+
+    /// `enec` or `disec`, with its answer as a reply.
+    #[inline(never)]
+    fn rekinded<P: Policy, T: Tap>(
+        &mut self,
+        role: &Role,
+        change: Change,
+        to: Option<Addr7>,
+        kinds: Kinds,
+        policy: &mut P,
+        tap: &mut T,
+        cuts: &Cuts,
+    ) -> Reply
+        requires fits { HandFits (Hand.Role role.now) self.old.state }
+        ensures asks { Asks P.verdict_gives policy.old policy.new self.old.state result }
+        ensures carried { Carries self.old self.new (kinds_event change to kinds (given_by result) cuts.now) result (Hand.Role role.now) (Tells T.note_gives tap.old tap.new) }
+    {
+        Reply::from(self.change_kinds(role, change, to, kinds, policy, tap, cuts))
+    }
+
+    /// `reset`, with its answer as a reply.
+    #[inline(never)]
+    fn reset_kept<P: Policy, T: Tap>(
+        &mut self,
+        role: &Role,
+        policy: &mut P,
+        tap: &mut T,
+        cuts: &Cuts,
+    ) -> Reply
+        requires fits { HandFits (Hand.Role role.now) self.old.state }
+        ensures asks { Asks P.verdict_gives policy.old policy.new self.old.state result }
+        ensures carried { Carries self.old self.new (Event.Reset (given_by result) cuts.now) result (Hand.Role role.now) (Tells T.note_gives tap.old tap.new) }
+    {
+        Reply::from(self.reset(role, policy, tap, cuts))
+    }
+
+    /// `list`, with its answer as a reply.
+    #[inline(never)]
+    fn list_kept<P: Policy, T: Tap>(
+        &mut self,
+        role: &Role,
+        policy: &mut P,
+        tap: &mut T,
+        cuts: &Cuts,
+    ) -> Reply
+        requires fits { HandFits (Hand.Role role.now) self.old.state }
+        ensures asks { Asks P.verdict_gives policy.old policy.new self.old.state result }
+        ensures carried { Carries self.old self.new (Event.SendList (given_by result) cuts.now) result (Hand.Role role.now) (Tells T.note_gives tap.old tap.new) }
+    {
+        Reply::from(self.list(role, policy, tap, cuts))
+    }
+
+    /// `read`, with its answer as a reply.
+    #[inline(never)]
+    fn read_kept<P: Policy, T: Tap>(
+        &mut self,
+        role: &Role,
+        from: Addr7,
+        policy: &mut P,
+        tap: &mut T,
+        cuts: &Cuts,
+    ) -> Reply
+        requires fits { HandFits (Hand.Role role.now) self.old.state }
+        ensures asks { Asks P.verdict_gives policy.old policy.new self.old.state result }
+        ensures carried { Carries self.old self.new (Event.ReadFrom from (given_by result) cuts.now) result (Hand.Role role.now) (Tells T.note_gives tap.old tap.new) }
+    {
+        Reply::from(self.read(role, from, policy, tap, cuts))
+    }
+
+    /// ENEC or DISEC: serves the first request, and goes on with the command.
+    #[inline(always)]
     fn change_kinds<P: Policy, T: Tap>(
         &mut self,
         role: &Role,
@@ -223,6 +307,7 @@ impl Bus {
 
     /// The beginning of a frame that goes on: there is room for a record, the first request is served, and after one
     /// a repeated START and the broadcast header are sent. It changes nothing where there is no memory.
+    #[inline(always)]
     pub(crate) fn begin_frame<P: Policy, T: Tap>(
         &mut self,
         policy: &mut P,
@@ -242,6 +327,7 @@ impl Bus {
     }
 
     /// The beginning of a frame: its first request is served. There must be room for a record.
+    #[inline(always)]
     fn begin<P: Policy, T: Tap>(&mut self, policy: &mut P, tap: &mut T, cuts: &Cuts) -> Begun
         requires room { self.old.room ≡ true }
         ensures begins { Begins self.old.state cuts.now result.served result.bits self.new.state }
@@ -259,6 +345,7 @@ impl Bus {
     }
 
     /// How a frame goes on after its beginning: after a request a repeated START and the broadcast header are sent.
+    #[inline(always)]
     pub(crate) fn go_on<T: Tap>(&self, begun: Begun, tap: &mut T, cuts: &Cuts) -> Begun
         requires { begun.bits ≤ 9 }
         ensures served { result.served ≡ begun.served }

@@ -5,7 +5,7 @@ use Rattle.i3c_base.specs.declared.range.TheConstants.{SLOTS}
 use Rattle.i3c_base.specs.declared.requests.Request.{Request}
 use Rattle.i3c_base.specs.Cutting.{Lost}
 use Rattle.i3c_base.specs.Frames.{overwritten}
-use Rattle.i3c_base.specs.Numbers.{IsInRange, number_of}
+use Rattle.i3c_base.specs.Numbers.{IsInRange, KindSet, number_of}
 use Rattle.i3c_base.specs.Round.{winner, wins}
 use Rattle.i3c_base.specs.Serve.{asks, rank, without}
 use Rattle.i3c_base.specs.State.{Device, has_address, in_slot}
@@ -39,6 +39,10 @@ willing_at active a s place = in_slot (λ d. reaches_at active (Some a) s d && d
 -- it after a command and its words
 abbrev pub heard_at : ℕ → Option ℕ → Code → List Word → ℕ → Option Device → Option Device
 heard_at active to code words s place = option_map (λ d. if reaches_at active to s d then heard code words d else d) place
+
+-- it after a command that changes the kinds of whom it reaches by f
+abbrev pub rekinded_at : ℕ → Option ℕ → (KindSet → KindSet) → ℕ → Option Device → Option Device
+rekinded_at active to f s place = option_map (λ d. if reaches_at active to s d then record d { kinds = f d.kinds } else d) place
 
 -- it after these bytes were written to this address
 abbrev pub written_at : ℕ → ℕ → List ℕ → ℕ → Option Device → Option Device

@@ -3,7 +3,7 @@ ghost use Rattle.i3c_base.specs.declared.device.TheConstants.{REGISTERS as REGIS
 ghost use Rattle.i3c_base.specs.declared.range.TheConstants.{SLOTS as SLOT_COUNT};
 ghost use Rattle.i3c_base.specs.Frames.{unaddressed_device};
 ghost use Rattle.i3c_base.specs.Round.{hears, unhearing, winner};
-ghost use Rattle.i3c_base.specs.Serve.{without_role};
+ghost use Rattle.i3c_base.specs.Serve.{without_front, without_role};
 ghost use Rattle.i3c_base.specs.State.{in_slot};
 ghost use Rattle.i3c_device.specs.Raising.{wishing_join, wishing_role};
 ghost use Rattle.i3c_device.specs.Reading.{IsDrivenFrom, IsRegisterFrom};
@@ -37,6 +37,15 @@ pub(crate) fn lose_role_wish(place: &mut Option<Device>)
 {
     if let Some(device) = place {
         device.lose_role_wish();
+    }
+}
+
+/// The device here, if there is one, loses the front of what waits.
+pub(crate) fn lose_front(place: &mut Option<Device>)
+    ensures { place.new ≡ option_map without_front place.old }
+{
+    if let Some(device) = place {
+        device.lose_front();
     }
 }
 

@@ -143,13 +143,24 @@ impl SlotSet {
 }
 
 /// The slots whose devices are lost by this bit.
+#[inline(always)]
 pub(crate) fn lost_slots(cuts: &Cuts, last: u16) -> SlotSet
     ensures { (s : ℕ) → s < SLOT_COUNT → has result s ≡ lost_by cuts.now last s }
 {
-    let mut lost = SlotSet::none();
     if cuts.is_empty() {
-        return lost;
+        SlotSet::none()
+    } else {
+        cut_slots(cuts, last)
     }
+}
+
+/// The slots whose devices are cut by this bit.
+// kept apart, since most frames have no cuts
+#[inline(never)]
+fn cut_slots(cuts: &Cuts, last: u16) -> SlotSet
+    ensures { (s : ℕ) → s < SLOT_COUNT → has result s ≡ lost_by cuts.now last s }
+{
+    let mut lost = SlotSet::none();
     for index in 0..SLOTS {
         lost = lost.with(index, cuts.is_lost(Slot::from_index(index), last));
     }

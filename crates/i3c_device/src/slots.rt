@@ -5,10 +5,10 @@ use crate::kinds::named;
 use crate::occupants::Occupants;
 use crate::sets::{SlotSet, lost_slots};
 use crate::walks::{
-    Accepted, Ended, Happening, JoinWished, Lost, Opened, Reset, RoleLost, RoleWished, Willing,
-    Won, Written,
+    Accepted, Ended, FrontLost, Happening, JoinWished, Lost, Opened, Reset, RoleLost, RoleWished,
+    Willing, Won, Written,
 };
-use i3c_base::{Addr7, Cuts, REGISTERS, RaiseRefusal, Request, Slot};
+use i3c_base::{Addr7, Change, Cuts, Kinds, REGISTERS, RaiseRefusal, Request, Slot};
 use i3c_ccc::Code;
 use i3c_word::Word;
 use std::marker::Model;
@@ -40,13 +40,14 @@ impl Devices {
     ghost use Rattle.i3c_base.specs.declared.device.TheConstants.{REGISTERS as REGISTER_COUNT};
     ghost use Rattle.i3c_base.specs.declared.range.TheConstants.{SLOTS as SLOT_COUNT};
     ghost use Rattle.i3c_base.specs.Cutting.{lost_by};
+    ghost use Rattle.i3c_base.specs.Frames.{changed_kinds};
     ghost use Rattle.i3c_base.specs.Places.{changed};
     ghost use Rattle.i3c_device.specs.Enabling.{bare};
-    ghost use Rattle.i3c_device.specs.Walks.{accepted_at, heard_at, left_at, taken_at, AreDrivers, AreHearers, AreReached, AreWillingLost, IsFirstDriven, IsFirstIdentity, IsLowestWilling, NobodyDrives, NobodyHears, SomeReached, written_at};
+    ghost use Rattle.i3c_device.specs.Walks.{accepted_at, heard_at, left_at, taken_at, AreDrivers, AreHearers, AreReached, AreWillingLost, IsFirstDriven, IsFirstIdentity, IsLowestWilling, NobodyDrives, NobodyHears, SomeReached, rekinded_at, written_at};
     ghost use Rattle.i3c_device.specs.Reading.{AreReadOf, IsRegisterOf};
     ghost use Rattle.i3c_device.specs.Sets.{has};
     ghost use Rattle.i3c_device.specs.Wishing.{asks_some};
-    ghost use Rattle.std.specs.Prelude.{◌≡◌, ◌≤◌, ◌<◌, ◌+◌, ◌^◌, ◌↔◌, ◌&&◌, ◌==◌, ℕ, not, All, length, IsTrue, is_some, suc, Some, None, option_map, slice_index_or, slice_set, MatchOption, MatchResult, OnOk, OnErr};
+    ghost use Rattle.std.specs.Prelude.{◌≡◌, ◌≤◌, ◌<◌, ◌+◌, ◌^◌, ◌↔◌, ◌&&◌, ◌==◌, ℕ, not, All, length, Option, IsTrue, is_some, suc, Some, None, option_map, slice_index_or, slice_set, MatchOption, MatchResult, OnOk, OnErr};
     ghost use Rattle.i3c_base.specs.Round.{hears, unhearing};
     ghost use Rattle.i3c_base.specs.Serve.{without_role};
     ghost use Rattle.i3c_base.specs.State.{Device as DeviceState, in_slot, no_devices};
@@ -178,7 +179,11 @@ impl Devices {
     pub fn accept(&mut self, drivers: SlotSet, request: &Request)
         ensures { (active : ℕ) → AreDrivers active request.now self.old drivers → self.new ≡ changed (accepted_at active request.now) self.old }
     {
-        self.occupants.each(drivers, &Accepted { request });
+        match request {
+            // which changes less than a wish
+            Request::Interrupt(_) => self.occupants.each(drivers, &FrontLost),
+            _ => self.occupants.each(drivers, &Accepted { request }),
+        }
     }
 
     /// Whether a command, to all or to one address, reaches a device that isn't lost by this bit: it acknowledges.
@@ -241,7 +246,7 @@ impl Devices {
     }
 
     /// The slots of the devices that a command reaches, all but the active controller or those of them at one address.
-    fn reached(&self, active: Slot, to: &Option<Addr7>) -> SlotSet
+    pub fn reached(&self, active: Slot, to: &Option<Addr7>) -> SlotSet
         ensures reached { AreReached active to.now result self.now }
         ensures slots { length self.now ≡ SLOT_COUNT }
     {
@@ -268,6 +273,17 @@ impl Devices {
             Code::Rstdaa => self.occupants.each(reached, &Reset),
             Code::Deftgts | Code::Getacccr | Code::Other(_) => {}
         }
+    }
+
+    /// Kinds of events are enabled or disabled for the devices that a command reaches, which are in these slots.
+    pub fn change_kinds(&mut self, reached: SlotSet, change: Change, kinds: Kinds)
+        requires { length self.old ≡ SLOT_COUNT }
+        ensures { (active : ℕ) (to : Option ℕ) → AreReached active to reached self.old → self.new ≡ changed (rekinded_at active to (changed_kinds change kinds)) self.old }
+    {
+        self.enabled = match change {
+            Change::Enable => self.enabled.with(kinds, reached),
+            Change::Disable => self.enabled.without(kinds, reached),
+        };
     }
 
     /// A session is opened: each device without an address hears it.

@@ -3,7 +3,7 @@ ghost use Rattle.i3c_base.specs.declared.device.TheConstants.{REGISTERS as REGIS
 ghost use Rattle.i3c_base.specs.declared.range.TheConstants.{SLOTS as SLOT_COUNT};
 ghost use Rattle.i3c_base.specs.Frames.{unaddressed_device};
 ghost use Rattle.i3c_base.specs.Round.{hears, unhearing, winner};
-ghost use Rattle.i3c_base.specs.Serve.{without_role};
+ghost use Rattle.i3c_base.specs.Serve.{without_front, without_role};
 ghost use Rattle.i3c_base.specs.State.{Device as DeviceState};
 ghost use Rattle.i3c_device.specs.Marks.{AreMarks};
 ghost use Rattle.i3c_device.specs.Raising.{wishing_join, wishing_role};
@@ -12,8 +12,8 @@ ghost use Rattle.i3c_device.specs.Walks.{taken_from, willing_at, written_at};
 use crate::attached::Device;
 use crate::marks::Marks;
 use crate::places::{
-    accept, is_willing, lose_role_wish, open, reaches, reset, silence, win, wish_join, wish_role,
-    write,
+    accept, is_willing, lose_front, lose_role_wish, open, reaches, reset, silence, win, wish_join,
+    wish_role, write,
 };
 use i3c_base::{Addr7, Request, Slot};
 
@@ -56,12 +56,25 @@ impl Happening for Accepted<'_> {
     fn happen(&self, place: &mut Option<Device>, _index: usize) {
         accept(place, self.request);
     }
+}
+
+/// An interrupt was accepted, which is driven here.
+#[derive(Drop)]
+pub(crate) struct FrontLost;
+
+impl Happening for FrontLost {
+    ghost after = { λ h s place. option_map without_front place };
+
+    fn concerns(&self, _place: &Option<Device>, _index: usize) -> bool {
+        true
+    }
+
+    fn happen(&self, place: &mut Option<Device>, _index: usize) {
+        lose_front(place);
+    }
 
     fn noted(&self, marks: Marks, index: usize, place: &Option<Device>) -> Marks {
-        match self.request {
-            Request::Interrupt(_) => marks.queued(index, place),
-            _ => marks.noted(index, place),
-        }
+        marks.queued(index, place)
     }
 }
 

@@ -1,20 +1,13 @@
 -- Who hears the command, and what it leaves.
-use Rattle.std.proofs.Common.{◌≡◌, ℕ, Bool, true, false, ◌==◌, not, ◌&&◌, if◌then◌else◌, List, [], ◌∷◌, Option, Some, None, option_map, inl, inr, refl, sym, ap, ◌∙◌, subst}
+use Rattle.std.proofs.Common.{◌≡◌, ℕ, Bool, true, false, if◌then◌else◌, List, Option, Some, None, option_map, inl, inr, refl, sym, ◌∙◌, subst}
 use Rattle.i3c_base.specs.declared.answers.Answer.{Answer}
-use Rattle.i3c_base.specs.declared.kinds.Change.{Change}
-use Rattle.i3c_base.specs.declared.kinds.Change.TheVariants.{Enable, Disable}
-use Rattle.i3c_base.specs.declared.kinds.Kinds.{Kinds}
 use Rattle.i3c_base.specs.Cutting.{Lost}
-use Rattle.i3c_base.specs.Numbers.{KindSet, kind_set}
+use Rattle.i3c_base.specs.Numbers.{KindSet}
 use Rattle.i3c_base.specs.Places.{changed}
-use Rattle.i3c_base.specs.State.{Device, HasDevices, State, has_address}
-use Rattle.i3c_base.specs.Frames.{AllLostAt, AnyAt, IsHeard, Rekinds, SomeLeftAt, changed_kinds, reaches, rekinded, with_kinds, without_kinds}
-use Rattle.i3c_word.specs.declared.Word.{Word}
-use Rattle.i3c_ccc.specs.declared.codes.Code.{Code}
-use Rattle.i3c_device.specs.Hearing.{named_kinds}
-use Rattle.i3c_device.specs.Walks.{SomeReached, heard_at}
+use Rattle.i3c_base.specs.State.{Device, HasDevices, State}
+use Rattle.i3c_base.specs.Frames.{AllLostAt, AnyAt, IsHeard, Rekinds, SomeLeftAt, reaches, rekinded}
+use Rattle.i3c_device.specs.Walks.{SomeReached, rekinded_at}
 use Rattle.i3c_device.proofs.Targets.{other_slot, reached_target, slot_other, target_reached}
-use Rattle.i3c_events.specs.Words.{command}
 
 -- whoever is reached at an address is a target there that is left, and the other way round
 left_at_own : (st : State) (a : ℕ) (lost : Lost) → SomeReached st.active (Some a) lost st.devices → SomeLeftAt st a lost
@@ -41,33 +34,25 @@ pub any_reached : (st : State) (lost : Lost) (devices : List (Option Device)) (a
 any_reached st lost devices active has h =
     subst (λ ds. SomeReached active None lost ds) has.0 (subst (λ s. SomeReached s None lost st.devices) has.1 (h.0, h.1.0, h.1.1, slot_other h.0 st.active h.2, h.3))
 
--- what stands in a slot after it heard the command, whose word names the kinds
-heard_is : (change : Change) (to : Option ℕ) (kinds : Kinds) (word : Word) → named_kinds (word ∷ []) ≡ kind_set kinds → (st : State) (s : ℕ) (place : Option Device)
-    → heard_at st.active to (command change to) (word ∷ []) s place ≡ option_map (λ d. if reaches st to s d then record d { kinds = changed_kinds change kinds d.kinds } else d) place
-heard_is change to kinds word e st s None = refl
-heard_is Enable None kinds word e st s (Some d) = ap (λ k. Some (if not (s == st.active) then record d { kinds = with_kinds d.kinds k } else d)) e
-heard_is Disable None kinds word e st s (Some d) = ap (λ k. Some (if not (s == st.active) then record d { kinds = without_kinds d.kinds k } else d)) e
-heard_is Enable (Some a) kinds word e st s (Some d) = ap (λ k. Some (if not (s == st.active) && has_address a d then record d { kinds = with_kinds d.kinds k } else d)) e
-heard_is Disable (Some a) kinds word e st s (Some d) = ap (λ k. Some (if not (s == st.active) && has_address a d then record d { kinds = without_kinds d.kinds k } else d)) e
+-- what stands in a slot after the kinds of those whom it reaches were changed
+turned_is : (to : Option ℕ) (f : KindSet → KindSet) (st : State) (s : ℕ) (place : Option Device)
+    → rekinded_at st.active to f s place ≡ option_map (λ d. if reaches st to s d then record d { kinds = f d.kinds } else d) place
+turned_is None f st s place = refl
+turned_is (Some a) f st s place = refl
 
 -- all slots after it
-heard_all : (change : Change) (to : Option ℕ) (kinds : Kinds) (word : Word) (st : State) (devices more : List (Option Device)) (active : ℕ) → HasDevices st devices active
-    → named_kinds (word ∷ []) ≡ kind_set kinds → more ≡ changed (heard_at active to (command change to) (word ∷ [])) devices → record st { devices = more } ≡ rekinded to (changed_kinds change kinds) st
-heard_all change to kinds word st devices more active has e m =
-    let heard : more ≡ changed (heard_at st.active to (command change to) (word ∷ [])) st.devices = m ∙ (λ t. changed (heard_at (sym has.1 t) to (command change to) (word ∷ [])) (sym has.0 t)) in
-    λ t. record st { devices = (heard ∙ (λ k. changed (λ s place. heard_is change to kinds word e st s place k) st.devices)) t }
+turned_all : (to : Option ℕ) (f : KindSet → KindSet) (st : State) (devices more : List (Option Device)) (active : ℕ) → HasDevices st devices active
+    → more ≡ changed (rekinded_at active to f) devices → record st { devices = more } ≡ rekinded to f st
+turned_all to f st devices more active has m =
+    let turned : more ≡ changed (rekinded_at st.active to f) st.devices = m ∙ (λ t. changed (rekinded_at (sym has.1 t) to f) (sym has.0 t)) in
+    λ t. record st { devices = (turned ∙ (λ k. changed (λ s place. turned_is to f st s place k) st.devices)) t }
 
 -- it was carried out
-pub carried_out : (change : Change) (to now : Option ℕ) (kinds : Kinds) (code : Code) (word : Word) (st : State) (lost : Lost) (devices more : List (Option Device)) (active : ℕ) → HasDevices st devices active
-    → now ≡ to → code ≡ command change now → named_kinds (word ∷ []) ≡ kind_set kinds → more ≡ changed (heard_at active now code (word ∷ [])) devices → ((a : ℕ) → to ≡ Some a → AnyAt st a)
-    → Rekinds to (changed_kinds change kinds) Answer.Done lost st (record st { devices = more })
-carried_out change to now kinds code word st lost devices more active has same is e m any = go to (heard_all change to kinds word st devices more active has e heard) any
+pub carried_out : (to : Option ℕ) (f : KindSet → KindSet) (st : State) (lost : Lost) (devices more : List (Option Device)) (active : ℕ) → HasDevices st devices active
+    → more ≡ changed (rekinded_at active to f) devices → ((a : ℕ) → to ≡ Some a → AnyAt st a) → Rekinds to f Answer.Done lost st (record st { devices = more })
+carried_out to f st lost devices more active has m any = go to (turned_all to f st devices more active has m) any
   where
-    heard : more ≡ changed (heard_at active to (command change to) (word ∷ [])) devices
-    heard = m ∙ (λ t. changed (heard_at active (same t) ((is ∙ ap (command change) same) t) (word ∷ [])) devices)
-
-    go : (o : Option ℕ) → record st { devices = more } ≡ rekinded o (changed_kinds change kinds) st → ((a : ℕ) → o ≡ Some a → AnyAt st a)
-        → Rekinds o (changed_kinds change kinds) Answer.Done lost st (record st { devices = more })
+    go : (o : Option ℕ) → record st { devices = more } ≡ rekinded o f st → ((a : ℕ) → o ≡ Some a → AnyAt st a) → Rekinds o f Answer.Done lost st (record st { devices = more })
     go None all any = (refl, all)
     go (Some at) all any = inl (refl, any at refl, all)
 

@@ -4,7 +4,6 @@ ghost use Rattle.i3c_base.specs.State.{HasDevices, State};
 ghost use Rattle.i3c_base.specs.Frames.{Rekinds, SomeLeftAt, changed_kinds, kinds_bits};
 ghost use Rattle.i3c_events.specs.Hearing.{answer_of};
 
-use crate::words::{code_for, kinds_word};
 use i3c_base::{Addr7, Answer, Change, Cuts, Kinds, Slot};
 use i3c_device::Devices;
 use thiserror::Error;
@@ -23,6 +22,7 @@ pub struct NoAnswer(pub Addr7);
 /// ENEC or DISEC, after so many bits of its frame in which these devices are cut: those whom it reaches hear it, all but
 /// the active controller, or those of them at one address (I3C Basic 5.1.9.3.1). Where none of those is left at the
 /// acknowledgement, nothing changes.
+#[inline(always)]
 pub fn hear_kinds(
     devices: &mut Devices,
     active: Slot,
@@ -37,13 +37,13 @@ pub fn hear_kinds(
         → Rekinds to (changed_kinds change kinds) (answer_of result) (lost_by cuts.now (begun + kinds_bits to (answer_of result))) st (record st { devices = devices.new }) }
     ensures answered { (st : State) (a : ℕ) → HasDevices st devices.old active → to ≡ Some a → IsOk result ↔ SomeLeftAt st a (lost_by cuts.now (begun + 18)) }
 {
+    let reached = devices.reached(active, &to);
     if let Some(at) = to {
-        if !devices.is_heard(active, &to, cuts, begun + ACK_BITS) {
+        if !reached.outlasts(cuts, begun + ACK_BITS) {
             return Err(NoAnswer(at));
         }
     }
-    let code = code_for(change, to);
-    devices.hear(active, &to, code, &[kinds_word(kinds)]);
+    devices.change_kinds(reached, change, kinds);
     Ok(())
 }
 

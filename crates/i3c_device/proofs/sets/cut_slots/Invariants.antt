@@ -1,7 +1,7 @@
 use Rattle.std.proofs.Common.{◌≡◌, ℕ, ◌<◌}
 use Rattle.i3c_base.specs.Cutting.{lost_by}
 use Rattle.i3c_device.specs.Sets.{has}
-use Rattle.i3c_device.proofs.sets.lost_slots.Given as goal
+use Rattle.i3c_device.proofs.sets.cut_slots.Given as goal
 
 -- the slots so far are in the set where they are lost
 abbrev pub invariant-loop-index : goal.invariant-loop-index
