@@ -28,23 +28,26 @@ static TENS: [u8; 200] = *b"0001020304050607080910111213141516171819202122232425
 const MOST_DIGITS: usize = 16;
 
 /// Numbers below this have at most four digits.
-const FIVE_DIGITS: u64 = 10_000;
+const FIVE_DIGITS: u32 = 10_000;
 
-/// How many places at most four digits take.
-const FOUR_PLACES: usize = 4;
+/// Numbers below this have at most six digits.
+const SEVEN_DIGITS: u64 = 1_000_000;
 
-/// How many places at most four digits and a line's end take.
-const ENDED_PLACES: usize = FOUR_PLACES + 1;
+/// How many places at most six digits take.
+const SIX_PLACES: usize = 6;
+
+/// How many places at most six digits and a line's end take.
+const ENDED_PLACES: usize = SIX_PLACES + 1;
 
 /// Appends a number to a text, in decimal digits.
 pub(crate) fn push_decimal(text: &mut Vec<u8>, number: u64) -> Result<(), AllocError>
     ensures { OnOk result (text.new.items ≡ text.old.items ++ decimal number) }
 {
     let room = text.capacity() - text.len();
-    if number >= FIVE_DIGITS || room < FOUR_PLACES {
+    if number >= SEVEN_DIGITS || room < SIX_PLACES {
         return push_longer(text, number);
     }
-    push_four(text, number as u32);
+    push_six(text, number as u32);
     Ok(())
 }
 
@@ -55,7 +58,7 @@ pub(crate) fn push_numbered(text: &mut Vec<u8>, words: &[u8], number: u64) -> Re
     ensures { OnOk result (text.new.items ≡ text.old.items ++ (words.now ++ (decimal number ++ 10 ∷ []))) }
 {
     let room = text.capacity() - text.len();
-    if number >= FIVE_DIGITS || room < words.len().saturating_add(ENDED_PLACES) {
+    if number >= SEVEN_DIGITS || room < words.len().saturating_add(ENDED_PLACES) {
         return push_longer_numbered(text, words, number);
     }
     text.extend_from_slice(words)?;
@@ -86,22 +89,38 @@ fn push_longer_numbered(text: &mut Vec<u8>, words: &[u8], number: u64) -> Result
     text.extend_from_slice(b"\n")
 }
 
-/// Appends at most four decimal digits and the line's end, for which there is room.
+/// Appends at most six decimal digits and the line's end, for which there is room.
 fn push_ended(text: &mut Vec<u8>, number: u32)
-    requires short { number < FIVE_DIGITS }
+    requires short { number < SEVEN_DIGITS }
     requires room { vec_len text.old + ENDED_PLACES ≤ vec_capacity text.old }
     ensures { text.new.items ≡ text.old.items ++ (decimal number ++ 10 ∷ []) }
 {
-    push_four(text, number);
+    push_six(text, number);
     text.push_reserved(b'\n');
+}
+
+/// Appends at most six decimal digits, for which there is room.
+fn push_six(text: &mut Vec<u8>, number: u32)
+    requires short { number < SEVEN_DIGITS }
+    requires room { vec_len text.old + SIX_PLACES ≤ vec_capacity text.old }
+    ensures digits { text.new.items ≡ text.old.items ++ decimal number }
+    ensures len { vec_len text.new ≤ vec_len text.old + SIX_PLACES }
+    ensures capacity { vec_capacity text.new ≡ vec_capacity text.old }
+{
+    if number < FIVE_DIGITS {
+        push_four(text, number);
+        return;
+    }
+    push_four(text, number / 100);
+    push_pair(text, number % 100);
 }
 
 /// Appends at most four decimal digits, for which there is room.
 fn push_four(text: &mut Vec<u8>, number: u32)
     requires short { number < FIVE_DIGITS }
-    requires room { vec_len text.old + FOUR_PLACES ≤ vec_capacity text.old }
+    requires room { vec_len text.old + 4 ≤ vec_capacity text.old }
     ensures digits { text.new.items ≡ text.old.items ++ decimal number }
-    ensures len { vec_len text.new ≤ vec_len text.old + FOUR_PLACES }
+    ensures len { vec_len text.new ≤ vec_len text.old + 4 }
     ensures capacity { vec_capacity text.new ≡ vec_capacity text.old }
 {
     if number < 100 {
