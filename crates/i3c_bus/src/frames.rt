@@ -5,12 +5,13 @@ ghost use Rattle.i3c_step.specs.Serving.{place_of};
 
 use crate::parts::Bus;
 use crate::tokens::Hand;
-use i3c_base::{Addr7, Answer, Change, Cuts, Kinds, Record, Served};
+use i3c_base::{Addr7, Answer, Change, Cuts, Kinds, Record, Request, Served};
+use i3c_device::SlotSet;
 use i3c_events::{answer_of, hear_kinds, kinds_bits, tell_kinds};
 use i3c_frame::{Symbol, Tap};
 use i3c_handoff::Role;
 use i3c_ibi::{
-    Policy, Reading, first_request, serve, tell_broadcast, tell_reading, tell_repeated,
+    Policy, Reading, first_request, serve_first, tell_broadcast, tell_reading, tell_repeated,
     tell_request,
 };
 use i3c_step::{Command, FrameFault, Framed, OutOfMemory, Refusal, Reply, TargetFault};
@@ -29,9 +30,11 @@ impl Bus {
     ghost use Rattle.std.specs.Prelude.{ℕ, ◌+◌, ◌≤◌, true, false, None, IfOk, OnErr};
     ghost use Rattle.i3c_base.specs.Cutting.{Lost, lost_by};
     ghost use Rattle.i3c_base.specs.Frames.{Rekinds, changed_kinds, kinds_bits};
-    ghost use Rattle.i3c_base.specs.Serve.{IsWordBits, Serves, emptied, given_for, header_bits, refuse_all};
+    ghost use Rattle.i3c_base.specs.Serve.{IsFirst, IsWordBits, Serves, emptied, given_for, header_bits, refuse_all};
     ghost use Rattle.i3c_events.specs.Telling.{IsKindsWire};
     ghost use Rattle.i3c_frame.specs.Taps.{Tells};
+    ghost use Rattle.i3c_device.specs.Walks.{AreDrivers};
+    ghost use Rattle.i3c_ibi.specs.Driving.{IsDriven};
     ghost use Rattle.i3c_ibi.specs.Policies.{Decides};
     ghost use Rattle.i3c_bus.specs.Asking.{Asks};
     ghost use Rattle.i3c_step.specs.Giving.{given_by};
@@ -336,8 +339,46 @@ impl Bus {
         ensures room { place_of result.served ≡ None → self.new.room ≡ true }
     {
         let active = self.active();
+        let Some((request, drivers)) = self.devices.first_request(active) else {
+            let ack = self.devices.is_heard(active, &None, cuts, 0);
+            tell_broadcast(tap, ack);
+            return Begun {
+                served: Served::Quiet,
+                bits: 0,
+            };
+        };
+        self.begin_asked(request, drivers, policy, tap, cuts)
+    }
+
+    /// The beginning of a frame whose first request is this, which these slots drive: it is served.
+    #[inline(never)]
+    fn begin_asked<P: Policy, T: Tap>(
+        &mut self,
+        request: Request,
+        drivers: SlotSet,
+        policy: &mut P,
+        tap: &mut T,
+        cuts: &Cuts,
+    ) -> Begun
+        requires room { self.old.room ≡ true }
+        requires first { IsFirst self.old.state request }
+        requires driven { IsDriven self.old.state.devices request drivers }
+        requires are { AreDrivers self.old.state.active request self.old.state.devices drivers }
+        ensures begins { Begins self.old.state cuts.now result.served result.bits self.new.state }
+        ensures asks { Decides P.verdict_gives policy.old policy.new self.old.state (given_for result.served) }
+        ensures told { Tells T.note_gives tap.old tap.new (IsBegun self.old.state cuts.now result.served self.new.state) }
+        ensures room { place_of result.served ≡ None → self.new.room ≡ true }
+    {
+        let active = self.active();
         let ack = self.devices.is_heard(active, &None, cuts, 0);
-        let reading = serve(&mut self.devices, active, &self.table, policy, cuts);
+        let reading = serve_first(
+            &mut self.devices,
+            request,
+            drivers,
+            &self.table,
+            policy,
+            cuts,
+        );
         tell_reading(tap, &reading, ack);
         let served = record_due(&mut self.records, &reading);
         let bits = reading.word_bits();
