@@ -90,6 +90,7 @@ fn push_longer_numbered(text: &mut Vec<u8>, words: &[u8], number: u64) -> Result
 }
 
 /// Appends at most six decimal digits and the line's end, for which there is room.
+#[inline(always)]
 fn push_ended(text: &mut Vec<u8>, number: u32)
     requires short { number < SEVEN_DIGITS }
     requires room { vec_len text.old + ENDED_PLACES ≤ vec_capacity text.old }
@@ -100,6 +101,7 @@ fn push_ended(text: &mut Vec<u8>, number: u32)
 }
 
 /// Appends at most six decimal digits, for which there is room.
+#[inline(always)]
 fn push_six(text: &mut Vec<u8>, number: u32)
     requires short { number < SEVEN_DIGITS }
     requires room { vec_len text.old + SIX_PLACES ≤ vec_capacity text.old }
@@ -111,7 +113,9 @@ fn push_six(text: &mut Vec<u8>, number: u32)
         push_four(text, number);
         return;
     }
-    push_four(text, number / 100);
+    let hundreds = number / 100;
+    push_two(text, hundreds / 100);
+    push_pair(text, hundreds % 100);
     push_pair(text, number % 100);
 }
 
