@@ -128,23 +128,25 @@ impl Bus {
             return Reply::Refused(Refusal::SessionOpen);
         };
         match command {
-            Command::Serve => self.served(role, policy, tap, cuts),
+            Command::Serve => self.serve_reply(role, policy, tap, cuts),
             Command::Enec(to, kinds) => {
-                self.rekinded(role, Change::Enable, *to, *kinds, policy, tap, cuts)
+                self.kinds_reply(role, Change::Enable, *to, *kinds, policy, tap, cuts)
             }
             Command::Disec(to, kinds) => {
-                self.rekinded(role, Change::Disable, *to, *kinds, policy, tap, cuts)
+                self.kinds_reply(role, Change::Disable, *to, *kinds, policy, tap, cuts)
             }
-            Command::Reset => self.reset_kept(role, policy, tap, cuts),
-            Command::SendList => self.list_kept(role, policy, tap, cuts),
-            Command::ReadFrom(from) => self.read_kept(role, *from, policy, tap, cuts),
+            Command::Reset => self.reset_reply(role, policy, tap, cuts),
+            Command::SendList => self.list_reply(role, policy, tap, cuts),
+            Command::ReadFrom(from) => self.read_reply(role, *from, policy, tap, cuts),
             Command::WriteTo(to, bytes) => self.write_kept(role, *to, bytes, policy, tap, cuts),
         }
     }
 
+    // The replies below are kept apart by `inline(never)`: what is inlined in `command` clears its locals for each frame.
+
     /// `serve`, with its answer as a reply.
     #[inline(never)]
-    fn served<P: Policy, T: Tap>(
+    fn serve_reply<P: Policy, T: Tap>(
         &mut self,
         role: &Role,
         policy: &mut P,
@@ -160,7 +162,7 @@ impl Bus {
 
     /// `enec` or `disec`, with its answer as a reply.
     #[inline(never)]
-    fn rekinded<P: Policy, T: Tap>(
+    fn kinds_reply<P: Policy, T: Tap>(
         &mut self,
         role: &Role,
         change: Change,
@@ -179,7 +181,7 @@ impl Bus {
 
     /// `reset`, with its answer as a reply.
     #[inline(never)]
-    fn reset_kept<P: Policy, T: Tap>(
+    fn reset_reply<P: Policy, T: Tap>(
         &mut self,
         role: &Role,
         policy: &mut P,
@@ -195,7 +197,7 @@ impl Bus {
 
     /// `list`, with its answer as a reply.
     #[inline(never)]
-    fn list_kept<P: Policy, T: Tap>(
+    fn list_reply<P: Policy, T: Tap>(
         &mut self,
         role: &Role,
         policy: &mut P,
@@ -211,7 +213,7 @@ impl Bus {
 
     /// `read`, with its answer as a reply.
     #[inline(never)]
-    fn read_kept<P: Policy, T: Tap>(
+    fn read_reply<P: Policy, T: Tap>(
         &mut self,
         role: &Role,
         from: Addr7,

@@ -176,6 +176,7 @@ impl Devices {
     }
 
     /// The request was accepted: these slots, its drivers, lose the wish or the front of what waits.
+    #[inline(always)]
     pub fn accept(&mut self, drivers: SlotSet, request: &Request)
         ensures { (active : ℕ) → AreDrivers active request.now self.old drivers → self.new ≡ changed (accepted_at active request.now) self.old }
     {
