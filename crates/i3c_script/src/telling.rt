@@ -84,6 +84,7 @@ pub(crate) fn show_raised(number: u64, text: &mut Text) -> Result<(), AllocError
 }
 
 /// Prints a line of some words and a number.
+#[inline(always)]
 fn show_number(words: &[u8], number: u64, text: &mut Text) -> Result<(), AllocError>
     ensures { OnOk result (text.new ≡ text.old ++ (words.now ++ (decimal number ++ 10 ∷ []))) }
 {
