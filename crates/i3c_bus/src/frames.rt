@@ -5,13 +5,12 @@ ghost use Rattle.i3c_step.specs.Serving.{place_of};
 
 use crate::parts::Bus;
 use crate::tokens::Hand;
-use i3c_base::{Addr7, Answer, Change, Cuts, Kinds, Record, Request, Served};
-use i3c_device::SlotSet;
+use i3c_base::{Addr7, Answer, Change, Cuts, Kinds, Record, Served};
 use i3c_events::{answer_of, hear_kinds, kinds_bits, tell_kinds};
 use i3c_frame::{Symbol, Tap};
 use i3c_handoff::Role;
 use i3c_ibi::{
-    Policy, Reading, first_request, serve_first, tell_broadcast, tell_reading, tell_repeated,
+    Policy, Reading, first_request, serve, tell_broadcast, tell_reading, tell_repeated,
     tell_request,
 };
 use i3c_step::{Command, FrameFault, Framed, OutOfMemory, Refusal, Reply, TargetFault};
@@ -30,11 +29,9 @@ impl Bus {
     ghost use Rattle.std.specs.Prelude.{ℕ, ◌+◌, ◌≤◌, true, false, None, IfOk, OnErr};
     ghost use Rattle.i3c_base.specs.Cutting.{Lost, lost_by};
     ghost use Rattle.i3c_base.specs.Frames.{Rekinds, changed_kinds, kinds_bits};
-    ghost use Rattle.i3c_base.specs.Serve.{IsFirst, IsWordBits, Serves, emptied, given_for, header_bits, refuse_all};
+    ghost use Rattle.i3c_base.specs.Serve.{IsWordBits, Serves, emptied, given_for, header_bits, refuse_all};
     ghost use Rattle.i3c_events.specs.Telling.{IsKindsWire};
     ghost use Rattle.i3c_frame.specs.Taps.{Tells};
-    ghost use Rattle.i3c_device.specs.Walks.{AreDrivers};
-    ghost use Rattle.i3c_ibi.specs.Driving.{IsDriven};
     ghost use Rattle.i3c_ibi.specs.Policies.{Decides};
     ghost use Rattle.i3c_bus.specs.Asking.{Asks};
     ghost use Rattle.i3c_step.specs.Giving.{given_by};
@@ -128,108 +125,22 @@ impl Bus {
             return Reply::Refused(Refusal::SessionOpen);
         };
         match command {
-            Command::Serve => self.serve_reply(role, policy, tap, cuts),
+            Command::Serve => Reply::from(self.serve(role, policy, tap, cuts)),
             Command::Enec(to, kinds) => {
-                self.kinds_reply(role, Change::Enable, *to, *kinds, policy, tap, cuts)
+                Reply::from(self.enec(role, *to, *kinds, policy, tap, cuts))
             }
             Command::Disec(to, kinds) => {
-                self.kinds_reply(role, Change::Disable, *to, *kinds, policy, tap, cuts)
+                Reply::from(self.disec(role, *to, *kinds, policy, tap, cuts))
             }
-            Command::Reset => self.reset_reply(role, policy, tap, cuts),
-            Command::SendList => self.list_reply(role, policy, tap, cuts),
-            Command::ReadFrom(from) => self.read_reply(role, *from, policy, tap, cuts),
+            Command::Reset => Reply::from(self.reset(role, policy, tap, cuts)),
+            Command::SendList => Reply::from(self.list(role, policy, tap, cuts)),
+            Command::ReadFrom(from) => Reply::from(self.read(role, *from, policy, tap, cuts)),
             Command::WriteTo(to, bytes) => self.write_kept(role, *to, bytes, policy, tap, cuts),
         }
     }
 
-    // The replies below are kept apart by `inline(never)`: what is inlined in `command` clears its locals for each frame.
-
-    /// `serve`, with its answer as a reply.
-    #[inline(never)]
-    fn serve_reply<P: Policy, T: Tap>(
-        &mut self,
-        role: &Role,
-        policy: &mut P,
-        tap: &mut T,
-        cuts: &Cuts,
-    ) -> Reply
-        requires fits { HandFits (Hand.Role role.now) self.old.state }
-        ensures asks { Asks P.verdict_gives policy.old policy.new self.old.state result }
-        ensures carried { Carries self.old self.new (Event.Serve (given_by result) cuts.now) result (Hand.Role role.now) (Tells T.note_gives tap.old tap.new) }
-    {
-        Reply::from(self.serve(role, policy, tap, cuts))
-    }
-
-    /// `enec` or `disec`, with its answer as a reply.
-    #[inline(never)]
-    fn kinds_reply<P: Policy, T: Tap>(
-        &mut self,
-        role: &Role,
-        change: Change,
-        to: Option<Addr7>,
-        kinds: Kinds,
-        policy: &mut P,
-        tap: &mut T,
-        cuts: &Cuts,
-    ) -> Reply
-        requires fits { HandFits (Hand.Role role.now) self.old.state }
-        ensures asks { Asks P.verdict_gives policy.old policy.new self.old.state result }
-        ensures carried { Carries self.old self.new (kinds_event change to kinds (given_by result) cuts.now) result (Hand.Role role.now) (Tells T.note_gives tap.old tap.new) }
-    {
-        Reply::from(self.change_kinds(role, change, to, kinds, policy, tap, cuts))
-    }
-
-    /// `reset`, with its answer as a reply.
-    #[inline(never)]
-    fn reset_reply<P: Policy, T: Tap>(
-        &mut self,
-        role: &Role,
-        policy: &mut P,
-        tap: &mut T,
-        cuts: &Cuts,
-    ) -> Reply
-        requires fits { HandFits (Hand.Role role.now) self.old.state }
-        ensures asks { Asks P.verdict_gives policy.old policy.new self.old.state result }
-        ensures carried { Carries self.old self.new (Event.Reset (given_by result) cuts.now) result (Hand.Role role.now) (Tells T.note_gives tap.old tap.new) }
-    {
-        Reply::from(self.reset(role, policy, tap, cuts))
-    }
-
-    /// `list`, with its answer as a reply.
-    #[inline(never)]
-    fn list_reply<P: Policy, T: Tap>(
-        &mut self,
-        role: &Role,
-        policy: &mut P,
-        tap: &mut T,
-        cuts: &Cuts,
-    ) -> Reply
-        requires fits { HandFits (Hand.Role role.now) self.old.state }
-        ensures asks { Asks P.verdict_gives policy.old policy.new self.old.state result }
-        ensures carried { Carries self.old self.new (Event.SendList (given_by result) cuts.now) result (Hand.Role role.now) (Tells T.note_gives tap.old tap.new) }
-    {
-        Reply::from(self.list(role, policy, tap, cuts))
-    }
-
-    /// `read`, with its answer as a reply.
-    #[inline(never)]
-    fn read_reply<P: Policy, T: Tap>(
-        &mut self,
-        role: &Role,
-        from: Addr7,
-        policy: &mut P,
-        tap: &mut T,
-        cuts: &Cuts,
-    ) -> Reply
-        requires fits { HandFits (Hand.Role role.now) self.old.state }
-        ensures asks { Asks P.verdict_gives policy.old policy.new self.old.state result }
-        ensures carried { Carries self.old self.new (Event.ReadFrom from (given_by result) cuts.now) result (Hand.Role role.now) (Tells T.note_gives tap.old tap.new) }
-    {
-        Reply::from(self.read(role, from, policy, tap, cuts))
-    }
-
     /// ENEC or DISEC: serves the first request, and goes on with the command.
-    #[inline(always)]
+    #[inline(never)]
     fn change_kinds<P: Policy, T: Tap>(
         &mut self,
         role: &Role,
@@ -341,46 +252,8 @@ impl Bus {
         ensures room { place_of result.served ≡ None → self.new.room ≡ true }
     {
         let active = self.active();
-        let Some((request, drivers)) = self.devices.first_request(active) else {
-            let ack = self.devices.is_heard(active, &None, cuts, 0);
-            tell_broadcast(tap, ack);
-            return Begun {
-                served: Served::Quiet,
-                bits: 0,
-            };
-        };
-        self.begin_asked(request, drivers, policy, tap, cuts)
-    }
-
-    /// The beginning of a frame whose first request is this, which these slots drive: it is served.
-    #[inline(never)]
-    fn begin_asked<P: Policy, T: Tap>(
-        &mut self,
-        request: Request,
-        drivers: SlotSet,
-        policy: &mut P,
-        tap: &mut T,
-        cuts: &Cuts,
-    ) -> Begun
-        requires room { self.old.room ≡ true }
-        requires first { IsFirst self.old.state request }
-        requires driven { IsDriven self.old.state.devices request drivers }
-        requires are { AreDrivers self.old.state.active request self.old.state.devices drivers }
-        ensures begins { Begins self.old.state cuts.now result.served result.bits self.new.state }
-        ensures asks { Decides P.verdict_gives policy.old policy.new self.old.state (given_for result.served) }
-        ensures told { Tells T.note_gives tap.old tap.new (IsBegun self.old.state cuts.now result.served self.new.state) }
-        ensures room { place_of result.served ≡ None → self.new.room ≡ true }
-    {
-        let active = self.active();
         let ack = self.devices.is_heard(active, &None, cuts, 0);
-        let reading = serve_first(
-            &mut self.devices,
-            request,
-            drivers,
-            &self.table,
-            policy,
-            cuts,
-        );
+        let reading = serve(&mut self.devices, active, &self.table, policy, cuts);
         tell_reading(tap, &reading, ack);
         let served = record_due(&mut self.records, &reading);
         let bits = reading.word_bits();

@@ -1,7 +1,7 @@
 ghost use Rattle.std.specs.Prelude.{◌≡◌};
 
 use crate::tokens::Hand;
-use i3c_base::{Addr7, RaiseRefusal, Record, RoleRefusal, SLOTS, Setup, Slot};
+use i3c_base::{Addr7, Identity, RaiseRefusal, Record, RoleRefusal, SLOTS, Setup, Slot};
 use i3c_deftgts::List;
 use i3c_device::{Device, Devices};
 use i3c_handoff::{Active, Role, retire};
@@ -90,8 +90,7 @@ impl Bus {
         ensures start { IfOk result (λ made. IsStart main (legacy_targets_of legacies) made.0.state) }
         ensures fits { IfOk result (λ made. HandFits (Hand.Role made.1) made.0.state) }
     {
-        let bcr = main.identity.bcr;
-        let dcr = main.identity.dcr;
+        let Identity { bcr, dcr, .. } = main.identity;
         if !bcr.capable() {
             return Err(StartFault::NotCapable);
         }
@@ -115,13 +114,12 @@ impl Bus {
         let mut devices = Devices::new();
         devices.put(holder, controller);
         let (active, role) = Active::new(holder);
-        let list = List::new();
         let bus = Bus {
             devices,
             raised: [0; SLOTS],
             active,
             table,
-            list,
+            list: List::new(),
             legacy,
             in_session: false,
             records: Vec::new(alloc),
@@ -147,10 +145,7 @@ impl Bus {
     pub fn address(&self, slot: Slot) -> Option<Addr7>
         ensures { result ≡ address_of (device_at self.now.state slot) }
     {
-        match self.devices.get(slot) {
-            Some(device) => device.address(),
-            None => None,
-        }
+        self.devices.get(slot)?.address()
     }
 
     /// How many interrupts of a slot's device wait.

@@ -143,15 +143,8 @@ impl Bus {
         ensures room { self.new.room ≡ self.old.room }
     {
         let active = self.active();
-        let written = write(
-            &mut self.devices,
-            &mut self.legacy,
-            active,
-            to,
-            bytes,
-            cuts,
-            begun,
-        );
+        let (devices, legacy) = (&mut self.devices, &mut self.legacy);
+        let written = write(devices, legacy, active, to, bytes, cuts, begun);
         tell_write(tap, to, bytes, &written);
         let answer = written.answer(to);
         self.drop_lost(cuts, begun + write_bits(bytes, &answer));

@@ -11,5 +11,5 @@ mod telling;
 pub use first::first_request;
 pub use i3c_base::{Fixed, Record, Request, Served, Verdict};
 pub use policies::{Policy, decide};
-pub use serving::{Reading, serve, serve_first};
+pub use serving::{Reading, serve};
 pub use telling::{tell_broadcast, tell_reading, tell_repeated, tell_request};

@@ -103,6 +103,7 @@ fn accept(
 /// Serves the first request of a frame, in which these devices are cut: the policy decides on it, unless its address
 /// has no row in the table; its drivers lose what was accepted, and the mandatory byte is read where the table says that
 /// one is due (I3C Basic 5.1.6.2).
+#[inline(always)]
 pub fn serve<P: Policy>(
     devices: &mut Devices,
     active: Slot,
@@ -117,25 +118,6 @@ pub fn serve<P: Policy>(
     let Some((request, drivers)) = devices.first_request(active) else {
         return Reading::Quiet;
     };
-    serve_first(devices, request, drivers, table, policy, cuts)
-}
-
-/// Serves this request, which comes first in a frame and which these slots drive, as `serve` does.
-#[inline(always)]
-pub fn serve_first<P: Policy>(
-    devices: &mut Devices,
-    request: Request,
-    drivers: SlotSet,
-    table: &Table,
-    policy: &mut P,
-    cuts: &Cuts,
-) -> Reading
-    requires driven { IsDriven devices.old request drivers }
-    ensures serves { (st : State) → st.devices ≡ devices.old → AreDrivers st.active request devices.old drivers → IsFirst st request → st.given ≡ table.now.given → FitsTable st
-        → IsServing st cuts.now result devices.new }
-    ensures asks { (st : State) → IsFirst st request → st.given ≡ table.now.given
-        → Decides P.verdict_gives policy.old policy.new st (given_for (served_as (length st.records) result)) }
-{
     match decide(table, policy, &request) {
         Verdict::Refuse => Reading::Refused(request),
         Verdict::Accept => accept(devices, drivers, table, &request, cuts),

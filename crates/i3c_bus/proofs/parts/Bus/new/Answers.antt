@@ -16,16 +16,16 @@ pub unreachable-requires : goal.unreachable-requires
 unreachable-requires c =
     some_free c.args.legacies (omega (arith, c.len-few.ensures.count, c.len-few.ensures.few)) (λ a p. c.in_default.ensures a (subst (λ (t : Table). IsPickableIn t.given t.legacy a) (sym c.new-table.ensures) p))
 
-started : (c : goal.After-new)
+started : (c : goal.After-new-2)
     → IsStart c.args.main (legacy_targets_of c.args.legacies)
-    (state_of c.put-2.new.self (replicate SLOTS 0) c.new-active.result.0 c.put.new.self c.new-legacy.result false c.new.result.items)
+    (state_of c.put-2.new.self (replicate SLOTS 0) c.new-active.result.0 c.put.new.self c.new-legacy.result false c.new-2.result.items)
 started c =
     let pick : IsPickIn no_entries c.args.legacies c.in-Some.address = subst (λ (t : Table). IsPickIn t.given t.legacy c.in-Some.address) c.new-table.ensures c.in-Some.ensures in
     start_seen c.args.main c.args.legacies c.in-Some.address c.new-devices.result c.put-2.new.self (replicate SLOTS 0) c.new-active.result.0 c.default-holder.result (bare c.take_address.new.self) c.put.new.self c.new-legacy.result
-    c.new.result.items pick c.new-devices.ensures (sym c.default-holder.ensures.1 ∙ c.default-holder.ensures.2)
+    c.new-2.result.items pick c.new-devices.ensures (sym c.default-holder.ensures.1 ∙ c.default-holder.ensures.2)
     (ap bare (c.take_address.ensures ∙ ap (winner c.in-Some.address) c.new-controller.ensures)) c.put-2.ensures zeros c.new-active.ensures.kept
     (c.put.ensures ∙ ap (λ (t : Table). record t { given = set t.given c.in-Some.address (Some (entry_of c.args.main.identity)); listed = false }) c.new-table.ensures)
-    c.new-legacy.ensures c.new.ensures.items
+    c.new-legacy.ensures c.new-2.ensures.items
 
 pub invariant_of-bus : goal.invariant_of-bus
 invariant_of-bus c = record {
