@@ -12,4 +12,5 @@ pub mod Covering
 mod Growing
 mod Missing
 mod Started
+mod Starting
 mod Balanced
