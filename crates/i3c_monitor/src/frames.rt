@@ -16,7 +16,7 @@ const BROADCAST: u8 = 0x7E;
 const HOT_JOIN: u8 = 0x02;
 
 /// Where a frame stands before its next header.
-#[derive(Clone, Copy, Debug, PartialEq, Eq)]
+#[derive(Clone, Copy)]
 pub(crate) enum Mode {
     /// At its start.
     First,

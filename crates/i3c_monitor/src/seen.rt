@@ -99,7 +99,7 @@ pub enum Fault {
 }
 
 /// Why a part of a trace isn't told.
-#[derive(Clone, Copy, Debug, PartialEq, Eq, Drop)]
+#[derive(Clone, Copy, Drop)]
 pub(crate) enum Stop {
     /// It breaks a rule.
     Refused(Fault),

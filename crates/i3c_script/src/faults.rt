@@ -27,7 +27,7 @@ pub enum ScriptFault {
 }
 
 /// Why a line did not come to its end.
-#[derive(Clone, Copy, Debug, PartialEq, Eq, Drop)]
+#[derive(Clone, Copy, Drop)]
 pub(crate) enum Stop {
     /// It was refused, and the next line is run.
     Refused(Refusal),

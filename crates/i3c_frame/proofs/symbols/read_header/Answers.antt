@@ -1,4 +1,4 @@
-use Rattle.std.proofs.Common.{◌≡◌, arith, ◌∙◌, sym}
+use Rattle.std.proofs.Common.{rules, ◌≡◌, arith, ◌∙◌, sym}
 use Rattle.i3c_frame.proofs.DigitLaws.{digits_of_same}
 use Rattle.i3c_frame.proofs.TextLaws.{header_parts}
 use Rattle.i3c_frame.proofs.symbols.read_header.Goals as goal
@@ -24,3 +24,6 @@ returns-in_err-read-clause-every c symbol range e =
 pub returns-in_err-ack-clause-every : goal.returns-in_err-ack-clause-every
 returns-in_err-ack-clause-every c symbol range e =
     let parts = header_parts symbol _ _ _ _ _ range e in let some = c.in_err-ack.ensures.every parts.ack parts.answer in cc
+
+pub returns-clause-text : goal.returns-clause-text
+returns-clause-text c = search rules

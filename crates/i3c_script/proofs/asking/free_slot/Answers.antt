@@ -10,3 +10,6 @@ loop-number-preserved c =
     let present : IsPresent c.args.bus.now.state c.unwrap-slot.result = there (device_at c.args.bus.now.state c.unwrap-slot.result) (sym c.present.ensures ∙ held) in
     let same : c.unwrap-slot.result ≡ c.loop-number.number = grind (arith, common_steps) in
     below_more _ _ c.loop-number.invariant (subst (IsPresent c.args.bus.now.state) same present)
+
+pub loop-number-init : goal.loop-number-init
+loop-number-init c = search rules

@@ -1,4 +1,4 @@
-use Rattle.std.proofs.Common.{◌≡◌, ◌≤◌, ℕ, ◌+◌, ◌-◌, arith, drop, length, subst, sym, take}
+use Rattle.std.proofs.Common.{rules, ◌≡◌, ◌≤◌, ℕ, ◌+◌, ◌-◌, arith, drop, length, subst, sym, take}
 use Rattle.std.proofs.lemmas.List.{length-drop, take_all}
 use Rattle.std.specs.Io.KnownBytes.{Appends}
 use Rattle.i3c_script.proofs.Written.{more_written, still_written}
@@ -21,3 +21,6 @@ loop-preserved g c =
           subst Kept (sym w.written-is) (within, more_written before now after text c.loop.written w.in-Ok.count c.loop.invariant.1 bytes)
       | in-Err w ↦ subst Kept (sym w.written-is) (c.loop.invariant.0, still_written before now after (take c.loop.written text) c.loop.invariant.1 w.in-Err.ensures.bytes)
     ]
+
+pub returns-in-Err-2 : goal.returns-in-Err-2
+returns-in-Err-2 g c = search rules

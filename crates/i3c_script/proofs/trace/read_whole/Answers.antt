@@ -1,4 +1,4 @@
-use Rattle.std.proofs.Common.{◌≡◌, ◌≤◌, ◌<◌, ◌+◌, ◌++◌, length, length-take, take, arith, ap, length-append, subst}
+use Rattle.std.proofs.Common.{rules, ◌≡◌, ◌≤◌, ◌<◌, ◌+◌, ◌++◌, length, length-take, take, arith, ap, length-append, subst}
 use Rattle.i3c_script.specs.Reading.{IsPiece}
 use Rattle.i3c_script.proofs.TraceRead.{more_read, none_read, read_on, too_many}
 use Rattle.i3c_script.proofs.trace.read_whole.Goals as goal
@@ -36,3 +36,9 @@ loop-preserved g c =
       omega (arith, longer, length-append c.loop.bytes.items (take c.in-Within.count chunk), length-take c.in-Within.count chunk, within, held, c.loop.invariant.1),
       more_read first old new c.loop.bytes.items (take c.in-Within.count chunk) c.extend_from_slice.new.self.items c.loop.invariant.2 piece.3 grown,
     )
+
+pub returns-in-Beyond-clause-whole : goal.returns-in-Beyond-clause-whole
+returns-in-Beyond-clause-whole g c = search rules
+
+pub returns-in-Beyond-clause-bytes : goal.returns-in-Beyond-clause-bytes
+returns-in-Beyond-clause-bytes g c = search rules

@@ -1,5 +1,5 @@
 -- Few legacy targets leave an address free, and what is made at the pick is a start.
-use Rattle.std.proofs.Common.{◌∙◌, List, Option, sym, ap, arith, subst, set, map, option_map, replicate, refl, Some, false}
+use Rattle.std.proofs.Common.{rules, ◌∙◌, List, Option, sym, ap, arith, subst, set, map, option_map, replicate, refl, Some, false}
 use Rattle.std.proofs.lemmas.Bool.{both_ways}
 use Rattle.i3c_base.specs.Covered.{Table}
 use Rattle.i3c_base.specs.declared.device.LegacyTarget.{LegacyTarget}
@@ -41,3 +41,6 @@ invariant_of-bus c = record {
 
 pub returns-clause-start : goal.returns-clause-start
 returns-clause-start c = started c
+
+pub returns-clause-capable : goal.returns-clause-capable
+returns-clause-capable c = search rules

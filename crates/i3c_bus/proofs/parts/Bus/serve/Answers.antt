@@ -1,5 +1,5 @@
 -- A frame that serves the first request, and stops.
-use Rattle.std.proofs.Common.{◌∙◌, ℕ, ap, refl, subst, sym, arith}
+use Rattle.std.proofs.Common.{rules, ◌∙◌, ℕ, ap, refl, subst, sym, arith}
 use Rattle.i3c_base.specs.declared.requests.Served.{Served}
 use Rattle.i3c_base.specs.State.{State}
 use Rattle.i3c_base.specs.Serve.{given_for}
@@ -44,3 +44,6 @@ drop_lost-requires g c =
     subst (λ (st : State). Begins st c.args.cuts.now c.begin-begun.result.served c.begin-begun.result.bits c.begin-begun.new.self.state) c.make_room.ensures.state c.begin-begun.ensures.begins in
     not_cut c.begin-begun.new.self.state c.args.cuts.now c.begin-begun.result.bits
     (begun_uncut c.args.self.now.state c.begin-begun.new.self.state c.args.cuts.now c.begin-begun.result.served c.begin-begun.result.bits begins (sym c.cuts_active.ensures ∙ c.if-cuts_active.false))
+
+pub returns-then-is_err-clause-carried : goal.returns-then-is_err-clause-carried
+returns-then-is_err-clause-carried g c = search rules

@@ -1,4 +1,4 @@
-use Rattle.std.proofs.Common.{◌≡◌, ◌≤◌, ◌∙◌, ap, length, subst, sym, take}
+use Rattle.std.proofs.Common.{rules, ◌≡◌, ◌≤◌, ◌∙◌, ap, length, subst, sym, take}
 use Rattle.i3c_monitor.specs.Trace.{behind, count_behind, rest_told}
 use Rattle.i3c_monitor.specs.Told.{told}
 use Rattle.i3c_monitor.proofs.TraceLaws.{after_behind, behind_fits, goes_on}
@@ -16,3 +16,6 @@ returns-in-Ok-clause-told c =
     (λ next. rest_told next self.frames self.before (count_behind rest) rest) _
     (ap (λ symbols. told self.mode c.args.header.now symbols self.before) (sym front) ∙ c.in-Ok.ensures)
     (after_behind c.in-Ok.told.mode self.frames self.before c.count_behind.result rest c.split_at.result.0.now c.split_at.result.1.now c.count_behind.ensures c.split_at.ensures.front_len c.split_at.ensures.back)
+
+pub returns-in-Err-Refused-clause-told : goal.returns-in-Err-Refused-clause-told
+returns-in-Err-Refused-clause-told c = search rules
