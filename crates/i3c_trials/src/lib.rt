@@ -1,12 +1,16 @@
 //! Trials of the bus and of the plain machine by their public calls alone, in a crate of their own: what a crate's own
 //! tests are proved with is the crate once more.
 //!
-//! `bus` has lists of events with their replies, wires and records. `plain` has the plain machine's own refusal; what it
-//! does else stands in `tests/choices` and `tests/agreement`. `sizes` has the sizes of what is kept by the million.
+//! `calls` has typed calls of the bus, and what a refused growth leaves; lists of events with their replies, wires and
+//! records are scripts, in `tests/scripts`. `plain` has the plain machine's own refusal; what it does else stands in
+//! `tests/choices` and `tests/agreement`. `sizes` has the sizes of what is kept by the million. `checks` has what they
+//! assert.
 #![tactic(auto)]
 
 #[cfg(test)]
-mod bus;
+mod calls;
+#[cfg(test)]
+mod checks;
 #[cfg(test)]
 mod plain;
 #[cfg(test)]

@@ -1,3 +1,4 @@
+use crate::checks::{holds, same};
 use i3c_base::{Identity, Setup};
 use i3c_legacy::Legacies;
 use i3c_model::{Plain, PlainFault};
@@ -11,8 +12,8 @@ fn a_main_device_must_be_a_controller(rt: HostRuntime) -> Result<(), Fail> {
         willing: true,
     };
     match Plain::new(rt.alloc(), main, Legacies::new()) {
-        Ok(_plain) => assert!(rt; false, "it can't be a controller"),
-        Err(fault) => assert_eq!(rt; fault, PlainFault::NotCapable),
+        Ok(_plain) => holds(&rt, false, "it can't be a controller"),
+        Err(fault) => same(&rt, fault, PlainFault::NotCapable),
     }
     Ok(())
 }
