@@ -90,7 +90,7 @@ fn enabled(devices: &Devices, slot: Slot, wish: Option<Request>) -> Option<Reque
 fn first(setting: &Setting) -> Answer {
     match setting.devices.first_request(setting.active) {
         Some((request, _)) => told_hex(setting.alloc, &Some(request)),
-        None => told(setting.alloc, &None::<u8>),
+        None => told_text(setting.alloc, "None"),
     }
 }
 
@@ -137,7 +137,7 @@ fn lowest_willing(setting: &Setting, words: &mut Words<'_>) -> Answer {
 fn first_identity(setting: &Setting) -> Answer {
     let alloc = setting.alloc;
     let Some((number, slots)) = setting.devices.first_identity() else {
-        return told(alloc, &None::<u64>);
+        return told_text(alloc, "None");
     };
     let mut text = told_hex(alloc, &number)?;
     text.push_str(" in ")?;

@@ -27,9 +27,9 @@ fn read(setting: &mut Setting, text: &str) -> Answer {
         Ok(trace) => {
             let count = trace.len();
             setting.trace = trace;
-            told(alloc, &Ok::<usize, u8>(count))
+            Ok(format!(in alloc; "Ok({count})")?)
         }
-        Err(fault) => told(alloc, &Err::<u8, _>(fault)),
+        Err(fault) => Ok(format!(in alloc; "Err({fault:?})")?),
     }
 }
 

@@ -23,7 +23,8 @@ pub(crate) fn run<R: Env + Files + Print + Eprint + AllocGlobal>(rt: &R) -> u8 {
 
 /// Answers the lines of the file that the command line names.
 fn done<R: Env + Files + Print + AllocGlobal>(rt: &R) -> Result<(), Fault> {
-    let mut words = env::args(rt)?.skip(1);
+    let mut words = env::args(rt)?;
+    let _name = words.next();
     let (Some(file), None) = (words.next(), words.next()) else {
         return Err(Fault::Usage);
     };

@@ -77,26 +77,25 @@ fn ask(setting: &mut Setting, call: &str, words: &mut Words<'_>) -> Answer {
 
 /// All rows.
 fn rows(alloc: Global, table: &Table) -> Answer {
-    let mut text = String::from_str(alloc, "[")?;
-    for number in 0..128 {
-        if let Some(row) = table.row_of(Addr7::new(number)?) {
-            if text.len() > 1 {
-                text.push_str(", ")?;
-            }
-            text.push_str(&told_hex(alloc, &row)?)?;
+    let places = table.by_address();
+    let mut rows = Vec::new(alloc);
+    for place in &places {
+        if let Some(row) = place {
+            rows.push(row)?;
         }
     }
-    text.push_str("]")?;
-    Ok(text)
+    told_hex(alloc, &rows)
 }
 
 /// All addresses of legacy targets, each with its LVR.
 pub(crate) fn declared(alloc: Global, legacies: &Legacies) -> Result<Vec<(u8, Lvr)>, Fault> {
     let mut declared = Vec::new(alloc);
-    for (address, lvr) in (0..128).zip(legacies.by_address()) {
-        if let Some(lvr) = lvr {
-            declared.push((address, lvr))?;
+    let mut address = 0u8;
+    for place in &legacies.by_address() {
+        if let Some(lvr) = place {
+            declared.push((address, *lvr))?;
         }
+        address = address.wrapping_add(1);
     }
     Ok(declared)
 }
@@ -145,10 +144,12 @@ fn ask_table(alloc: Global, table: &Table, method: &str, words: &mut Words<'_>) 
 /// At how many of the addresses `by_address` and `row_of` have the same.
 fn alike(table: &Table) -> Result<usize, Fault> {
     let mut count = 0usize;
-    for (address, row) in (0..128).zip(table.by_address()) {
-        if row == table.row_of(Addr7::new(address)?) {
-            count = count.saturating_add(1);
+    let mut address = 0u8;
+    for row in &table.by_address() {
+        if *row == table.row_of(Addr7::new(address)?) {
+            count = count.wrapping_add(1);
         }
+        address = address.wrapping_add(1);
     }
     Ok(count)
 }
@@ -160,7 +161,7 @@ fn given(table: &Table) -> Result<usize, Fault> {
     for number in 0..128 {
         let address = Addr7::new(number)?;
         if given.has(address) == table.row_of(address).is_some() {
-            count = count.saturating_add(1);
+            count = count.wrapping_add(1);
         }
     }
     Ok(count)

@@ -52,19 +52,19 @@ pub(crate) fn told_lvrs<T: Debug>(alloc: Global, answer: &T) -> Answer {
 /// A text in which what stands between this beginning and this end stands alone.
 fn bare(alloc: Global, text: &str, begin: &str, end: &str) -> Answer {
     let mut bare = String::new(alloc);
-    let mut parts = text.split(begin);
-    if let Some(first) = parts.next() {
-        bare.push_str(first)?;
-    }
-    for part in parts {
-        match part.split_once(end) {
-            Some((number, rest)) => {
-                bare.push_str(number)?;
-                bare.push_str(rest)?;
-            }
-            None => bare.push_str(part)?,
+    let mut rest = text;
+    for _ in 0..u64::MAX {
+        let Some((before, behind)) = rest.split_once(begin) else {
+            break;
+        };
+        bare.push_str(before)?;
+        rest = behind;
+        if let Some((number, after)) = behind.split_once(end) {
+            bare.push_str(number)?;
+            rest = after;
         }
     }
+    bare.push_str(rest)?;
     Ok(bare)
 }
 

@@ -1,9 +1,11 @@
+ghost use Rattle.std.specs.Prelude.{◌≤◌, length};
+
 use crate::events::MOST_BEGUN;
 use crate::faults::Fault;
 use crate::setting::Setting;
 use crate::table;
 use crate::taps::Told;
-use crate::told::{Answer, told, told_hex, told_trace};
+use crate::told::{Answer, told, told_hex, told_text, told_trace};
 use crate::words::Words;
 use i3c_base::{Addr7, REGISTERS};
 use i3c_xfer::{Read, Write, read, read_bits, tell_read, tell_write, write, write_bits};
@@ -54,6 +56,9 @@ fn of_write(setting: &mut Setting, call: &str, words: &mut Words<'_>) -> Answer 
     let alloc = setting.alloc;
     let to = words.address()?;
     let bytes = words.bytes(alloc)?;
+    if bytes.len() > REGISTERS {
+        return Err(Fault::Unknown);
+    }
     let wrote = wrote(setting, to, &bytes)?;
     match call {
         "write" => told_hex(alloc, &wrote),
@@ -63,9 +68,11 @@ fn of_write(setting: &mut Setting, call: &str, words: &mut Words<'_>) -> Answer 
 }
 
 /// What a write comes to.
-fn wrote(setting: &mut Setting, to: Addr7, bytes: &[u8]) -> Result<Write, Fault> {
+fn wrote(setting: &mut Setting, to: Addr7, bytes: &[u8]) -> Result<Write, Fault>
+    requires { length bytes.now ≤ 16 }
+{
     let begun = setting.begun;
-    if begun > MOST_BEGUN || bytes.len() > REGISTERS {
+    if begun > MOST_BEGUN {
         return Err(Fault::Unknown);
     }
     Ok(write(
@@ -83,7 +90,7 @@ fn wrote(setting: &mut Setting, to: Addr7, bytes: &[u8]) -> Result<Write, Fault>
 fn legacy_registers(setting: &Setting, words: &mut Words<'_>) -> Answer {
     match setting.targets.get(words.address()?) {
         Some(target) => told_hex(setting.alloc, &Some(target.registers)),
-        None => told(setting.alloc, &None::<u8>),
+        None => told_text(setting.alloc, "None"),
     }
 }
 

@@ -1,3 +1,5 @@
+ghost use Rattle.std.specs.Prelude.{IfOk, ◌≤◌};
+
 use crate::faults::Fault;
 use i3c_base::{Addr7, Bcr, Dcr, Identity, Pid, Request, Slot};
 use i3c_ccc::Code;
@@ -139,7 +141,9 @@ impl<'a> Words<'a> {
     }
 
     /// An address that a device may have.
-    pub fn usable(&mut self) -> Result<Addr7, Fault> {
+    pub fn usable(&mut self) -> Result<Addr7, Fault>
+        ensures { IfOk result (λ address. 8 ≤ address) }
+    {
         let address = self.address()?;
         if address.get() < 8 {
             return Err(Fault::Unknown);
