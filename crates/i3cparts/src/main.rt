@@ -8,8 +8,8 @@
 //! an address `all` for none. What is cut, who is active, and how many bits of a frame stand before a command, is set by
 //! lines of their own, until `new`.
 //!
-//! Calls whose names have hyphens answer in hexadecimal too, but for counts, bits of frames, faults, and slots that stand
-//! alone. Of the others each text says at its head what it has in which digits.
+//! Answers of devices and of what frames carry have hexadecimal numbers too, but for counts, bits of frames, faults, and
+//! slots that stand alone. Of the crates that stand lowest each text says at its head which numbers are in which digits.
 //!
 //! `calls` has what is set, `words` reads what a line says, `setting` has what stays from one line to the next, and `told`
 //! prints answers. The other modules have the calls, each with those of a crate or of a part of one; a call that isn't its
