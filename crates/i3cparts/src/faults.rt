@@ -2,20 +2,27 @@ use i3c_base::OutOfRange;
 use std::alloc::{AllocError, AllocFailed};
 use std::io;
 use std::num::ParseIntError;
-use thiserror::Error;
 
 /// Why a line has no answer, or a text can't be read.
-#[derive(Debug, Drop, Error)]
+#[derive(Drop)]
 pub(crate) enum Fault {
-    #[error("i3cparts: one FILE is wanted\n")]
     Usage,
-    #[error("i3cparts: cannot read\n")]
     Read,
-    #[error("i3cparts: memory\n")]
     Memory,
-    /// The line is no call, or its call wants something else.
-    #[error("i3cparts: a line isn't understood\n")]
+    /// The line is no call, or its call wants something else, or may not be made.
     Unknown,
+}
+
+impl Fault {
+    /// What the program says of it.
+    pub fn text(&self) -> &'static str {
+        match self {
+            Fault::Usage => "i3cparts: one FILE is wanted\n",
+            Fault::Read => "i3cparts: cannot read\n",
+            Fault::Memory => "i3cparts: memory\n",
+            Fault::Unknown => "i3cparts: a line isn't understood\n",
+        }
+    }
 }
 
 impl From<AllocError> for Fault {

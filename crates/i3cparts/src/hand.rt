@@ -1,87 +1,62 @@
+use crate::events;
 use crate::faults::Fault;
 use crate::setting::Setting;
-use crate::told::{told, told_hex};
-use crate::words::{Place, Words};
-use i3c_base::{REGISTERS, Setup};
+use crate::told::{Answer, nothing, told, told_hex, told_text};
+use crate::words::Words;
+use i3c_base::{REGISTERS, Setup, Slot};
 use i3c_ccc::Code;
 use i3c_device::Device;
-use i3c_word::{Word, write_word};
 use std::alloc::Global;
 
-/// A device of an identity, and at an address if one is given.
-pub(crate) fn device_of(words: &mut Words, willing: bool) -> Result<Device, Fault> {
-    let mut device = Device::new(Setup {
-        identity: words.identity()?,
-        willing,
-    });
-    if let Some(address) = words.maybe_address()? {
-        if address.get() < 8 {
-            return Err(Fault::Unknown);
+/// The calls on the device in hand, and what any device is asked.
+pub(crate) fn call(setting: &mut Setting, call: &str, words: &mut Words<'_>) -> Answer {
+    match call {
+        "take-address" | "fall-silent" | "lose-front" | "lose-join-wish" | "hear" | "fill" => {
+            let alloc = setting.alloc;
+            change(alloc, in_hand(setting)?, call, words)
         }
-        device.take_address(address);
+        "identity" | "address" | "is-hearing" | "is-willing" | "registers" | "waiting" => {
+            ask(setting, call, words)
+        }
+        "front" | "answer-byte" | "may-raise" | "may-raise-masked" => ask(setting, call, words),
+        _ => events::call(setting, call, words),
+    }
+}
+
+/// A device of an identity, and at an address if one is given.
+pub(crate) fn device_of(words: &mut Words<'_>, willing: bool) -> Result<Device, Fault> {
+    let identity = words.identity()?;
+    let mut device = Device::new(Setup { identity, willing });
+    if !words.is_done() {
+        device.take_address(words.usable()?);
     }
     Ok(device)
 }
 
-/// The code of a command.
-pub(crate) fn code_of(words: &mut Words) -> Result<Code, Fault> {
-    Ok(match words.word()? {
-        "enec" => Code::Enec,
-        "disec" => Code::Disec,
-        "enec-direct" => Code::EnecDirect,
-        "disec-direct" => Code::DisecDirect,
-        "entdaa" => Code::Entdaa,
-        "rstdaa" => Code::Rstdaa,
-        "getacccr" => Code::Getacccr,
-        "other" => Code::Other(words.byte()?),
-        _ => return Err(Fault::Unknown),
-    })
-}
-
-/// The words of these bytes.
-pub(crate) fn words_of(alloc: Global, bytes: &[u8]) -> Result<Vec<Word>, Fault> {
-    let mut words = Vec::new(alloc);
-    for byte in bytes {
-        words.push(write_word(*byte))?;
+/// The device in hand.
+pub(crate) fn in_hand(setting: &mut Setting) -> Result<&mut Device, Fault> {
+    match &mut setting.hand {
+        Some(device) => Ok(device),
+        None => Err(Fault::Unknown),
     }
-    Ok(words)
 }
 
-/// Changes the device in hand, and says whether the call is one that does.
-pub(crate) fn change(
-    alloc: Global,
-    setting: &mut Setting,
-    call: &str,
-    words: &mut Words,
-) -> Result<bool, Fault> {
-    let Some(device) = &mut setting.hand else {
-        return Ok(false);
-    };
+/// Changes a device.
+fn change(alloc: Global, device: &mut Device, call: &str, words: &mut Words<'_>) -> Answer {
     match call {
-        "take-address" => take_address(device, words)?,
+        "take-address" => device.take_address(words.usable()?),
         "fall-silent" => device.fall_silent(),
         "lose-front" => device.lose_front(),
         "lose-join-wish" => device.lose_join_wish(),
         "hear" => hear(device, words)?,
-        "fill" => fill(alloc, device, words)?,
-        _ => return Ok(false),
+        _ => fill(alloc, device, words)?,
     }
-    Ok(true)
-}
-
-/// A device takes an address.
-fn take_address(device: &mut Device, words: &mut Words) -> Result<(), Fault> {
-    let address = words.address()?;
-    if address.get() < 8 {
-        return Err(Fault::Unknown);
-    }
-    device.take_address(address);
-    Ok(())
+    nothing(alloc)
 }
 
 /// A device by itself hears a session's opening, or a reset.
-fn hear(device: &mut Device, words: &mut Words) -> Result<(), Fault> {
-    match code_of(words)? {
+fn hear(device: &mut Device, words: &mut Words<'_>) -> Result<(), Fault> {
+    match words.code()? {
         Code::Entdaa => device.hear_opening(),
         Code::Rstdaa => device.lose_address(),
         _ => return Err(Fault::Unknown),
@@ -90,7 +65,7 @@ fn hear(device: &mut Device, words: &mut Words) -> Result<(), Fault> {
 }
 
 /// Bytes go into a device's first registers.
-fn fill(alloc: Global, device: &mut Device, words: &mut Words) -> Result<(), Fault> {
+fn fill(alloc: Global, device: &mut Device, words: &mut Words<'_>) -> Result<(), Fault> {
     let bytes = words.bytes(alloc)?;
     if bytes.len() > REGISTERS {
         return Err(Fault::Unknown);
@@ -100,81 +75,34 @@ fn fill(alloc: Global, device: &mut Device, words: &mut Words) -> Result<(), Fau
 }
 
 /// The device in hand, or in a slot.
-fn found(setting: &Setting, place: Place) -> Option<&Device> {
+fn found(setting: &Setting, place: Option<Slot>) -> Option<&Device> {
     match place {
-        Place::Hand => setting.hand.as_ref(),
-        Place::Slot(slot) => setting.devices.get(slot),
+        None => setting.hand.as_ref(),
+        Some(slot) => setting.devices.get(slot),
     }
 }
 
-/// What a device is asked.
-#[derive(Clone, Copy, Debug, PartialEq, Eq)]
-enum Question {
-    Identity,
-    Address,
-    IsHearing,
-    IsWilling,
-    Registers,
-    Waiting,
-    Front,
-    AnswerByte,
-    MayRaise,
-    MayRaiseMasked,
-}
-
-/// The question that a call is, if it is one.
-fn question_of(call: &str) -> Option<Question> {
-    Some(match call {
-        "identity" => Question::Identity,
-        "address" => Question::Address,
-        "is-hearing" => Question::IsHearing,
-        "is-willing" => Question::IsWilling,
-        "registers" => Question::Registers,
-        "waiting" => Question::Waiting,
-        "front" => Question::Front,
-        "answer-byte" => Question::AnswerByte,
-        "may-raise" => Question::MayRaise,
-        "may-raise-masked" => Question::MayRaiseMasked,
-        _ => return None,
-    })
-}
-
-/// What is asked of a device, if the call is such a question.
-pub(crate) fn ask(
-    alloc: Global,
-    setting: &Setting,
-    call: &str,
-    words: &mut Words,
-) -> Result<Option<String>, Fault> {
-    let Some(question) = question_of(call) else {
-        return Ok(None);
-    };
+/// Asks a device.
+fn ask(setting: &Setting, call: &str, words: &mut Words<'_>) -> Answer {
     let place = words.place()?;
     let byte = words.maybe_byte()?;
-    let told = match found(setting, place) {
-        Some(device) => answer(alloc, device, question, byte)?,
-        None => format!(in alloc; "nobody")?,
-    };
-    Ok(Some(told))
+    match found(setting, place) {
+        Some(device) => answer(setting.alloc, device, call, byte),
+        None => told_text(setting.alloc, "nobody"),
+    }
 }
 
 /// What a device answers.
-fn answer(
-    alloc: Global,
-    device: &Device,
-    question: Question,
-    byte: Option<u8>,
-) -> Result<String, Fault> {
-    match question {
-        Question::Identity => told_hex(alloc, &device.identity()),
-        Question::Address => told_hex(alloc, &device.address()),
-        Question::IsHearing => told(alloc, &device.is_hearing()),
-        Question::IsWilling => told(alloc, &device.is_willing()),
-        Question::Registers => told_hex(alloc, device.registers()),
-        Question::Waiting => told(alloc, &device.waiting()),
-        Question::Front => told_hex(alloc, &device.front()),
-        Question::AnswerByte => told_hex(alloc, &device.answer_byte()),
-        Question::MayRaise => told(alloc, &device.may_raise(byte, true)),
-        Question::MayRaiseMasked => told(alloc, &device.may_raise(byte, false)),
+fn answer(alloc: Global, device: &Device, call: &str, byte: Option<u8>) -> Answer {
+    match call {
+        "identity" => told_hex(alloc, &device.identity()),
+        "address" => told_hex(alloc, &device.address()),
+        "is-hearing" => told(alloc, &device.is_hearing()),
+        "is-willing" => told(alloc, &device.is_willing()),
+        "registers" => told_hex(alloc, device.registers()),
+        "waiting" => told(alloc, &device.waiting()),
+        "front" => told_hex(alloc, &device.front()),
+        "answer-byte" => told_hex(alloc, &device.answer_byte()),
+        _ => told(alloc, &device.may_raise(byte, call == "may-raise")),
     }
 }

@@ -2,16 +2,16 @@ ghost use Rattle.std.specs.Prelude.{⊤};
 
 use crate::faults::Fault;
 use crate::setting::Setting;
-use crate::told::{told, told_hex};
+use crate::told::{Answer, told, told_hex};
+use crate::transfers;
 use crate::words::Words;
 use i3c_ibi::{Fixed, Policy, Request, Verdict, decide, first_request, serve};
-use std::alloc::Global;
 
 /// A policy that counts how often it is asked.
-#[derive(Clone, Copy, Debug, PartialEq, Eq)]
+#[derive(Drop)]
 pub(crate) struct Counting {
-    pub fixed: Fixed,
-    pub asked: u8,
+    fixed: Fixed,
+    asked: u8,
 }
 
 impl Counting {
@@ -37,24 +37,20 @@ pub(crate) const ACCEPTING: Fixed = Fixed {
     interrupt: Verdict::Accept,
 };
 
-/// What is asked of a frame's first request, if the call is such a question.
-pub(crate) fn ask(
-    alloc: Global,
-    setting: &mut Setting,
-    call: &str,
-    words: &mut Words,
-) -> Result<Option<String>, Fault> {
-    Ok(Some(match call {
-        "serve" => served(alloc, setting)?,
-        "first-request" => told_hex(alloc, &first_request(&setting.devices, setting.active))?,
-        "decide" => decided(alloc, setting, words)?,
-        "asked" => told(alloc, &setting.policy.asked)?,
-        _ => return Ok(None),
-    }))
+/// The calls on a frame's first request.
+pub(crate) fn call(setting: &mut Setting, call: &str, words: &mut Words<'_>) -> Answer {
+    let alloc = setting.alloc;
+    match call {
+        "serve" => served(setting),
+        "first-request" => told_hex(alloc, &first_request(&setting.devices, setting.active)),
+        "decide" => decided(setting, words),
+        "asked" => told(alloc, &setting.policy.asked),
+        _ => transfers::call(setting, call, words),
+    }
 }
 
 /// The verdicts on joins, role requests and interrupts.
-pub(crate) fn verdicts(words: &mut Words) -> Result<Fixed, Fault> {
+pub(crate) fn verdicts(words: &mut Words<'_>) -> Result<Fixed, Fault> {
     Ok(Fixed {
         join: verdict(words)?,
         role: verdict(words)?,
@@ -63,7 +59,7 @@ pub(crate) fn verdicts(words: &mut Words) -> Result<Fixed, Fault> {
 }
 
 /// A verdict.
-fn verdict(words: &mut Words) -> Result<Verdict, Fault> {
+fn verdict(words: &mut Words<'_>) -> Result<Verdict, Fault> {
     match words.word()? {
         "accept" => Ok(Verdict::Accept),
         "refuse" => Ok(Verdict::Refuse),
@@ -72,7 +68,7 @@ fn verdict(words: &mut Words) -> Result<Verdict, Fault> {
 }
 
 /// Serves the first request.
-fn served(alloc: Global, setting: &mut Setting) -> Result<String, Fault> {
+fn served(setting: &mut Setting) -> Answer {
     let reading = serve(
         &mut setting.devices,
         setting.active,
@@ -80,17 +76,15 @@ fn served(alloc: Global, setting: &mut Setting) -> Result<String, Fault> {
         &mut setting.policy,
         &setting.cuts,
     );
-    told_hex(alloc, &reading)
+    told_hex(setting.alloc, &reading)
 }
 
 /// The verdict on a request, of the policy itself.
-fn decided(alloc: Global, setting: &Setting, words: &mut Words) -> Result<String, Fault> {
-    let request = match words.word()? {
-        "join" => Request::Join,
-        "role" => Request::Role(words.address()?),
-        "interrupt" => Request::Interrupt(words.address()?),
-        _ => return Err(Fault::Unknown),
-    };
+fn decided(setting: &Setting, words: &mut Words<'_>) -> Answer {
+    let request = words.request()?;
     let mut policy = setting.policy.fixed;
-    told(alloc, &decide(&setting.table, &mut policy, &request))
+    told(
+        setting.alloc,
+        &decide(&setting.table, &mut policy, &request),
+    )
 }

@@ -1,33 +1,30 @@
 use crate::faults::Fault;
+use crate::lists;
 use crate::setting::Setting;
-use crate::told::told_hex;
+use crate::told::{Answer, told_hex};
+use crate::words::Words;
 use i3c_entdaa::round;
-use std::alloc::Global;
 
-/// What is asked of an assignment, if the call is such a question.
-pub(crate) fn ask(
-    alloc: Global,
-    setting: &mut Setting,
-    call: &str,
-) -> Result<Option<String>, Fault> {
-    Ok(Some(match call {
-        "round" => one_round(alloc, setting)?,
-        "reply" => reply(alloc, setting)?,
-        _ => return Ok(None),
-    }))
+/// The calls on an assignment.
+pub(crate) fn call(setting: &mut Setting, call: &str, words: &mut Words<'_>) -> Answer {
+    match call {
+        "round" => one_round(setting),
+        "reply" => reply(setting),
+        _ => lists::call(setting, call, words),
+    }
 }
 
 /// One round, which is kept.
-fn one_round(alloc: Global, setting: &mut Setting) -> Result<String, Fault> {
+fn one_round(setting: &mut Setting) -> Answer {
     let round = round(&mut setting.devices, &mut setting.table, &setting.cuts);
     setting.round = Some(round);
-    told_hex(alloc, &round)
+    told_hex(setting.alloc, &round)
 }
 
 /// The answer of the last round.
-fn reply(alloc: Global, setting: &Setting) -> Result<String, Fault> {
+fn reply(setting: &Setting) -> Answer {
     match &setting.round {
-        Some(round) => told_hex(alloc, &round.reply()),
+        Some(round) => told_hex(setting.alloc, &round.reply()),
         None => Err(Fault::Unknown),
     }
 }

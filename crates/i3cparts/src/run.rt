@@ -1,6 +1,6 @@
+use crate::calls::answer;
 use crate::faults::Fault;
-use crate::setting::{Setting, obey};
-use crate::words::Words;
+use crate::setting::Setting;
 use std::rt::{Env, Files};
 use std::{env, fs};
 
@@ -15,45 +15,35 @@ pub(crate) fn run<R: Env + Files + Print + Eprint + AllocGlobal>(rt: &R) -> u8 {
     match done(rt) {
         Ok(()) => READ,
         Err(fault) => {
-            let _ = rt.eprint(&fault);
+            let _ = rt.eprint(&fault.text());
             FAULT
         }
     }
 }
 
-/// Reads the file that the command line names.
+/// Answers the lines of the file that the command line names.
 fn done<R: Env + Files + Print + AllocGlobal>(rt: &R) -> Result<(), Fault> {
-    let mut words = env::args(rt)?.skip(1);
-    let Some(file) = words.next() else {
+    let mut words = env::args(rt)?;
+    let _name = words.next();
+    let (Some(file), None) = (words.next(), words.next()) else {
         return Err(Fault::Usage);
     };
-    if words.next().is_some() {
-        return Err(Fault::Usage);
-    }
-    let text = fs::read_to_string(rt, &file)?;
+    let text = fs::read_to_string(rt, file.as_str())?;
     let mut setting = Setting::new(rt.alloc());
     for line in text.lines() {
-        println!(rt; "{line}")?;
-        if !line.is_empty() && !line.starts_with('#') {
-            answer(rt, &mut setting, line)?;
-        }
+        tell(rt, &mut setting, line)?;
     }
     Ok(())
 }
 
-/// Does what a line asks for, and prints its answer.
-fn answer<R: Print + AllocGlobal>(rt: &R, setting: &mut Setting, line: &str) -> Result<(), Fault> {
-    match obey(rt.alloc(), setting, &mut Words::new(line)) {
-        Ok(told) => {
-            if !told.is_empty() {
-                println!(rt; "= {told}")?;
-            }
-            Ok(())
+/// Prints a line, and its answer where there is one.
+fn tell<R: Print>(rt: &R, setting: &mut Setting, line: &str) -> Result<(), Fault> {
+    println!(rt; "{line}")?;
+    if !line.is_empty() && !line.starts_with('#') {
+        let answer = answer(setting, line)?;
+        if !answer.is_empty() {
+            println!(rt; "= {answer}")?;
         }
-        Err(Fault::Unknown) => {
-            println!(rt; "= ?")?;
-            Ok(())
-        }
-        Err(fault) => Err(fault),
     }
+    Ok(())
 }

@@ -4,47 +4,72 @@ use i3c_word::Word;
 use std::alloc::Global;
 use std::fmt::{Debug, Display, Write};
 
+/// What a call answers, an empty text if nothing, or why it isn't made.
+pub(crate) type Answer = Result<String, Fault>;
+
 /// What stands before the number that an address, a slot or a PID is.
 const BEGINS: [&str; 3] = ["Addr7 { value: ", "Slot { value: ", "Pid { value: "];
 
-/// What stands behind it.
-const END: &str = " }";
+/// The answer of a call that answers nothing.
+pub(crate) fn nothing(alloc: Global) -> Answer {
+    Ok(String::new(alloc))
+}
+
+/// A text as an answer.
+pub(crate) fn told_text(alloc: Global, text: &str) -> Answer {
+    Ok(String::from_str(alloc, text)?)
+}
+
+/// An answer that has a text.
+pub(crate) fn text_of<T: Display>(alloc: Global, answer: &T) -> Answer {
+    Ok(format!(in alloc; "{answer}")?)
+}
 
 /// An answer whose numbers are counts.
-pub(crate) fn told<T: Debug>(alloc: Global, answer: &T) -> Result<String, Fault> {
+pub(crate) fn told<T: Debug>(alloc: Global, answer: &T) -> Answer {
     Ok(format!(in alloc; "{answer:?}")?)
 }
 
+/// An answer whose slots are decimal numbers.
+pub(crate) fn told_slots<T: Debug>(alloc: Global, answer: &T) -> Answer {
+    bare(alloc, &told(alloc, answer)?, "Slot { value: ", " }")
+}
+
 /// An answer whose numbers are addresses and bytes, in hex digits.
-pub(crate) fn told_hex<T: Debug>(alloc: Global, answer: &T) -> Result<String, Fault> {
+pub(crate) fn told_hex<T: Debug>(alloc: Global, answer: &T) -> Answer {
     let mut text = told(alloc, answer)?;
     for begin in BEGINS {
-        text = bare(alloc, &text, begin)?;
+        text = bare(alloc, &text, begin, " }")?;
     }
     in_hex(alloc, &text)
 }
 
-/// A text in which a number that stands behind this beginning stands alone.
-fn bare(alloc: Global, text: &str, begin: &str) -> Result<String, Fault> {
+/// The same, where LVRs are bytes too.
+pub(crate) fn told_lvrs<T: Debug>(alloc: Global, answer: &T) -> Answer {
+    bare(alloc, &told_hex(alloc, answer)?, "Lvr(", ")")
+}
+
+/// A text in which what stands between this beginning and this end stands alone.
+fn bare(alloc: Global, text: &str, begin: &str, end: &str) -> Answer {
     let mut bare = String::new(alloc);
-    let mut parts = text.split(begin);
-    if let Some(first) = parts.next() {
-        bare.push_str(first)?;
-    }
-    for part in parts {
-        match part.split_once(END) {
-            Some((number, rest)) => {
-                bare.push_str(number)?;
-                bare.push_str(rest)?;
-            }
-            None => bare.push_str(part)?,
+    let mut rest = text;
+    for _ in 0..u64::MAX {
+        let Some((before, behind)) = rest.split_once(begin) else {
+            break;
+        };
+        bare.push_str(before)?;
+        rest = behind;
+        if let Some((number, after)) = behind.split_once(end) {
+            bare.push_str(number)?;
+            rest = after;
         }
     }
+    bare.push_str(rest)?;
     Ok(bare)
 }
 
 /// A text with its decimal numbers in hex digits, two at least. Digits in a name stay.
-fn in_hex(alloc: Global, text: &str) -> Result<String, Fault> {
+fn in_hex(alloc: Global, text: &str) -> Answer {
     let mut hex = String::new(alloc);
     let mut number = None;
     let mut before = ' ';
@@ -79,24 +104,22 @@ fn push_number(hex: &mut String, number: Option<u64>) -> Result<(), Fault> {
     Ok(())
 }
 
-/// An answer that has a text.
-pub(crate) fn text_of<T: Display>(alloc: Global, answer: &T) -> Result<String, Fault> {
-    Ok(format!(in alloc; "{answer}")?)
-}
-
 /// A word, as traces have it.
-pub(crate) fn told_word(alloc: Global, word: Word) -> Result<String, Fault> {
+pub(crate) fn told_word(alloc: Global, word: Word) -> Answer {
     text_of(alloc, &Symbol::Word(word))
 }
 
 /// Symbols, as traces have them.
-pub(crate) fn told_trace(alloc: Global, symbols: &[Symbol]) -> Result<String, Fault> {
+pub(crate) fn told_trace(alloc: Global, symbols: &[Symbol]) -> Answer {
+    let spaced = printed(alloc, symbols)?;
+    told_text(alloc, spaced.trim_end())
+}
+
+/// Symbols, as traces have them, with a space behind each.
+pub(crate) fn printed(alloc: Global, symbols: &[Symbol]) -> Answer {
     let mut text = String::new(alloc);
     for symbol in symbols {
-        if !text.is_empty() {
-            text.push_str(" ")?;
-        }
-        text.push_str(text_of(alloc, symbol)?.as_str())?;
+        write!(text, "{symbol} ")?;
     }
     Ok(text)
 }

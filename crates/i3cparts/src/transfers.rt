@@ -1,110 +1,101 @@
+ghost use Rattle.std.specs.Prelude.{◌≤◌, length};
+
+use crate::events::MOST_BEGUN;
 use crate::faults::Fault;
-use crate::kinds::MOST_BEGUN;
 use crate::setting::Setting;
+use crate::table;
 use crate::taps::Told;
-use crate::told::{told, told_hex, told_trace};
+use crate::told::{Answer, told, told_hex, told_text, told_trace};
 use crate::words::Words;
-use i3c_base::REGISTERS;
+use i3c_base::{Addr7, REGISTERS};
 use i3c_xfer::{Read, Write, read, read_bits, tell_read, tell_write, write, write_bits};
 use std::alloc::Global;
 
-/// What is told of a transfer.
-#[derive(Clone, Copy, Debug, PartialEq, Eq)]
-enum Aspect {
-    /// What it came to.
-    Outcome,
-    Answer,
-    /// How many bits it has.
-    Bits,
-}
-
-/// What is asked of private transfers, if the call is such a question.
-pub(crate) fn ask(
-    alloc: Global,
-    setting: &mut Setting,
-    call: &str,
-    words: &mut Words,
-) -> Result<Option<String>, Fault> {
-    Ok(Some(match call {
-        "read" => told_read(alloc, setting, Aspect::Outcome, words)?,
-        "read-answer" => told_read(alloc, setting, Aspect::Answer, words)?,
-        "read-bits" => told_read(alloc, setting, Aspect::Bits, words)?,
-        "write" => told_write(alloc, setting, Aspect::Outcome, words)?,
-        "write-answer" => told_write(alloc, setting, Aspect::Answer, words)?,
-        "write-bits" => told_write(alloc, setting, Aspect::Bits, words)?,
-        "legacy-registers" => legacy_registers(alloc, setting, words)?,
-        "tell-read" => trace_of_read(alloc, words)?,
-        "tell-write" => trace_of_write(alloc, words)?,
-        _ => return Ok(None),
-    }))
+/// The calls on private transfers.
+pub(crate) fn call(setting: &mut Setting, call: &str, words: &mut Words<'_>) -> Answer {
+    match call {
+        "read" | "read-answer" | "read-bits" => of_read(setting, call, words),
+        "write" | "write-answer" | "write-bits" => of_write(setting, call, words),
+        "legacy-registers" => legacy_registers(setting, words),
+        "tell-read" => trace_of_read(setting.alloc, words),
+        "tell-write" => trace_of_write(setting.alloc, words),
+        _ => table::call(setting, call, words),
+    }
 }
 
 /// A read: what it came to, its answer, or its bits.
-fn told_read(
-    alloc: Global,
-    setting: &Setting,
-    aspect: Aspect,
-    words: &mut Words,
-) -> Result<String, Fault> {
+fn of_read(setting: &Setting, call: &str, words: &mut Words<'_>) -> Answer {
+    let alloc = setting.alloc;
     let to = words.address()?;
+    let came = came(setting, to)?;
+    match call {
+        "read" => told_hex(alloc, &came),
+        "read-answer" => told_hex(alloc, &came.answer(to)),
+        _ => told(alloc, &read_bits(&came.answer(to))),
+    }
+}
+
+/// What a read comes to.
+fn came(setting: &Setting, to: Addr7) -> Result<Read, Fault> {
     let begun = setting.begun;
     if begun > MOST_BEGUN {
         return Err(Fault::Unknown);
     }
-    let came = read(
+    Ok(read(
         &setting.devices,
         &setting.targets,
         setting.active,
         to,
         &setting.cuts,
         begun,
-    );
-    match aspect {
-        Aspect::Outcome => told_hex(alloc, &came),
-        Aspect::Answer => told_hex(alloc, &came.answer(to)),
-        Aspect::Bits => told(alloc, &read_bits(&came.answer(to))),
-    }
+    ))
 }
 
 /// A write: what it came to, its answer, or its bits.
-fn told_write(
-    alloc: Global,
-    setting: &mut Setting,
-    aspect: Aspect,
-    words: &mut Words,
-) -> Result<String, Fault> {
+fn of_write(setting: &mut Setting, call: &str, words: &mut Words<'_>) -> Answer {
+    let alloc = setting.alloc;
     let to = words.address()?;
     let bytes = words.bytes(alloc)?;
-    let begun = setting.begun;
-    if begun > MOST_BEGUN || bytes.len() > REGISTERS {
+    if bytes.len() > REGISTERS {
         return Err(Fault::Unknown);
     }
-    let wrote = write(
+    let wrote = wrote(setting, to, &bytes)?;
+    match call {
+        "write" => told_hex(alloc, &wrote),
+        "write-answer" => told_hex(alloc, &wrote.answer(to)),
+        _ => told(alloc, &write_bits(&bytes, &wrote.answer(to))),
+    }
+}
+
+/// What a write comes to.
+fn wrote(setting: &mut Setting, to: Addr7, bytes: &[u8]) -> Result<Write, Fault>
+    requires { length bytes.now ≤ 16 }
+{
+    let begun = setting.begun;
+    if begun > MOST_BEGUN {
+        return Err(Fault::Unknown);
+    }
+    Ok(write(
         &mut setting.devices,
         &mut setting.targets,
         setting.active,
         to,
-        &bytes,
+        bytes,
         &setting.cuts,
         begun,
-    );
-    match aspect {
-        Aspect::Outcome => told_hex(alloc, &wrote),
-        Aspect::Answer => told_hex(alloc, &wrote.answer(to)),
-        Aspect::Bits => told(alloc, &write_bits(&bytes, &wrote.answer(to))),
-    }
+    ))
 }
 
 /// The registers of the legacy target at an address, if there is one.
-fn legacy_registers(alloc: Global, setting: &Setting, words: &mut Words) -> Result<String, Fault> {
+fn legacy_registers(setting: &Setting, words: &mut Words<'_>) -> Answer {
     match setting.targets.get(words.address()?) {
-        Some(target) => told_hex(alloc, &Some(target.registers)),
-        None => told(alloc, &None::<u8>),
+        Some(target) => told_hex(setting.alloc, &Some(target.registers)),
+        None => told_text(setting.alloc, "None"),
     }
 }
 
 /// How a read is told after the header of its frame.
-fn trace_of_read(alloc: Global, words: &mut Words) -> Result<String, Fault> {
+fn trace_of_read(alloc: Global, words: &mut Words<'_>) -> Answer {
     let to = words.address()?;
     let came = match words.word()? {
         "nobody" => Read::Nobody,
@@ -119,7 +110,7 @@ fn trace_of_read(alloc: Global, words: &mut Words) -> Result<String, Fault> {
 }
 
 /// A byte for each register.
-fn registers(words: &mut Words) -> Result<[u8; REGISTERS], Fault> {
+fn registers(words: &mut Words<'_>) -> Result<[u8; REGISTERS], Fault> {
     let mut bytes = [0; REGISTERS];
     for byte in bytes.iter_mut() {
         *byte = words.byte()?;
@@ -128,7 +119,7 @@ fn registers(words: &mut Words) -> Result<[u8; REGISTERS], Fault> {
 }
 
 /// How a write is told after the header of its frame.
-fn trace_of_write(alloc: Global, words: &mut Words) -> Result<String, Fault> {
+fn trace_of_write(alloc: Global, words: &mut Words<'_>) -> Answer {
     let to = words.address()?;
     let wrote = match words.word()? {
         "nobody" => Write::Nobody,

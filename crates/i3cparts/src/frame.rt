@@ -1,57 +1,44 @@
-use crate::answers::{Answer, shown};
 use crate::faults::Fault;
-use crate::scene::Scene;
-use crate::word::word_of;
-use crate::words::Words;
+use crate::setting::Setting;
+use crate::taps;
+use crate::told::{Answer, printed, text_of, told};
+use crate::words::{Words, word_of};
 use i3c_frame::{Symbol, read_trace};
 use std::alloc::Global;
 
 /// The calls on symbols and traces. `read_trace` keeps the trace that it reads, and answers how long that is; `trace` is
 /// one of its symbols, counted from 1, and `printed` the texts of all, each with a space behind it.
-pub(crate) fn call(first: &str, words: &mut Words<'_>, scene: &mut Scene) -> Answer {
-    match first {
-        "symbol" => text_of(scene.alloc, symbol(words)?),
-        "read_trace" => read(scene, words.all()?),
-        "trace" => at(scene, usize::from(words.count()?)),
-        "printed" => shown(scene.alloc, printed(scene.alloc, &scene.trace)?),
-        _ => Ok(None),
+pub(crate) fn call(setting: &mut Setting, call: &str, words: &mut Words<'_>) -> Answer {
+    let alloc = setting.alloc;
+    match call {
+        "symbol" => text_of(alloc, &symbol(words)?),
+        "read_trace" => read(setting, words.all()?),
+        "trace" => at(setting, words.index()?),
+        "printed" => told(alloc, &printed(alloc, &setting.trace)?),
+        _ => taps::call(setting, call, words),
     }
 }
 
-/// How a symbol is printed.
-fn text_of(alloc: Global, symbol: Symbol) -> Answer {
-    Ok(Some(format!(in alloc; "{symbol}")?))
-}
-
-/// Reads the trace between two quotes.
-fn read(scene: &mut Scene, text: &str) -> Answer {
-    let text = quoted(scene.alloc, text)?;
-    let read = read_trace(scene.alloc, text.as_str());
-    shown(scene.alloc, read.map(|trace| kept(scene, trace)))
+/// Reads and keeps the trace between two quotes.
+fn read(setting: &mut Setting, text: &str) -> Answer {
+    let alloc = setting.alloc;
+    let text = quoted(alloc, text)?;
+    match read_trace(alloc, text.as_str()) {
+        Ok(trace) => {
+            let count = trace.len();
+            setting.trace = trace;
+            Ok(format!(in alloc; "Ok({count})")?)
+        }
+        Err(fault) => Ok(format!(in alloc; "Err({fault:?})")?),
+    }
 }
 
 /// The symbol of a number, if there is one.
-fn at(scene: &Scene, number: usize) -> Answer {
-    match scene.trace.get(number.saturating_sub(1)) {
-        Some(symbol) => shown(scene.alloc, *symbol),
-        None => Err(Fault::NoCall),
+fn at(setting: &Setting, number: usize) -> Answer {
+    match setting.trace.get(number.saturating_sub(1)) {
+        Some(symbol) => told(setting.alloc, symbol),
+        None => Err(Fault::Unknown),
     }
-}
-
-/// Keeps a trace, and says how long it is.
-fn kept(scene: &mut Scene, trace: Vec<Symbol>) -> usize {
-    let count = trace.len();
-    scene.trace = trace;
-    count
-}
-
-/// The symbols of a trace, printed with a space after each.
-fn printed(alloc: Global, symbols: &[Symbol]) -> Result<String, Fault> {
-    let mut text = String::new(alloc);
-    for symbol in symbols {
-        text = format!(in alloc; "{text}{symbol} ")?;
-    }
-    Ok(text)
 }
 
 /// A symbol, by its name and what it has.
@@ -71,7 +58,7 @@ pub(crate) fn symbol(words: &mut Words<'_>) -> Result<Symbol, Fault> {
             let (byte, ack) = answered(words)?;
             Ok(Symbol::LegacyWord { byte, ack })
         }
-        _ => Err(Fault::NoCall),
+        _ => Err(Fault::Unknown),
     }
 }
 
@@ -95,7 +82,7 @@ fn is_read(word: &str) -> Result<bool, Fault> {
     match word {
         "read" => Ok(true),
         "write" => Ok(false),
-        _ => Err(Fault::NoCall),
+        _ => Err(Fault::Unknown),
     }
 }
 
@@ -104,13 +91,13 @@ fn is_ack(word: &str) -> Result<bool, Fault> {
     match word {
         "ack" => Ok(true),
         "nack" => Ok(false),
-        _ => Err(Fault::NoCall),
+        _ => Err(Fault::Unknown),
     }
 }
 
 /// The text between two quotes, in which a backslash and a letter stand for what can't be seen.
 fn quoted(alloc: Global, text: &str) -> Result<String, Fault> {
-    let inner = unquoted(text).ok_or(Fault::NoCall)?;
+    let inner = unquoted(text).ok_or(Fault::Unknown)?;
     let mut read = String::new(alloc);
     let mut escaped = false;
     for letter in inner.chars() {
@@ -137,6 +124,6 @@ fn unseen(letter: char) -> Result<char, Fault> {
         'n' => Ok('\n'),
         'r' => Ok('\r'),
         't' => Ok('\t'),
-        _ => Err(Fault::NoCall),
+        _ => Err(Fault::Unknown),
     }
 }

@@ -1,0 +1,159 @@
+use crate::faults::Fault;
+use crate::hand::{self, in_hand};
+use crate::setting::Setting;
+use crate::slots::slots_of;
+use crate::told::{Answer, told, told_hex, told_slots, told_text};
+use crate::words::Words;
+use i3c_base::{Request, Slot};
+use i3c_device::{Devices, SlotSet};
+use std::alloc::Global;
+
+/// What all devices are asked, each for itself.
+pub(crate) fn call(setting: &mut Setting, call: &str, words: &mut Words<'_>) -> Answer {
+    let alloc = setting.alloc;
+    match call {
+        "raise" => raise(setting, words),
+        "wants" => wants(setting, words.place()?),
+        "may-interrupt" => told(alloc, &setting.devices.may_interrupt(words.slot()?)),
+        "may-join" => told(alloc, &setting.devices.may_join(words.slot()?)),
+        "may-ask-role" => told(alloc, &setting.devices.may_ask_role(words.slot()?)),
+        _ => together(setting, call, words),
+    }
+}
+
+/// What they are asked together.
+fn together(setting: &mut Setting, call: &str, words: &mut Words<'_>) -> Answer {
+    let alloc = setting.alloc;
+    match call {
+        "first" => first(setting),
+        "drivers" => told_set(alloc, driving(setting)?),
+        "outlasts" => outlasts(setting, words.bit()?),
+        "is-heard" => is_heard(setting, words),
+        "lowest-willing" => lowest_willing(setting, words),
+        "hearers" => told_set(alloc, setting.devices.hearers()),
+        "first-identity" => first_identity(setting),
+        "read-from" => read_from(setting, words),
+        _ => hand::call(setting, call, words),
+    }
+}
+
+/// A device raises an interrupt.
+fn raise(setting: &mut Setting, words: &mut Words<'_>) -> Answer {
+    let alloc = setting.alloc;
+    let place = words.place()?;
+    let raised = words.count()?;
+    let byte = words.maybe_byte()?;
+    match place {
+        None => told(alloc, &in_hand(setting)?.raise(raised, byte, true)),
+        Some(slot) => raise_in(alloc, &mut setting.devices, slot, raised, byte),
+    }
+}
+
+/// The device in a slot raises one.
+fn raise_in(
+    alloc: Global,
+    devices: &mut Devices,
+    slot: Slot,
+    raised: u64,
+    byte: Option<u8>,
+) -> Answer {
+    if devices.get(slot).is_none() {
+        return Err(Fault::Unknown);
+    }
+    told(alloc, &devices.raise(slot, raised, byte))
+}
+
+/// The request that a device drives: its wish, if that kind is enabled.
+fn wants(setting: &mut Setting, place: Option<Slot>) -> Answer {
+    let alloc = setting.alloc;
+    match place {
+        None => told_hex(alloc, &in_hand(setting)?.wish()),
+        Some(slot) => match setting.devices.get(slot) {
+            Some(device) => told_hex(alloc, &enabled(&setting.devices, slot, device.wish())),
+            None => told_text(alloc, "nobody"),
+        },
+    }
+}
+
+/// The request of a slot's device, if its kind is enabled.
+fn enabled(devices: &Devices, slot: Slot, wish: Option<Request>) -> Option<Request> {
+    let request = wish?;
+    let is_enabled = match &request {
+        Request::Join => devices.may_join(slot),
+        Request::Role(_) => devices.may_ask_role(slot),
+        Request::Interrupt(_) => devices.may_interrupt(slot),
+    };
+    if is_enabled { Some(request) } else { None }
+}
+
+/// The first request.
+fn first(setting: &Setting) -> Answer {
+    match setting.devices.first_request(setting.active) {
+        Some((request, _)) => told_hex(setting.alloc, &Some(request)),
+        None => told_text(setting.alloc, "None"),
+    }
+}
+
+/// Who drives the first request.
+fn driving(setting: &Setting) -> Result<SlotSet, Fault> {
+    match setting.devices.first_request(setting.active) {
+        Some((_, drivers)) => Ok(drivers),
+        None => Err(Fault::Unknown),
+    }
+}
+
+/// The numbers of the slots of a set.
+fn told_set(alloc: Global, set: SlotSet) -> Answer {
+    told_slots(alloc, &slots_of(alloc, set)?)
+}
+
+/// Whether one of those who drive the first request isn't cut by a bit.
+fn outlasts(setting: &Setting, last: u16) -> Answer {
+    let outlasts = driving(setting)?.outlasts(&setting.cuts, last);
+    told(setting.alloc, &outlasts)
+}
+
+/// Whether a command reaches a device that isn't cut by a bit.
+fn is_heard(setting: &Setting, words: &mut Words<'_>) -> Answer {
+    let to = words.target()?;
+    let last = words.bit()?;
+    let heard = setting
+        .devices
+        .is_heard(setting.active, &to, &setting.cuts, last);
+    told(setting.alloc, &heard)
+}
+
+/// The lowest slot of those who would take the role.
+fn lowest_willing(setting: &Setting, words: &mut Words<'_>) -> Answer {
+    let address = words.address()?;
+    let last = words.bit()?;
+    let lowest = setting
+        .devices
+        .lowest_willing(setting.active, address, &setting.cuts, last);
+    told_slots(setting.alloc, &lowest)
+}
+
+/// The least identity of those who hear, and their slots.
+fn first_identity(setting: &Setting) -> Answer {
+    let alloc = setting.alloc;
+    let Some((number, slots)) = setting.devices.first_identity() else {
+        return told_text(alloc, "None");
+    };
+    let mut text = told_hex(alloc, &number)?;
+    text.push_str(" in ")?;
+    text.push_str(&told_set(alloc, slots)?)?;
+    Ok(text)
+}
+
+/// What the lines give of the registers at an address.
+fn read_from(setting: &Setting, words: &mut Words<'_>) -> Answer {
+    let address = words.address()?;
+    let first = words.bit()?;
+    if first > 1000 {
+        return Err(Fault::Unknown);
+    }
+    let bytes = setting
+        .devices
+        .read(setting.active, address, &setting.cuts, first);
+    told_hex(setting.alloc, &bytes)
+}

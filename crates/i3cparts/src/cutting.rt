@@ -1,0 +1,34 @@
+use crate::faults::Fault;
+use crate::setting::Setting;
+use crate::told::{Answer, told};
+use crate::word;
+use crate::words::Words;
+use i3c_base::Cuts;
+use std::alloc::Global;
+
+/// The calls on cuts: the first word says which ones, or compares both.
+pub(crate) fn call(setting: &mut Setting, call: &str, words: &mut Words<'_>) -> Answer {
+    let alloc = setting.alloc;
+    match call {
+        "cuts" => of_cuts(alloc, words, &mut setting.cuts),
+        "others" => of_cuts(alloc, words, &mut setting.others),
+        "cuts==others" => told(alloc, &(setting.cuts == setting.others)),
+        "cuts!=others" => told(alloc, &(setting.cuts != setting.others)),
+        _ => word::call(setting, call, words),
+    }
+}
+
+/// A call on cuts. Those that `counted_from` gives take the place of the ones before.
+fn of_cuts(alloc: Global, words: &mut Words<'_>, cuts: &mut Cuts) -> Answer {
+    match words.word()? {
+        "add" => told(alloc, &cuts.add(words.slot()?, words.bit()?)),
+        "counted_from" => {
+            *cuts = cuts.counted_from(words.bit()?);
+            told(alloc, &())
+        }
+        "at" => told(alloc, &cuts.at(words.slot()?)),
+        "is_lost" => told(alloc, &cuts.is_lost(words.slot()?, words.bit()?)),
+        "is_empty" => told(alloc, &cuts.is_empty()),
+        _ => Err(Fault::Unknown),
+    }
+}

@@ -1,0 +1,36 @@
+use crate::faults::Fault;
+use crate::setting::Setting;
+use crate::told::{Answer, told_hex};
+use crate::words::Words;
+use i3c_base::{Addr7, Bcr, Dcr};
+use i3c_picker::pick;
+use i3c_table::{Row, Table};
+use std::alloc::Global;
+
+/// The calls that pick an address of the table: `give` also gives so many, one after another.
+pub(crate) fn call(setting: &mut Setting, call: &str, words: &mut Words<'_>) -> Answer {
+    let alloc = setting.alloc;
+    match call {
+        "pick" => told_hex(alloc, &pick(&setting.table)),
+        "give" => told_hex(alloc, &given(alloc, &mut setting.table, words.count()?)?),
+        _ => Err(Fault::Unknown),
+    }
+}
+
+/// Puts rows at the addresses that are picked, until there are so many or none is left.
+fn given(alloc: Global, table: &mut Table, count: u64) -> Result<Vec<Addr7>, Fault> {
+    let mut given = Vec::new(alloc);
+    for _ in 0..count {
+        let Some(address) = pick(table) else {
+            break;
+        };
+        table.put(Row {
+            address,
+            bcr: Bcr(0),
+            dcr: Dcr(0),
+            identity: None,
+        });
+        given.push(address)?;
+    }
+    Ok(given)
+}
