@@ -10,9 +10,9 @@ use Rattle.i3c_step.specs.declared.replies.Reply.{Reply}
 use Rattle.i3c_step.specs.History.{History, Moment}
 use Rattle.i3c_step.specs.History as history
 use Rattle.i3c_step.specs.Stays.{accepted_at, accepted_in_stay, accepted_since_attachment, is_attached, is_into, number_raised, raised_as, recorded_in_stay}
-use Rattle.i3c_shared.specs.declared.entry.Entry.{Entry}
+use Rattle.i3c_recorder.specs.declared.entry.Entry.{Entry}
 use Rattle.i3c_shared.specs.Balance.{next_refused, refused_at, refused_from, refused_of}
-use Rattle.i3c_shared.specs.KeptRuns.{events_of, replies_of}
+use Rattle.i3c_recorder.specs.KeptRuns.{events_of, replies_of}
 use Rattle.i3c_shared.specs.Raises.{raised_at, raises_of}
 use Rattle.i3c_shared.proofs.Fitting.{raises_append}
 

@@ -9,9 +9,9 @@ use Rattle.i3c_step.specs.declared.events.Event.{Event}
 use Rattle.i3c_step.specs.declared.events.Event.TheVariants.{Attach, DropOff, Raise, AskJoin, AskRole, Serve, Enec, Disec, Reset, SendList, ReadFrom, WriteTo, HandOver, OpenDaa, Round, EndDaa}
 use Rattle.i3c_step.specs.declared.replies.Reply.{Reply}
 use Rattle.i3c_step.specs.Stays.{is_attached}
-use Rattle.i3c_shared.specs.declared.entry.Entry.{Entry}
+use Rattle.i3c_recorder.specs.declared.entry.Entry.{Entry}
 use Rattle.i3c_shared.specs.declared.port.TheConstants.{POSTS}
-use Rattle.i3c_shared.specs.KeptRuns.{events_of}
+use Rattle.i3c_recorder.specs.KeptRuns.{events_of}
 use Rattle.i3c_shared.specs.Raises.{next_raises, raised_at, raises_from, raises_of}
 use Rattle.i3c_shared.specs.Rings.{AllDrained, AllLooked, Fits, HasDrained, HasLooked, known_of, put_out, raises_at, raises_below, raises_in, ring_at, taken_in}
 use Rattle.i3c_shared.specs.Taking.{IsOther}

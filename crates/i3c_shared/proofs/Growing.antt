@@ -5,8 +5,8 @@ use Rattle.i3c_base.specs.State.{State}
 use Rattle.i3c_step.specs.declared.events.Event.{Event}
 use Rattle.i3c_step.specs.declared.replies.Refusal.{Refusal}
 use Rattle.i3c_step.specs.declared.replies.Reply.{Reply}
-use Rattle.i3c_shared.specs.declared.entry.Entry.{Entry}
-use Rattle.i3c_shared.specs.KeptRuns.{Leads}
+use Rattle.i3c_recorder.specs.declared.entry.Entry.{Entry}
+use Rattle.i3c_recorder.specs.KeptRuns.{Leads}
 use Rattle.i3c_shared.specs.Ports.{AllPosted, AllWhole}
 use Rattle.i3c_shared.specs.Raises.{raises_of}
 use Rattle.i3c_shared.specs.Rings.{AllDrained, Fits, IsWhole, put_out, ring_at}

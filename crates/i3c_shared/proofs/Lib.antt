@@ -1,8 +1,5 @@
 mod Compared
 mod Told
-mod SameCuts
-mod Widened
-mod Terms
 mod Taken
 mod Fitting
 mod Events
@@ -12,5 +9,4 @@ pub mod Covering
 mod Growing
 mod Missing
 mod Started
-mod Starting
 mod Balanced

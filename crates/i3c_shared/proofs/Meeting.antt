@@ -3,7 +3,7 @@ use Rattle.std.proofs.Common.{◌≡◌, ℕ, List, [], ◌++◌, sym, refl, ap,
 use Rattle.std.specs.Prelude.{Option, Some, None}
 use mathlib.Core.List.{IsPrefix}
 use Rattle.rtrb.specs.Ring.{received, known_items, consumer_capacity, sent}
-use Rattle.i3c_shared.specs.declared.entry.Entry.{Entry}
+use Rattle.i3c_recorder.specs.declared.entry.Entry.{Entry}
 use Rattle.i3c_shared.specs.declared.port.TheConstants.{POSTS}
 use Rattle.i3c_shared.specs.Ports.{SamePort}
 use Rattle.i3c_shared.specs.Raises.{raises_of}

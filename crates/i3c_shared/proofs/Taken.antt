@@ -6,23 +6,13 @@ use Rattle.i3c_step.specs.declared.events.Event.{Event}
 use Rattle.i3c_step.specs.declared.events.Event.TheVariants.{Raise}
 use Rattle.i3c_step.specs.declared.replies.Reply.{Reply}
 use Rattle.i3c_step.specs.Step.{Step}
-use Rattle.i3c_shared.specs.declared.entry.Entry.{Entry}
-use Rattle.i3c_shared.specs.KeptRuns.{Leads, events_of}
+use Rattle.i3c_recorder.specs.declared.entry.Entry.{Entry}
+use Rattle.i3c_recorder.specs.KeptRuns.{events_of}
+use Rattle.i3c_recorder.specs.Values.{Recorded}
+use Rattle.i3c_recorder.proofs.Leading.{events_append, leads_append}
 use Rattle.i3c_shared.specs.Rings.{known_of, raises_at, raises_below, ring_at}
 use Rattle.i3c_shared.specs.Taking.{Adds}
-use Rattle.i3c_shared.specs.Values.{Reading, Recorded, Rings}
-
-pub events_append : (es fs : List Entry) → events_of (es ++ fs) ≡ events_of es ++ events_of fs
-events_append [] fs = refl
-events_append (e ∷ es) fs = ap (λ xs. e.event ∷ xs) (events_append es fs)
-
-pub leads_append : (start : State) (run : List Entry) (mid : State) (more : List Entry) (new : State) → Leads start run mid → Leads mid more new → Leads start (run ++ more) new
-leads_append start [] mid more new h k = subst (λ st. Leads st more new) h k
-leads_append start (e ∷ run) mid more new h k = (h.0, h.1, leads_append h.0 run mid more new h.2 k)
-
--- a run goes on by one step
-pub leads_more : (start : State) (run : List Entry) (mid : State) (e : Entry) (new : State) → Leads start run mid → Step mid e.event e.reply new → Leads start (run ++ e ∷ []) new
-leads_more start run mid e new h s = leads_append start run mid (e ∷ []) new h (new, s, refl)
+use Rattle.i3c_shared.specs.Values.{Reading, Rings}
 
 -- nothing is added
 pub adds_none : (old : Recorded) → Adds old [] old

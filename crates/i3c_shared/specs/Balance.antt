@@ -8,9 +8,9 @@ use Rattle.i3c_base.specs.State.{Device, IsStart, State, device_at}
 use Rattle.i3c_step.specs.History.{AllDistinct, History, IsLegal, reached}
 use Rattle.i3c_step.specs.History as history
 use Rattle.i3c_step.specs.Stays.{is_attached, is_into, number_raised, recorded_in_stay}
-use Rattle.i3c_shared.specs.declared.entry.Entry.{Entry}
+use Rattle.i3c_recorder.specs.declared.entry.Entry.{Entry}
 use Rattle.i3c_shared.specs.Closing.{Closes}
-use Rattle.i3c_shared.specs.KeptRuns.{events_of, replies_of}
+use Rattle.i3c_recorder.specs.KeptRuns.{events_of, replies_of}
 use Rattle.i3c_shared.specs.Ports.{IsAt}
 use Rattle.i3c_shared.specs.Raises.{raised_at}
 use Rattle.i3c_shared.specs.Rings.{IsEndOf, ring_at}

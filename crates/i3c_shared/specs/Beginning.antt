@@ -4,14 +4,9 @@ use Rattle.rtrb.specs.Ring.{IsPair, sent}
 use Rattle.i3c_base.specs.declared.range.TheConstants.{SLOTS}
 use Rattle.i3c_base.specs.declared.device.LegacyTarget.{LegacyTarget}
 use Rattle.i3c_base.specs.declared.device.Setup.{Setup}
-use Rattle.i3c_base.specs.declared.identity.Lvr.{Lvr}
-use Rattle.i3c_base.specs.State.{State, IsStart, addressed, legacy_targets_of, unaddressed}
+use Rattle.i3c_base.specs.State.{IsStart}
 use Rattle.i3c_shared.specs.Rings.{put_out}
 use Rattle.i3c_shared.specs.Values.{KeptValue, PortValue, Reading, Rings}
-
--- the first state of a bus: its main controller in slot 0 at this address, and the legacy targets of these LVRs
-abbrev pub first_state : Setup → ℕ → List (Option Lvr) → State
-first_state main address lvrs = addressed 0 address main.identity (unaddressed main (legacy_targets_of lvrs))
 
 -- no port is out
 unfoldable pub no_rings : Rings

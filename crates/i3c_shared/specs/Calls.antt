@@ -24,7 +24,7 @@ use Rattle.i3c_shared.specs.declared.faults.Left.{Left}
 use Rattle.i3c_shared.specs.declared.faults.OpenFault.{OpenFault}
 use Rattle.i3c_shared.specs.declared.faults.SessionFault.{SessionFault}
 use Rattle.i3c_shared.specs.declared.faults.StaleRole.{StaleRole}
-use Rattle.i3c_shared.specs.KeptRuns.{terms_of}
+use Rattle.i3c_recorder.specs.KeptRuns.{terms_of}
 use Rattle.i3c_shared.specs.Ports.{SamePort}
 use Rattle.i3c_shared.specs.Rings.{is_out, put_out, taken_in}
 use Rattle.i3c_shared.specs.Taking.{Grows, Stays}

@@ -1,9 +1,9 @@
 -- When a bus may be closed, and what it was.
 use Rattle.std.specs.Prelude.{◌≡◌, ℕ, Bool, true, false, ◌||◌, ◌&&◌, List, Option, is_none}
 use Rattle.i3c_base.specs.declared.requests.Record.{Record}
-use Rattle.i3c_shared.specs.declared.entry.Entry.{Entry}
+use Rattle.i3c_recorder.specs.declared.entry.Entry.{Entry}
 use Rattle.i3c_shared.specs.declared.faults.CloseFault.{CloseFault}
-use Rattle.i3c_shared.specs.KeptRuns.{IsLegalTo}
+use Rattle.i3c_recorder.specs.KeptRuns.{IsLegalTo}
 use Rattle.i3c_shared.specs.Ports.{AllPosted, IsFirstMissing, NoneMissing}
 use Rattle.i3c_shared.specs.Rings.{AllLooked}
 use Rattle.i3c_shared.specs.Taking.{Stays, TakesUp}

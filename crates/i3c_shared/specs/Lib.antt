@@ -1,5 +1,3 @@
-pub mod Packing
-pub mod KeptRuns
 pub mod Values
 pub mod Raises
 pub mod Rings

@@ -2,7 +2,7 @@
 use Rattle.std.specs.Prelude.{◌≡◌, ℕ, ◌<◌, true, List, length, slice_get, Some}
 use Rattle.rtrb.specs.Ring.{ProducerLooked, sent}
 use Rattle.i3c_shared.specs.Raises.{raises_of}
-use Rattle.i3c_shared.specs.declared.entry.Entry.{Entry}
+use Rattle.i3c_recorder.specs.declared.entry.Entry.{Entry}
 use Rattle.i3c_shared.specs.Rings.{IsEndOf, IsWhole, is_out, ring_at}
 use Rattle.i3c_shared.specs.Values.{PortValue, Rings}
 

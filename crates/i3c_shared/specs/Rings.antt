@@ -3,7 +3,7 @@ use Rattle.std.specs.Prelude.{◌≡◌, ℕ, zero, suc, ◌≤◌, List, [], �
 use mathlib.Core.List.{IsPrefix}
 use Rattle.rtrb.specs.Ring.{ConsumerLooked, IsPair, SameConsumer, consumer_capacity, known_items, received, sent}
 use Rattle.i3c_step.specs.declared.events.Event.{Event}
-use Rattle.i3c_shared.specs.declared.entry.Entry.{Entry}
+use Rattle.i3c_recorder.specs.declared.entry.Entry.{Entry}
 use Rattle.i3c_shared.specs.declared.port.TheConstants.{POSTS}
 use Rattle.i3c_shared.specs.Raises.{raises_of}
 use Rattle.i3c_shared.specs.Values.{PortValue, Reading, Rings}

@@ -5,12 +5,13 @@ use Rattle.i3c_step.specs.declared.events.Event.{Event}
 use Rattle.i3c_step.specs.declared.events.Event.TheVariants.{Attach, Raise}
 use Rattle.i3c_step.specs.declared.replies.Reply.{Reply}
 use Rattle.i3c_step.specs.Step.{Step}
-use Rattle.i3c_shared.specs.declared.entry.Entry.{Entry}
+use Rattle.i3c_recorder.specs.declared.entry.Entry.{Entry}
 use Rattle.i3c_shared.specs.declared.port.TheConstants.{POSTS}
-use Rattle.i3c_shared.specs.KeptRuns.{IsBegun, Leads, events_of}
+use Rattle.i3c_recorder.specs.KeptRuns.{IsBegun, Leads, events_of}
 use Rattle.i3c_step.specs.Stays.{is_attached}
 use Rattle.i3c_shared.specs.Rings.{AllDrained, AllFew, AllLooked, Fits, put_out, raises_in}
-use Rattle.i3c_shared.specs.Values.{IntakeValue, Log, Reading, Recorded, Rings}
+use Rattle.i3c_recorder.specs.Values.{Recorded}
+use Rattle.i3c_shared.specs.Values.{IntakeValue, Log, Reading, Rings}
 
 -- the run grows by these events, and leads on
 pub record Adds (old : Recorded) (events : List Event) (new : Recorded) : Type 0 where

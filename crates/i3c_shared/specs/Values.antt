@@ -5,20 +5,7 @@ use Rattle.rtrb.specs.declared.consumer.Consumer.{Consumer}
 use Rattle.rtrb.specs.declared.producer.Producer.{Producer}
 use Rattle.rtrb.specs.declared.AnyItems.{AnyItems}
 use Rattle.i3c_base.specs.State.{State}
-use Rattle.i3c_shared.specs.declared.entry.Entry.{Entry}
-
--- a kept run, and the room that there is for more entries
-pub record Story : Type 0 where
-  pub entries : List Entry
-  pub spare : ℕ
-
--- a bus with the run that led to it from a start, and the room for one more record and for more entries
-pub record Recorded : Type 0 where
-  pub start : State
-  pub state : State
-  pub run : List Entry
-  pub room : Bool
-  pub spare : ℕ
+use Rattle.i3c_recorder.specs.declared.entry.Entry.{Entry}
 
 -- the end of a ring that posts are taken from, and the end that they go into
 abbrev pub Reading : Type 0

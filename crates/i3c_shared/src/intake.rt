@@ -5,16 +5,15 @@ ghost use Rattle.i3c_shared.specs.Rings.{AllDrained, AllFew, AllLooked, HasDrain
 ghost use Rattle.i3c_shared.specs.Taking.{Adds};
 ghost use Rattle.i3c_step.specs.Stays.{is_attached};
 ghost use Rattle.i3c_shared.specs.Beginning.{no_rings};
-ghost use Rattle.i3c_shared.specs.Values.{Recorded};
+ghost use Rattle.i3c_recorder.specs.Values.{Recorded};
 ghost use Rattle.i3c_shared.specs.declared.port.TheConstants.{POSTS};
 ghost use Rattle.i3c_base.specs.declared.range.TheConstants.{SLOTS};
 
 use crate::port::{POSTS, Port};
-use crate::recorder::Recorder;
-use crate::run::Run;
 use i3c_base::{Cuts, SLOTS, Setup, Slot};
 use i3c_bus::{Policy, Records};
 use i3c_frame::{Silent, Tap};
+use i3c_recorder::{Recorder, Run};
 use i3c_step::{Command, Event, OutOfMemory, Reply};
 use rtrb::Consumer;
 use std::alloc::{AllocError, Global};
@@ -60,7 +59,7 @@ impl Intake {
     ghost use Rattle.i3c_step.specs.declared.events.Event.{Event as EventValue};
     ghost use Rattle.i3c_step.specs.declared.replies.Reply.{Reply as ReplyValue};
     ghost use Rattle.i3c_shared.specs.Calls.{is_awaited};
-    ghost use Rattle.i3c_shared.specs.KeptRuns.{IsLegalTo, terms_of};
+    ghost use Rattle.i3c_recorder.specs.KeptRuns.{IsLegalTo, terms_of};
     ghost use Rattle.i3c_shared.specs.Ports.{AllPosted, AllWhole, IsFirstMissing, IsMissing, NoneMissing};
     ghost use Rattle.i3c_shared.specs.Raises.{raises_of};
     ghost use Rattle.i3c_shared.specs.Rings.{Fits, is_out};

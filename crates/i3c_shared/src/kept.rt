@@ -5,13 +5,12 @@ use crate::faults::{
 use crate::held::{HeldRole, HeldSession, spend_role};
 use crate::intake::{Intake, first_rings};
 use crate::port::{POSTS, Port, spend_ports};
-use crate::recorder::Recorder;
 use crate::replying::{asked, attached, dropped, ended, handed, opened, rounded};
-use crate::run::Run;
 use i3c_base::{Addr7, Cuts, RoundReply, Served, Setup, Slot};
 use i3c_bus::{Policy, Records};
 use i3c_frame::Tap;
 use i3c_legacy::Legacies;
+use i3c_recorder::{Recorder, Run};
 use i3c_step::{Command, Event, Reply};
 use rtrb::RingBuffer;
 use std::alloc::Global;

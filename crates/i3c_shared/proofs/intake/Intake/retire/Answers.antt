@@ -1,5 +1,5 @@
 use Rattle.std.proofs.Common.{◌∙◌, ap, subst}
-use Rattle.i3c_shared.specs.KeptRuns.{IsLegalTo}
+use Rattle.i3c_recorder.specs.KeptRuns.{IsLegalTo}
 use Rattle.i3c_shared.specs.Raises.{raises_of}
 use Rattle.i3c_shared.specs.Values.{IntakeValue}
 use Rattle.i3c_shared.proofs.Growing.{all_posted, takes_from}

@@ -1,0 +1,5 @@
+mod SameCuts
+mod Widened
+mod Terms
+pub mod Leading
+mod Starting

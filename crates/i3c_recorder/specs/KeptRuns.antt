@@ -1,0 +1,38 @@
+-- Runs as they are kept: a list of events with their replies.
+use Rattle.std.specs.Prelude.{ℕ, ◌+◌, List, [], ◌∷◌, map, Option, Some, None, if◌then◌else◌}
+use Rattle.i3c_base.specs.declared.device.Setup.{Setup}
+use Rattle.i3c_base.specs.declared.device.LegacyTarget.{LegacyTarget}
+use Rattle.i3c_base.specs.State.{IsStart, State}
+use Rattle.i3c_step.specs.declared.events.Event.{Event}
+use Rattle.i3c_step.specs.declared.replies.Reply.{Reply}
+use Rattle.i3c_step.specs.Runs.{IsLegalRun, IsRun}
+use Rattle.i3c_step.specs.Slots.{is_handed}
+use Rattle.i3c_recorder.specs.declared.entry.Entry.{Entry}
+
+abbrev pub events_of : List Entry → List Event
+events_of run = map (λ (e : Entry). e.event) run
+
+abbrev pub replies_of : List Entry → List Reply
+replies_of run = map (λ (e : Entry). e.reply) run
+
+-- the run leads from the one state to the other
+abbrev pub Leads : State → List Entry → State → Type 0
+Leads start run new = IsRun start (events_of run) (replies_of run) new
+
+-- a bus may start so
+abbrev pub IsBegun : State → Type 0
+IsBegun start = (main : Setup) × (legacy : List (Option LegacyTarget)) × IsStart main legacy start
+
+-- the run is legal from some start, and leads to this state
+abbrev pub IsLegalTo : List Entry → State → Type 0
+IsLegalTo run new = (main : Setup) × (legacy : List (Option LegacyTarget)) × IsLegalRun main legacy (events_of run) (replies_of run) new
+
+-- 1 where a handover was granted
+abbrev pub term_of : Option Reply → ℕ
+term_of None = 0
+term_of (Some reply) = if is_handed reply then 1 else 0
+
+-- how many handovers were granted in a run
+abbrev pub terms_of : List Entry → ℕ
+terms_of [] = 0
+terms_of (e ∷ run) = term_of (Some e.reply) + terms_of run

@@ -1,0 +1,4 @@
+pub mod Packing
+pub mod KeptRuns
+pub mod Values
+pub mod Beginning

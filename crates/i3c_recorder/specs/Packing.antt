@@ -1,0 +1,65 @@
+-- Entries as a run keeps them.
+use Rattle.std.specs.Prelude.{◌≡◌, ℕ, ◌<◌, List, map, slice_index_or, ⊤}
+use Rattle.i3c_base.specs.declared.answers.Answer.{Answer}
+use Rattle.i3c_base.specs.Cutting.{no_cuts}
+use Rattle.i3c_step.specs.declared.events.Event.{Event}
+use Rattle.i3c_step.specs.declared.replies.Reply.{Reply}
+use Rattle.i3c_recorder.specs.declared.entry.Entry.{Entry}
+use Rattle.i3c_recorder.specs.declared.packing.Brief.{Brief}
+use Rattle.i3c_recorder.specs.declared.packing.Said.{Said}
+use Rattle.i3c_recorder.specs.declared.packing.Packed.{Packed}
+
+-- the event that is kept in short
+abbrev pub event_in : Brief → Event
+event_in (Brief.Attach s pid bcr dcr willing) = Event.Attach s (record { identity = record { pid = pid; bcr = bcr; dcr = dcr }; willing = willing })
+event_in (Brief.DropOff s) = Event.DropOff s
+event_in (Brief.Raise s byte) = Event.Raise s byte
+event_in (Brief.AskJoin s) = Event.AskJoin s
+event_in (Brief.AskRole s) = Event.AskRole s
+event_in (Brief.Serve policy) = Event.Serve policy no_cuts
+event_in (Brief.Enec to kinds policy) = Event.Enec to kinds policy no_cuts
+event_in (Brief.Disec to kinds policy) = Event.Disec to kinds policy no_cuts
+event_in (Brief.Reset policy) = Event.Reset policy no_cuts
+event_in (Brief.SendList policy) = Event.SendList policy no_cuts
+event_in (Brief.ReadFrom a policy) = Event.ReadFrom a policy no_cuts
+event_in (Brief.HandOver to) = Event.HandOver to no_cuts
+event_in Brief.OpenDaa = Event.OpenDaa no_cuts
+event_in Brief.Round = Event.Round no_cuts
+event_in Brief.EndDaa = Event.EndDaa
+
+-- the reply that is kept in short
+abbrev pub reply_in : Said → Reply
+reply_in (Said.Refused why) = Reply.Refused why
+reply_in Said.OutOfMemory = Reply.OutOfMemory
+reply_in Said.Attached = Reply.Attached
+reply_in Said.Dropped = Reply.Dropped
+reply_in (Said.Raised number) = Reply.Raised number
+reply_in Said.Asked = Reply.Asked
+reply_in (Said.Served served) = Reply.Served served
+reply_in (Said.Done served) = Reply.Framed (record { served = served; answer = Answer.Done })
+reply_in (Said.NoAnswer served a) = Reply.Framed (record { served = served; answer = Answer.NoAnswer a })
+reply_in (Said.Opened served) = Reply.Opened served
+reply_in (Said.Handed served) = Reply.Handed served
+reply_in (Said.Round answer) = Reply.Round answer
+reply_in Said.Ended = Reply.Ended
+
+-- an entry, for places that no run has
+abbrev pub no_entry : Entry
+no_entry = record { event = Event.EndDaa; reply = Reply.Ended }
+
+-- the entry, among these wide ones
+abbrev pub entry_in : List Entry → Packed → Entry
+entry_in wide (Packed.Short brief said) = record { event = event_in brief; reply = reply_in said }
+entry_in wide (Packed.Wide at) = slice_index_or wide at no_entry
+
+abbrev pub entries_in : List Entry → List Packed → List Entry
+entries_in wide packed = map (entry_in wide) packed
+
+-- a wide entry's place is one of so many
+abbrev pub IsWithin : ℕ → Packed → Type 0
+IsWithin count (Packed.Short brief said) = ⊤
+IsWithin count (Packed.Wide at) = at < count
+
+-- the entry is this one in short
+abbrev pub IsShort : Brief × Said → Entry → Type 0
+IsShort short entry = entry ≡ record { event = event_in short.0; reply = reply_in short.1 }

@@ -1,0 +1,233 @@
+ghost use Rattle.std.specs.Prelude.{◌≡◌, IfOk, IsTrue, MatchOption, ⊤};
+ghost use Rattle.i3c_base.specs.Cutting.{no_cuts};
+ghost use Rattle.i3c_recorder.specs.Packing.{IsShort, event_in, reply_in};
+
+use crate::entry::Entry;
+use i3c_base::{
+    Addr7, Answer, Bcr, Cuts, Dcr, Fixed, Identity, Kinds, Pid, RoundReply, Served, Setup, Slot,
+};
+use i3c_step::{Event, Framed, Refusal, Reply};
+use std::alloc::AllocError;
+use std::mem::size_of;
+
+/// An event that cuts nobody and writes nothing, without its cuts.
+#[derive(Clone, Copy)]
+pub(crate) enum Brief {
+    /// The slot, and its device's setup: PID, BCR, DCR, and whether it is willing.
+    Attach(Slot, Pid, Bcr, Dcr, bool),
+    DropOff(Slot),
+    Raise(Slot, Option<u8>),
+    AskJoin(Slot),
+    AskRole(Slot),
+    Serve(Fixed),
+    Enec(Option<Addr7>, Kinds, Fixed),
+    Disec(Option<Addr7>, Kinds, Fixed),
+    Reset(Fixed),
+    SendList(Fixed),
+    ReadFrom(Addr7, Fixed),
+    HandOver(Addr7),
+    OpenDaa,
+    Round,
+    EndDaa,
+}
+
+/// A reply with no bytes in it.
+#[derive(Clone, Copy)]
+pub(crate) enum Said {
+    Refused(Refusal),
+    OutOfMemory,
+    Attached,
+    Dropped,
+    Raised(u64),
+    Asked,
+    Served(Served),
+    Done(Served),
+    NoAnswer(Served, Addr7),
+    Opened(Served),
+    Handed(Served),
+    Round(RoundReply),
+    Ended,
+}
+
+/// How a run keeps an entry: in short, or as the wide entry of this place.
+#[derive(Clone, Copy)]
+pub(crate) enum Packed {
+    Short(Brief, Said),
+    Wide(usize),
+}
+
+// Runs are kept by the million.
+const _: () = prove!(size_of::<Packed>() <= 64);
+
+/// Whether nobody is cut.
+fn cuts_nobody(cuts: &Cuts) -> bool
+    ensures { IsTrue result → cuts.now ≡ no_cuts }
+{
+    *cuts == Cuts::new()
+}
+
+/// The event in short, where it cuts nobody and writes nothing.
+pub(crate) fn brief_of(event: &Event) -> Option<Brief>
+    ensures { MatchOption result ⊤ (λ brief. event.now ≡ event_in brief) }
+{
+    match event {
+        Event::Attach(slot, setup) => {
+            let Identity { pid, bcr, dcr } = setup.identity;
+            Some(Brief::Attach(*slot, pid, bcr, dcr, setup.willing))
+        }
+        Event::DropOff(slot) => Some(Brief::DropOff(*slot)),
+        Event::Raise(slot, byte) => Some(Brief::Raise(*slot, *byte)),
+        Event::AskJoin(slot) => Some(Brief::AskJoin(*slot)),
+        Event::AskRole(slot) => Some(Brief::AskRole(*slot)),
+        Event::WriteTo(_, _, _, _) => None,
+        Event::EndDaa => Some(Brief::EndDaa),
+        _ => brief_frame(event),
+    }
+}
+
+/// The same, of a frame with cuts that writes nothing.
+fn brief_frame(event: &Event) -> Option<Brief>
+    ensures { MatchOption result ⊤ (λ brief. event.now ≡ event_in brief) }
+{
+    match event {
+        Event::Serve(policy, cuts) if cuts_nobody(cuts) => Some(Brief::Serve(*policy)),
+        Event::Enec(to, kinds, policy, cuts) if cuts_nobody(cuts) => {
+            Some(Brief::Enec(*to, *kinds, *policy))
+        }
+        Event::Disec(to, kinds, policy, cuts) if cuts_nobody(cuts) => {
+            Some(Brief::Disec(*to, *kinds, *policy))
+        }
+        Event::Reset(policy, cuts) if cuts_nobody(cuts) => Some(Brief::Reset(*policy)),
+        Event::SendList(policy, cuts) if cuts_nobody(cuts) => Some(Brief::SendList(*policy)),
+        Event::ReadFrom(from, policy, cuts) if cuts_nobody(cuts) => {
+            Some(Brief::ReadFrom(*from, *policy))
+        }
+        Event::HandOver(to, cuts) if cuts_nobody(cuts) => Some(Brief::HandOver(*to)),
+        Event::OpenDaa(cuts) if cuts_nobody(cuts) => Some(Brief::OpenDaa),
+        Event::Round(cuts) if cuts_nobody(cuts) => Some(Brief::Round),
+        _ => None,
+    }
+}
+
+/// The reply in short, where no bytes are in it.
+pub(crate) fn said_of(reply: &Reply) -> Option<Said>
+    ensures { MatchOption result ⊤ (λ said. reply.now ≡ reply_in said) }
+{
+    match reply {
+        Reply::Refused(why) => Some(Said::Refused(*why)),
+        Reply::OutOfMemory => Some(Said::OutOfMemory),
+        Reply::Attached => Some(Said::Attached),
+        Reply::Dropped => Some(Said::Dropped),
+        Reply::Raised(number) => Some(Said::Raised(*number)),
+        Reply::Asked => Some(Said::Asked),
+        Reply::Served(served) => Some(Said::Served(*served)),
+        Reply::Framed(framed) => match framed.answer {
+            Answer::Done => Some(Said::Done(framed.served)),
+            Answer::NoAnswer(address) => Some(Said::NoAnswer(framed.served, address)),
+            _ => None,
+        },
+        Reply::Opened(served) => Some(Said::Opened(*served)),
+        Reply::Handed(served) => Some(Said::Handed(*served)),
+        Reply::Round(answer) => Some(Said::Round(*answer)),
+        Reply::Ended => Some(Said::Ended),
+    }
+}
+
+/// The entry in short, where it can be kept so.
+pub(crate) fn in_short(entry: &Entry) -> Option<(Brief, Said)>
+    ensures { MatchOption result ⊤ (λ short. IsShort short entry.now) }
+{
+    let brief = brief_of(&entry.event)?;
+    let said = said_of(&entry.reply)?;
+    Some((brief, said))
+}
+
+/// The event that was kept in short.
+pub(crate) fn event_in(brief: &Brief) -> Event
+    ensures { result ≡ event_in brief.now }
+{
+    let cuts = Cuts::new();
+    match brief {
+        Brief::Attach(slot, pid, bcr, dcr, willing) => {
+            let identity = Identity {
+                pid: *pid,
+                bcr: *bcr,
+                dcr: *dcr,
+            };
+            Event::Attach(
+                *slot,
+                Setup {
+                    identity,
+                    willing: *willing,
+                },
+            )
+        }
+        Brief::DropOff(slot) => Event::DropOff(*slot),
+        Brief::Raise(slot, byte) => Event::Raise(*slot, *byte),
+        Brief::AskJoin(slot) => Event::AskJoin(*slot),
+        Brief::AskRole(slot) => Event::AskRole(*slot),
+        Brief::Serve(policy) => Event::Serve(*policy, cuts),
+        Brief::Enec(to, kinds, policy) => Event::Enec(*to, *kinds, *policy, cuts),
+        Brief::Disec(to, kinds, policy) => Event::Disec(*to, *kinds, *policy, cuts),
+        Brief::Reset(policy) => Event::Reset(*policy, cuts),
+        Brief::SendList(policy) => Event::SendList(*policy, cuts),
+        Brief::ReadFrom(from, policy) => Event::ReadFrom(*from, *policy, cuts),
+        Brief::HandOver(to) => Event::HandOver(*to, cuts),
+        Brief::OpenDaa => Event::OpenDaa(cuts),
+        Brief::Round => Event::Round(cuts),
+        Brief::EndDaa => Event::EndDaa,
+    }
+}
+
+/// The reply that was kept in short.
+pub(crate) fn reply_in(said: &Said) -> Reply
+    ensures { result ≡ reply_in said.now }
+{
+    match said {
+        Said::Refused(why) => Reply::Refused(*why),
+        Said::OutOfMemory => Reply::OutOfMemory,
+        Said::Attached => Reply::Attached,
+        Said::Dropped => Reply::Dropped,
+        Said::Raised(number) => Reply::Raised(*number),
+        Said::Asked => Reply::Asked,
+        Said::Served(served) => Reply::Served(*served),
+        Said::Done(served) => Reply::Framed(Framed {
+            served: *served,
+            answer: Answer::Done,
+        }),
+        Said::NoAnswer(served, address) => Reply::Framed(Framed {
+            served: *served,
+            answer: Answer::NoAnswer(*address),
+        }),
+        Said::Opened(served) => Reply::Opened(*served),
+        Said::Handed(served) => Reply::Handed(*served),
+        Said::Round(answer) => Reply::Round(*answer),
+        Said::Ended => Reply::Ended,
+    }
+}
+
+/// The same event once more.
+pub(crate) fn copied(event: &Event) -> Result<Event, AllocError>
+    ensures { IfOk result (λ copy. copy ≡ event.now) }
+{
+    Ok(match event {
+        Event::Attach(slot, setup) => Event::Attach(*slot, *setup),
+        Event::DropOff(slot) => Event::DropOff(*slot),
+        Event::Raise(slot, byte) => Event::Raise(*slot, *byte),
+        Event::AskJoin(slot) => Event::AskJoin(*slot),
+        Event::AskRole(slot) => Event::AskRole(*slot),
+        Event::Serve(policy, cuts) => Event::Serve(*policy, cuts.clone()?),
+        Event::Enec(to, kinds, policy, cuts) => Event::Enec(*to, *kinds, *policy, cuts.clone()?),
+        Event::Disec(to, kinds, policy, cuts) => Event::Disec(*to, *kinds, *policy, cuts.clone()?),
+        Event::Reset(policy, cuts) => Event::Reset(*policy, cuts.clone()?),
+        Event::SendList(policy, cuts) => Event::SendList(*policy, cuts.clone()?),
+        Event::ReadFrom(from, policy, cuts) => Event::ReadFrom(*from, *policy, cuts.clone()?),
+        Event::WriteTo(to, bytes, policy, cuts) => {
+            Event::WriteTo(*to, bytes.clone()?, *policy, cuts.clone()?)
+        }
+        Event::HandOver(to, cuts) => Event::HandOver(*to, cuts.clone()?),
+        Event::OpenDaa(cuts) => Event::OpenDaa(cuts.clone()?),
+        Event::Round(cuts) => Event::Round(cuts.clone()?),
+        Event::EndDaa => Event::EndDaa,
+    })
+}
