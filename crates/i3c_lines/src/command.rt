@@ -26,7 +26,7 @@ pub struct Choice {
 }
 
 /// A line that is one event of the bus, with the names as they stand there.
-#[derive(Clone, Drop)]
+#[derive(Drop)]
 pub enum Wish {
     /// `attach NAME PID BCR DCR [decline]`: a device enters the lowest free slot.
     Attach {
@@ -264,28 +264,32 @@ impl Command {
     // kept apart, so that no other line pays for the room that these take on the stack
     #[inline(never)]
     fn read_words(&mut self, line: &[u8]) -> Option<()> {
-        let words = &mut Words::of(line);
-        *self = match words.next()? {
-            b"handover" => parse_handover(words)?,
-            b"policy" => parse_policy(words)?,
-            b"cut" => parse_cut(words)?,
-            b"attach" => parse_attach(words)?,
-            b"drop" => parse_drop(words)?,
-            b"ask-join" => parse_ask_join(words)?,
-            b"ask-role" => parse_ask_role(words)?,
-            b"main" => parse_main(words)?,
-            b"legacy" => parse_legacy(words)?,
-            _ => return None,
-        };
+        *self = parse_words(&mut Words::of(line))?;
         Some(())
+    }
+}
+
+/// The command of several words that has this first word, if the others have its form.
+fn parse_words(words: &mut Words<'_>) -> Option<Command> {
+    match words.next()? {
+        b"handover" => parse_handover(words),
+        b"policy" => parse_policy(words),
+        b"cut" => parse_cut(words),
+        b"attach" => parse_attach(words),
+        b"drop" => parse_drop(words),
+        b"ask-join" => parse_ask_join(words),
+        b"ask-role" => parse_ask_role(words),
+        b"main" => parse_main(words),
+        b"legacy" => parse_legacy(words),
+        _ => None,
     }
 }
 
 /// The words of `legacy`.
 fn parse_legacy(words: &mut Words<'_>) -> Option<Command> {
-    let name = Name::parse(words.next()?)?;
+    let name = parse_name(words)?;
     let address = words::address(words.next()?)?;
-    let lvr = Lvr(words::byte(words.next()?)?);
+    let lvr = Lvr(parse_byte(words)?);
     words.end()?;
     Some(Command::Legacy { name, address, lvr })
 }
@@ -304,38 +308,64 @@ fn parse_attach(words: &mut Words<'_>) -> Option<Command> {
 
 /// The words of a device: its name and its identity, and `decline` if it doesn't take the controller role.
 fn parse_device(words: &mut Words<'_>) -> Option<(Name, Setup)> {
-    let name = Name::parse(words.next()?)?;
-    let pid = words::pid(words.next()?)?;
-    let bcr = Bcr(words::byte(words.next()?)?);
-    let dcr = Dcr(words::byte(words.next()?)?);
-    let identity = Identity { pid, bcr, dcr };
-    let willing = match words.next() {
-        None => true,
-        Some(b"decline") => false,
-        Some(_) => return None,
-    };
-    words.end()?;
+    let name = parse_name(words)?;
+    let identity = parse_identity(words)?;
+    let willing = parse_willing(words)?;
     Some((name, Setup { identity, willing }))
+}
+
+/// Three words, which are an identity.
+fn parse_identity(words: &mut Words<'_>) -> Option<Identity> {
+    let pid = words::pid(words.next()?)?;
+    let bcr = Bcr(parse_byte(words)?);
+    let dcr = Dcr(parse_byte(words)?);
+    Some(Identity { pid, bcr, dcr })
+}
+
+/// Whether a device takes the controller role: the last word of its line, if there is one.
+fn parse_willing(words: &mut Words<'_>) -> Option<bool> {
+    match words.next() {
+        None => Some(true),
+        Some(b"decline") => {
+            words.end()?;
+            Some(false)
+        }
+        Some(_) => None,
+    }
+}
+
+/// The next word, which is a name.
+fn parse_name(words: &mut Words<'_>) -> Option<Name> {
+    Name::parse(words.next()?)
+}
+
+/// The last word, which is a name.
+fn parse_last_name(words: &mut Words<'_>) -> Option<Name> {
+    let name = parse_name(words)?;
+    words.end()?;
+    Some(name)
+}
+
+/// The next word, which is a byte.
+fn parse_byte(words: &mut Words<'_>) -> Option<u8> {
+    words::byte(words.next()?)
 }
 
 /// The word of `drop`: a name.
 fn parse_drop(words: &mut Words<'_>) -> Option<Command> {
-    let name = Name::parse(words.next()?)?;
-    words.end()?;
+    let name = parse_last_name(words)?;
     Some(Command::Event(Wish::DropOff { name }))
 }
 
 /// The word of `ask-join`: a name.
 fn parse_ask_join(words: &mut Words<'_>) -> Option<Command> {
-    let name = Name::parse(words.next()?)?;
-    words.end()?;
+    let name = parse_last_name(words)?;
     Some(Command::Event(Wish::AskJoin { name }))
 }
 
 /// The word of `ask-role`: a name.
 fn parse_ask_role(words: &mut Words<'_>) -> Option<Command> {
-    let name = Name::parse(words.next()?)?;
-    words.end()?;
+    let name = parse_last_name(words)?;
     Some(Command::Event(Wish::AskRole { name }))
 }
 
@@ -356,7 +386,7 @@ fn parse_policy(words: &mut Words<'_>) -> Option<Command> {
 
 /// The words of `cut`: a name and a bit.
 fn parse_cut(words: &mut Words<'_>) -> Option<Command> {
-    let name = Name::parse(words.next()?)?;
+    let name = parse_name(words)?;
     let bit = words::bit(words.next()?)?;
     words.end()?;
     Some(Command::Cut { name, bit })

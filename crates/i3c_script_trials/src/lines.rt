@@ -31,26 +31,63 @@ fn names_of_devices_that_are_gone(rt: HostRuntime) -> Result<(), Fail> {
     let second = Name::parse(b"u").ok_or("a name")?;
     let (one, two) = (Slot::new(1)?, Slot::new(2)?);
     let mut names = Names::new(rt.alloc());
-    stands(&rt, &names, &first, Err(Refusal::NoName));
-    holds(&rt, names.in_slot(one).is_none(), "nobody was in slot 1");
-    give(&mut names, &first, one)?;
-    give(&mut names, &first, one)?;
-    stands(&rt, &names, &first, Ok(one));
-    give(&mut names, &second, one)?;
-    stands(&rt, &names, &first, Err(Refusal::NoDevice));
-    stands(&rt, &names, &second, Ok(one));
-    is_called(&rt, &names, one, &second);
-    give(&mut names, &first, two)?;
-    stands(&rt, &names, &first, Ok(two));
-    stands(&rt, &names, &second, Ok(one));
-    // a name that was given to another slot stands there, though its old slot is taken by a new name
-    give(&mut names, &second, two)?;
-    give(&mut names, &first, one)?;
-    stands(&rt, &names, &first, Ok(one));
-    stands(&rt, &names, &second, Ok(two));
-    is_called(&rt, &names, one, &first);
-    is_called(&rt, &names, two, &second);
-    Ok(())
+    let trial = &Two {
+        first,
+        second,
+        one,
+        two,
+    };
+    trial.one_slot(&rt, &mut names)?;
+    trial.two_slots(&rt, &mut names)?;
+    trial.slots_exchanged(&rt, &mut names)
+}
+
+/// Two names, and two slots.
+#[derive(Drop)]
+struct Two {
+    first: Name,
+    second: Name,
+    one: Slot,
+    two: Slot,
+}
+
+impl Two {
+    // The second device takes the slot of the first.
+    fn one_slot(&self, rt: &impl Abort, names: &mut Names) -> Result<(), Fail> {
+        stands(rt, names, &self.first, Err(Refusal::NoName));
+        holds(
+            rt,
+            names.in_slot(self.one).is_none(),
+            "nobody was in slot 1",
+        );
+        give(names, &self.first, self.one)?;
+        give(names, &self.first, self.one)?;
+        stands(rt, names, &self.first, Ok(self.one));
+        give(names, &self.second, self.one)?;
+        stands(rt, names, &self.first, Err(Refusal::NoDevice));
+        stands(rt, names, &self.second, Ok(self.one));
+        is_called(rt, names, self.one, &self.second);
+        Ok(())
+    }
+
+    // The first comes again, in another slot.
+    fn two_slots(&self, rt: &impl Abort, names: &mut Names) -> Result<(), Fail> {
+        give(names, &self.first, self.two)?;
+        stands(rt, names, &self.first, Ok(self.two));
+        stands(rt, names, &self.second, Ok(self.one));
+        Ok(())
+    }
+
+    // A name that was given to another slot stands there, though its old slot is taken by a new name.
+    fn slots_exchanged(&self, rt: &impl Abort, names: &mut Names) -> Result<(), Fail> {
+        give(names, &self.second, self.two)?;
+        give(names, &self.first, self.one)?;
+        stands(rt, names, &self.first, Ok(self.one));
+        stands(rt, names, &self.second, Ok(self.two));
+        is_called(rt, names, self.one, &self.first);
+        is_called(rt, names, self.two, &self.second);
+        Ok(())
+    }
 }
 
 // Refusals that no line comes to today, or at another address.

@@ -83,28 +83,35 @@ fn long_lines(rt: HostRuntime) -> Result<(), Fail> {
         ('d', 256, "refused BadLine\n"),
         ('d', 257, "refused BadLine\n"),
     ] {
-        let mut script = String::new(rt.alloc());
-        script.push(first)?;
-        for _ in 1..length {
-            script.push('a')?;
-        }
-        let (printed, _) = run(rt.alloc(), script.as_bytes());
-        same_in(
-            &rt,
-            format_args!("{first} {length}"),
-            printed.as_slice(),
-            wanted.as_bytes(),
-        );
-        script.push_str("\ndaa\n")?;
-        let (printed, _) = run(rt.alloc(), script.as_bytes());
-        let wanted = format!(in rt.alloc(); "{wanted}refused NoBus\n")?;
-        same_in(
-            &rt,
-            format_args!("{first} {length}"),
-            printed.as_slice(),
-            wanted.as_bytes(),
-        );
+        let line = long_line(rt.alloc(), first, length)?;
+        alone_and_not_last(&rt, rt.alloc(), line.as_str(), wanted)?;
     }
+    Ok(())
+}
+
+/// A line of so many bytes.
+fn long_line(alloc: Global, first: char, length: usize) -> Result<String, Fail> {
+    let mut line = String::new(alloc);
+    line.push(first)?;
+    for _ in 1..length {
+        line.push('a')?;
+    }
+    Ok(line)
+}
+
+/// A line prints this where it is the last one, and where another one follows.
+fn alone_and_not_last(
+    rt: &impl Abort,
+    alloc: Global,
+    line: &str,
+    wanted: &str,
+) -> Result<(), Fail> {
+    let (printed, _) = run(alloc, line.as_bytes());
+    same_in(rt, line, printed.as_slice(), wanted.as_bytes());
+    let script = format!(in alloc; "{line}\ndaa\n")?;
+    let wanted = format!(in alloc; "{wanted}refused NoBus\n")?;
+    let (printed, _) = run(alloc, script.as_bytes());
+    same_in(rt, line, printed.as_slice(), wanted.as_bytes());
     Ok(())
 }
 
@@ -343,31 +350,51 @@ fn one_read_fails(rt: HostRuntime) -> Result<(), Fail> {
     Ok(())
 }
 
-// Five hundred interrupts are recorded, each under its number.
-#[test]
-fn many_records(rt: HostRuntime) -> Result<(), Fail> {
-    let alloc = rt.alloc();
+/// So many interrupts that are raised and served, as a script's lines.
+fn served(alloc: Global, count: u64) -> Result<String, Fail> {
     let mut script = String::new(alloc);
-    let mut wanted = String::new(alloc);
-    for number in 1..501 {
-        writeln!(script, "raise t {:02X}", number % 256)?;
-        writeln!(script, "serve")?;
-        writeln!(wanted, "raised {number}")?;
-        writeln!(wanted, "recorded {number}")?;
+    for number in 1..=count {
+        write!(script, "raise t {:02X}\nserve\n", number % 256)?;
     }
-    script.push_str("show\n")?;
-    wanted.push_str("active 08\nhub 08 waiting 0\nt 09 waiting 0\nrecords 500\n")?;
-    for number in 1..501 {
+    Ok(script)
+}
+
+/// What these lines print.
+fn served_lines(alloc: Global, count: u64) -> Result<String, Fail> {
+    let mut wanted = String::new(alloc);
+    for number in 1..=count {
+        write!(wanted, "raised {number}\nrecorded {number}\n")?;
+    }
+    Ok(wanted)
+}
+
+/// What `show` prints of their records.
+fn record_lines(alloc: Global, count: u64) -> Result<String, Fail> {
+    let mut wanted = String::new(alloc);
+    for number in 1..=count {
         let byte = number % 256;
         writeln!(
             wanted,
             "record {number} slot 1 raise {number} at 09 byte {byte:02X}"
         )?;
     }
-    let script = format!(in alloc; "{TARGET}daa\n{script}")?;
-    let wanted = format!(in alloc; "{TARGET_LINES}{wanted}")?;
+    Ok(wanted)
+}
+
+// Five hundred interrupts are recorded, each under its number.
+#[test]
+fn many_records(rt: HostRuntime) -> Result<(), Fail> {
+    let alloc = rt.alloc();
+    let served = served(alloc, 500)?;
+    let script = format!(in alloc; "{TARGET}daa\n{served}show\n")?;
+    let served = served_lines(alloc, 500)?;
+    let records = record_lines(alloc, 500)?;
+    let wanted = format!(in alloc; "{TARGET_LINES}{served}{SHOWN}{records}")?;
     goes_on(&rt, alloc, script.as_str(), wanted.as_str(), 0)
 }
+
+/// What `show` prints before five hundred records of one device.
+const SHOWN: &str = "active 08\nhub 08 waiting 0\nt 09 waiting 0\nrecords 500\n";
 
 // What `symbols` prints of 42 sessions, of six symbols each, is a trace of as many.
 #[test]

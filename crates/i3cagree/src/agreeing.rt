@@ -274,29 +274,56 @@ fn one_cut(
     verdict: &mut Verdict,
 ) -> Result<(), Fault> {
     let _ = KNOWN;
-    let count = script.events.len();
-    let mut choices = all_heard(alloc, count)?;
     put(script, place.at, place.cuts());
     let ran = [
         on_bus(alloc, script, place.at.saturating_add(1))?,
-        on_bus(alloc, script, count)?,
+        on_bus(alloc, script, script.events.len())?,
     ];
-    verdict.cuts = verdict.cuts.saturating_add(1);
-    if ran[0].replies.last().is_some_and(|reply| is_twofold(reply)) {
-        verdict.twofold = verdict.twofold.saturating_add(1);
-    }
-    if choice_for(alloc, script, &mut choices, place.at, &ran, Measure::Whole)?.is_none() {
-        let measure = Measure::ButBytes;
-        if place.shared
-            && choice_for(alloc, script, &mut choices, place.at, &ran, measure)?.is_some()
-        {
-            verdict.open = verdict.open.saturating_add(1);
-        } else {
-            verdict.disagreements.push(Disagreement::Cut(place))?;
-        }
-    }
+    judge_cut(alloc, script, place, &ran, verdict)?;
     put(script, place.at, Cuts::new());
     Ok(())
+}
+
+/// Counts a cut, and what no choice of the plain machine can answer of the runs with it.
+fn judge_cut(
+    alloc: Global,
+    script: &Script,
+    place: Place,
+    ran: &[Ran],
+    verdict: &mut Verdict,
+) -> Result<(), Fault> {
+    let _ = KNOWN;
+    verdict.cuts = verdict.cuts.saturating_add(1);
+    if ran.first().is_some_and(|run| ends_twofold(run)) {
+        verdict.twofold = verdict.twofold.saturating_add(1);
+    }
+    if is_chosen(alloc, script, place.at, ran, Measure::Whole)? {
+        return Ok(());
+    }
+    if place.shared && is_chosen(alloc, script, place.at, ran, Measure::ButBytes)? {
+        verdict.open = verdict.open.saturating_add(1);
+        return Ok(());
+    }
+    verdict.disagreements.push(Disagreement::Cut(place))?;
+    Ok(())
+}
+
+/// Whether one of the choices at an event has the plain machine come to these runs, all else being heard.
+fn is_chosen(
+    alloc: Global,
+    script: &Script,
+    at: usize,
+    ran: &[Ran],
+    measure: Measure,
+) -> Result<bool, Fault> {
+    let _ = KNOWN;
+    let mut choices = all_heard(alloc, script.events.len())?;
+    Ok(choice_for(alloc, script, &mut choices, at, ran, measure)?.is_some())
+}
+
+/// Whether the last reply of a run leaves two questions open.
+fn ends_twofold(run: &Ran) -> bool {
+    run.replies.last().is_some_and(|reply| is_twofold(reply))
 }
 
 /// Gives an event these cuts.

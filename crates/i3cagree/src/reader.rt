@@ -22,26 +22,62 @@ struct Running {
 
 /// The script of a text, if it has a bus. Lines that ask for no event are passed over.
 pub(crate) fn read_script(alloc: Global, text: &[u8]) -> Result<Option<Script>, Fault> {
-    let mut names = Names::new(alloc);
-    let mut declared = Vec::new(alloc);
-    let mut running = None;
+    let mut reading = Reading::new(alloc);
     for line in text.split(|byte| *byte == b'\n') {
-        let Ok(Some(command)) = read_line(line) else {
-            Running::note(&mut running, line);
-            continue;
-        };
-        match &mut running {
-            Some(bus) => Running::obey(bus, &mut names, &command)?,
-            None => running = begin(alloc, &mut names, &mut declared, &command)?,
+        reading.read(line)?;
+    }
+    reading.end()
+}
+
+/// A text that is read line by line.
+#[derive(Drop)]
+struct Reading {
+    alloc: Global,
+    names: Names,
+    // the legacy targets that came before the bus
+    declared: Vec<(Addr7, Lvr)>,
+    running: Option<Running>,
+}
+
+impl Reading {
+    fn new(alloc: Global) -> Reading {
+        Reading {
+            alloc,
+            names: Names::new(alloc),
+            declared: Vec::new(alloc),
+            running: None,
         }
     }
-    match running {
-        Some(mut bus) => {
-            bus.script.own = bus.script.events.len();
-            bus.ask_on(alloc)?;
-            Ok(Some(bus.script))
+
+    fn read(&mut self, line: &[u8]) -> Result<(), Fault> {
+        let Ok(Some(command)) = read_line(line) else {
+            Running::note(&mut self.running, line);
+            return Ok(());
+        };
+        self.obey(&command)
+    }
+
+    fn obey(&mut self, command: &Command) -> Result<(), Fault> {
+        match &mut self.running {
+            Some(bus) => bus.obey(&mut self.names, command),
+            None => {
+                self.running = begin(self.alloc, &mut self.names, &mut self.declared, command)?;
+                Ok(())
+            }
         }
-        None => Ok(None),
+    }
+
+    // What was read, and then what shows more of it.
+    fn end(self) -> Result<Option<Script>, Fault> {
+        let Reading { alloc, running, .. } = self;
+        match running {
+            Some(mut bus) => {
+                bus.script.own = bus.script.events.len();
+                bus.ask_on(alloc)?;
+                Ok(Some(bus.script))
+            }
+            None => Ok(None),
+        }
     }
 }
 

@@ -1,6 +1,7 @@
 use crate::agreeing::{Verdict, judge};
 use crate::faults::Fault;
 use crate::reader::read_script;
+use crate::script::Script;
 use std::rt::{Env, Files};
 use std::{env, fs, io};
 
@@ -33,14 +34,23 @@ fn done<R: Env + Files + Print + AllocGlobal>(rt: &R) -> Result<u8, Fault> {
     let Some(first) = words.next() else {
         return Err(Fault::Usage);
     };
-    let Some(second) = words.next() else {
-        return compared(rt, &first);
-    };
-    if first.as_str() == CHOICES && words.next().is_none() {
-        chosen(rt, &second)?;
-        Ok(AGREE)
-    } else {
-        Err(Fault::Usage)
+    let second = words.next();
+    if words.next().is_some() {
+        return Err(Fault::Usage);
+    }
+    asked(rt, &first, &second)
+}
+
+/// Does what one word asks for, or two.
+fn asked<R: Files + Print + AllocGlobal>(
+    rt: &R,
+    first: &str,
+    second: &Option<String>,
+) -> Result<u8, Fault> {
+    match second {
+        None => compared(rt, first),
+        Some(file) if first == CHOICES => chosen(rt, file),
+        Some(_) => Err(Fault::Usage),
     }
 }
 
@@ -60,13 +70,19 @@ fn compared<R: Files + Print + AllocGlobal>(rt: &R, file: &str) -> Result<u8, Fa
 }
 
 /// Prints the plain machine's replies to the events whose choice a comment says.
-fn chosen<R: Files + Print + AllocGlobal>(rt: &R, file: &str) -> Result<(), Fault> {
+fn chosen<R: Files + Print + AllocGlobal>(rt: &R, file: &str) -> Result<u8, Fault> {
     let text = fs::read(rt, file)?;
     if let Some(script) = read_script(rt.alloc(), &text)? {
-        for (reply, is_said) in script.replies.iter().zip(script.said.as_slice()) {
-            if *is_said {
-                println!(rt; "{reply:?}")?;
-            }
+        tell_said(rt, &script)?;
+    }
+    Ok(AGREE)
+}
+
+/// Prints the replies whose choice was said.
+fn tell_said<R: Print>(rt: &R, script: &Script) -> io::Result<()> {
+    for (reply, is_said) in script.replies.iter().zip(script.said.as_slice()) {
+        if *is_said {
+            println!(rt; "{reply:?}")?;
         }
     }
     Ok(())

@@ -124,48 +124,74 @@ fn script_given<'a>(matches: &ArgMatches<'a>) -> Option<&'a str> {
 
 /// What the command line may ask for.
 fn commands<'a>(alloc: Global) -> Result<Command<'a>, Fault> {
-    let script = file_argument(alloc, "The script, or - for standard input");
+    let program = with_files(alloc, program(alloc)?)?;
+    Ok(program.subcommand(stress_command(alloc)?)?)
+}
+
+/// The program, without its commands.
+fn program<'a>(alloc: Global) -> Result<Command<'a>, Fault> {
+    let program = Command::new(alloc, PROGRAM).bin_name(PROGRAM)?;
+    Ok(
+        program
+            .about("Runs scripts over an I3C bus, and reads traces of one")
+            .after_help(TEACHING)
+            .no_binary_name(true)
+            .subcommand_required(true),
+    )
+}
+
+/// The program with the commands that take a file.
+fn with_files<'a>(alloc: Global, program: Command<'a>) -> Result<Command<'a>, Fault> {
+    let with_scripts = program.subcommand(run_command(alloc)?)?;
+    Ok(with_scripts.subcommand(trace_command(alloc)?)?)
+}
+
+/// The command that runs a script.
+fn run_command<'a>(alloc: Global) -> Result<Command<'a>, Fault> {
     let run = Command::new(alloc, RUN)
         .about("Runs a script")
-        .after_help(TEACHING)
-        .arg(script)?;
-    let wires = file_argument(alloc, "The trace, or - for standard input");
-    let trace = Command::new(alloc, TRACE)
-        .about("Tells what a trace says: symbols as the line 'symbols' of a script prints them")
-        .arg(wires)?;
-    let command = Command::new(alloc, PROGRAM)
-        .bin_name(PROGRAM)?
-        .about("Runs scripts over an I3C bus, and reads traces of one")
-        .after_help(TEACHING)
-        .no_binary_name(true)
-        .subcommand_required(true)
-        .subcommand(run)?
-        .subcommand(trace)?
-        .subcommand(stress_command(alloc)?)?;
-    Ok(command)
+        .after_help(TEACHING);
+    Ok(run.arg(file_argument(alloc, "The script, or - for standard input"))?)
+}
+
+/// The command that reads a trace.
+fn trace_command<'a>(alloc: Global) -> Result<Command<'a>, Fault> {
+    let trace = Command::new(alloc, TRACE).about(
+        "Tells what a trace says: symbols as the line 'symbols' of a script prints them",
+    );
+    Ok(trace.arg(file_argument(alloc, "The trace, or - for standard input"))?)
 }
 
 /// The command with threads.
 fn stress_command<'a>(alloc: Global) -> Result<Command<'a>, Fault> {
-    let devices = Arg::new(alloc, DEVICES)
+    let stress = Command::new(alloc, STRESS).about(
+        "Lets devices post from threads of their own, and checks that each post is accounted for",
+    );
+    Ok(
+        stress
+            .arg(devices_argument(alloc))?
+            .arg(posts_argument(alloc))?,
+    )
+}
+
+/// How many devices post.
+fn devices_argument<'a>(alloc: Global) -> Arg<'a> {
+    Arg::new(alloc, DEVICES)
         .long(DEVICES)
         .required(true)
         .value_name("N")
         .help("How many devices post, 1 to 15")
-        .value_parser(value_parser!(u8).range(1..=i64::from(MOST_DEVICES)));
-    let posts = Arg::new(alloc, POSTS)
+        .value_parser(value_parser!(u8).range(1..=i64::from(MOST_DEVICES)))
+}
+
+/// How often each of them tries to.
+fn posts_argument<'a>(alloc: Global) -> Arg<'a> {
+    Arg::new(alloc, POSTS)
         .long(POSTS)
         .required(true)
         .value_name("M")
         .help("How often each tries to, 1 to 100000")
-        .value_parser(value_parser!(u32).range(1..=i64::from(MOST_POSTS)));
-    let stress = Command::new(alloc, STRESS)
-        .about(
-            "Lets devices post from threads of their own, and checks that each post is accounted for",
-        )
-        .arg(devices)?
-        .arg(posts)?;
-    Ok(stress)
+        .value_parser(value_parser!(u32).range(1..=i64::from(MOST_POSTS)))
 }
 
 /// The argument of both commands.

@@ -4,7 +4,9 @@ ghost use Rattle.std.specs.Prelude.{◌<◌};
 
 use crate::checks::holds;
 use crate::script::{HUB, HUB_LINE, prints, run};
+use std::alloc::Global;
 use std::io::Write;
+use std::process::Abort;
 use std::str;
 use std::test::Fail;
 
@@ -21,51 +23,66 @@ fn usable_address(before: u8) -> u8
     }
 }
 
-// Devices come to slot 1 one after the other, and each gets an address that nobody had before. The main controller has
-// the first, so the 107th device gets the last. From then on no round sends a bit.
+/// How many devices get an address before the last one.
+const DEVICES: u8 = 106;
+
+/// Devices come to slot 1 one after the other, as a script's lines.
+fn coming(alloc: Global) -> Result<String, Fail> {
+    let mut script = String::new(alloc);
+    for number in 1..=DEVICES {
+        write!(
+            script,
+            "attach d 0204000100{number:02X} 06 44\ndaa\ndrop d\n"
+        )?;
+    }
+    Ok(script)
+}
+
+/// What these lines print: each gets an address that nobody had before.
+fn coming_lines(alloc: Global) -> Result<String, Fail> {
+    let mut wanted = String::new(alloc);
+    for number in 1..=DEVICES {
+        let address = usable_address(number);
+        write!(
+            wanted,
+            "d slot 1\nassigned {address:02X} 0204000100{number:02X} 06 44\ndone\ndropped\n"
+        )?;
+    }
+    Ok(wanted)
+}
+
+/// The last address is given, and then there is none.
+const LAST: &str = "attach d 02040001006B 06 44\nopen\nround\nround\nend\ndrop d\n\
+    attach d 02040001006C 06 44\ndaa\nshow\nsymbols\n";
+
+/// What that prints, but for the symbols.
+const LAST_LINES: &str =
+    "d slot 1\nopen\nassigned 77 02040001006B 06 44\nrefused NoAddress\nended\ndropped\n\
+    d slot 1\nrefused NoAddress\nactive 08\nhub 08 waiting 0\nd -- waiting 0\nrecords 0\n";
+
+/// The last symbols.
+const WIRE: &str = " Sr 7E/R- P S 7E/W+ 07.0 Sr 7E/R+ =02040001006B0644 @EF+ P S 7E/W+ 07.0 P";
+
+// The main controller has the first address, so the 107th device gets the last. From then on no round sends a bit.
 #[test]
 fn addresses_run_out(rt: HostRuntime) -> Result<(), Fail> {
     let alloc = rt.alloc();
-    let mut script = String::from_str(alloc, HUB)?;
-    let mut wanted = String::from_str(alloc, HUB_LINE)?;
-    for number in 1..107u8 {
-        let address = usable_address(number);
-        writeln!(script, "attach d 0204000100{number:02X} 06 44")?;
-        script.push_str("daa\ndrop d\n")?;
-        writeln!(
-            wanted,
-            "d slot 1\nassigned {address:02X} 0204000100{number:02X} 06 44"
-        )?;
-        wanted.push_str("done\ndropped\n")?;
-    }
-    // the 53rd and the 54th, beside an address that is left out
-    holds(
-        &rt,
-        wanted.contains("assigned 3D 020400010035 06 44\n"),
-        "the 53rd has 3D",
-    );
-    holds(
-        &rt,
-        wanted.contains("assigned 3F 020400010036 06 44\n"),
-        "the 54th has 3F",
-    );
-    script.push_str(
-        "attach d 02040001006B 06 44\nopen\nround\nround\nend\ndrop d\n\
-        attach d 02040001006C 06 44\ndaa\nshow\nsymbols\n",
-    )?;
-    wanted.push_str(
-        "d slot 1\nopen\nassigned 77 02040001006B 06 44\nrefused NoAddress\nended\ndropped\n\
-        d slot 1\nrefused NoAddress\nactive 08\nhub 08 waiting 0\nd -- waiting 0\nrecords 0\n",
-    )?;
+    let coming = coming(alloc)?;
+    let script = format!(in alloc; "{HUB}{coming}{LAST}")?;
+    let lines = coming_lines(alloc)?;
+    left_out(&rt, lines.as_str());
     let (printed, _) = run(alloc, script.as_bytes());
-    let printed = str::from_utf8(&printed)?;
-    let wire = printed.lines().last().ok_or("a line")?;
-    holds(
-        &rt,
-        wire.ends_with(" Sr 7E/R- P S 7E/W+ 07.0 Sr 7E/R+ =02040001006B0644 @EF+ P S 7E/W+ 07.0 P"),
-        wire,
-    );
-    writeln!(wanted, "{wire}")?;
+    let wire = str::from_utf8(&printed)?.lines().last().ok_or("a line")?;
+    holds(&rt, wire.ends_with(WIRE), wire);
+    let wanted = format!(in alloc; "{HUB_LINE}{lines}{LAST_LINES}{wire}\n")?;
     prints(&rt, alloc, script.as_str(), wanted.as_str(), 2);
     Ok(())
+}
+
+/// The 53rd and the 54th device stand beside an address that is left out.
+fn left_out(rt: &impl Abort, lines: &str) {
+    let is_before = lines.contains("assigned 3D 020400010035 06 44\n");
+    holds(rt, is_before, "the 53rd has 3D");
+    let is_behind = lines.contains("assigned 3F 020400010036 06 44\n");
+    holds(rt, is_behind, "the 54th has 3F");
 }
