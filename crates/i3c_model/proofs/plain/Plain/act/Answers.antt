@@ -29,3 +29,42 @@ returns-in-ReadFrom-clause-chosen c = rw c.in-ReadFrom.is c.read.ensures.chosen
 
 pub returns-in-WriteTo-clause-chosen : goal.returns-in-WriteTo-clause-chosen
 returns-in-WriteTo-clause-chosen c = rw c.in-WriteTo.is (rw c.as_slice.ensures.value at c.write.ensures.chosen)
+
+pub returns-in-Enec-clause-acts : goal.returns-in-Enec-clause-acts
+returns-in-Enec-clause-acts c = rw c.in-Enec.is c.rekind.ensures.rekinds
+
+pub returns-in-Enec-clause-memory : goal.returns-in-Enec-clause-memory
+returns-in-Enec-clause-memory c = rw c.in-Enec.is c.rekind.ensures.memory
+
+pub returns-in-Disec-clause-acts : goal.returns-in-Disec-clause-acts
+returns-in-Disec-clause-acts c = rw c.in-Disec.is c.rekind-in-Disec.ensures.rekinds
+
+pub returns-in-Disec-clause-memory : goal.returns-in-Disec-clause-memory
+returns-in-Disec-clause-memory c = rw c.in-Disec.is c.rekind-in-Disec.ensures.memory
+
+pub returns-in-Reset-clause-acts : goal.returns-in-Reset-clause-acts
+returns-in-Reset-clause-acts c = rw c.in-Reset.is c.reset.ensures.announces
+
+pub returns-in-Reset-clause-memory : goal.returns-in-Reset-clause-memory
+returns-in-Reset-clause-memory c = rw c.in-Reset.is c.reset.ensures.memory
+
+pub returns-in-SendList-clause-acts : goal.returns-in-SendList-clause-acts
+returns-in-SendList-clause-acts c = rw c.in-SendList.is c.send_list.ensures.announces
+
+pub returns-in-SendList-clause-memory : goal.returns-in-SendList-clause-memory
+returns-in-SendList-clause-memory c = rw c.in-SendList.is c.send_list.ensures.memory
+
+pub returns-in-ReadFrom-clause-acts : goal.returns-in-ReadFrom-clause-acts
+returns-in-ReadFrom-clause-acts c = rw c.in-ReadFrom.is c.read.ensures.reads
+
+pub returns-in-ReadFrom-clause-memory : goal.returns-in-ReadFrom-clause-memory
+returns-in-ReadFrom-clause-memory c = rw c.in-ReadFrom.is c.read.ensures.memory
+
+pub returns-in-WriteTo-clause-acts : goal.returns-in-WriteTo-clause-acts
+returns-in-WriteTo-clause-acts c = rw c.in-WriteTo.is (rw c.as_slice.ensures.value at c.write.ensures.writes)
+
+pub returns-in-WriteTo-clause-memory : goal.returns-in-WriteTo-clause-memory
+returns-in-WriteTo-clause-memory c = rw c.in-WriteTo.is c.write.ensures.memory
+
+pub returns-in-HandOver-clause-handed : goal.returns-in-HandOver-clause-handed
+returns-in-HandOver-clause-handed c = rw c.in-HandOver.is c.hand_over.ensures.handed
