@@ -9,3 +9,9 @@ pub returns-in_default-winner-clause-chosen : goal.returns-in_default-winner-cla
 returns-in_default-winner-clause-chosen c =
     nobody_follows c.args.self.now c.args.cuts.now c.args.choice c.empty-in_default-winner.new.self
     ((c.in-Some.pick, c.in-Some.ensures.0), c.if-is_over.ensures.lawful, c.in_default-winner.ensures.lawful, c.empty-in_default-winner.ensures) c.if-is_over.ensures.chosen c.in_default-winner.ensures.chosen
+
+pub returns-then-is_over-clause-rounds : goal.returns-then-is_over-clause-rounds
+returns-then-is_over-clause-rounds c = ((c.in-Some.pick, c.in-Some.ensures.0), c.if-is_over.ensures.lawful, c.empty.ensures)
+
+pub returns-in_default-winner-clause-rounds : goal.returns-in_default-winner-clause-rounds
+returns-in_default-winner-clause-rounds c = ((c.in-Some.pick, c.in-Some.ensures.0), c.if-is_over.ensures.lawful, c.in_default-winner.ensures.lawful, c.empty-in_default-winner.ensures)

@@ -1,4 +1,5 @@
-use Rattle.std.proofs.Common.{◌≡◌, Bool, true, false, not, inl, inr, sym, refl, ◌∙◌}
+use borrow.Author.Tests.{tests}
+use Rattle.std.proofs.Common.{◌≡◌, Bool, true, false, not, inl, inr, sym, refl, rules, ◌∙◌}
 use Rattle.std.proofs.lemmas.Bool.{false≢true}
 use Rattle.i3c_base.specs.Cutting.{lost_by}
 use Rattle.i3c_model.proofs.Framing.{not_torn}
@@ -18,3 +19,6 @@ returns-clause-chosen c = λ policy is. not_torn c.args.self.now policy (lost_by
   ]
   | else-eq-via-else-eq w ↦ absurd (false≢true (sym (sym c.eq.ensures ∙ w.if-eq.false) ∙ lost_is c.args.choice is))
 ])
+
+pub returns-then-may_tear-clause-serves : goal.returns-then-may_tear-clause-serves
+returns-then-may_tear-clause-serves c = λ policy accepted. record { at = c.args.at; first = c.requires.first; accepted = accepted; due = search (tests, rules); gone = λ s driven. search (tests, rules); left = c.answer.ensures }
