@@ -22,3 +22,6 @@ returns-clause-chosen c = λ policy is. not_torn c.args.self.now policy (lost_by
 
 pub returns-then-may_tear-clause-serves : goal.returns-then-may_tear-clause-serves
 returns-then-may_tear-clause-serves c = λ policy accepted. record { at = c.args.at; first = c.requires.first; accepted = accepted; due = search (tests, rules); gone = λ s driven. search (tests, rules); left = c.answer.ensures }
+
+pub returns-then-may_tear-clause-chosen : goal.returns-then-may_tear-clause-chosen
+returns-then-may_tear-clause-chosen c = search (tests, rules)
