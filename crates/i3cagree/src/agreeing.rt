@@ -194,14 +194,24 @@ fn as_it_stands(alloc: Global, script: &mut Script) -> Result<Option<usize>, Fau
             None => false,
         };
         // what isn't cut is seen with the next that is, or at the end
-        if is_cut || at + 1 == count {
-            let ran = [on_bus(alloc, script, at + 1)?];
-            if choice_for(alloc, script, &mut choices, at, &ran, Measure::Whole)?.is_none() {
-                return Ok(Some(at));
-            }
+        let is_seen = is_cut || at + 1 == count;
+        if is_seen && differs_at(alloc, script, &mut choices, at)? {
+            return Ok(Some(at));
         }
     }
     Ok(None)
+}
+
+/// Whether the machines disagree after an event, whatever is chosen at it.
+fn differs_at(
+    alloc: Global,
+    script: &Script,
+    choices: &mut [Choice],
+    at: usize,
+) -> Result<bool, Fault> {
+    let ran = [on_bus(alloc, script, at.saturating_add(1))?];
+    let choice = choice_for(alloc, script, choices, at, &ran, Measure::Whole)?;
+    Ok(choice.is_none())
 }
 
 /// Takes the script's own cuts away.
@@ -222,12 +232,23 @@ fn each_frame(alloc: Global, script: &mut Script, verdict: &mut Verdict) -> Resu
         0
     };
     for at in first..script.own {
-        let before = on_plain(alloc, script, &heard, at)?;
-        if let Some(last) = past(script, at, known(script, &before)) {
-            each_slot(alloc, script, &before, at, last, verdict)?;
-        }
+        one_frame(alloc, script, &heard, at, verdict)?;
     }
     Ok(())
+}
+
+fn one_frame(
+    alloc: Global,
+    script: &mut Script,
+    heard: &[Choice],
+    at: usize,
+    verdict: &mut Verdict,
+) -> Result<(), Fault> {
+    let before = on_plain(alloc, script, heard, at)?;
+    match past(script, at, known(script, &before)) {
+        Some(last) => each_slot(alloc, script, &before, at, last, verdict),
+        None => Ok(()),
+    }
 }
 
 fn each_slot(

@@ -1,7 +1,7 @@
 use crate::faults::Fault;
 use crate::script::{KNOWN, Script, legacies_of};
 use i3c_base::{Addr7, SLOTS, Slot};
-use i3c_bus::{Event, Outcome, Records, Reply, run_events};
+use i3c_bus::{Bus, Event, Outcome, Records, Reply, run_events};
 use i3c_model::{Choice, Plain};
 use std::alloc::Global;
 
@@ -17,6 +17,30 @@ pub(crate) struct Seen {
 }
 
 impl Seen {
+    fn of_bus(bus: &Bus) -> Seen {
+        let slots = slots();
+        Seen {
+            active: bus.active(),
+            in_session: bus.in_session(),
+            listed: bus.listed(),
+            present: slots.map(|slot| bus.present(slot)),
+            addresses: slots.map(|slot| bus.address(slot)),
+            waiting: slots.map(|slot| bus.waiting(slot)),
+        }
+    }
+
+    fn of_plain(plain: &Plain) -> Seen {
+        let slots = slots();
+        Seen {
+            active: plain.active(),
+            in_session: plain.in_session(),
+            listed: plain.listed(),
+            present: slots.map(|slot| plain.present(slot)),
+            addresses: slots.map(|slot| plain.address(slot)),
+            waiting: slots.map(|slot| plain.waiting(slot)),
+        }
+    }
+
     /// Whether another device has the address of this slot's.
     pub fn shares_address(&self, slot: Slot) -> bool {
         let own = self.addresses[slot.index()];
@@ -75,15 +99,7 @@ pub(crate) fn on_bus(alloc: Global, script: &Script, count: usize) -> Result<Ran
         legacies_of(&script.declared),
         events,
     )?;
-    let slots = slots();
-    let seen = Seen {
-        active: bus.active(),
-        in_session: bus.in_session(),
-        listed: bus.listed(),
-        present: slots.map(|slot| bus.present(slot)),
-        addresses: slots.map(|slot| bus.address(slot)),
-        waiting: slots.map(|slot| bus.waiting(slot)),
-    };
+    let seen = Seen::of_bus(&bus);
     let records = bus.retire(hand);
     Ok(Ran {
         replies,
@@ -101,22 +117,25 @@ pub(crate) fn on_plain(
 ) -> Result<Plainly, Fault> {
     let _ = KNOWN;
     let mut plain = Plain::new(alloc, script.main, legacies_of(&script.declared))?;
-    let mut replies = Vec::new(alloc);
-    for (event, choice) in first_of(script, count).iter().zip(choices) {
-        replies.push(plain.step(event, *choice)?)?;
-    }
-    let slots = slots();
-    let seen = Seen {
-        active: plain.active(),
-        in_session: plain.in_session(),
-        listed: plain.listed(),
-        present: slots.map(|slot| plain.present(slot)),
-        addresses: slots.map(|slot| plain.address(slot)),
-        waiting: slots.map(|slot| plain.waiting(slot)),
-    };
+    let replies = replies_of(alloc, &mut plain, first_of(script, count), choices)?;
     Ok(Plainly {
         replies,
-        seen,
+        seen: Seen::of_plain(&plain),
         plain,
     })
+}
+
+/// What the plain machine replies to these events, with a choice for each.
+fn replies_of(
+    alloc: Global,
+    plain: &mut Plain,
+    events: &[Event],
+    choices: &[Choice],
+) -> Result<Vec<Reply>, Fault> {
+    let _ = KNOWN;
+    let mut replies = Vec::new(alloc);
+    for (event, choice) in events.iter().zip(choices) {
+        replies.push(plain.step(event, *choice)?)?;
+    }
+    Ok(replies)
 }

@@ -23,9 +23,7 @@ struct Running {
 /// The script of a text, if it has a bus. Lines that ask for no event are passed over.
 pub(crate) fn read_script(alloc: Global, text: &[u8]) -> Result<Option<Script>, Fault> {
     let mut reading = Reading::new(alloc);
-    for line in text.split(|byte| *byte == b'\n') {
-        reading.read(line)?;
-    }
+    reading.read_lines(text)?;
     reading.end()
 }
 
@@ -47,6 +45,13 @@ impl Reading {
             declared: Vec::new(alloc),
             running: None,
         }
+    }
+
+    fn read_lines(&mut self, text: &[u8]) -> Result<(), Fault> {
+        for line in text.split(|byte| *byte == b'\n') {
+            self.read(line)?;
+        }
+        Ok(())
     }
 
     fn read(&mut self, line: &[u8]) -> Result<(), Fault> {
@@ -71,11 +76,7 @@ impl Reading {
     fn end(self) -> Result<Option<Script>, Fault> {
         let Reading { alloc, running, .. } = self;
         match running {
-            Some(mut bus) => {
-                bus.script.own = bus.script.events.len();
-                bus.ask_on(alloc)?;
-                Ok(Some(bus.script))
-            }
+            Some(bus) => Ok(Some(bus.end(alloc)?)),
             None => Ok(None),
         }
     }
@@ -91,11 +92,7 @@ fn begin(
     let _ = KNOWN;
     match command {
         Command::Legacy { name, address, lvr } => {
-            let mut legacies = legacies_of(declared);
-            if names.place_of(name).is_none() && legacies.add(*address, *lvr).is_ok() {
-                declared.push((*address, *lvr))?;
-                names.give_address(name, *address)?;
-            }
+            declare(names, declared, name, *address, *lvr)?;
             Ok(None)
         }
         Command::Main { name, setup } => {
@@ -103,25 +100,27 @@ fn begin(
                 return Ok(None);
             }
             names.give_slot(name, Slot::default())?;
-            let script = Script {
-                main: *setup,
-                declared: mem::replace(declared, Vec::new(alloc)),
-                events: Vec::new(alloc),
-                own: 0,
-                replies: Vec::new(alloc),
-                said: Vec::new(alloc),
-            };
-            let plain = Plain::new(alloc, script.main, legacies_of(&script.declared))?;
-            Ok(Some(Running {
-                plain,
-                policy: ACCEPT_ALL,
-                cuts: Cuts::new(),
-                choice: None,
-                script,
-            }))
+            let declared = mem::replace(declared, Vec::new(alloc));
+            Ok(Some(Running::new(alloc, setup, declared)?))
         }
         _ => Ok(None),
     }
+}
+
+/// A legacy target, unless its name or its address is another's.
+fn declare(
+    names: &mut Names,
+    declared: &mut Vec<(Addr7, Lvr)>,
+    name: &Name,
+    address: Addr7,
+    lvr: Lvr,
+) -> Result<(), Fault> {
+    let mut legacies = legacies_of(declared);
+    if names.place_of(name).is_none() && legacies.add(address, lvr).is_ok() {
+        declared.push((address, lvr))?;
+        names.give_address(name, address)?;
+    }
+    Ok(())
 }
 
 /// What a reply says of a whole assignment.
@@ -146,6 +145,18 @@ impl Session {
 }
 
 impl Running {
+    // A bus that starts, beside these legacy targets.
+    fn new(alloc: Global, main: &Setup, declared: Vec<(Addr7, Lvr)>) -> Result<Running, Fault> {
+        let plain = Plain::new(alloc, *main, legacies_of(&declared))?;
+        Ok(Running {
+            plain,
+            policy: ACCEPT_ALL,
+            cuts: Cuts::new(),
+            choice: None,
+            script: Script::new(alloc, main, declared),
+        })
+    }
+
     // A line that asks for nothing: a comment may say the choice of the next event.
     fn note(running: &mut Option<Running>, line: &[u8]) {
         if let (Some(bus), Some(choice)) = (running, choice_named(line)) {
@@ -216,24 +227,41 @@ impl Running {
         Ok(())
     }
 
+    // What happened to it, and then what shows more of it.
+    fn end(mut self, alloc: Global) -> Result<Script, Fault> {
+        self.ask_on(alloc)?;
+        Ok(self.script)
+    }
+
     // What shows wishes, enabled kinds and kept addresses that nothing tells of: whoever asks is served, each device
     // comes again, is assigned, and interrupts.
     fn ask_on(&mut self, alloc: Global) -> Result<(), Fault> {
-        let _ = KNOWN;
-        let mut again = Vec::new(alloc);
-        for event in &self.script.events {
-            if let Event::Attach(slot, setup) = event {
-                again.push((*slot, *setup))?;
-            }
-        }
+        self.script.own = self.script.events.len();
+        let came = self.script.attached(alloc)?;
+        self.come_again(&came)
+    }
+
+    fn come_again(&mut self, came: &[(Slot, Setup)]) -> Result<(), Fault> {
         self.serve_twice()?;
-        for (slot, setup) in &again {
-            let _ = self.happen(Event::Attach(*slot, *setup))?;
-        }
+        self.attach_each(came)?;
         let _ = self.happen(Event::EndDaa)?;
         self.policy = ACCEPT_ALL;
         self.assign()?;
-        for (slot, setup) in &again {
+        self.raise_each(came)?;
+        self.serve_twice()
+    }
+
+    fn attach_each(&mut self, devices: &[(Slot, Setup)]) -> Result<(), Fault> {
+        let _ = KNOWN;
+        for (slot, setup) in devices {
+            let _ = self.happen(Event::Attach(*slot, *setup))?;
+        }
+        Ok(())
+    }
+
+    fn raise_each(&mut self, devices: &[(Slot, Setup)]) -> Result<(), Fault> {
+        let _ = KNOWN;
+        for (slot, setup) in devices {
             let byte = if setup.identity.bcr.has_byte() {
                 Some(0x5A)
             } else {
@@ -241,7 +269,7 @@ impl Running {
             };
             let _ = self.happen(Event::Raise(*slot, byte))?;
         }
-        self.serve_twice()
+        Ok(())
     }
 
     fn serve_twice(&mut self) -> Result<(), Fault> {
@@ -258,26 +286,33 @@ impl Running {
 
     // The event that a line asks for, if it asks for one.
     fn event_of(&mut self, names: &Names, wish: &Wish) -> Option<Event> {
-        let _ = KNOWN;
-        let policy = self.policy;
-        Some(match wish {
-            Wish::Attach { name, setup } => Event::Attach(self.seat(names, name)?, *setup),
-            Wish::DropOff { name } => Event::DropOff(names.slot_of(name).ok()?),
-            Wish::Raise { name, byte } => Event::Raise(names.slot_of(name).ok()?, *byte),
-            Wish::AskJoin { name } => Event::AskJoin(names.slot_of(name).ok()?),
-            Wish::AskRole { name } => Event::AskRole(names.slot_of(name).ok()?),
-            Wish::Serve => Event::Serve(policy, self.take()),
-            Wish::Enec(Kinds { kinds, to }) => Event::Enec(*to, *kinds, policy, self.take()),
-            Wish::Disec(Kinds { kinds, to }) => Event::Disec(*to, *kinds, policy, self.take()),
-            Wish::Reset => Event::Reset(policy, self.take()),
-            Wish::List => Event::SendList(policy, self.take()),
-            Wish::Read { at } => Event::ReadFrom(*at, policy, self.take()),
-            Wish::Write { at, bytes } => Event::WriteTo(*at, copy_of(bytes), policy, self.take()),
-            Wish::HandOver { to } => Event::HandOver(*to, self.take()),
-            Wish::Open => Event::OpenDaa(self.take()),
-            Wish::Round => Event::Round(self.take()),
-            Wish::End => Event::EndDaa,
-        })
+        match wish {
+            Wish::Attach { name, setup } => Some(Event::Attach(self.seat(names, name)?, *setup)),
+            Wish::DropOff { name }
+            | Wish::Raise { name, .. }
+            | Wish::AskJoin { name }
+            | Wish::AskRole { name } => event_at(names.slot_of(name).ok()?, wish),
+            Wish::End => Some(Event::EndDaa),
+            _ => self.frame_of(wish),
+        }
+    }
+
+    // The frame that a line asks for, if it asks for one: with the cuts that were noted for it.
+    fn frame_of(&mut self, wish: &Wish) -> Option<Event> {
+        let (policy, cuts) = (self.policy, self.take());
+        match wish {
+            Wish::Serve => Some(Event::Serve(policy, cuts)),
+            Wish::Enec(Kinds { kinds, to }) => Some(Event::Enec(*to, *kinds, policy, cuts)),
+            Wish::Disec(Kinds { kinds, to }) => Some(Event::Disec(*to, *kinds, policy, cuts)),
+            Wish::Reset => Some(Event::Reset(policy, cuts)),
+            Wish::List => Some(Event::SendList(policy, cuts)),
+            Wish::Read { at } => Some(Event::ReadFrom(*at, policy, cuts)),
+            Wish::Write { at, bytes } => Some(Event::WriteTo(*at, copy_of(bytes), policy, cuts)),
+            Wish::HandOver { to } => Some(Event::HandOver(*to, cuts)),
+            Wish::Open => Some(Event::OpenDaa(cuts)),
+            Wish::Round => Some(Event::Round(cuts)),
+            _ => None,
+        }
     }
 
     // The slot that a device enters: the lowest free one. Where one of its name is there still, it is that one's slot, and
@@ -308,6 +343,17 @@ impl Running {
             }
         }
         None
+    }
+}
+
+/// What a line asks of the device in a slot, if it asks something of one.
+fn event_at(slot: Slot, wish: &Wish) -> Option<Event> {
+    match wish {
+        Wish::DropOff { .. } => Some(Event::DropOff(slot)),
+        Wish::Raise { byte, .. } => Some(Event::Raise(slot, *byte)),
+        Wish::AskJoin { .. } => Some(Event::AskJoin(slot)),
+        Wish::AskRole { .. } => Some(Event::AskRole(slot)),
+        _ => None,
     }
 }
 

@@ -56,8 +56,7 @@ fn asked<R: Files + Print + AllocGlobal>(
 
 /// Compares both machines on the script of a file, if it has a bus.
 fn compared<R: Files + Print + AllocGlobal>(rt: &R, file: &str) -> Result<u8, Fault> {
-    let text = fs::read(rt, file)?;
-    let Some(script) = read_script(rt.alloc(), &text)? else {
+    let Some(script) = script_of(rt, file)? else {
         return Ok(AGREE);
     };
     let verdict = judge(rt.alloc(), script)?;
@@ -71,11 +70,16 @@ fn compared<R: Files + Print + AllocGlobal>(rt: &R, file: &str) -> Result<u8, Fa
 
 /// Prints the plain machine's replies to the events whose choice a comment says.
 fn chosen<R: Files + Print + AllocGlobal>(rt: &R, file: &str) -> Result<u8, Fault> {
-    let text = fs::read(rt, file)?;
-    if let Some(script) = read_script(rt.alloc(), &text)? {
+    if let Some(script) = script_of(rt, file)? {
         tell_said(rt, &script)?;
     }
     Ok(AGREE)
+}
+
+/// The script of a file, if it has a bus.
+fn script_of<R: Files + AllocGlobal>(rt: &R, file: &str) -> Result<Option<Script>, Fault> {
+    let text = fs::read(rt, file)?;
+    read_script(rt.alloc(), &text)
 }
 
 /// Prints the replies whose choice was said.

@@ -1,9 +1,11 @@
+use crate::faults::Fault;
 use i3c_base::{
     Addr7, Answer, Bcr, Cuts, Dcr, Fixed, Identity, Kinds, Lvr, Pid, RoundReply, Served, Setup,
     Slot, Verdict,
 };
 use i3c_bus::{Event, Framed, Refusal, Reply};
 use i3c_legacy::Legacies;
+use std::alloc::Global;
 
 /// A script as what happens to a bus: its main device, its legacy targets, and its events. Those after its own show what
 /// is seen no other way.
@@ -17,6 +19,32 @@ pub(crate) struct Script {
     pub replies: Vec<Reply>,
     /// Whether a comment says the choice for the event.
     pub said: Vec<bool>,
+}
+
+impl Script {
+    /// A script without events.
+    pub fn new(alloc: Global, main: &Setup, declared: Vec<(Addr7, Lvr)>) -> Script {
+        Script {
+            main: *main,
+            declared,
+            events: Vec::new(alloc),
+            own: 0,
+            replies: Vec::new(alloc),
+            said: Vec::new(alloc),
+        }
+    }
+
+    /// The devices that came, or were to come, with their slots.
+    pub fn attached(&self, alloc: Global) -> Result<Vec<(Slot, Setup)>, Fault> {
+        let _ = KNOWN;
+        let mut came = Vec::new(alloc);
+        for event in &self.events {
+            if let Event::Attach(slot, setup) = event {
+                came.push((*slot, *setup))?;
+            }
+        }
+        Ok(came)
+    }
 }
 
 /// The legacy targets of these declarations. One that is refused changes nothing, as in a script.
