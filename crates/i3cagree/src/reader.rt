@@ -6,7 +6,7 @@ use i3c_legacy::Legacies;
 use i3c_lines::{ACCEPT_ALL, Choice as Kinds, Command, Name, Names, Place, Wish, read_line};
 use i3c_model::{Choice, Plain};
 use std::alloc::Global;
-use std::mem;
+use std::{mem, str};
 
 /// A bus as its script's lines are read: the plain machine says which slots are free, and how many rounds a whole
 /// assignment has.
@@ -359,10 +359,10 @@ fn event_at(slot: Slot, wish: &Wish) -> Option<Event> {
 
 /// The choice that a comment says.
 fn choice_named(line: &[u8]) -> Option<Choice> {
-    match line.strip_prefix(b"# choose ")? {
-        b"heard" => Some(Choice::Heard),
-        b"lost" => Some(Choice::Lost),
-        b"silent" => Some(Choice::Silent),
+    match str::from_utf8(line).ok()?.strip_prefix("# choose ")? {
+        "heard" => Some(Choice::Heard),
+        "lost" => Some(Choice::Lost),
+        "silent" => Some(Choice::Silent),
         _ => None,
     }
 }
