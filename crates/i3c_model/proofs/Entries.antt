@@ -9,7 +9,7 @@ use Rattle.std.proofs.lemmas.Map.Lookups.{exact_unsigned}
 use Rattle.std.proofs.lemmas.Map.Views.{btree_map_get_iff}
 use Rattle.i3c_base.specs.declared.requests.Request.{Request}
 use Rattle.i3c_base.specs.Cutting.{Lost}
-use Rattle.i3c_base.specs.Frames.{AnyAt, SomeLeftAt}
+use Rattle.i3c_base.specs.Frames.{SomeLeftAt}
 use Rattle.i3c_base.specs.Serve.{asks, drives}
 use Rattle.i3c_base.specs.State.{Device, State, device_at, has_address, in_slot, is_the}
 use Rattle.i3c_model.specs.declared.plain.Plain.TheInside.{Inside}
@@ -91,14 +91,6 @@ targets_left st a lost active e = (
   λ h. let p = and_parts (not (h.0 == active)) _ h.3 in let q = and_parts (has_address a h.1) (not (lost h.0)) p.1 in
       (h.0, h.1, (h.2, the_address a h.1.address q.0, not_same h.0 st.active (ap (λ k. not (h.0 == k)) (sym e) ∙ p.0)), not-true (lost h.0) q.1),
   λ h. (h.0, h.1, h.2.0, and_join (not (h.0 == active)) _ (ap (λ k. not (h.0 == k)) e ∙ ap not (ne_eqb h.0 st.active h.2.2)) (and_join (has_address a h.1) (not (lost h.0)) (is_the-same a h.1.address h.2.1) (ap not h.3))),
-)
-
-pub targets_any : (st : State) (a : ℕ) (active : ℕ) → active ≡ st.active
-    → ((s : ℕ) × (d : Device) × (device_at st s ≡ Some d) × ((not (s == active) && has_address a d) ≡ true)) ↔ AnyAt st a
-targets_any st a active e = (
-  λ h. let p = and_parts (not (h.0 == active)) (has_address a h.1) h.3 in
-      (h.0, h.1, (h.2, the_address a h.1.address p.1, not_same h.0 st.active (ap (λ k. not (h.0 == k)) (sym e) ∙ p.0))),
-  λ h. (h.0, h.1, h.2.0, and_join (not (h.0 == active)) (has_address a h.1) (ap (λ k. not (h.0 == k)) e ∙ ap not (ne_eqb h.0 st.active h.2.2)) (is_the-same a h.1.address h.2.1)),
 )
 
 -- the test of hearers that are lost, or left

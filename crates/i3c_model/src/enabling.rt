@@ -19,10 +19,8 @@ impl Plain {
     fn is_any_at(&self, address: Addr7) -> bool
         ensures { IsTrue result ↔ AnyAt self.now address }
     {
-        let active = self.active;
-        self.devices
-            .iter()
-            .any(|(slot, device)| *slot != active && device.has(address))
+        let uncut = Cuts::new();
+        self.is_any_left_at(address, &uncut, 0)
     }
 
     // Whether some such device isn't lost by this bit.

@@ -1,15 +1,9 @@
-use borrow.Author.Tests.{tests}
-use Rattle.std.proofs.Common.{ℕ, Bool, not, ◌&&◌, ◌==◌, ap, rules}
-use Rattle.std.proofs.lemmas.Iterator.Consumers.{YieldsList-from_rest}
-use Rattle.std.proofs.lemmas.Iterator.Search.{any_from_yields_List}
-use Rattle.i3c_base.specs.State.{Device, State, has_address}
-use Rattle.i3c_model.proofs.Entries.{any_there, targets_any}
+use Rattle.std.proofs.Common.{ap}
+use Rattle.i3c_base.specs.Cutting.{is_by}
 use Rattle.i3c_model.proofs.plain.Plain.is_any_at.Goals as goal
 
+-- without cuts nobody is lost
 pub returns : goal.returns
 returns c =
-    let test : ℕ × Device → Bool = λ e. not (e.0 == c.self.inside.active) && has_address c.args.address e.1 in
-    let found = any_from_yields_List test _ _ c.any.result c.any.ensures.ran (YieldsList-from_rest c.self.inside.devices.entries c.iter.ensures.rest) (λ x b q k. search (rules, tests)) in
-    let there = any_there c.self.inside c.args.self.now c.self.view_is c.self.invariant c.iter.ensures.ordered test c.any.result found in
-    let means = targets_any c.args.self.now c.args.address c.self.inside.active (ap (λ (st : State). st.active) c.self.view_is) in
-    ((λ h. means.0 (there.0 h)), (λ h. there.1 (means.1 h)))
+    let left = c.is_any_left_at.ensures in
+    ((λ h. let some = left.0 h in (some.0, some.1, some.2)), (λ some. left.1 (some.0, some.1, some.2, ap (is_by 0) (c.new-uncut.ensures.uncut some.0))))
