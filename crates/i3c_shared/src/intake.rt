@@ -397,6 +397,17 @@ fn look(rings: &mut Rings)
     }
 }
 
+/// Makes a raise of a post.
+fn raise(recorder: &mut Recorder, slot: Slot, byte: Option<u8>)
+    requires room { recorder.old.room ≡ true }
+    requires spare { 0 < recorder.old.spare }
+    ensures added { Adds recorder.old (raises_at slot (byte ∷ [])) recorder.new }
+    ensures room { recorder.new.room ≡ true }
+    ensures spare { recorder.old.spare ≤ recorder.new.spare + 1 }
+{
+    recorder.apply(Event::Raise(slot, byte), &mut Silent);
+}
+
 /// Makes a raise of each post that is known to be in a ring.
 fn drain_known(recorder: &mut Recorder, slot: Slot, ring: &mut Consumer<Option<u8>>)
     requires room { recorder.old.room ≡ true }
@@ -409,7 +420,7 @@ fn drain_known(recorder: &mut Recorder, slot: Slot, ring: &mut Consumer<Option<u
     let count = ring.cached_slots();
     for _ in 0..count {
         let byte = ring.pop_known();
-        recorder.apply(Event::Raise(slot, byte), &mut Silent);
+        raise(recorder, slot, byte);
     }
 }
 

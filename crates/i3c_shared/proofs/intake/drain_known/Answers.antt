@@ -1,8 +1,7 @@
 use Rattle.std.proofs.Common.{◌∙◌, sym, ap, rules, arith, append_assoc, ◌++◌, ◌∷◌, [], ◌+◌}
 use Rattle.std.proofs.lemmas.List.{length-append}
 use Rattle.rtrb.specs.Ring.{known_items}
-use Rattle.i3c_shared.proofs.Replies.{raise_unrecorded}
-use Rattle.i3c_shared.proofs.Taken.{adds_one, adds_post}
+use Rattle.i3c_shared.proofs.Taken.{adds_post}
 use Rattle.i3c_shared.proofs.intake.drain_known.Goals as goal
 
 pub loop-preserved : goal.loop-preserved
@@ -14,7 +13,7 @@ loop-preserved c =
       inv.2 ∙ ap (λ l. inv.0 ++ l) c.pop_known-byte.ensures.received.1 ∙ sym (append_assoc inv.0 (byte ∷ []) (known_items c.pop_known-byte.new.self)),
       c.pop_known-byte.ensures.received.0 ∙ ap (λ l. l ++ byte ∷ []) inv.3 ∙ append_assoc _ inv.0 (byte ∷ []),
       search rules,
-      c.apply.ensures.room inv.5 (raise_unrecorded _ c.args.slot byte _ _ c.apply.ensures.step),
-      omega (arith, c.apply.ensures.spare, inv.6),
-      adds_post c.args.slot inv.0 byte _ _ _ inv.7 (adds_one _ _ _ c.apply.result c.apply.ensures.start c.apply.ensures.run c.apply.ensures.step),
+      c.raise.ensures.room,
+      omega (arith, c.raise.ensures.spare, inv.6),
+      adds_post c.args.slot inv.0 byte _ _ _ inv.7 c.raise.ensures.added,
     )
