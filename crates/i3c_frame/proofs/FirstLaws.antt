@@ -1,6 +1,6 @@
 -- What a text begins with: so many of its bytes, and what they and a separator make of it.
 use Rattle.std.proofs.Common.{◌≡◌, ℕ, suc, ◌+◌, ◌-◌, ◌<◌, ◌≤◌, true, List, [], ◌∷◌, ◌++◌, length, get_or, take, drop, arith, refl, ap, sym, ◌∙◌, drop-cons}
-use Rattle.std.proofs.lemmas.List.{take-append-drop}
+use Rattle.std.proofs.lemmas.List.{take-append-drop, take_all}
 use Rattle.i3c_frame.specs.declared.symbols.Symbol.{Symbol}
 use Rattle.i3c_frame.specs.Parts.{is_separator, parts}
 use Rattle.i3c_frame.specs.Texts.{text_of}
@@ -33,6 +33,25 @@ take_5 (a ∷ text) h = ap (λ rest. a ∷ rest) (take_4 text (omega arith))
 pub take_head : (text : List ℕ) (n : ℕ) → 0 < length text → get_or text 0 0 ∷ take n (drop 1 text) ≡ take (suc n) text
 take_head [] n h = absurd (omega arith)
 take_head (a ∷ text) n h = refl
+
+-- a text of so many bytes, one by one, or of a first and the others
+pub whole_1 : (text : List ℕ) → length text ≡ 1 → get_or text 0 0 ∷ [] ≡ text
+whole_1 text long = sym (take_1 text (omega arith)) ∙ take_all 1 text (omega arith)
+
+pub whole_2 : (text : List ℕ) → length text ≡ 2 → get_or text 0 0 ∷ get_or text 1 0 ∷ [] ≡ text
+whole_2 text long = sym (take_2 text (omega arith)) ∙ take_all 2 text (omega arith)
+
+pub whole_3 : (text : List ℕ) → length text ≡ 3 → get_or text 0 0 ∷ get_or text 1 0 ∷ get_or text 2 0 ∷ [] ≡ text
+whole_3 text long = sym (take_3 text (omega arith)) ∙ take_all 3 text (omega arith)
+
+pub whole_4 : (text : List ℕ) → length text ≡ 4 → get_or text 0 0 ∷ get_or text 1 0 ∷ get_or text 2 0 ∷ get_or text 3 0 ∷ [] ≡ text
+whole_4 text long = sym (take_4 text (omega arith)) ∙ take_all 4 text (omega arith)
+
+pub whole_5 : (text : List ℕ) → length text ≡ 5 → get_or text 0 0 ∷ get_or text 1 0 ∷ get_or text 2 0 ∷ get_or text 3 0 ∷ get_or text 4 0 ∷ [] ≡ text
+whole_5 text long = sym (take_5 text (omega arith)) ∙ take_all 5 text (omega arith)
+
+pub whole_head : (text : List ℕ) → 0 < length text → get_or text 0 0 ∷ take (length text - 1) (drop 1 text) ≡ text
+whole_head text some = take_head text (length text - 1) some ∙ take_all (suc (length text - 1)) text (omega arith)
 
 -- a symbol's text and a separator after it are its part, and what follows has the other parts
 pub parts_behind : (text : List ℕ) (n : ℕ) (symbol : Symbol) → n < length text → text_of symbol ≡ take n text → is_separator (get_or text n 0) ≡ true

@@ -1,6 +1,7 @@
-ghost use Rattle.std.specs.Prelude.{◌≡◌, [], IfSome, MatchOption};
+ghost use Rattle.std.specs.Prelude.{◌≡◌, ◌<◌, [], true, length, slice_index, take, IfSome, MatchOption};
 ghost use Rattle.i3c_frame.specs.Firsts.{BeginsWith, IsFirst};
-ghost use Rattle.i3c_frame.specs.Parts.{parts};
+ghost use Rattle.i3c_frame.specs.Parts.{is_separator, parts};
+ghost use Rattle.i3c_frame.specs.Texts.{HasText};
 
 use crate::parts::{Parts, parts_symbols};
 use crate::symbols::{
@@ -38,20 +39,18 @@ fn read_first(text: &[u8]) -> Option<(Symbol, &[u8])>
         return None;
     };
     if *third == DOT && parts_symbols(*fifth) {
-        Some((read_word(*first, *second, *fourth)?, &text[5..]))
+        with_rest(read_word(*first, *second, *fourth), text, 4)
     } else if *third == SLASH && parts_symbols(*sixth) {
-        let symbol = read_header(*first, *second, *third, *fourth, *fifth)?;
-        Some((symbol, &text[6..]))
+        let symbol = read_header(*first, *second, *third, *fourth, *fifth);
+        with_rest(symbol, text, 5)
     } else if parts_symbols(*second) {
-        Some((read_letter(*first)?, &text[2..]))
+        with_rest(read_letter(*first), text, 1)
     } else if parts_symbols(*third) {
-        Some((read_pair(*first, *second)?, &text[3..]))
+        with_rest(read_pair(*first, *second), text, 2)
     } else if parts_symbols(*fourth) {
-        let symbol = read_legacy_word(*first, *second, *third)?;
-        Some((symbol, &text[4..]))
+        with_rest(read_legacy_word(*first, *second, *third), text, 3)
     } else if *first == AT_SIGN && parts_symbols(*fifth) {
-        let symbol = read_address_byte(*second, *third, *fourth)?;
-        Some((symbol, &text[5..]))
+        with_rest(read_address_byte(*second, *third, *fourth), text, 4)
     } else {
         read_first_identity(text)
     }
@@ -64,8 +63,18 @@ fn read_first_identity(text: &[u8]) -> Option<(Symbol, &[u8])>
     if text.len() < 18 || !parts_symbols(text[17]) {
         return None;
     }
-    let symbol = read_identity(text[0], &text[1..17])?;
-    Some((symbol, &text[18..]))
+    with_rest(read_identity(text[0], &text[1..17]), text, 17)
+}
+
+/// The symbol of the bytes before a separator, if they are one's, and what follows the separator.
+#[inline(always)]
+fn with_rest(symbol: Option<Symbol>, text: &[u8], separator: usize) -> Option<(Symbol, &[u8])>
+    requires within { separator < length text.now }
+    requires parted { is_separator (slice_index text.now separator) ≡ true }
+    requires front { IfSome symbol (HasText (take separator text.now)) }
+    ensures { IfSome result (λ first. BeginsWith text.now first.0 first.1.now) }
+{
+    Some((symbol?, &text[separator + 1..]))
 }
 
 /// The first part of any text, wherever it begins and ends.

@@ -1,5 +1,6 @@
-ghost use Rattle.std.specs.Prelude.{◌≡◌, ◌≤◌, length, Bool, [], ◌∷◌, Some, IfSome, IsSome};
-ghost use Rattle.i3c_frame.specs.Texts.{FindsSymbol, HasText, IsInRange, answer_text, direction_text, t_text, text_of};
+ghost use Rattle.std.specs.Prelude.{◌≡◌, ◌≤◌, length, Bool, [], ◌∷◌, ◌++◌, codes, Some, IfSome, IsSome};
+ghost use Rattle.std.specs.Fmt.{WritesOnOk};
+ghost use Rattle.i3c_frame.specs.Texts.{FindsSymbol, HasText, IsInRange, answer_text, digits_of, direction_text, t_text, text_of};
 
 use crate::digits::{read_byte, read_digits, write_digits};
 use i3c_base::Addr7;
@@ -73,30 +74,59 @@ impl fmt::Display for Symbol {
             Symbol::Start => f.write_str("S"),
             Symbol::Repeated => f.write_str("Sr"),
             Symbol::Stop => f.write_str("P"),
-            Symbol::Header { address, read, ack } => {
-                write_digits(f, u64::from(address.get()), 2)?;
-                f.write_str(direction(read))?;
-                f.write_str(answer(ack))
-            }
-            Symbol::Word(Word { byte, t }) => {
-                write_digits(f, u64::from(byte), 2)?;
-                f.write_str(t_bit(t))
-            }
-            Symbol::Identity(bits) => {
-                f.write_str("=")?;
-                write_digits(f, bits, 16)
-            }
-            Symbol::AddressByte { byte, ack } => {
-                f.write_str("@")?;
-                write_digits(f, u64::from(byte), 2)?;
-                f.write_str(answer(ack))
-            }
-            Symbol::LegacyWord { byte, ack } => {
-                write_digits(f, u64::from(byte), 2)?;
-                f.write_str(answer(ack))
-            }
+            Symbol::Header { address, read, ack } => write_header(f, address, read, ack),
+            Symbol::Word(word) => write_word(f, word),
+            Symbol::Identity(bits) => write_identity(f, bits),
+            Symbol::AddressByte { byte, ack } => write_address_byte(f, byte, ack),
+            Symbol::LegacyWord { byte, ack } => write_legacy_word(f, byte, ack),
         }
     }
+}
+
+/// Writes a header: an address, a direction and an answer.
+fn write_header<W: fmt::Write>(
+    f: &mut fmt::Formatter<W>,
+    address: Addr7,
+    read: bool,
+    ack: bool,
+) -> fmt::Result
+    ensures { WritesOnOk W.write_str_gives f.old result (digits_of 2 address ++ (direction_text read ++ answer_text ack)) f.new }
+{
+    write_digits(f, u64::from(address.get()), 2)?;
+    f.write_str(direction(read))?;
+    f.write_str(answer(ack))
+}
+
+/// Writes a word: a byte and its T bit.
+fn write_word<W: fmt::Write>(f: &mut fmt::Formatter<W>, word: Word) -> fmt::Result
+    ensures { WritesOnOk W.write_str_gives f.old result (digits_of 2 word.byte ++ t_text word.t) f.new }
+{
+    write_digits(f, u64::from(word.byte), 2)?;
+    f.write_str(t_bit(word.t))
+}
+
+/// Writes the bits of an identity: an equals sign and 16 digits.
+fn write_identity<W: fmt::Write>(f: &mut fmt::Formatter<W>, bits: u64) -> fmt::Result
+    ensures { WritesOnOk W.write_str_gives f.old result (codes "=" ++ digits_of 16 bits) f.new }
+{
+    f.write_str("=")?;
+    write_digits(f, bits, 16)
+}
+
+/// Writes an address byte of a round, and its answer.
+fn write_address_byte<W: fmt::Write>(f: &mut fmt::Formatter<W>, byte: u8, ack: bool) -> fmt::Result
+    ensures { WritesOnOk W.write_str_gives f.old result (codes "@" ++ (digits_of 2 byte ++ answer_text ack)) f.new }
+{
+    f.write_str("@")?;
+    write_legacy_word(f, byte, ack)
+}
+
+/// Writes a byte of a legacy target, and its answer.
+fn write_legacy_word<W: fmt::Write>(f: &mut fmt::Formatter<W>, byte: u8, ack: bool) -> fmt::Result
+    ensures { WritesOnOk W.write_str_gives f.old result (digits_of 2 byte ++ answer_text ack) f.new }
+{
+    write_digits(f, u64::from(byte), 2)?;
+    f.write_str(answer(ack))
 }
 
 /// How a header's direction is written.
