@@ -6,9 +6,9 @@ use Rattle.i3c_frame.specs.declared.symbols.Symbol.{Symbol}
 use Rattle.i3c_frame.specs.declared.traces.Place.{Place}
 use Rattle.i3c_frame.specs.declared.traces.Place.TheVariants.{Outside, Opened, Inside}
 use Rattle.i3c_frame.specs.declared.traces.TraceFault.{TraceFault}
-use Rattle.i3c_frame.specs.declared.traces.TraceFault.TheVariants.{NoStop}
+use Rattle.i3c_frame.specs.declared.traces.TraceFault.TheVariants.{BadSymbol, NoStop}
 use Rattle.i3c_frame.specs.Texts.{IsInRange, text_of}
-use Rattle.i3c_frame.specs.Traces.{IsFaultAt, IsFirstFault, IsMisplaced, IsNoSymbol, IsTrace, after, place_after}
+use Rattle.i3c_frame.specs.Traces.{IsFaultAt, IsFirstFault, IsMisplaced, IsNoSymbol, IsTrace, after, misplaced, place_after}
 use Rattle.i3c_frame.proofs.TextLaws.{text_of_same}
 
 -- some symbols, and then others
@@ -94,3 +94,22 @@ pub ends_inside : (place : Place) (n : ℕ) → (place ≡ Opened) ⊎ (place �
 ends_inside Outside n inside = ⊎_elim (λ e. cc) (λ e. cc) inside
 ends_inside Opened n inside = refl
 ends_inside Inside n inside = refl
+
+-- the fault of the part that follows some symbols
+faulty_at : (place : Place) (n : ℕ) (part : List ℕ) (rest : List (List ℕ)) (fault : TraceFault)
+    → (IsNoSymbol part × (fault ≡ BadSymbol n)) ⊎ (IsMisplaced place part × (fault ≡ misplaced place n)) → IsFaultAt place n (part ∷ rest) fault
+faulty_at Outside n part rest fault faulty = faulty
+faulty_at Opened n part rest fault faulty = faulty
+faulty_at Inside n part rest fault faulty = faulty
+
+pub fault_behind : (texts left rest : List (List ℕ)) (part : List ℕ) (before : List Symbol) (place : Place) (fault : TraceFault) → texts ≡ map text_of before ++ left → left ≡ part ∷ rest → All IsInRange before
+    → place_after Outside before ≡ Some place → (IsNoSymbol part × (fault ≡ BadSymbol (length before + 1))) ⊎ (IsMisplaced place part × (fault ≡ misplaced place (length before + 1))) → IsFirstFault texts fault
+fault_behind texts left rest part before place fault whole step in_range leads faulty = record {
+  before = before;
+  rest = part ∷ rest;
+  place = place;
+  whole = whole ∙ ap (λ tail. map text_of before ++ tail) step;
+  in_range = in_range;
+  leads = leads;
+  faulty = faulty_at place (length before + 1) part rest fault faulty;
+}

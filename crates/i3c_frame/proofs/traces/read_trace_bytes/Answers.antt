@@ -1,23 +1,43 @@
-use Rattle.std.proofs.Common.{◌≡◌, ◌+◌, ◌++◌, [], ◌∷◌, map, rules, sym, ◌∙◌, ap, inr, refl, subst}
+use Rattle.std.proofs.Common.{◌≡◌, ◌+◌, ◌++◌, [], ◌∷◌, arith, length, map, rules, sym, ◌∙◌, ap, inl, inr, refl, subst}
 use Rattle.std.proofs.lemmas.List.Elements.{All-push}
+use Rattle.i3c_frame.specs.declared.firsts.First.TheVariants.{Other}
 use Rattle.i3c_frame.specs.declared.traces.Place.TheVariants.{Outside}
 use Rattle.i3c_frame.specs.declared.traces.TraceFault.TheVariants.{BadSymbol, NoStop}
 use Rattle.i3c_frame.specs.Firsts.{BeginsWith, IsFirst}
 use Rattle.i3c_frame.specs.Parts.{parts}
 use Rattle.i3c_frame.specs.Texts.{IsInRange, text_of}
-use Rattle.i3c_frame.specs.Traces.{IsFirstFault}
-use Rattle.i3c_frame.proofs.TraceLaws.{ends_inside, no_first_fault, place_after-push, texts_same, whole_push}
+use Rattle.i3c_frame.specs.Traces.{IsFirstFault, misplaced}
+use Rattle.i3c_frame.proofs.TraceLaws.{ends_inside, fault_behind, no_first_fault, place_after-push, texts_same, whole_push}
 use Rattle.i3c_frame.proofs.traces.read_trace_bytes.Goals as goal
 
-pub returns-in_default-first-clause-complete : goal.returns-in_default-first-clause-complete
-returns-in_default-first-clause-complete c symbols range is_trace same =
-    let first : IsFirstFault (parts c.args.bytes.now) (BadSymbol (c.len-number.result + 1)) = search rules in
-    absurd (no_first_fault _ _ first symbols range is_trace same)
+pub returns-in_default-first : goal.returns-in_default-first
+returns-in_default-first c =
+    let counted : c.len-number.result ≡ length c.loop-first.symbols.items = omega (arith, c.loop-first.symbols.ok.0) in
+    let other : IsFirst c.loop-first.rest.now Other = subst (IsFirst c.loop-first.rest.now) c.in_default-first.is c.in-Some.ensures in
+    let first : IsFirstFault (parts c.args.bytes.now) (BadSymbol (c.len-number.result + 1)) =
+      fault_behind _ _ other.1 other.0 c.loop-first.symbols.items c.loop-first.place _ c.loop-first.invariant.whole other.2 c.loop-first.invariant.in_range c.loop-first.invariant.leads
+      (inl (other.3, ap (λ n. BadSymbol (n + 1)) counted)) in
+    record {
+      sound = tt;
+      range = tt;
+      fault = inr first;
+      complete = λ symbols range is_trace same. absurd (no_first_fault _ _ first symbols range is_trace same);
+    }
 
-pub returns-in_default-after-clause-complete : goal.returns-in_default-after-clause-complete
-returns-in_default-after-clause-complete c symbols range is_trace same =
-    let first : IsFirstFault (parts c.args.bytes.now) c.misplaced.result = search rules in
-    absurd (no_first_fault _ _ first symbols range is_trace same)
+pub returns-in_default-after : goal.returns-in_default-after
+returns-in_default-after c =
+    let counted : c.len-number.result ≡ length c.loop-first.symbols.items = omega (arith, c.loop-first.symbols.ok.0) in
+    let symbol = c.in-Symbol.symbol in
+    let begins : BeginsWith c.loop-first.rest.now symbol c.in-Symbol.left.now = subst (IsFirst c.loop-first.rest.now) c.in-Symbol.is c.in-Some.ensures in
+    let first : IsFirstFault (parts c.args.bytes.now) c.misplaced.result =
+      fault_behind _ _ (parts c.in-Symbol.left.now) (text_of symbol) c.loop-first.symbols.items c.loop-first.place _ c.loop-first.invariant.whole begins.1 c.loop-first.invariant.in_range c.loop-first.invariant.leads
+      (inr ((symbol, begins.0, refl, sym c.after.ensures ∙ c.in_default-after.is), c.misplaced.ensures ∙ ap (λ n. misplaced c.loop-first.place (n + 1)) counted)) in
+    record {
+      sound = tt;
+      range = tt;
+      fault = inr first;
+      complete = λ symbols range is_trace same. absurd (no_first_fault _ _ first symbols range is_trace same);
+    }
 
 pub loop-first-preserved : goal.loop-first-preserved
 loop-first-preserved c =
