@@ -1,4 +1,5 @@
 pub mod KindLaws
+pub mod EnabledLaws
 pub mod Targets
 pub mod SetLaws
 pub mod MarkLaws
