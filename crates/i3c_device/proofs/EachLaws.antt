@@ -1,7 +1,7 @@
 -- A change that happens in some slots, one after another, lowest first.
-use Rattle.std.proofs.Common.{◌≡◌, ℕ, zero, suc, ◌+◌, ◌<◌, Bool, true, false, ◌==◌, if◌then◌else◌, List, [], ◌∷◌, length, get_or, set, Option, Some, None, is_none, option_map, inl, inr, refl, sym, ap, subst, ◌∙◌, arith, length-set, zero-add}
+use Rattle.std.proofs.Common.{◌≡◌, ℕ, zero, suc, ◌+◌, ◌<◌, Bool, true, false, ◌==◌, if◌then◌else◌, List, [], ◌∷◌, length, get_or, set, Option, Some, None, is_none, option_map, inl, inr, refl, sym, ap, ◌∙◌, arith, length-set, zero-add}
 use Rattle.std.proofs.lemmas.Bool.{cases_Bool, cases_eq, cond-true, cond-false, eq-eqb, ne_eqb}
-use Rattle.std.proofs.lemmas.List.{ext_get_or, get_or_default, get_or-set_other, get_or-set_same, set-get_or}
+use Rattle.std.proofs.lemmas.List.{ext_get_or, get_or_default, get_or-set_other, get_or-set_same}
 use Rattle.i3c_base.specs.declared.range.TheConstants.{SLOTS}
 use Rattle.i3c_base.specs.declared.requests.Request.{Request}
 use Rattle.i3c_base.specs.Places.{changed, changed_from}
@@ -116,16 +116,6 @@ walks_more f among left next marks more xs ys i place h low there rest is marked
     changed_here =
         cond-false (has next i) (get_or xs i None) (within among f i (get_or xs i None)) (rest i low ∙ cond-true (i == i) false (has left i) (eq-eqb i i refl))
         ∙ cond-true (has among i) (f i (get_or xs i None)) (get_or xs i None) (h.among_them i low there)
-
--- where it changes nothing
-pub walks_past : (f : ℕ → Option Device → Option Device) (among left next : SlotSet) (marks : Marks) (xs ys : List (Option Device)) (i : ℕ) (d : Option Device) → Walks f among left marks xs ys
-    → i < SLOTS → has left i ≡ true → ((s : ℕ) → s < SLOTS → has next s ≡ (if s == i then false else has left s)) → f i (get_or ys i d) ≡ get_or ys i d → Walks f among next marks xs ys
-walks_past f among left next marks xs ys i d h low there rest same =
-    let here : get_or ys i d ≡ get_or ys i None = get_or_default ys i d None (omega (arith, h.long)) in
-    let stays : get_or ys i None ≡ f i (get_or ys i None) = sym here ∙ (sym same ∙ ap (f i) here) in
-    let put : set ys i (get_or ys i None) ≡ ys = set-get_or ys i None in
-    subst (λ zs. Walks f among next marks xs zs) put
-    (walks_more f among left next marks marks xs ys i (get_or ys i None) h low there rest stays (subst (AreMarks marks) (sym put) h.marked))
 
 pub walks_all : (f : ℕ → Option Device → Option Device) (among left : SlotSet) (marks : Marks) (xs ys : List (Option Device)) → Walks f among left marks xs ys → length xs ≡ SLOTS
     → ((s : ℕ) → s < SLOTS → has left s ≡ false) → ys ≡ changed (within among f) xs

@@ -1,8 +1,8 @@
 use crate::attached::Device;
 use crate::marks::Marks;
-use crate::places::register_from;
+use crate::places::{raise, register_from};
 use crate::sets::SlotSet;
-use crate::walks::{Happening, Sought};
+use crate::walks::{Happening, Sought, happen_in};
 use i3c_base::{Addr7, Cuts, RaiseRefusal, SLOTS, Slot};
 use std::marker::Model;
 
@@ -92,12 +92,9 @@ impl Occupants {
         ensures slots { length self.old ≡ SLOT_COUNT }
     {
         let index = slot.index();
-        let Some(device) = &mut self.places[index] else {
-            unreachable!()
-        };
-        let number = device.raise(raised, byte, enabled)?;
+        let answer = raise(&mut self.places[index], raised, byte, enabled);
         self.marks = self.marks.queued(index, &self.places[index]);
-        Ok(number)
+        answer
     }
 
     /// The slots of the devices at an address, but the active controller's.
@@ -179,8 +176,7 @@ impl Occupants {
         ensures slots { length self.old ≡ SLOT_COUNT }
     {
         let index = slot.index();
-        happening.happen(&mut self.places[index], index);
-        self.marks = happening.noted(self.marks, index, &self.places[index]);
+        happen_in(happening, index, &mut self.places[index], &mut self.marks);
     }
 
     /// This happens in each of these slots.
@@ -190,10 +186,7 @@ impl Occupants {
     {
         let mut left = among;
         while let Some(index) = left.take_lowest() {
-            if happening.concerns(&self.places[index], index) {
-                happening.happen(&mut self.places[index], index);
-                self.marks = happening.noted(self.marks, index, &self.places[index]);
-            }
+            happen_in(happening, index, &mut self.places[index], &mut self.marks);
         }
     }
 }

@@ -1,17 +1,17 @@
-ghost use Rattle.std.specs.Prelude.{◌≡◌, ◌≤◌, ◌<◌, ◌+◌, ◌^◌, ◌&&◌, ℕ, true, false, option_map, length, is_none};
+ghost use Rattle.std.specs.Prelude.{◌≡◌, ◌≤◌, ◌<◌, ◌+◌, ◌^◌, ◌&&◌, ℕ, suc, true, false, Some, None, option_map, length, is_none, is_some, MatchResult, OnErr, OnOk};
 ghost use Rattle.i3c_base.specs.declared.device.TheConstants.{REGISTERS as REGISTER_COUNT};
 ghost use Rattle.i3c_base.specs.declared.range.TheConstants.{SLOTS as SLOT_COUNT};
 ghost use Rattle.i3c_base.specs.Frames.{unaddressed_device};
 ghost use Rattle.i3c_base.specs.Round.{hears, unhearing, winner};
 ghost use Rattle.i3c_base.specs.Serve.{without_front, without_role};
-ghost use Rattle.i3c_base.specs.State.{in_slot};
-ghost use Rattle.i3c_device.specs.Raising.{wishing_join, wishing_role};
+ghost use Rattle.i3c_base.specs.State.{Device as DeviceState, in_slot};
+ghost use Rattle.i3c_device.specs.Raising.{interrupting_if, next_fault, wishing_join, wishing_role, with_raise};
 ghost use Rattle.i3c_device.specs.Reading.{IsDrivenFrom, IsRegisterFrom};
 ghost use Rattle.i3c_device.specs.Walks.{reaches_at, taken_from, willing_at, written_at};
 ghost use Rattle.i3c_device.specs.Wishing.{wishes_interrupt};
 
 use crate::attached::Device;
-use i3c_base::{Addr7, Request, Slot};
+use i3c_base::{Addr7, RaiseRefusal, Request, Slot};
 
 /// The device here, if there is one, wishes to join.
 pub(crate) fn wish_join(place: &mut Option<Device>)
@@ -47,6 +47,23 @@ pub(crate) fn lose_front(place: &mut Option<Device>)
     if let Some(device) = place {
         device.lose_front();
     }
+}
+
+/// The device here raises the interrupt after this many of its slot, and answers its number, if its interrupts are
+/// enabled. The first fault refuses it, and changes nothing.
+pub(crate) fn raise(
+    place: &mut Option<Device>,
+    raised: u64,
+    byte: Option<u8>,
+    enabled: bool,
+) -> Result<u64, RaiseRefusal>
+    requires { is_some place.old ≡ true }
+    ensures fault { (d : DeviceState) → place.old ≡ Some d → MatchResult result (λ number. (number ≡ suc raised) × (next_fault (interrupting_if enabled d) byte raised ≡ None)) (λ fault. next_fault (interrupting_if enabled d) byte raised ≡ Some fault) }
+    ensures raised { OnOk result (place.new ≡ option_map (with_raise (suc raised) byte) place.old) }
+    ensures unchanged { OnErr result (place.new ≡ place.old) }
+{
+    let Some(device) = place else { unreachable!() };
+    device.raise(raised, byte, enabled)
 }
 
 /// This request was accepted, which the device here drives: it loses the wish or the front.

@@ -40,6 +40,24 @@ pub(crate) trait Happening {
     }
 }
 
+/// This happens to whatever stands in a slot, if it concerns it, and is noted in the marks.
+#[inline(always)]
+pub(crate) fn happen_in<H: Happening>(
+    happening: &H,
+    index: usize,
+    place: &mut Option<Device>,
+    marks: &mut Marks,
+)
+    requires { index < SLOT_COUNT }
+    ensures changed { place.new ≡ H.after happening.now index place.old }
+    ensures marked { (places : List (Option DeviceState)) → length places ≡ SLOT_COUNT → AreMarks marks.old places → slice_index_or places index None ≡ place.old → AreMarks marks.new (slice_set places index place.new) }
+{
+    if happening.concerns(place, index) {
+        happening.happen(place, index);
+        *marks = happening.noted(*marks, index, place);
+    }
+}
+
 /// This request was accepted, which is driven here.
 #[derive(Drop)]
 pub(crate) struct Accepted<'a> {

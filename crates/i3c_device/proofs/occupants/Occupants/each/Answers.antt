@@ -1,10 +1,9 @@
 -- One slot more, until none is left.
-use Rattle.std.proofs.Common.{◌∙◌, ◌<◌, ap, arith, length, set, subst}
-use Rattle.std.proofs.lemmas.List.{get_or-set_same}
+use Rattle.std.proofs.Common.{◌∙◌, ◌<◌, ap, arith, length, None}
+use Rattle.std.proofs.lemmas.List.{get_or_default}
 use Rattle.i3c_base.specs.Places.{changed}
 use Rattle.i3c_device.specs.Finding.{within}
-use Rattle.i3c_device.specs.Marks.{AreMarks}
-use Rattle.i3c_device.proofs.EachLaws.{turned, walks_all, walks_more, walks_none, walks_past}
+use Rattle.i3c_device.proofs.EachLaws.{turned, walks_all, walks_more, walks_none}
 use Rattle.i3c_device.proofs.occupants.Occupants.each.Goals as goal
 
 pub loop-index-init : goal.loop-index-init
@@ -12,20 +11,13 @@ loop-index-init g c = walks_none (g.H.Happening.after c.args.happening.now) c.ar
 
 pub loop-index-preserved : goal.loop-index-preserved
 loop-index-preserved g c =
-    walks_past (g.H.Happening.after c.args.happening.now) c.args.among c.loop-index.left c.take_lowest.new.self c.loop-index.self-inside.marks c.self.inside.places c.loop-index.self-inside.places c.in-Some.index
-    c.index-self-index.result c.loop-index.invariant c.in-Some.ensures.taken.0 c.in-Some.ensures.taken.1 c.in-Some.ensures.taken.3 (c.concerns.ensures c.if-concerns.false)
-
-pub loop-index-preserved-then-concerns : goal.loop-index-preserved-then-concerns
-loop-index-preserved-then-concerns g c =
     let ys = c.loop-index.self-inside.places in
     let i = c.in-Some.index in
     let low : i < length ys = omega (arith, c.loop-index.invariant.long, c.in-Some.ensures.taken.0) in
-    walks_more (g.H.Happening.after c.args.happening.now) c.args.among c.loop-index.left c.take_lowest.new.self c.loop-index.self-inside.marks c.noted-self-inside.result c.self.inside.places ys i c.happen.new.place
+    walks_more (g.H.Happening.after c.args.happening.now) c.args.among c.loop-index.left c.take_lowest.new.self c.loop-index.self-inside.marks c.happen_in.new.marks c.self.inside.places ys i c.happen_in.new.place
     c.loop-index.invariant c.in-Some.ensures.taken.0 c.in-Some.ensures.taken.1 c.in-Some.ensures.taken.3
-    (turned (g.H.Happening.after c.args.happening.now) ys i c.index-self-index-then-concerns.result c.happen.new.place low c.happen.ensures)
-    (subst (λ place. AreMarks c.noted-self-inside.result (set ys i place)) (get_or-set_same ys i c.happen.new.place c.index-self-index-then-concerns-2.result low)
-    (c.noted-self-inside.ensures ys c.loop-index.invariant.long c.loop-index.invariant.marked
-    (get_or-set_same ys i c.happen.new.place c.index-self-index-then-concerns-2.result low ∙ turned (g.H.Happening.after c.args.happening.now) ys i c.index-self-index-then-concerns.result c.happen.new.place low c.happen.ensures)))
+    (turned (g.H.Happening.after c.args.happening.now) ys i c.index-self-index.result c.happen_in.new.place low c.happen_in.ensures.changed)
+    (c.happen_in.ensures.marked ys c.loop-index.invariant.long c.loop-index.invariant.marked (get_or_default ys i None c.index-self-index.result low))
 
 pub invariant_of-self : goal.invariant_of-self
 invariant_of-self g c = (c.loop-index.invariant.long, c.loop-index.invariant.marked)
