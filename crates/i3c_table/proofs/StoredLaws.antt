@@ -1,5 +1,5 @@
 -- What stands at an address of what a table stores.
-use Rattle.std.proofs.Common.{◌≡◌, ◌≢◌, ℕ, ◌^◌, ◌<◌, ◌≤◌, ◌==◌, Bool, true, false, List, length, get_or, set, Option, Some, None, option_map, ◌⊎◌, if◌then◌else◌, sym, refl, ap, ◌∙◌, inl, inr, arith, subst, zero-add}
+use Rattle.std.proofs.Common.{◌≡◌, ◌≢◌, ℕ, ◌^◌, ◌<◌, ◌≤◌, ◌==◌, Bool, true, false, List, length, get_or, set, Option, Some, None, MatchOption, option_map, ◌⊎◌, if◌then◌else◌, sym, refl, ap, ◌∙◌, inl, inr, arith, subst, zero-add}
 use Rattle.std.proofs.lemmas.Bool.{both_ways, cases_eq, cases_lt, cond-true, cond-false, eq-eqb, ne_eqb}
 use Rattle.std.proofs.lemmas.List.{ext_get_or, get_or_past, get_or-set_other, get_or-set_same, length-set}
 use Rattle.std.proofs.lemmas.List.FromFn.{get_or-map-range_with_len, length-map-range_with_len}
@@ -152,7 +152,7 @@ new_row held kept registers numbers table row view fits (inr keeps) out =
     absurd (none-some keeps.0 (sym none ∙ keeps.2.0))
 
 -- at an address that is kept, a row with an identity is of the same number
-pub kept_row : (held kept : ℕ) (registers : List Registers) (numbers : List ℕ) (table : Table) (row : Row) (i : Identity) → stored held kept registers numbers ≡ table.given → IsSmall held
+kept_row : (held kept : ℕ) (registers : List Registers) (numbers : List ℕ) (table : Table) (row : Row) (i : Identity) → stored held kept registers numbers ≡ table.given → IsSmall held
     → ((b : ℕ) → is_in kept b ≡ true → is_in held b ≡ true) → MayPut table row → row.identity ≡ Some i → is_in kept row.address ≡ true → get_or numbers row.address 0 ≡ number_of i
 kept_row held kept registers numbers table row i view fits among (inl pickable) is has =
     absurd (both_ways (is_in held row.address) (free_stored held kept registers numbers row.address fits (subst (λ g. IsFree g row.address) (sym view) pickable.1)) (among row.address has))
@@ -162,13 +162,20 @@ kept_row held kept registers numbers table row i view fits among (inr keeps) is 
     sym (number_again (get_or numbers row.address 0)) ∙ ap number_of (its ∙ same_Some _ _ (sym keeps.1 ∙ is))
 
 -- and one without comes to an address that isn't kept
-pub unkept_row : (held kept : ℕ) (registers : List Registers) (numbers : List ℕ) (table : Table) (row : Row) → stored held kept registers numbers ≡ table.given → IsSmall held
+unkept_row : (held kept : ℕ) (registers : List Registers) (numbers : List ℕ) (table : Table) (row : Row) → stored held kept registers numbers ≡ table.given → IsSmall held
     → ((b : ℕ) → is_in kept b ≡ true → is_in held b ≡ true) → MayPut table row → row.identity ≡ None → is_in kept row.address ≡ false
 unkept_row held kept registers numbers table row view fits among (inl pickable) is = elim (some_or_none (is_in kept row.address)) [
   | inr out ↦ out
   | inl has ↦ absurd (both_ways (is_in held row.address) (free_stored held kept registers numbers row.address fits (subst (λ g. IsFree g row.address) (sym view) pickable.1)) (among row.address has))
 ]
 unkept_row held kept registers numbers table row view fits among (inr keeps) is = absurd (none-some keeps.0 (sym is ∙ keeps.1))
+
+-- so a row fits what its address is kept for
+pub fitting_row : (held kept : ℕ) (registers : List Registers) (numbers : List ℕ) (table : Table) (row : Row) (identity : Option Identity) → stored held kept registers numbers ≡ table.given → IsSmall held
+    → ((b : ℕ) → is_in kept b ≡ true → is_in held b ≡ true) → MayPut table row → row.identity ≡ identity
+    → MatchOption identity (is_in kept row.address ≡ false) (λ i. is_in kept row.address ≡ true → get_or numbers row.address 0 ≡ number_of i)
+fitting_row held kept registers numbers table row None view fits among may is = unkept_row held kept registers numbers table row view fits among may is
+fitting_row held kept registers numbers table row (Some i) view fits among may is = kept_row held kept registers numbers table row i view fits among may is
 
 only_at_at : (own : ℕ) (given : List (Option Entry)) (a : ℕ) → entry_in (only_at own given) a ≡ (if a == own then option_map unkept (entry_in given a) else None)
 only_at_at own given a = changed_at (λ b place. if b == own then option_map unkept place else None) given a None (none_if (a == own))

@@ -1,3 +1,8 @@
+ghost use Rattle.std.specs.Prelude.{◌≡◌, ◌≢◌, ℕ, true, false, slice_index_or, MatchOption};
+ghost use Rattle.i3c_base.specs.Numbers.{number_of};
+ghost use Rattle.i3c_table.specs.Sets.{is_in};
+ghost use Rattle.i3c_table.specs.Stored.{kept_at, IsInOrder};
+
 use crate::addresses::Addresses;
 use crate::order::Order;
 use crate::row::Row;
@@ -132,19 +137,16 @@ impl Table {
             dcr,
             identity,
         } = row;
-        let place = address.get() as usize;
-        let kept = match identity {
-            Some(identity) => {
-                self.numbers[place] = identity.number();
-                self.order.keep(&self.numbers, self.kept, address);
-                self.kept.with(address)
-            }
-            None => self.kept.without(address),
-        };
-        self.kept = kept;
+        self.kept = keep_for(
+            identity,
+            address,
+            self.kept,
+            &mut self.numbers,
+            &mut self.order,
+        );
         self.held = self.held.with(address);
-        self.registers[place] = Registers { bcr, dcr };
-        self.listed = false;
+        self.registers[address.get() as usize] = Registers { bcr, dcr };
+        self.listed = false; // nobody was told of the row
     }
 
     /// Forgets every address but the controller's own, which is kept for nobody then (RSTDAA, I3C Basic 5.1.9.3.3).
@@ -223,5 +225,33 @@ impl Table {
             return None;
         }
         Some(Identity::from_number(self.numbers[address.get() as usize]))
+    }
+}
+
+// Keeps an address for an identity, or for nobody, and answers which addresses are kept then.
+fn keep_for(
+    identity: Option<Identity>,
+    address: Addr7,
+    kept: Addresses,
+    numbers: &mut [u64; ADDRESSES],
+    order: &mut Order,
+) -> Addresses
+    requires ordered { IsInOrder kept.0 numbers.old order.old }
+
+    // an address that is kept already is kept for this identity
+    requires same { MatchOption identity (is_in kept.0 address ≡ false)
+        (λ i. is_in kept.0 address ≡ true → slice_index_or numbers.old address 0 ≡ number_of i) }
+    ensures ordered { IsInOrder result.0 numbers.new order.new }
+    ensures its { kept_at result.0 numbers.new address ≡ identity }
+    ensures others { (a : ℕ) → a ≢ address → is_in result.0 a ≡ is_in kept.0 a }
+    ensures other_numbers { (a : ℕ) → a ≢ address → slice_index_or numbers.new a 0 ≡ slice_index_or numbers.old a 0 }
+{
+    match identity {
+        Some(identity) => {
+            numbers[address.get() as usize] = identity.number();
+            order.keep(numbers, kept, address);
+            kept.with(address)
+        }
+        None => kept.without(address),
     }
 }

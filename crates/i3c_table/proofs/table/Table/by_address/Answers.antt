@@ -27,3 +27,6 @@ returns-clause-usable c a = rw (ap (λ t. t.given) (sym c.self.view_is)) (each_u
 
 pub returns-clause-apart : goal.returns-clause-apart
 returns-clause-apart c a = rw (ap (λ t. t.given) (sym c.self.view_is), ap (λ t. t.legacy) (sym c.self.view_is)) (each_apart _ _ _ _ _ c.self.invariant.0 a)
+
+pub loop-address-smaller : goal.loop-address-smaller
+loop-address-smaller c = c.without-left.ensures.less c.in-Some.ensures.0
