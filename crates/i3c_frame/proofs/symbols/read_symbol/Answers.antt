@@ -1,6 +1,8 @@
 -- What a function makes of the bytes of a text is what it makes of the text.
-use Rattle.std.proofs.Common.{IfSome, arith, subst}
+use Rattle.std.proofs.Common.{IfSome, ap, arith, length, length-drop, subst}
+use Rattle.std.proofs.lemmas.List.{take_rest}
 use Rattle.i3c_frame.specs.Texts.{FindsSymbol, HasText}
+use Rattle.i3c_frame.proofs.PrintLaws.{text_some}
 use Rattle.i3c_frame.proofs.FirstLaws.{whole_1, whole_2, whole_3, whole_4, whole_5, whole_head}
 use Rattle.i3c_frame.proofs.symbols.read_symbol.Goals as goal
 
@@ -39,3 +41,9 @@ returns-in-len1-up-clause-text c = subst (λ text. IfSome c.read_identity.result
 
 pub returns-in-len1-up-clause-every : goal.returns-in-len1-up-clause-every
 returns-in-len1-up-clause-every c = subst (λ text. FindsSymbol text c.read_identity.result) (whole_head c.args.text.now (omega arith)) c.read_identity.ensures.every
+
+pub returns-in-empty-clause-every : goal.returns-in-empty-clause-every
+returns-in-empty-clause-every c symbol range e = absurd (omega (arith, text_some symbol, ap length e))
+
+pub read_identity-requires : goal.read_identity-requires
+read_identity-requires c = omega (arith, ap length (take_rest c.args.text.now 1), length-drop 1 c.args.text.now)

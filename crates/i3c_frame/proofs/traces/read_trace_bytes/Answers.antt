@@ -15,8 +15,8 @@ returns-in_default-first c =
     let counted : c.len-number.result ≡ length c.loop-first.symbols.items = omega (arith, c.loop-first.symbols.ok.0) in
     let other : IsFirst c.loop-first.rest.now Other = subst (IsFirst c.loop-first.rest.now) c.in_default-first.is c.in-Some.ensures in
     let first : IsFirstFault (parts c.args.bytes.now) (BadSymbol (c.len-number.result + 1)) =
-      fault_behind _ _ other.1 other.0 c.loop-first.symbols.items c.loop-first.place _ c.loop-first.invariant.whole other.2 c.loop-first.invariant.in_range c.loop-first.invariant.leads
-      (inl (other.3, ap (λ n. BadSymbol (n + 1)) counted)) in
+    fault_behind _ _ other.1 other.0 c.loop-first.symbols.items c.loop-first.place _ c.loop-first.invariant.whole other.2 c.loop-first.invariant.in_range c.loop-first.invariant.leads
+    (inl (other.3, ap (λ n. BadSymbol (n + 1)) counted)) in
     record {
       sound = tt;
       range = tt;
@@ -30,8 +30,8 @@ returns-in_default-after c =
     let symbol = c.in-Symbol.symbol in
     let begins : BeginsWith c.loop-first.rest.now symbol c.in-Symbol.left.now = subst (IsFirst c.loop-first.rest.now) c.in-Symbol.is c.in-Some.ensures in
     let first : IsFirstFault (parts c.args.bytes.now) c.misplaced.result =
-      fault_behind _ _ (parts c.in-Symbol.left.now) (text_of symbol) c.loop-first.symbols.items c.loop-first.place _ c.loop-first.invariant.whole begins.1 c.loop-first.invariant.in_range c.loop-first.invariant.leads
-      (inr ((symbol, begins.0, refl, sym c.after.ensures ∙ c.in_default-after.is), c.misplaced.ensures ∙ ap (λ n. misplaced c.loop-first.place (n + 1)) counted)) in
+    fault_behind _ _ (parts c.in-Symbol.left.now) (text_of symbol) c.loop-first.symbols.items c.loop-first.place _ c.loop-first.invariant.whole begins.1 c.loop-first.invariant.in_range c.loop-first.invariant.leads
+    (inr ((symbol, begins.0, refl, sym c.after.ensures ∙ c.in_default-after.is), c.misplaced.ensures ∙ ap (λ n. misplaced c.loop-first.place (n + 1)) counted)) in
     record {
       sound = tt;
       range = tt;
