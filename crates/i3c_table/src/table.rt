@@ -228,7 +228,7 @@ impl Table {
     }
 }
 
-// Keeps an address for an identity, or for nobody, and answers which addresses are kept then.
+/// Keeps an address for an identity, or for nobody, and answers which addresses are kept then.
 fn keep_for(
     identity: Option<Identity>,
     address: Addr7,
@@ -237,7 +237,6 @@ fn keep_for(
     order: &mut Order,
 ) -> Addresses
     requires ordered { IsInOrder kept.0 numbers.old order.old }
-
     // an address that is kept already is kept for this identity
     requires same { MatchOption identity (is_in kept.0 address ≡ false)
         (λ i. is_in kept.0 address ≡ true → slice_index_or numbers.old address 0 ≡ number_of i) }
