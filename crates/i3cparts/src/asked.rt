@@ -139,10 +139,9 @@ fn first_identity(setting: &Setting) -> Answer {
     let Some((number, slots)) = setting.devices.first_identity() else {
         return told_text(alloc, "None");
     };
-    let mut text = told_hex(alloc, &number)?;
-    text.push_str(" in ")?;
-    text.push_str(&told_set(alloc, slots)?)?;
-    Ok(text)
+    let number = told_hex(alloc, &number)?;
+    let slots = told_set(alloc, slots)?;
+    format!(in alloc; "{number} in {slots}").or(Err(Fault::Memory))
 }
 
 /// What the lines give of the registers at an address.

@@ -20,15 +20,24 @@ pub(crate) fn call(setting: &mut Setting, call: &str, words: &mut Words<'_>) -> 
 
 /// A call on cuts. Those that `counted_from` gives take the place of the ones before.
 fn of_cuts(alloc: Global, words: &mut Words<'_>, cuts: &mut Cuts) -> Answer {
-    match words.word()? {
-        "add" => told(alloc, &cuts.add(words.slot()?, words.bit()?)),
+    let method = words.word()?;
+    match method {
         "counted_from" => {
             *cuts = cuts.counted_from(words.bit()?);
             told(alloc, &())
         }
-        "at" => told(alloc, &cuts.at(words.slot()?)),
-        "is_lost" => told(alloc, &cuts.is_lost(words.slot()?, words.bit()?)),
         "is_empty" => told(alloc, &cuts.is_empty()),
+        _ => of_slot(alloc, method, words, cuts),
+    }
+}
+
+/// A call on what is cut of a slot.
+fn of_slot(alloc: Global, method: &str, words: &mut Words<'_>, cuts: &mut Cuts) -> Answer {
+    let slot = words.slot()?;
+    match method {
+        "add" => told(alloc, &cuts.add(slot, words.bit()?)),
+        "at" => told(alloc, &cuts.at(slot)),
+        "is_lost" => told(alloc, &cuts.is_lost(slot, words.bit()?)),
         _ => Err(Fault::Unknown),
     }
 }

@@ -1,7 +1,6 @@
 use i3c_base::OutOfRange;
 use std::alloc::{AllocError, AllocFailed};
 use std::io;
-use std::num::ParseIntError;
 
 /// Why a line has no answer, or a text can't be read.
 #[derive(Drop)]
@@ -45,12 +44,6 @@ impl From<io::Error> for Fault {
 
 impl From<OutOfRange> for Fault {
     fn from(_error: OutOfRange) -> Fault {
-        Fault::Unknown
-    }
-}
-
-impl From<ParseIntError> for Fault {
-    fn from(_error: ParseIntError) -> Fault {
         Fault::Unknown
     }
 }

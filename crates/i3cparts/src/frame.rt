@@ -1,10 +1,16 @@
 use crate::faults::Fault;
 use crate::setting::Setting;
 use crate::taps;
-use crate::told::{Answer, printed, text_of, told};
-use crate::words::{Words, word_of};
+use crate::told::{Answer, printed, text_of, told, told_if};
+use crate::words::Words;
 use i3c_frame::{Symbol, read_trace};
 use std::alloc::Global;
+
+/// The directions of headers: whether they read.
+const DIRECTIONS: [(&str, bool); 2] = [("read", true), ("write", false)];
+
+/// The answers: whether they acknowledge.
+const ANSWERS: [(&str, bool); 2] = [("ack", true), ("nack", false)];
 
 /// The calls on symbols and traces. `read_trace` keeps the trace that it reads, and answers how long that is; `trace` is
 /// one of its symbols, counted from 1, and `printed` the texts of all, each with a space behind it.
@@ -14,7 +20,7 @@ pub(crate) fn call(setting: &mut Setting, call: &str, words: &mut Words<'_>) -> 
         "symbol" => text_of(alloc, &symbol(words)?),
         "read_trace" => read(setting, words.all()?),
         "trace" => at(setting, words.index()?),
-        "printed" => told(alloc, &printed(alloc, &setting.trace)?),
+        "printed" => told_if(alloc, printed(alloc, &setting.trace)),
         _ => taps::call(setting, call, words),
     }
 }
@@ -27,9 +33,9 @@ fn read(setting: &mut Setting, text: &str) -> Answer {
         Ok(trace) => {
             let count = trace.len();
             setting.trace = trace;
-            Ok(format!(in alloc; "Ok({count})")?)
+            format!(in alloc; "Ok({count})").or(Err(Fault::Memory))
         }
-        Err(fault) => Ok(format!(in alloc; "Err({fault:?})")?),
+        Err(fault) => format!(in alloc; "Err({fault:?})").or(Err(Fault::Memory)),
     }
 }
 
@@ -43,54 +49,33 @@ fn at(setting: &Setting, number: usize) -> Answer {
 
 /// A symbol, by its name and what it has.
 pub(crate) fn symbol(words: &mut Words<'_>) -> Result<Symbol, Fault> {
-    match words.word()? {
+    let name = words.word()?;
+    match name {
         "start" => Ok(Symbol::Start),
         "repeated" => Ok(Symbol::Repeated),
         "stop" => Ok(Symbol::Stop),
         "header" => header(words),
-        "word" => Ok(Symbol::Word(word_of(words.word()?)?)),
+        "word" => Ok(Symbol::Word(words.carried_word()?)),
         "identity" => Ok(Symbol::Identity(words.number()?)),
-        "address_byte" => {
-            let (byte, ack) = answered(words)?;
-            Ok(Symbol::AddressByte { byte, ack })
-        }
-        "legacy_word" => {
-            let (byte, ack) = answered(words)?;
-            Ok(Symbol::LegacyWord { byte, ack })
-        }
-        _ => Err(Fault::Unknown),
+        _ => answered(name, words),
     }
 }
 
 /// A header: its address, its direction and its answer.
 fn header(words: &mut Words<'_>) -> Result<Symbol, Fault> {
     let address = words.address()?;
-    let read = is_read(words.word()?)?;
-    let ack = is_ack(words.word()?)?;
+    let read = words.named(&DIRECTIONS)?;
+    let ack = words.named(&ANSWERS)?;
     Ok(Symbol::Header { address, read, ack })
 }
 
-/// A byte and its answer.
-fn answered(words: &mut Words<'_>) -> Result<(u8, bool), Fault> {
+/// A byte of a name, with its answer.
+fn answered(name: &str, words: &mut Words<'_>) -> Result<Symbol, Fault> {
     let byte = words.byte()?;
-    let ack = is_ack(words.word()?)?;
-    Ok((byte, ack))
-}
-
-/// Whether a header reads.
-fn is_read(word: &str) -> Result<bool, Fault> {
-    match word {
-        "read" => Ok(true),
-        "write" => Ok(false),
-        _ => Err(Fault::Unknown),
-    }
-}
-
-/// Whether it is acknowledged.
-fn is_ack(word: &str) -> Result<bool, Fault> {
-    match word {
-        "ack" => Ok(true),
-        "nack" => Ok(false),
+    let ack = words.named(&ANSWERS)?;
+    match name {
+        "address_byte" => Ok(Symbol::AddressByte { byte, ack }),
+        "legacy_word" => Ok(Symbol::LegacyWord { byte, ack }),
         _ => Err(Fault::Unknown),
     }
 }
@@ -101,14 +86,12 @@ fn quoted(alloc: Global, text: &str) -> Result<String, Fault> {
     let mut read = String::new(alloc);
     let mut escaped = false;
     for letter in inner.chars() {
-        if escaped {
-            read.push(unseen(letter)?)?;
-            escaped = false;
-        } else if letter == '\\' {
+        if letter == '\\' && !escaped {
             escaped = true;
-        } else {
-            read.push(letter)?;
+            continue;
         }
+        read.push(if escaped { unseen(letter)? } else { letter })?;
+        escaped = false;
     }
     Ok(read)
 }

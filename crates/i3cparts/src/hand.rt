@@ -48,30 +48,30 @@ fn change(alloc: Global, device: &mut Device, call: &str, words: &mut Words<'_>)
         "fall-silent" => device.fall_silent(),
         "lose-front" => device.lose_front(),
         "lose-join-wish" => device.lose_join_wish(),
-        "hear" => hear(device, words)?,
-        _ => fill(alloc, device, words)?,
+        "hear" => return hear(alloc, device, words),
+        _ => return fill(alloc, device, words),
     }
     nothing(alloc)
 }
 
 /// A device by itself hears a session's opening, or a reset.
-fn hear(device: &mut Device, words: &mut Words<'_>) -> Result<(), Fault> {
+fn hear(alloc: Global, device: &mut Device, words: &mut Words<'_>) -> Answer {
     match words.code()? {
         Code::Entdaa => device.hear_opening(),
         Code::Rstdaa => device.lose_address(),
         _ => return Err(Fault::Unknown),
     }
-    Ok(())
+    nothing(alloc)
 }
 
 /// Bytes go into a device's first registers.
-fn fill(alloc: Global, device: &mut Device, words: &mut Words<'_>) -> Result<(), Fault> {
+fn fill(alloc: Global, device: &mut Device, words: &mut Words<'_>) -> Answer {
     let bytes = words.bytes(alloc)?;
     if bytes.len() > REGISTERS {
         return Err(Fault::Unknown);
     }
     device.write(&bytes);
-    Ok(())
+    nothing(alloc)
 }
 
 /// The device in hand, or in a slot.

@@ -1,8 +1,8 @@
 use crate::base;
 use crate::faults::Fault;
 use crate::setting::Setting;
-use crate::told::{Answer, nothing, told, told_hex, told_trace};
-use crate::words::{Words, word_of};
+use crate::told::{Answer, done, nothing, told, told_hex, told_trace};
+use crate::words::Words;
 use i3c_deftgts::{ENTRIES, Entry, read_list, write_list};
 use i3c_frame::Symbol;
 use i3c_word::{Word, write_word};
@@ -16,15 +16,16 @@ const BCR: u8 = 0x46;
 
 /// The calls on lists of devices: here those that change the list's words, or take its table, and answer nothing.
 pub(crate) fn call(setting: &mut Setting, call: &str, words: &mut Words<'_>) -> Answer {
+    let alloc = setting.alloc;
     match call {
-        "list" => setting.list = words.carried(setting.alloc)?,
-        "word" => replace(&mut setting.list, words)?,
+        "list" => setting.list = words.carried(alloc)?,
+        "word" => return done(alloc, replace(&mut setting.list, words)),
         "shorten" => setting.list.truncate(words.index()?),
-        "entries" => append(&mut setting.list, words)?,
-        "take-list" => take(setting)?,
+        "entries" => return done(alloc, append(&mut setting.list, words)),
+        "take-list" => return done(alloc, take(setting)),
         _ => return ask(setting, call, words),
     }
-    nothing(setting.alloc)
+    nothing(alloc)
 }
 
 /// Takes the table of the list.
@@ -41,7 +42,7 @@ fn replace(list: &mut [Word], words: &mut Words<'_>) -> Result<(), Fault> {
     let index = words.index()?;
     match list.get_mut(index) {
         Some(place) => {
-            *place = word_of(words.word()?)?;
+            *place = words.carried_word()?;
             Ok(())
         }
         None => Err(Fault::Unknown),
@@ -53,13 +54,20 @@ fn append(list: &mut Vec<Word>, words: &mut Words<'_>) -> Result<(), Fault> {
     let mut address = words.byte()?;
     let step = words.byte()?;
     for _ in 0..words.count()? {
-        list.push(write_word(address.wrapping_mul(2)))?;
-        list.push(write_word(DCR))?;
-        list.push(write_word(BCR))?;
-        list.push(write_word(0x00))?;
+        list.extend_from_slice(&device_at(address))?;
         address = address.wrapping_add(step);
     }
     Ok(())
+}
+
+/// The words of a device without a static address.
+fn device_at(address: u8) -> [Word; 4] {
+    [
+        write_word(address.wrapping_mul(2)),
+        write_word(DCR),
+        write_word(BCR),
+        write_word(0x00),
+    ]
 }
 
 /// What is asked of lists.
@@ -82,13 +90,19 @@ fn written(setting: &mut Setting, words: &mut Words<'_>) -> Answer {
     if setting.table.row_of(own).is_none() {
         return Err(Fault::Unknown);
     }
-    let mut symbols = Vec::new(setting.alloc);
+    let words = write_list(&setting.table, own);
     setting.list.clear();
-    for word in write_list(&setting.table, own).iter() {
-        setting.list.push(*word)?;
+    setting.list.extend_from_slice(words.as_slice())?;
+    told_words(setting.alloc, &setting.list)
+}
+
+/// Words on a bus, as traces have them.
+fn told_words(alloc: Global, words: &[Word]) -> Answer {
+    let mut symbols = Vec::new(alloc);
+    for word in words {
         symbols.push(Symbol::Word(*word))?;
     }
-    told_trace(setting.alloc, &symbols)
+    told_trace(alloc, &symbols)
 }
 
 /// The entries of the list, or why it is none.

@@ -12,14 +12,14 @@ pub(crate) fn call(setting: &mut Setting, call: &str, words: &mut Words<'_>) -> 
     let alloc = setting.alloc;
     match call {
         "pick" => told_hex(alloc, &pick(&setting.table)),
-        "give" => told_hex(alloc, &given(alloc, &mut setting.table, words.count()?)?),
+        "give" => give(alloc, &mut setting.table, words.count()?),
         _ => Err(Fault::Unknown),
     }
 }
 
 /// Puts rows at the addresses that are picked, until there are so many or none is left.
-fn given(alloc: Global, table: &mut Table, count: u64) -> Result<Vec<Addr7>, Fault> {
-    let mut given = Vec::new(alloc);
+fn give(alloc: Global, table: &mut Table, count: u64) -> Answer {
+    let mut given: Vec<Addr7> = Vec::new(alloc);
     for _ in 0..count {
         let Some(address) = pick(table) else {
             break;
@@ -32,5 +32,5 @@ fn given(alloc: Global, table: &mut Table, count: u64) -> Result<Vec<Addr7>, Fau
         });
         given.push(address)?;
     }
-    Ok(given)
+    told_hex(alloc, &given)
 }

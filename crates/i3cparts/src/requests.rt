@@ -49,22 +49,16 @@ pub(crate) fn call(setting: &mut Setting, call: &str, words: &mut Words<'_>) -> 
     }
 }
 
+/// The verdicts.
+const VERDICTS: [(&str, Verdict); 2] = [("accept", Verdict::Accept), ("refuse", Verdict::Refuse)];
+
 /// The verdicts on joins, role requests and interrupts.
 pub(crate) fn verdicts(words: &mut Words<'_>) -> Result<Fixed, Fault> {
     Ok(Fixed {
-        join: verdict(words)?,
-        role: verdict(words)?,
-        interrupt: verdict(words)?,
+        join: words.named(&VERDICTS)?,
+        role: words.named(&VERDICTS)?,
+        interrupt: words.named(&VERDICTS)?,
     })
-}
-
-/// A verdict.
-fn verdict(words: &mut Words<'_>) -> Result<Verdict, Fault> {
-    match words.word()? {
-        "accept" => Ok(Verdict::Accept),
-        "refuse" => Ok(Verdict::Refuse),
-        _ => Err(Fault::Unknown),
-    }
 }
 
 /// Serves the first request.

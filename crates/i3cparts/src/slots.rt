@@ -5,16 +5,16 @@ use crate::setting::Setting;
 use crate::told::{Answer, nothing};
 use crate::words::Words;
 use i3c_base::{Identity, REGISTERS, SLOTS, Slot};
-use i3c_device::{Devices, SlotSet};
+use i3c_device::{Device, Devices, SlotSet};
 use i3c_word::{Word, write_word};
 use std::alloc::Global;
 
 /// The calls that change the devices: here those by which they come, move and go.
 pub(crate) fn call(setting: &mut Setting, call: &str, words: &mut Words<'_>) -> Answer {
     match call {
-        "device" => enter(setting, words, false)?,
-        "willing-device" => enter(setting, words, true)?,
-        "put" => put(setting, words)?,
+        "device" => return enter(setting, words, false),
+        "willing-device" => return enter(setting, words, true),
+        "put" => return put(setting, words),
         "remove" => setting.devices.remove(words.slot()?),
         "drop-lost" => setting.devices.drop_lost(&setting.cuts, words.bit()?),
         _ => return wish(setting, call, words),
@@ -23,59 +23,57 @@ pub(crate) fn call(setting: &mut Setting, call: &str, words: &mut Words<'_>) -> 
 }
 
 /// A new device, in hand or in a slot.
-fn enter(setting: &mut Setting, words: &mut Words<'_>, willing: bool) -> Result<(), Fault> {
+fn enter(setting: &mut Setting, words: &mut Words<'_>, willing: bool) -> Answer {
     let place = words.place()?;
     let device = device_of(words, willing)?;
     match place {
         None => setting.hand = Some(device),
         Some(slot) => setting.devices.put(slot, device),
     }
-    Ok(())
+    nothing(setting.alloc)
 }
 
 /// The device in hand goes into a slot.
-fn put(setting: &mut Setting, words: &mut Words<'_>) -> Result<(), Fault> {
+fn put(setting: &mut Setting, words: &mut Words<'_>) -> Answer {
     let slot = words.slot()?;
     let Some(device) = setting.hand.take() else {
         return Err(Fault::Unknown);
     };
     setting.devices.put(slot, device);
-    Ok(())
+    nothing(setting.alloc)
 }
 
 /// Wishes that come and go.
 fn wish(setting: &mut Setting, call: &str, words: &mut Words<'_>) -> Answer {
     match call {
-        "wish-join" => wish_join(setting, words.place()?)?,
-        "wish-role" => wish_role(setting, words.place()?)?,
-        "lose-role-wish" => lose_role_wish(setting, words.place()?)?,
-        _ => return happen(setting, call, words),
+        "wish-join" | "wish-role" | "lose-role-wish" => wish_at(setting, call, words),
+        _ => happen(setting, call, words),
+    }
+}
+
+/// A wish of the device in hand, or in a slot.
+fn wish_at(setting: &mut Setting, call: &str, words: &mut Words<'_>) -> Answer {
+    match words.place()? {
+        None => wish_in_hand(in_hand(setting)?, call),
+        Some(slot) => wish_in_slot(&mut setting.devices, slot, call),
     }
     nothing(setting.alloc)
 }
 
-fn wish_join(setting: &mut Setting, place: Option<Slot>) -> Result<(), Fault> {
-    match place {
-        None => in_hand(setting)?.wish_join(),
-        Some(slot) => setting.devices.wish_join(slot),
+fn wish_in_hand(device: &mut Device, call: &str) {
+    match call {
+        "wish-join" => device.wish_join(),
+        "wish-role" => device.wish_role(),
+        _ => device.lose_role_wish(),
     }
-    Ok(())
 }
 
-fn wish_role(setting: &mut Setting, place: Option<Slot>) -> Result<(), Fault> {
-    match place {
-        None => in_hand(setting)?.wish_role(),
-        Some(slot) => setting.devices.wish_role(slot),
+fn wish_in_slot(devices: &mut Devices, slot: Slot, call: &str) {
+    match call {
+        "wish-join" => devices.wish_join(slot),
+        "wish-role" => devices.wish_role(slot),
+        _ => devices.lose_role_wish(slot),
     }
-    Ok(())
-}
-
-fn lose_role_wish(setting: &mut Setting, place: Option<Slot>) -> Result<(), Fault> {
-    match place {
-        None => in_hand(setting)?.lose_role_wish(),
-        Some(slot) => setting.devices.lose_role_wish(slot),
-    }
-    Ok(())
 }
 
 /// What happens in all slots.
@@ -84,9 +82,9 @@ fn happen(setting: &mut Setting, call: &str, words: &mut Words<'_>) -> Answer {
         "open" => setting.devices.open(),
         "silence" => setting.devices.silence(),
         "accept-first" => accept_first(setting),
-        "command" => command(setting, words)?,
-        "assign" => assign(setting, words)?,
-        "write-to" => write_to(setting, words)?,
+        "command" => return command(setting, words),
+        "assign" => return assign(setting, words),
+        "write-to" => return write_to(setting, words),
         _ => return asked::call(setting, call, words),
     }
     nothing(setting.alloc)
@@ -100,38 +98,42 @@ fn accept_first(setting: &mut Setting) {
 }
 
 /// Those whom it reaches hear a command.
-fn command(setting: &mut Setting, words: &mut Words<'_>) -> Result<(), Fault> {
+fn command(setting: &mut Setting, words: &mut Words<'_>) -> Answer {
     let to = words.target()?;
     let code = words.code()?;
-    let bytes = words.bytes(setting.alloc)?;
-    let carried = words_of(setting.alloc, &bytes)?;
+    let carried = written(setting.alloc, words)?;
     setting.devices.hear(setting.active, &to, code, &carried);
-    Ok(())
+    nothing(setting.alloc)
 }
 
-/// The words of these bytes.
-fn words_of(alloc: Global, bytes: &[u8]) -> Result<Vec<Word>, Fault> {
-    let mut words = Vec::new(alloc);
-    for byte in bytes {
-        words.push(write_word(*byte))?;
+/// The words of the bytes up to the end of the line.
+fn written(alloc: Global, words: &mut Words<'_>) -> Result<Vec<Word>, Fault> {
+    let mut written = Vec::new(alloc);
+    for byte in &words.bytes(alloc)? {
+        written.push(write_word(*byte))?;
     }
-    Ok(words)
+    Ok(written)
 }
 
 /// An identity wins a round: those who hear and have it, and aren't cut by a bit, take an address.
-fn assign(setting: &mut Setting, words: &mut Words<'_>) -> Result<(), Fault> {
+fn assign(setting: &mut Setting, words: &mut Words<'_>) -> Answer {
     let identity = words.identity()?;
     let address = words.usable()?;
     let last = words.bit()?;
-    let mut winners = Vec::new(setting.alloc);
+    let takers = hearers_of(setting, &identity)?.left(&setting.cuts, last);
+    setting.devices.take_address(takers, address);
+    nothing(setting.alloc)
+}
+
+/// Those who hear and have an identity.
+fn hearers_of(setting: &Setting, identity: &Identity) -> Result<SlotSet, Fault> {
+    let mut hearers = Vec::new(setting.alloc);
     for slot in &slots_of(setting.alloc, setting.devices.hearers())? {
-        if is_of(&setting.devices, *slot, &identity) {
-            winners.push(*slot)?;
+        if is_of(&setting.devices, *slot, identity) {
+            hearers.push(*slot)?;
         }
     }
-    let takers = SlotSet::of(&winners).left(&setting.cuts, last);
-    setting.devices.take_address(takers, address);
-    Ok(())
+    Ok(SlotSet::of(&hearers))
 }
 
 /// The slots of a set.
@@ -156,12 +158,12 @@ fn is_of(devices: &Devices, slot: Slot, identity: &Identity) -> bool {
 }
 
 /// Bytes are written to an address.
-fn write_to(setting: &mut Setting, words: &mut Words<'_>) -> Result<(), Fault> {
+fn write_to(setting: &mut Setting, words: &mut Words<'_>) -> Answer {
     let address = words.address()?;
     let bytes = words.bytes(setting.alloc)?;
     if bytes.len() > REGISTERS {
         return Err(Fault::Unknown);
     }
     setting.devices.write(setting.active, address, &bytes);
-    Ok(())
+    nothing(setting.alloc)
 }

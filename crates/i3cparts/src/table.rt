@@ -1,7 +1,7 @@
 use crate::faults::Fault;
 use crate::rounds;
 use crate::setting::Setting;
-use crate::told::{Answer, nothing, told, told_hex, told_lvrs};
+use crate::told::{Answer, done, told, told_hex, told_if, told_lvrs};
 use crate::words::Words;
 use i3c_base::{Addr7, Bcr, Lvr};
 use i3c_legacy::{Legacies, LegacyTargets};
@@ -10,14 +10,14 @@ use std::alloc::Global;
 
 /// The calls on what is known of addresses: here those that change it and answer nothing.
 pub(crate) fn call(setting: &mut Setting, call: &str, words: &mut Words<'_>) -> Answer {
+    let alloc = setting.alloc;
     match call {
-        "legacy" => declare(setting, words)?,
-        "row" => put(&mut setting.table, words, false)?,
-        "kept-row" => put(&mut setting.table, words, true)?,
-        "table" => return of_table(setting.alloc, &mut setting.table, words),
-        _ => return ask(setting, call, words),
+        "legacy" => done(alloc, declare(setting, words)),
+        "row" => done(alloc, put(&mut setting.table, words, false)),
+        "kept-row" => done(alloc, put(&mut setting.table, words, true)),
+        "table" => of_table(alloc, &mut setting.table, words),
+        _ => ask(setting, call, words),
     }
-    nothing(setting.alloc)
 }
 
 /// Declares a legacy target. The table has no row after it.
@@ -102,11 +102,12 @@ pub(crate) fn declared(alloc: Global, legacies: &Legacies) -> Result<Vec<(u8, Lv
 
 /// A call on a table.
 fn of_table(alloc: Global, table: &mut Table, words: &mut Words<'_>) -> Answer {
-    match words.word()? {
-        "put" => told(alloc, &put(table, words, true)?),
-        "put_again" => told(alloc, &put_again(table, words)?),
+    let method = words.word()?;
+    match method {
+        "put" => told_if(alloc, put(table, words, true)),
+        "put_again" => told_if(alloc, put_again(table, words)),
         "clear" => told(alloc, &table.clear(words.address()?)),
-        method => ask_table(alloc, table, method, words),
+        _ => ask_table(alloc, table, method, words),
     }
 }
 
@@ -132,8 +133,8 @@ fn ask_table(alloc: Global, table: &Table, method: &str, words: &mut Words<'_>) 
         "row_of" => told(alloc, &table.row_of(words.address()?)),
         "lvr_at" => told_lvrs(alloc, &table.lvr_at(words.address()?)),
         "address_known" => told_hex(alloc, &table.address_known(&words.identity()?)),
-        "by_address" => told(alloc, &alike(table)?),
-        "given_addresses" => told(alloc, &given(table)?),
+        "by_address" => told_if(alloc, alike(table)),
+        "given_addresses" => told_if(alloc, given(table)),
         "lowest_given" => told_hex(alloc, &table.given_addresses().lowest()),
         "list_current" => told(alloc, &table.list_current()),
         "legacies" => told(alloc, &table.legacies().len()),

@@ -15,19 +15,30 @@ pub(crate) fn nothing(alloc: Global) -> Answer {
     Ok(String::new(alloc))
 }
 
+/// The same of one that may be refused.
+pub(crate) fn done(alloc: Global, made: Result<(), Fault>) -> Answer {
+    made?;
+    nothing(alloc)
+}
+
 /// A text as an answer.
 pub(crate) fn told_text(alloc: Global, text: &str) -> Answer {
-    Ok(String::from_str(alloc, text)?)
+    String::from_str(alloc, text).or(Err(Fault::Memory))
 }
 
 /// An answer that has a text.
 pub(crate) fn text_of<T: Display>(alloc: Global, answer: &T) -> Answer {
-    Ok(format!(in alloc; "{answer}")?)
+    format!(in alloc; "{answer}").or(Err(Fault::Memory))
 }
 
 /// An answer whose numbers are counts.
 pub(crate) fn told<T: Debug>(alloc: Global, answer: &T) -> Answer {
-    Ok(format!(in alloc; "{answer:?}")?)
+    format!(in alloc; "{answer:?}").or(Err(Fault::Memory))
+}
+
+/// Such an answer, where there is one.
+pub(crate) fn told_if<T: Debug + Drop>(alloc: Global, answer: Result<T, Fault>) -> Answer {
+    told(alloc, &answer?)
 }
 
 /// An answer whose slots are decimal numbers.

@@ -11,6 +11,13 @@ use i3c_base::{Addr7, REGISTERS};
 use i3c_xfer::{Read, Write, read, read_bits, tell_read, tell_write, write, write_bits};
 use std::alloc::Global;
 
+/// What a write comes to.
+const WRITES: [(&str, Write); 3] = [
+    ("nobody", Write::Nobody),
+    ("legacy", Write::Legacy),
+    ("devices", Write::Devices),
+];
+
 /// The calls on private transfers.
 pub(crate) fn call(setting: &mut Setting, call: &str, words: &mut Words<'_>) -> Answer {
     match call {
@@ -121,12 +128,7 @@ fn registers(words: &mut Words<'_>) -> Result<[u8; REGISTERS], Fault> {
 /// How a write is told after the header of its frame.
 fn trace_of_write(alloc: Global, words: &mut Words<'_>) -> Answer {
     let to = words.address()?;
-    let wrote = match words.word()? {
-        "nobody" => Write::Nobody,
-        "legacy" => Write::Legacy,
-        "devices" => Write::Devices,
-        _ => return Err(Fault::Unknown),
-    };
+    let wrote = words.named(&WRITES)?;
     let bytes = words.bytes(alloc)?;
     let mut told = Told::begun(alloc);
     tell_write(&mut told, to, &bytes, &wrote);

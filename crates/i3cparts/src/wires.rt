@@ -5,7 +5,7 @@ use crate::faults::Fault;
 use crate::frame;
 use crate::setting::Setting;
 use crate::told::{Answer, told, told_hex, told_slots};
-use crate::words::{Words, bit_of};
+use crate::words::{BITS, Words};
 use arrayvec::ArrayVec;
 use i3c_base::{SLOTS, Slot};
 use i3c_wires::{Lines, contest};
@@ -37,10 +37,10 @@ fn entered(setting: &mut Setting, words: &mut Words<'_>) -> Answer {
 fn levels(alloc: Global, words: &mut Words<'_>) -> Result<Vec<bool>, Fault> {
     let mut levels = Vec::new(alloc);
     for _ in 0..u64::MAX {
-        match words.next() {
-            Some(text) => levels.push(bit_of(text)?)?,
-            None => break,
+        if words.is_done() {
+            break;
         }
+        levels.push(words.named(&BITS)?)?;
     }
     Ok(levels)
 }
@@ -54,7 +54,7 @@ fn held(setting: &Setting, width: u32) -> Answer {
     let read = contest(&setting.contenders, width, &setting.cuts);
     let bits = told_hex(alloc, &read.bits)?;
     let winners = told_slots(alloc, &read.winners)?;
-    Ok(format!(in alloc; "({bits}, {winners})")?)
+    format!(in alloc; "({bits}, {winners})").or(Err(Fault::Memory))
 }
 
 /// Whether each contender's key has so many bits at most.

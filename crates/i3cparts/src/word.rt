@@ -1,16 +1,24 @@
 use crate::ccc;
 use crate::setting::Setting;
 use crate::told::{Answer, told, told_hex};
-use crate::words::{Words, bit_of, word_of};
+use crate::words::{BITS, Words};
 use i3c_word::{address_byte, end_bit, read_address_byte, read_word, write_word};
 
-/// The calls on words, and those on address bytes.
+/// The calls on words.
 pub(crate) fn call(setting: &mut Setting, call: &str, words: &mut Words<'_>) -> Answer {
     let alloc = setting.alloc;
     match call {
         "write_word" => told(alloc, &write_word(words.byte()?)),
-        "read_word" => told_hex(alloc, &read_word(word_of(words.word()?)?)),
-        "end_bit" => told(alloc, &end_bit(bit_of(words.word()?)?)),
+        "read_word" => told_hex(alloc, &read_word(words.carried_word()?)),
+        "end_bit" => told(alloc, &end_bit(words.named(&BITS)?)),
+        _ => of_address_bytes(setting, call, words),
+    }
+}
+
+/// The calls on address bytes.
+fn of_address_bytes(setting: &mut Setting, call: &str, words: &mut Words<'_>) -> Answer {
+    let alloc = setting.alloc;
+    match call {
         "address_byte" => told_hex(alloc, &address_byte(words.address()?)),
         "read_address_byte" => told_hex(alloc, &read_address_byte(words.byte()?)),
         _ => ccc::call(setting, call, words),

@@ -12,6 +12,29 @@ const PID: u64 = 0x0204_0000_0010;
 /// Its DCR.
 const DCR: u8 = 0x44;
 
+/// The commands that have no byte after them, as lines and as answers have them.
+const CODES: [(&str, Code); 16] = [
+    ("enec", Code::Enec),
+    ("disec", Code::Disec),
+    ("rstdaa", Code::Rstdaa),
+    ("entdaa", Code::Entdaa),
+    ("deftgts", Code::Deftgts),
+    ("enec-direct", Code::EnecDirect),
+    ("disec-direct", Code::DisecDirect),
+    ("getacccr", Code::Getacccr),
+    ("Enec", Code::Enec),
+    ("Disec", Code::Disec),
+    ("Rstdaa", Code::Rstdaa),
+    ("Entdaa", Code::Entdaa),
+    ("Deftgts", Code::Deftgts),
+    ("EnecDirect", Code::EnecDirect),
+    ("DisecDirect", Code::DisecDirect),
+    ("Getacccr", Code::Getacccr),
+];
+
+/// The bits, as words.
+pub(crate) const BITS: [(&str, bool); 2] = [("1", true), ("0", false)];
+
 /// The words of a line, which are parted by exactly one space: those that weren't read yet.
 #[derive(Clone, Copy)]
 pub(crate) struct Words<'a> {
@@ -56,6 +79,11 @@ impl<'a> Words<'a> {
         Ok(rest)
     }
 
+    /// What a table has under the next word.
+    pub fn named<T: Copy>(&mut self, table: &[(&str, T)]) -> Result<T, Fault> {
+        named(table, self.word()?)
+    }
+
     /// A number, in hex digits.
     pub fn number(&mut self) -> Result<u64, Fault> {
         hex_of(self.word()?)
@@ -63,13 +91,13 @@ impl<'a> Words<'a> {
 
     /// A byte, in hex digits.
     pub fn byte(&mut self) -> Result<u8, Fault> {
-        byte_of(self.number()?)
+        byte_of(self.word()?)
     }
 
     /// A byte, or none at the end of the line.
     pub fn maybe_byte(&mut self) -> Result<Option<u8>, Fault> {
         match self.next() {
-            Some(word) => Ok(Some(byte_of(hex_of(word)?)?)),
+            Some(word) => Ok(Some(byte_of(word)?)),
             None => Ok(None),
         }
     }
@@ -84,6 +112,11 @@ impl<'a> Words<'a> {
             }
         }
         Ok(bytes)
+    }
+
+    /// A word on a bus.
+    pub fn carried_word(&mut self) -> Result<Word, Fault> {
+        word_of(self.word()?)
     }
 
     /// The words on a bus up to the end of the line.
@@ -110,16 +143,12 @@ impl<'a> Words<'a> {
 
     /// A bit of a frame, in decimal digits.
     pub fn bit(&mut self) -> Result<u16, Fault> {
-        let bit = self.count()?;
-        if bit > 0xFFFF {
-            return Err(Fault::Unknown);
-        }
-        Ok(bit as u16)
+        u16::from_str_radix(self.word()?, 10).or(Err(Fault::Unknown))
     }
 
     /// A number of the size of a byte, in decimal digits.
     pub fn small(&mut self) -> Result<u8, Fault> {
-        byte_of(self.count()?)
+        small_of(self.word()?)
     }
 
     /// A slot, in decimal digits.
@@ -137,7 +166,7 @@ impl<'a> Words<'a> {
 
     /// An address, in hex digits.
     pub fn address(&mut self) -> Result<Addr7, Fault> {
-        Ok(Addr7::new(self.byte()?)?)
+        address_of(self.word()?)
     }
 
     /// An address that a device may have.
@@ -155,7 +184,7 @@ impl<'a> Words<'a> {
     pub fn target(&mut self) -> Result<Option<Addr7>, Fault> {
         match self.word()? {
             "all" => Ok(None),
-            word => Ok(Some(Addr7::new(byte_of(hex_of(word)?)?)?)),
+            word => Ok(Some(address_of(word)?)),
         }
     }
 
@@ -169,58 +198,71 @@ impl<'a> Words<'a> {
                 let bcr = self.byte()?;
                 identity_of(number, bcr, self.byte()?)
             }
-            _ => identity_of(PID, byte_of(number)?, DCR),
+            _ => identity_of(PID, byte_of(word)?, DCR),
         }
     }
 
     /// The code of a command. That of `other` has its byte after it.
     pub fn code(&mut self) -> Result<Code, Fault> {
         match self.word()? {
-            "enec" | "Enec" => Ok(Code::Enec),
-            "disec" | "Disec" => Ok(Code::Disec),
-            "rstdaa" | "Rstdaa" => Ok(Code::Rstdaa),
-            "entdaa" | "Entdaa" => Ok(Code::Entdaa),
-            "deftgts" | "Deftgts" => Ok(Code::Deftgts),
-            "enec-direct" | "EnecDirect" => Ok(Code::EnecDirect),
-            "disec-direct" | "DisecDirect" => Ok(Code::DisecDirect),
-            "getacccr" | "Getacccr" => Ok(Code::Getacccr),
             "other" | "Other" => Ok(Code::Other(self.byte()?)),
-            _ => Err(Fault::Unknown),
+            word => named(&CODES, word),
         }
     }
 
     /// A request: `join`, or `role` or `interrupt` with its device's address.
     pub fn request(&mut self) -> Result<Request, Fault> {
-        match self.word()? {
-            "join" => Ok(Request::Join),
-            "role" => Ok(Request::Role(self.address()?)),
-            "interrupt" => Ok(Request::Interrupt(self.address()?)),
+        let kind = self.word()?;
+        if kind == "join" {
+            return Ok(Request::Join);
+        }
+        let address = self.address()?;
+        match kind {
+            "role" => Ok(Request::Role(address)),
+            "interrupt" => Ok(Request::Interrupt(address)),
             _ => Err(Fault::Unknown),
         }
     }
 }
 
+/// What a table has under a word.
+fn named<T: Copy>(table: &[(&str, T)], word: &str) -> Result<T, Fault> {
+    for (name, value) in table {
+        if *name == word {
+            return Ok(*value);
+        }
+    }
+    Err(Fault::Unknown)
+}
+
 /// The number of a word in hex digits.
 fn hex_of(word: &str) -> Result<u64, Fault> {
-    Ok(u64::from_str_radix(word, 16)?)
+    u64::from_str_radix(word, 16).or(Err(Fault::Unknown))
 }
 
 /// The number of a word in decimal digits.
 fn decimal_of(word: &str) -> Result<u64, Fault> {
-    Ok(u64::from_str_radix(word, 10)?)
+    u64::from_str_radix(word, 10).or(Err(Fault::Unknown))
 }
 
-/// A number that has to be a byte.
-fn byte_of(number: u64) -> Result<u8, Fault> {
-    if number > 0xFF {
-        return Err(Fault::Unknown);
-    }
-    Ok(number as u8)
+/// The byte of a word in hex digits.
+fn byte_of(word: &str) -> Result<u8, Fault> {
+    u8::from_str_radix(word, 16).or(Err(Fault::Unknown))
+}
+
+/// The number of the size of a byte that a word is, in decimal digits.
+fn small_of(word: &str) -> Result<u8, Fault> {
+    u8::from_str_radix(word, 10).or(Err(Fault::Unknown))
 }
 
 /// The slot of a word.
 fn slot_of(word: &str) -> Result<Slot, Fault> {
-    Ok(Slot::new(byte_of(decimal_of(word)?)?)?)
+    Slot::new(small_of(word)?).or(Err(Fault::Unknown))
+}
+
+/// The address of a word.
+fn address_of(word: &str) -> Result<Addr7, Fault> {
+    Addr7::new(byte_of(word)?).or(Err(Fault::Unknown))
 }
 
 /// The identity of its three parts.
@@ -233,21 +275,17 @@ fn identity_of(pid: u64, bcr: u8, dcr: u8) -> Result<Identity, Fault> {
 }
 
 /// A word on a bus: a byte, and a point with a T bit where it may not be that of the byte's parity.
-pub(crate) fn word_of(text: &str) -> Result<Word, Fault> {
+fn word_of(text: &str) -> Result<Word, Fault> {
     match text.split_once('.') {
-        None => Ok(write_word(byte_of(hex_of(text)?)?)),
+        None => Ok(write_word(byte_of(text)?)),
         Some((byte, t)) => Ok(Word {
-            byte: byte_of(hex_of(byte)?)?,
+            byte: byte_of(byte)?,
             t: bit_of(t)?,
         }),
     }
 }
 
 /// The bit that a word is.
-pub(crate) fn bit_of(word: &str) -> Result<bool, Fault> {
-    match word {
-        "1" => Ok(true),
-        "0" => Ok(false),
-        _ => Err(Fault::Unknown),
-    }
+fn bit_of(word: &str) -> Result<bool, Fault> {
+    named(&BITS, word)
 }
