@@ -1,25 +1,23 @@
-use super::checks::{holds, same};
+use super::checks::same;
 use super::setting::{
-    address, ask_join, attached, begun, closed, drop_off, entry, handed, is_run, only, served,
-    slot, target, unclosed, with,
+    address, ask_join, begun, both, closed, drop_off, entry, handed, is_run, post, post_is_full,
+    post_up_to, served, slot, target, target_at, unclosed, with,
 };
 use i3c_base::{Cuts, Slot};
 use i3c_frame::Silent;
 use i3c_shared::{
-    AskFault, CloseFault, DropFault, Full, HandOverFault, HeldRole, OpenFault, Port, SharedBus,
-    StaleRole,
+    AskFault, CloseFault, DropFault, HandOverFault, HeldRole, OpenFault, Port, SharedBus, StaleRole,
 };
 use i3c_step::{Event, Reply};
 use std::alloc::Global;
 use std::process::Abort;
 use std::sync::Wait;
-use std::test::Fail;
 
 /// A port of the same slot of another bus, with one untaken post. That bus and what else it had are let go.
 fn stranger<R: Wait + Abort>(rt: &R, alloc: Global, at: Slot) -> Port {
     let (bus, role, main) = begun(rt, alloc);
-    let mut port = attached(rt, &bus, at, target(rt));
-    same(rt, port.post(Some(0x33)), Ok(()));
+    let mut port = target_at(rt, &bus, at);
+    post(rt, &mut port, 0x33);
     bus.let_go();
     role.let_go();
     main.let_go();
@@ -40,10 +38,10 @@ fn kept<R: Wait + Abort>(rt: &R, bus: &SharedBus, port: Port) -> Port {
 // A port of another bus, whose ring isn't the one under the lock: no call believes it, nothing is taken, and no post of
 // it comes into the run.
 #[test]
-fn a_strangers_port_is_not_believed(rt: HostRuntime) -> Result<(), Fail> {
+fn a_strangers_port_is_not_believed(rt: HostRuntime) {
     let (alloc, at) = (rt.alloc(), slot(&rt, 1));
     let (bus, role, main) = begun(&rt, alloc);
-    let mut own = attached(&rt, &bus, at, target(&rt));
+    let mut own = target_at(&rt, &bus, at);
     let mut foreign = stranger(&rt, alloc, at);
     same(
         &rt,
@@ -56,7 +54,7 @@ fn a_strangers_port_is_not_believed(rt: HostRuntime) -> Result<(), Fail> {
         Err(AskFault::OutOfMemory),
     );
     let foreign = kept(&rt, &bus, foreign);
-    let ports = with(&rt, only(&rt, alloc, main), foreign);
+    let ports = both(&rt, alloc, main, foreign);
     let (bus, role, ports) = unclosed(&rt, bus, Some(role), ports, CloseFault::OutOfMemory);
     let mut ports = ports;
     ports.pop().expect(&rt, "the stranger's port").let_go();
@@ -66,8 +64,7 @@ fn a_strangers_port_is_not_believed(rt: HostRuntime) -> Result<(), Fail> {
         entry(Event::Attach(at, target(&rt)), Reply::Attached),
         entry(Event::AskJoin(at), Reply::Asked),
     ];
-    holds(&rt, is_run(&closed.run, &due), "the run is so");
-    Ok(())
+    is_run(&rt, &closed.run, &due);
 }
 
 /// The role, which is refused as stale by each call that wants one.
@@ -93,20 +90,17 @@ fn stale<R: Wait + Abort>(rt: &R, bus: &SharedBus, role: HeldRole) -> HeldRole {
 // A role of another bus, held for a slot that isn't active here after one handover: it is told to be stale, with the one
 // handover, before anything is taken up.
 #[test]
-fn a_strangers_role_is_stale(rt: HostRuntime) -> Result<(), Fail> {
+fn a_strangers_role_is_stale(rt: HostRuntime) {
     let (bus, main, port) = handed(&rt, rt.alloc());
     let (other, foreign, idle) = begun(&rt, rt.alloc());
     let mut main = main;
-    for byte in 1..9 {
-        same(&rt, main.post(Some(byte)), Ok(()));
-    }
+    post_up_to(&rt, &mut main, 8);
     stale(&rt, &bus, foreign).let_go();
-    same(&rt, main.post(Some(9)), Err(Full(Some(9))));
-    let ports = with(&rt, only(&rt, rt.alloc(), main), port);
+    post_is_full(&rt, &mut main);
+    let ports = both(&rt, rt.alloc(), main, port);
     let closed = closed(&rt, bus, None, ports);
     // an attachment, a session of four frames, the list, the handover, and then the eight raises
     same(&rt, closed.run.len(), 15);
     other.let_go();
     idle.let_go();
-    Ok(())
 }

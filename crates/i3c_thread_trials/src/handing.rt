@@ -1,7 +1,7 @@
 use super::checks::{holds, same};
 use super::setting::{
-    ask_role, attach, closed, drop_off, ends_with, entry, handed, is_none, only, served, slot,
-    target, unclosed, with,
+    ask_role, attach, both, closed, drop_off, ends_with, entry, handed, is_none, only, role_is_out,
+    serves, slot, target, unclosed, with,
 };
 use i3c_base::Served;
 use i3c_shared::{
@@ -10,7 +10,6 @@ use i3c_shared::{
 use i3c_step::{Event, Refusal, Reply};
 use std::process::Abort;
 use std::sync::Wait;
-use std::test::Fail;
 
 /// The role, which the new holder's port alone is given, and once.
 fn taken<R: Wait + Abort>(rt: &R, bus: &SharedBus, main: &Port, port: &Port) -> HeldRole {
@@ -43,16 +42,12 @@ fn stays<R: Wait + Abort>(rt: &R, bus: &SharedBus, port: Port) -> Port {
 // A handover: the new holder alone takes the role, once, and serves. It stays on the bus, which isn't closed while its
 // role or its port is out.
 #[test]
-fn the_new_holder_takes_the_role(rt: HostRuntime) -> Result<(), Fail> {
+fn the_new_holder_takes_the_role(rt: HostRuntime) {
     let (alloc, at) = (rt.alloc(), slot(&rt, 1));
     let (bus, main, port) = handed(&rt, alloc);
     let mut main = main;
     let mut role = taken(&rt, &bus, &main, &port);
-    same(
-        &rt,
-        served(&rt, &bus, &mut role),
-        Ok(Reply::Served(Served::Quiet)),
-    );
+    serves(&rt, &bus, &mut role, Served::Quiet);
     same(&rt, ask_role(&rt, &bus, &mut main), Ok(()));
     match attach(&rt, &bus, at, target(&rt)) {
         Ok(port) => {
@@ -63,8 +58,7 @@ fn the_new_holder_takes_the_role(rt: HostRuntime) -> Result<(), Fail> {
     }
     let port = stays(&rt, &bus, port);
     let ports = only(&rt, alloc, main);
-    let (bus, none, ports) = unclosed(&rt, bus, None, ports, CloseFault::RoleOut);
-    holds(&rt, is_none(none), "nobody has a role");
+    let (bus, ports) = role_is_out(&rt, bus, ports);
     let (bus, role, ports) = unclosed(&rt, bus, Some(role), ports, CloseFault::PortOut(at));
     let closed = closed(&rt, bus, role, with(&rt, ports, port));
     let due = [
@@ -75,13 +69,12 @@ fn the_new_holder_takes_the_role(rt: HostRuntime) -> Result<(), Fail> {
         ),
         entry(Event::DropOff(at), Reply::Refused(Refusal::ActiveStays)),
     ];
-    holds(&rt, ends_with(&closed.run, &due), "the run ends so");
-    Ok(())
+    ends_with(&rt, &closed.run, &due);
 }
 
 // Who holds the role doesn't wish for it.
 #[test]
-fn the_new_holder_does_not_ask(rt: HostRuntime) -> Result<(), Fail> {
+fn the_new_holder_does_not_ask(rt: HostRuntime) {
     let (bus, main, port) = handed(&rt, rt.alloc());
     let mut port = port;
     same(
@@ -90,25 +83,22 @@ fn the_new_holder_does_not_ask(rt: HostRuntime) -> Result<(), Fail> {
         Err(AskFault::Refused(Refusal::IsActive)),
     );
     // the role is parked: it is in
-    let ports = with(&rt, only(&rt, rt.alloc(), main), port);
+    let ports = both(&rt, rt.alloc(), main, port);
     let closed = closed(&rt, bus, None, ports);
     let due = [entry(
         Event::AskRole(slot(&rt, 1)),
         Reply::Refused(Refusal::IsActive),
     )];
-    holds(&rt, ends_with(&closed.run, &due), "the run ends so");
-    Ok(())
+    ends_with(&rt, &closed.run, &due);
 }
 
 // A role that was taken and let go is out, and isn't parked again.
 #[test]
-fn a_role_that_was_let_go_is_out(rt: HostRuntime) -> Result<(), Fail> {
+fn a_role_that_was_let_go_is_out(rt: HostRuntime) {
     let (bus, main, port) = handed(&rt, rt.alloc());
     taken(&rt, &bus, &main, &port).let_go();
-    let ports = with(&rt, only(&rt, rt.alloc(), main), port);
-    let (bus, none, ports) = unclosed(&rt, bus, None, ports, CloseFault::RoleOut);
-    holds(&rt, is_none(none), "nobody has a role");
+    let ports = both(&rt, rt.alloc(), main, port);
+    let (bus, ports) = role_is_out(&rt, bus, ports);
     bus.let_go();
     spend_ports(ports);
-    Ok(())
 }

@@ -1,15 +1,14 @@
 use super::checks::{holds, same};
 use super::setting::{
-    INTERRUPT, NONE, address, ask_join, assigned, attach, attached, begun, closed, commanded,
-    ended, ends_with, entry, is_run, left, only, opened, round, served, slot, target, with,
+    INTERRUPT, NONE, address, ask_join, assigned, attach, begun, both, closed, commanded, ended,
+    ends_with, entry, is_run, left, only, opened, post, post_is_full, post_up_to, round, serves,
+    slot, target, target_at,
 };
 use i3c_base::{Answer, Cuts, Fixed, Record, RoundReply, Served, Slot, Verdict};
-use i3c_frame::Silent;
-use i3c_shared::{AttachFault, Entry, Full, HeldRole, Left, SharedBus};
+use i3c_shared::{AttachFault, Entry, HeldRole, Left, SharedBus};
 use i3c_step::{Command, Event, Framed, Refusal, Reply};
 use std::process::Abort;
 use std::sync::Wait;
-use std::test::Fail;
 
 /// The policy that a serve is kept with which accepted a request to join.
 const JOIN: Fixed = Fixed {
@@ -55,33 +54,20 @@ fn eleven<R: Abort>(rt: &R, at: Slot) -> [Entry; 11] {
 
 // From a join to a drop-off and the next attachment: eleven events, one of them a raise that the serve after it took up.
 #[test]
-fn from_a_join_to_a_drop_off(rt: HostRuntime) -> Result<(), Fail> {
+fn from_a_join_to_a_drop_off(rt: HostRuntime) {
     let (alloc, at) = (rt.alloc(), slot(&rt, 1));
     let (bus, role, main) = begun(&rt, alloc);
     let mut role = role;
-    let mut port = attached(&rt, &bus, at, target(&rt));
+    let mut port = target_at(&rt, &bus, at);
     same(&rt, ask_join(&rt, &bus, &mut port), Ok(()));
-    same(
-        &rt,
-        served(&rt, &bus, &mut role),
-        Ok(Reply::Served(Served::Joining)),
-    );
+    serves(&rt, &bus, &mut role, Served::Joining);
     role = one_assigned(&rt, &bus, role);
-    same(&rt, port.post(Some(0x11)), Ok(()));
-    same(
-        &rt,
-        served(&rt, &bus, &mut role),
-        Ok(Reply::Served(Served::Recorded(1))),
-    );
+    post(&rt, &mut port, 0x11);
+    serves(&rt, &bus, &mut role, Served::Recorded(1));
     same(&rt, left(&rt, &bus, port), Some(Left::Now));
-    let again = attached(&rt, &bus, at, target(&rt));
-    let closed = closed(
-        &rt,
-        bus,
-        Some(role),
-        with(&rt, only(&rt, alloc, main), again),
-    );
-    holds(&rt, is_run(&closed.run, &eleven(&rt, at)), "the run is so");
+    let again = target_at(&rt, &bus, at);
+    let closed = closed(&rt, bus, Some(role), both(&rt, alloc, main, again));
+    is_run(&rt, &closed.run, &eleven(&rt, at));
     let record = Record {
         slot: at,
         number: 1,
@@ -89,20 +75,15 @@ fn from_a_join_to_a_drop_off(rt: HostRuntime) -> Result<(), Fail> {
         byte: Some(0x11),
     };
     same(&rt, closed.records.as_slice(), &[record][..]);
-    Ok(())
 }
 
 // The active controller's post is a raise that the run has as refused.
 #[test]
-fn the_active_controller_posts(rt: HostRuntime) -> Result<(), Fail> {
+fn the_active_controller_posts(rt: HostRuntime) {
     let (bus, role, main) = begun(&rt, rt.alloc());
     let (mut role, mut main) = (role, main);
-    same(&rt, main.post(Some(1)), Ok(()));
-    same(
-        &rt,
-        served(&rt, &bus, &mut role),
-        Ok(Reply::Served(Served::Quiet)),
-    );
+    post(&rt, &mut main, 1);
+    serves(&rt, &bus, &mut role, Served::Quiet);
     let closed = closed(&rt, bus, Some(role), only(&rt, rt.alloc(), main));
     let due = [
         entry(
@@ -114,28 +95,21 @@ fn the_active_controller_posts(rt: HostRuntime) -> Result<(), Fail> {
             Reply::Served(Served::Quiet),
         ),
     ];
-    holds(&rt, is_run(&closed.run, &due), "the run is so");
+    is_run(&rt, &closed.run, &due);
     same(&rt, closed.records.as_slice().len(), 0);
-    Ok(())
 }
 
 // A drop-off takes up the last two posts first; the ring was free again after the first seven.
 #[test]
-fn a_drop_off_takes_up_the_last_posts(rt: HostRuntime) -> Result<(), Fail> {
+fn a_drop_off_takes_up_the_last_posts(rt: HostRuntime) {
     let at = slot(&rt, 1);
     let (bus, role, main) = begun(&rt, rt.alloc());
-    let mut port = attached(&rt, &bus, at, target(&rt));
+    let mut port = target_at(&rt, &bus, at);
     let mut role = assigned(&rt, &bus, role);
-    for byte in 1..8 {
-        same(&rt, port.post(Some(byte)), Ok(()));
-    }
-    same(
-        &rt,
-        served(&rt, &bus, &mut role),
-        Ok(Reply::Served(Served::Recorded(1))),
-    );
-    same(&rt, port.post(Some(8)), Ok(()));
-    same(&rt, port.post(Some(9)), Ok(()));
+    post_up_to(&rt, &mut port, 7);
+    serves(&rt, &bus, &mut role, Served::Recorded(1));
+    post(&rt, &mut port, 8);
+    post(&rt, &mut port, 9);
     same(&rt, left(&rt, &bus, port), Some(Left::Now));
     let closed = closed(&rt, bus, Some(role), only(&rt, rt.alloc(), main));
     let due = [
@@ -143,23 +117,19 @@ fn a_drop_off_takes_up_the_last_posts(rt: HostRuntime) -> Result<(), Fail> {
         entry(Event::Raise(at, Some(9)), Reply::Raised(9)),
         entry(Event::DropOff(at), Reply::Dropped),
     ];
-    holds(&rt, ends_with(&closed.run, &due), "the run ends so");
-    Ok(())
+    ends_with(&rt, &closed.run, &due);
 }
 
 // Eight posts may be untaken, and no more; the byte comes back.
 #[test]
-fn the_ninth_post_is_full(rt: HostRuntime) -> Result<(), Fail> {
+fn the_ninth_post_is_full(rt: HostRuntime) {
     let (bus, role, main) = begun(&rt, rt.alloc());
     let mut main = main;
-    for byte in 1..9 {
-        same(&rt, main.post(Some(byte)), Ok(()));
-    }
-    same(&rt, main.post(Some(9)), Err(Full(Some(9))));
+    post_up_to(&rt, &mut main, 8);
+    post_is_full(&rt, &mut main);
     bus.let_go();
     role.let_go();
     main.let_go();
-    Ok(())
 }
 
 /// A slot's device is cut in the first byte that is read of it.
@@ -180,10 +150,10 @@ fn torn() -> Reply {
 // A device that a cut took away leaves its port out: its slot is free once that port came back. The attachment that is
 // refused before is no event.
 #[test]
-fn a_cut_device_leaves_its_port_out(rt: HostRuntime) -> Result<(), Fail> {
+fn a_cut_device_leaves_its_port_out(rt: HostRuntime) {
     let (alloc, at, from) = (rt.alloc(), slot(&rt, 1), address(&rt, 0x09));
     let (bus, role, main) = begun(&rt, alloc);
-    let port = attached(&rt, &bus, at, target(&rt));
+    let port = target_at(&rt, &bus, at);
     let mut role = assigned(&rt, &bus, role);
     same(
         &rt,
@@ -198,19 +168,13 @@ fn a_cut_device_leaves_its_port_out(rt: HostRuntime) -> Result<(), Fail> {
         Err(why) => same(&rt, why, AttachFault::SlotTaken),
     }
     same(&rt, left(&rt, &bus, port), Some(Left::WasGone));
-    let again = attached(&rt, &bus, at, target(&rt));
-    let closed = closed(
-        &rt,
-        bus,
-        Some(role),
-        with(&rt, only(&rt, alloc, main), again),
-    );
+    let again = target_at(&rt, &bus, at);
+    let closed = closed(&rt, bus, Some(role), both(&rt, alloc, main, again));
     let due = [
         entry(Event::EndDaa, Reply::Ended),
         entry(Event::ReadFrom(from, NONE, cut(at)), torn()),
         entry(Event::DropOff(at), Reply::Refused(Refusal::NoDevice)),
         entry(Event::Attach(at, target(&rt)), Reply::Attached),
     ];
-    holds(&rt, ends_with(&closed.run, &due), "the run ends so");
-    Ok(())
+    ends_with(&rt, &closed.run, &due);
 }

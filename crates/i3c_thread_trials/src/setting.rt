@@ -8,7 +8,7 @@ use i3c_bus::Policy;
 use i3c_frame::Silent;
 use i3c_legacy::Legacies;
 use i3c_shared::{
-    AskFault, AttachFault, CloseFault, Closed, DropFault, Entry, HandOverFault, HeldRole,
+    AskFault, AttachFault, CloseFault, Closed, DropFault, Entry, Full, HandOverFault, HeldRole,
     HeldSession, Left, OpenFault, Port, Run, SessionFault, SharedBus, StaleRole, StartFault,
     Unclosed,
 };
@@ -123,6 +123,28 @@ pub(crate) fn attached<R: Wait + Abort>(rt: &R, bus: &SharedBus, at: Slot, setup
     attach(rt, bus, at, setup).expect(rt, "a port")
 }
 
+/// The port of a target that enters a slot.
+pub(crate) fn target_at<R: Wait + Abort>(rt: &R, bus: &SharedBus, at: Slot) -> Port {
+    attached(rt, bus, at, target(rt))
+}
+
+/// A post with this byte goes into the ring.
+pub(crate) fn post<R: Abort>(rt: &R, port: &mut Port, byte: u8) {
+    same(rt, port.post(Some(byte)), Ok(()));
+}
+
+/// Posts with the bytes from 1 to this one do.
+pub(crate) fn post_up_to<R: Abort>(rt: &R, port: &mut Port, last: u8) {
+    for byte in 1..=last {
+        post(rt, port, byte);
+    }
+}
+
+/// A ninth post doesn't, and its byte comes back.
+pub(crate) fn post_is_full<R: Abort>(rt: &R, port: &mut Port) {
+    same(rt, port.post(Some(9)), Err(Full(Some(9))));
+}
+
 /// What a wish to join answers.
 pub(crate) fn ask_join<R: Wait>(rt: &R, bus: &SharedBus, port: &mut Port) -> Result<(), AskFault> {
     match bus.ask_join(rt, port) {
@@ -178,6 +200,11 @@ pub(crate) fn served<R: Wait>(
     role: &mut HeldRole,
 ) -> Result<Reply, StaleRole> {
     commanded(rt, bus, role, Command::Serve, Cuts::new())
+}
+
+/// A serve that accepts all comes to this.
+pub(crate) fn serves<R: Wait + Abort>(rt: &R, bus: &SharedBus, role: &mut HeldRole, due: Served) {
+    same(rt, served(rt, bus, role), Ok(Reply::Served(due)));
 }
 
 /// An opened session.
@@ -244,16 +271,7 @@ pub(crate) fn handed<R: Wait + Abort>(rt: &R, alloc: Global) -> (SharedBus, Port
         commanded(rt, &bus, &mut role, Command::SendList, Cuts::new()).is_ok(),
         "the role is current",
     );
-    let to = address(rt, 0x09);
-    let outcome = match bus.hand_over(rt, role, to, &mut Silent, Cuts::new()) {
-        Err((role, HandOverFault::OutOfMemory)) => {
-            // nothing was handed over
-            holds(rt, is_none(bus.take_role(rt, &port)), "no role is parked");
-            bus.hand_over(rt, role, to, &mut Silent, Cuts::new())
-        }
-        first => first,
-    };
-    match outcome {
+    match hand_over(rt, &bus, role, &port) {
         Ok(served) => same(rt, served, Served::Quiet),
         Err((role, _)) => {
             role.let_go();
@@ -261,6 +279,24 @@ pub(crate) fn handed<R: Wait + Abort>(rt: &R, alloc: Global) -> (SharedBus, Port
         }
     }
     (bus, main, port)
+}
+
+/// What a handover to the address 09, whose device has this port, answers.
+fn hand_over<R: Wait + Abort>(
+    rt: &R,
+    bus: &SharedBus,
+    role: HeldRole,
+    port: &Port,
+) -> Result<Served, (HeldRole, HandOverFault)> {
+    let to = address(rt, 0x09);
+    match bus.hand_over(rt, role, to, &mut Silent, Cuts::new()) {
+        Err((role, HandOverFault::OutOfMemory)) => {
+            // nothing was handed over
+            holds(rt, is_none(bus.take_role(rt, port)), "no role is parked");
+            bus.hand_over(rt, role, to, &mut Silent, Cuts::new())
+        }
+        first => first,
+    }
 }
 
 /// What a drop-off answers.
@@ -289,6 +325,11 @@ pub(crate) fn left<R: Wait>(rt: &R, bus: &SharedBus, port: Port) -> Option<Left>
 /// A list of one port.
 pub(crate) fn only<R: Abort>(rt: &R, alloc: Global, port: Port) -> Vec<Port> {
     with(rt, Vec::new(alloc), port)
+}
+
+/// A list of two ports.
+pub(crate) fn both<R: Abort>(rt: &R, alloc: Global, one: Port, other: Port) -> Vec<Port> {
+    with(rt, only(rt, alloc, one), other)
 }
 
 /// The ports with one more.
@@ -366,6 +407,17 @@ pub(crate) fn unclosed<R: Abort>(
     }
 }
 
+/// The bus and the ports, where a close with these and no role is refused since the role is out. No role comes back.
+pub(crate) fn role_is_out<R: Abort>(
+    rt: &R,
+    bus: SharedBus,
+    ports: Vec<Port>,
+) -> (SharedBus, Vec<Port>) {
+    let (bus, nobody, ports) = unclosed(rt, bus, None, ports, CloseFault::RoleOut);
+    holds(rt, is_none(nobody), "nobody has a role");
+    (bus, ports)
+}
+
 /// Whether there is no role. It is spent.
 pub(crate) fn is_none(role: Option<HeldRole>) -> bool {
     match role {
@@ -403,12 +455,14 @@ pub(crate) fn has_from(run: &Run, place: usize, due: &[Entry]) -> bool {
     true
 }
 
-/// Whether these entries are the whole run.
-pub(crate) fn is_run(run: &Run, due: &[Entry]) -> bool {
-    run.len() == due.len() && has_from(run, 0, due)
+/// These entries are the whole run.
+pub(crate) fn is_run<R: Abort>(rt: &R, run: &Run, due: &[Entry]) {
+    let is_so = run.len() == due.len() && has_from(run, 0, due);
+    holds(rt, is_so, "the run is so");
 }
 
-/// Whether these entries end the run.
-pub(crate) fn ends_with(run: &Run, due: &[Entry]) -> bool {
-    due.len() <= run.len() && has_from(run, run.len() - due.len(), due)
+/// These entries end the run.
+pub(crate) fn ends_with<R: Abort>(rt: &R, run: &Run, due: &[Entry]) {
+    let is_so = due.len() <= run.len() && has_from(run, run.len() - due.len(), due);
+    holds(rt, is_so, "the run ends so");
 }

@@ -2,18 +2,16 @@ ghost use Rattle.std.specs.Prelude.{⊤};
 
 use super::checks::{holds, same};
 use super::setting::{
-    INTERRUPT, ask_join, ask_role, assigned, attached, begun, closed, commanded_by, controller,
-    ends_with, entry, got, only, other_target, reached, slot, target, with,
+    INTERRUPT, ask_join, ask_role, assigned, attached, begun, both, closed, commanded_by,
+    controller, ends_with, entry, got, other_target, post, reached, slot, target_at, with,
 };
 use i3c_base::{Cuts, Request, Served, Setup, Slot, Verdict};
 use i3c_bus::Policy;
-use i3c_frame::Silent;
 use i3c_shared::{Entry, HeldRole, Port, Run, SharedBus, StaleRole};
 use i3c_step::{Command, Event, Reply};
 use std::process::Abort;
 use std::sync::Wait;
 use std::sync::atomic::{AtomicU64, Ordering};
-use std::test::Fail;
 use std::thread;
 use std::thread::Threads;
 use std::time::{Clock, Duration};
@@ -78,16 +76,16 @@ fn attach_meanwhile<R: Wait + Clock + Abort>(
 
 // Two threads call on one bus. The call that comes while a serve is under the lock waits for it: its event is the next.
 #[test]
-fn a_call_waits_for_the_serve_under_the_lock(rt: HostRuntime) -> Result<(), Fail> {
+fn a_call_waits_for_the_serve_under_the_lock(rt: HostRuntime) {
     let course = Course {
         asked: AtomicU64::new(0),
         calls: AtomicU64::new(0),
         late: AtomicU64::new(0),
     };
     let (bus, role, main) = begun(&rt, rt.alloc());
-    let mut first = attached(&rt, &bus, slot(&rt, 1), target(&rt));
+    let mut first = target_at(&rt, &bus, slot(&rt, 1));
     let mut role = assigned(&rt, &bus, role);
-    same(&rt, first.post(Some(1)), Ok(()));
+    post(&rt, &mut first, 1);
     let (second, served) = thread::join(
         &rt,
         || attach_meanwhile(&rt, &bus, slot(&rt, 2), other_target(&rt), &course),
@@ -95,7 +93,7 @@ fn a_call_waits_for_the_serve_under_the_lock(rt: HostRuntime) -> Result<(), Fail
     );
     assert!(rt; course.late.load(Ordering::SeqCst) == 0);
     same(&rt, served, Ok(Reply::Served(Served::Recorded(1))));
-    let ports = with(&rt, only(&rt, rt.alloc(), main), first);
+    let ports = both(&rt, rt.alloc(), main, first);
     let closed = closed(&rt, bus, Some(role), with(&rt, ports, second));
     let due = [
         entry(
@@ -107,13 +105,12 @@ fn a_call_waits_for_the_serve_under_the_lock(rt: HostRuntime) -> Result<(), Fail
             Reply::Attached,
         ),
     ];
-    holds(&rt, ends_with(&closed.run, &due), "the run ends so");
-    Ok(())
+    ends_with(&rt, &closed.run, &due);
 }
 
 // Two devices wish for a role and for an address, from two threads at one bus.
 #[test]
-fn devices_wish_from_two_threads(rt: HostRuntime) -> Result<(), Fail> {
+fn devices_wish_from_two_threads(rt: HostRuntime) {
     let (bus, role, main) = begun(&rt, rt.alloc());
     let mut first = attached(&rt, &bus, slot(&rt, 1), controller(&rt));
     let role = assigned(&rt, &bus, role);
@@ -125,7 +122,7 @@ fn devices_wish_from_two_threads(rt: HostRuntime) -> Result<(), Fail> {
     );
     same(&rt, wish, Ok(()));
     same(&rt, other, Ok(()));
-    let ports = with(&rt, only(&rt, rt.alloc(), main), first);
+    let ports = both(&rt, rt.alloc(), main, first);
     let closed = closed(&rt, bus, Some(role), with(&rt, ports, second));
     let wishes = entry(Event::AskRole(slot(&rt, 1)), Reply::Asked);
     holds(&rt, has(&closed.run, &wishes), "the first has wished");
@@ -134,7 +131,6 @@ fn devices_wish_from_two_threads(rt: HostRuntime) -> Result<(), Fail> {
         has(&closed.run, &asked(slot(&rt, 2))),
         "the second has asked",
     );
-    Ok(())
 }
 
 /// A port's device asks to join, and is counted where it may.
@@ -162,12 +158,12 @@ fn ask_from_threads<R: Threads + Wait + Sync>(
 
 // Three devices ask to join from threads of their own, all at one bus. In the run each of them has asked, in some order.
 #[test]
-fn devices_ask_from_scoped_threads(rt: HostRuntime) -> Result<(), Fail> {
+fn devices_ask_from_scoped_threads(rt: HostRuntime) {
     let (bus, role, main) = begun(&rt, rt.alloc());
-    let first = attached(&rt, &bus, slot(&rt, 1), target(&rt));
+    let first = target_at(&rt, &bus, slot(&rt, 1));
     let second = attached(&rt, &bus, slot(&rt, 2), other_target(&rt));
     let third = attached(&rt, &bus, slot(&rt, 3), controller(&rt));
-    let ports = with(&rt, only(&rt, rt.alloc(), first), second);
+    let ports = both(&rt, rt.alloc(), first, second);
     let mut ports = with(&rt, ports, third);
     let count = AtomicU64::new(0);
     ask_from_threads(&rt, &bus, &mut ports, &count);
@@ -181,7 +177,6 @@ fn devices_ask_from_scoped_threads(rt: HostRuntime) -> Result<(), Fail> {
             "each has asked",
         );
     }
-    Ok(())
 }
 
 /// A slot's device asked to join.

@@ -2,12 +2,11 @@ ghost use Rattle.std.specs.Prelude.{⊤};
 
 use super::checks::{holds, same};
 use super::setting::{
-    ALL, address, assigned, attached, begun, closed, commanded_by, ends_with, entry, only,
-    other_target, reached, slot, target, with,
+    ALL, address, assigned, attached, begun, both, closed, commanded_by, ends_with, entry,
+    other_target, post, reached, slot, target_at, with,
 };
 use i3c_base::{Addr7, Cuts, Request, Served, Slot, Verdict};
 use i3c_bus::Policy;
-use i3c_frame::Silent;
 use i3c_shared::{Entry, Full, HeldRole, Port, SharedBus, StaleRole};
 use i3c_step::{Command, Event, Reply};
 use i3c_stress::{Gate, StressFault, StressReport, stress};
@@ -15,7 +14,6 @@ use std::alloc::Global;
 use std::process::Abort;
 use std::sync::Wait;
 use std::sync::atomic::{AtomicU64, Ordering};
-use std::test::Fail;
 use std::thread;
 use std::thread::Threads;
 use std::time::Clock;
@@ -63,7 +61,7 @@ fn met<R: Threads + Wait + Clock + Sync>(
 
 // Two devices that wait for each other's first answer run at once, and each of their four posts is accounted for.
 #[test]
-fn devices_post_at_once(rt: HostRuntime) -> Result<(), Fail> {
+fn devices_post_at_once(rt: HostRuntime) {
     let (report, late) = match met(&rt, rt.alloc()) {
         (Err(StressFault::Memory), _) => met(&rt, rt.alloc()),
         first => first,
@@ -78,7 +76,6 @@ fn devices_post_at_once(rt: HostRuntime) -> Result<(), Fail> {
         }
         Err(_) => holds(&rt, false, "there is a report"),
     }
-    Ok(())
 }
 
 /// What two threads have counted: how often the policy was asked as it should be, how many answers the poster had, how
@@ -182,10 +179,10 @@ struct Party {
 
 fn gathered<R: Wait + Abort>(rt: &R, alloc: Global) -> Party {
     let (bus, role, main) = begun(rt, alloc);
-    let first = attached(rt, &bus, slot(rt, 1), target(rt));
+    let first = target_at(rt, &bus, slot(rt, 1));
     let mut second = attached(rt, &bus, slot(rt, 2), other_target(rt));
     let role = assigned(rt, &bus, role);
-    same(rt, second.post(Some(1)), Ok(()));
+    post(rt, &mut second, 1);
     Party {
         bus,
         role,
@@ -198,7 +195,7 @@ fn gathered<R: Wait + Abort>(rt: &R, alloc: Global) -> Party {
 // While a serve waits under the lock, another device's thread posts: eight posts are taken, and the ninth is told to be
 // one too many. All eight come into the run, in order.
 #[test]
-fn posts_do_not_wait_for_a_serve(rt: HostRuntime) -> Result<(), Fail> {
+fn posts_do_not_wait_for_a_serve(rt: HostRuntime) {
     let counts = none_counted();
     let Party {
         bus,
@@ -217,14 +214,9 @@ fn posts_do_not_wait_for_a_serve(rt: HostRuntime) -> Result<(), Fail> {
     same(&rt, counts.posted.load(Ordering::SeqCst), 8);
     same(&rt, ninth, Err(Full(Some(9))));
     same(&rt, served, Ok(Reply::Served(Served::Recorded(1))));
-    let ports = with(&rt, only(&rt, rt.alloc(), main), first);
+    let ports = both(&rt, rt.alloc(), main, first);
     let closed = closed(&rt, bus, Some(role), with(&rt, ports, second));
     // two attachments, a session of five events, the other's raise, and the serve, come before
     same(&rt, closed.run.len(), 17);
-    holds(
-        &rt,
-        ends_with(&closed.run, &eight(slot(&rt, 1))),
-        "the run ends so",
-    );
-    Ok(())
+    ends_with(&rt, &closed.run, &eight(slot(&rt, 1)));
 }
