@@ -28,15 +28,22 @@ where
     R: Env + Files + Input + Print + Eprint + AllocGlobal + Threads + Wait + Sync,
 {
     let words = words_given(rt)?;
-    if let Some(stress) = stress_named(rt.alloc(), &words)? {
-        return run_stress(rt, &stress, is_watched);
+    match stress_named(rt.alloc(), &words)? {
+        Some(stress) => run_stress(rt, &stress, is_watched),
+        None => run_task(rt, &task_named(rt.alloc(), &words)?),
     }
-    let Task { work, file } = task_named(rt.alloc(), &words)?;
-    if file == STANDARD_INPUT {
-        return run_from(rt, &work, &mut rt.reader());
+}
+
+/// Does this with its file, or with standard input.
+fn run_task<R>(rt: &R, task: &Task<'_>) -> Result<Tally, Fault>
+where
+    R: Files + Input + Print + AllocGlobal,
+{
+    if task.file == STANDARD_INPUT {
+        return run_from(rt, &task.work, &mut rt.reader());
     }
-    match fs::open(rt, file) {
-        Ok(mut input) => run_from(rt, &work, &mut input),
+    match fs::open(rt, task.file) {
+        Ok(mut input) => run_from(rt, &task.work, &mut input),
         Err(error) => Err(reading_fault(&error)),
     }
 }

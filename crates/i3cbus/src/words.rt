@@ -81,17 +81,18 @@ pub(crate) fn stress_named(alloc: Global, words: &[String]) -> Result<Option<Str
     if words.is_empty() {
         return Ok(None);
     }
-    let matches = commands(alloc)?.try_get_matches_from(words)?;
-    let Some(given) = matches.subcommand_matches(STRESS) else {
-        return Ok(None);
-    };
-    // the parser requires both, within their limits
+    Ok(stress_given(&parsed(alloc, words)?))
+}
+
+/// The stress that was given, if it was. The parser requires both numbers, within their limits.
+fn stress_given(matches: &ArgMatches<'_>) -> Option<Stress> {
+    let given = matches.subcommand_matches(STRESS)?;
     match (given.get_one::<u8>(DEVICES), given.get_one::<u32>(POSTS)) {
-        (Some(devices), Some(posts)) => Ok(Some(Stress {
+        (Some(devices), Some(posts)) => Some(Stress {
             devices,
             posts: u64::from(posts),
-        })),
-        _ => Ok(None),
+        }),
+        _ => None,
     }
 }
 
@@ -105,16 +106,24 @@ pub(crate) fn task_named<'a>(alloc: Global, words: &'a [String]) -> Result<Task<
             file: STANDARD_INPUT,
         });
     }
-    let matches = commands(alloc)?.try_get_matches_from(words)?;
-    // the parser requires a command, and its argument
+    Ok(task_given(&parsed(alloc, words)?))
+}
+
+/// The words, as the parser reads them.
+fn parsed<'a>(alloc: Global, words: &'a [String]) -> Result<ArgMatches<'a>, Fault> {
+    Ok(commands(alloc)?.try_get_matches_from(words)?)
+}
+
+/// The task that was given. The parser requires a command, and its argument.
+fn task_given<'a>(matches: &ArgMatches<'a>) -> Task<'a> {
     let (work, given) = match matches.subcommand_matches(TRACE) {
         Some(trace) => (Work::Trace, trace.get_str(FILE)),
-        None => (Work::Run, script_given(&matches)),
+        None => (Work::Run, script_given(matches)),
     };
-    Ok(Task {
+    Task {
         work,
         file: given.unwrap_or(STANDARD_INPUT),
-    })
+    }
 }
 
 /// The script that was given, if it was.
@@ -124,8 +133,17 @@ fn script_given<'a>(matches: &ArgMatches<'a>) -> Option<&'a str> {
 
 /// What the command line may ask for.
 fn commands<'a>(alloc: Global) -> Result<Command<'a>, Fault> {
-    let program = with_files(alloc, program(alloc)?)?;
-    Ok(program.subcommand(stress_command(alloc)?)?)
+    let program = with(program(alloc)?, run_command(alloc))?;
+    let program = with(program, trace_command(alloc))?;
+    with(program, stress_command(alloc))
+}
+
+/// The program with one more command, if that could be made.
+fn with<'a>(
+    program: Command<'a>,
+    command: Result<Command<'a>, Fault>,
+) -> Result<Command<'a>, Fault> {
+    program.subcommand(command?).or(Err(Fault::Memory))
 }
 
 /// The program, without its commands.
@@ -140,18 +158,13 @@ fn program<'a>(alloc: Global) -> Result<Command<'a>, Fault> {
     )
 }
 
-/// The program with the commands that take a file.
-fn with_files<'a>(alloc: Global, program: Command<'a>) -> Result<Command<'a>, Fault> {
-    let with_scripts = program.subcommand(run_command(alloc)?)?;
-    Ok(with_scripts.subcommand(trace_command(alloc)?)?)
-}
-
 /// The command that runs a script.
 fn run_command<'a>(alloc: Global) -> Result<Command<'a>, Fault> {
     let run = Command::new(alloc, RUN)
         .about("Runs a script")
         .after_help(TEACHING);
-    Ok(run.arg(file_argument(alloc, "The script, or - for standard input"))?)
+    run.arg(file_argument(alloc, "The script, or - for standard input"))
+        .or(Err(Fault::Memory))
 }
 
 /// The command that reads a trace.
@@ -159,7 +172,9 @@ fn trace_command<'a>(alloc: Global) -> Result<Command<'a>, Fault> {
     let trace = Command::new(alloc, TRACE).about(
         "Tells what a trace says: symbols as the line 'symbols' of a script prints them",
     );
-    Ok(trace.arg(file_argument(alloc, "The trace, or - for standard input"))?)
+    trace
+        .arg(file_argument(alloc, "The trace, or - for standard input"))
+        .or(Err(Fault::Memory))
 }
 
 /// The command with threads.
@@ -167,11 +182,10 @@ fn stress_command<'a>(alloc: Global) -> Result<Command<'a>, Fault> {
     let stress = Command::new(alloc, STRESS).about(
         "Lets devices post from threads of their own, and checks that each post is accounted for",
     );
-    Ok(
-        stress
-            .arg(devices_argument(alloc))?
-            .arg(posts_argument(alloc))?,
-    )
+    stress
+        .arg(devices_argument(alloc))?
+        .arg(posts_argument(alloc))
+        .or(Err(Fault::Memory))
 }
 
 /// How many devices post.
