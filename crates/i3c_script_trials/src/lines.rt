@@ -2,7 +2,6 @@ use crate::checks::{holds, same};
 use i3c_base::{Addr7, Slot};
 use i3c_lines::{Name, Names, Refusal, Text};
 use std::process::Abort;
-use std::test::Fail;
 
 /// The name stands for this slot, or for none, as is due.
 fn stands(rt: &impl Abort, names: &Names, name: &Name, due: Result<Slot, Refusal>) {
@@ -19,27 +18,33 @@ fn is_called(rt: &impl Abort, names: &Names, slot: Slot, name: &Name) {
 }
 
 /// The slot is given the name.
-fn give(names: &mut Names, name: &Name, slot: Slot) -> Result<(), Fail> {
-    names.give_slot(name, slot)?;
-    Ok(())
+fn give(rt: &impl Abort, names: &mut Names, name: &Name, slot: Slot) {
+    names.give_slot(name, slot).expect(rt, "memory");
+}
+
+/// A name.
+fn name(rt: &impl Abort, word: &[u8]) -> Name {
+    Name::parse(word).expect(rt, "a name")
+}
+
+/// A slot.
+fn slot(rt: &impl Abort, index: u8) -> Slot {
+    Slot::new(index).expect(rt, "a slot")
 }
 
 // A name stays known where another device takes its slot, and may be given again. A slot knows its name.
 #[test]
-fn names_of_devices_that_are_gone(rt: HostRuntime) -> Result<(), Fail> {
-    let first = Name::parse(b"t").ok_or("a name")?;
-    let second = Name::parse(b"u").ok_or("a name")?;
-    let (one, two) = (Slot::new(1)?, Slot::new(2)?);
+fn names_of_devices_that_are_gone(rt: HostRuntime) {
     let mut names = Names::new(rt.alloc());
-    let trial = &Two {
-        first,
-        second,
-        one,
-        two,
+    let trial = Two {
+        first: name(&rt, b"t"),
+        second: name(&rt, b"u"),
+        one: slot(&rt, 1),
+        two: slot(&rt, 2),
     };
-    trial.one_slot(&rt, &mut names)?;
-    trial.two_slots(&rt, &mut names)?;
-    trial.slots_exchanged(&rt, &mut names)
+    trial.one_slot(&rt, &mut names);
+    trial.two_slots(&rt, &mut names);
+    trial.slots_exchanged(&rt, &mut names);
 }
 
 /// Two names, and two slots.
@@ -53,68 +58,64 @@ struct Two {
 
 impl Two {
     // The second device takes the slot of the first.
-    fn one_slot(&self, rt: &impl Abort, names: &mut Names) -> Result<(), Fail> {
+    fn one_slot(&self, rt: &impl Abort, names: &mut Names) {
         stands(rt, names, &self.first, Err(Refusal::NoName));
         holds(
             rt,
             names.in_slot(self.one).is_none(),
             "nobody was in slot 1",
         );
-        give(names, &self.first, self.one)?;
-        give(names, &self.first, self.one)?;
+        give(rt, names, &self.first, self.one);
+        give(rt, names, &self.first, self.one);
         stands(rt, names, &self.first, Ok(self.one));
-        give(names, &self.second, self.one)?;
+        give(rt, names, &self.second, self.one);
         stands(rt, names, &self.first, Err(Refusal::NoDevice));
         stands(rt, names, &self.second, Ok(self.one));
         is_called(rt, names, self.one, &self.second);
-        Ok(())
     }
 
     // The first comes again, in another slot.
-    fn two_slots(&self, rt: &impl Abort, names: &mut Names) -> Result<(), Fail> {
-        give(names, &self.first, self.two)?;
+    fn two_slots(&self, rt: &impl Abort, names: &mut Names) {
+        give(rt, names, &self.first, self.two);
         stands(rt, names, &self.first, Ok(self.two));
         stands(rt, names, &self.second, Ok(self.one));
-        Ok(())
     }
 
     // A name that was given to another slot stands there, though its old slot is taken by a new name.
-    fn slots_exchanged(&self, rt: &impl Abort, names: &mut Names) -> Result<(), Fail> {
-        give(names, &self.second, self.two)?;
-        give(names, &self.first, self.one)?;
+    fn slots_exchanged(&self, rt: &impl Abort, names: &mut Names) {
+        give(rt, names, &self.second, self.two);
+        give(rt, names, &self.first, self.one);
         stands(rt, names, &self.first, Ok(self.one));
         stands(rt, names, &self.second, Ok(self.two));
         is_called(rt, names, self.one, &self.first);
         is_called(rt, names, self.two, &self.second);
-        Ok(())
     }
 }
 
 // Refusals that no line comes to today, or at another address.
 #[test]
-fn words_of_refusals(rt: HostRuntime) -> Result<(), Fail> {
+fn words_of_refusals(rt: HostRuntime) {
+    let broadcast = Addr7::new(0x7E).expect(&rt, "an address");
     let cases = [
         (Refusal::NoEnd, "NoEnd"),
-        (Refusal::NoAnswer(Addr7::new(0x7E)?), "NoAnswer 7E"),
+        (Refusal::NoAnswer(broadcast), "NoAnswer 7E"),
     ];
     for (refusal, wanted) in cases {
         let mut text = Text::new(rt.alloc());
-        refusal.push(&mut text)?;
+        refusal.push(&mut text).expect(&rt, "memory");
         same(&rt, text.as_bytes(), wanted.as_bytes());
     }
-    Ok(())
 }
 
 // Numbers as they are printed.
 #[test]
-fn numerals(rt: HostRuntime) -> Result<(), Fail> {
+fn numerals(rt: HostRuntime) {
     let mut text = Text::new(rt.alloc());
-    text.push_decimal(0)?;
-    text.push_decimal(u64::MAX)?;
-    text.push_byte(0xA5)?;
-    text.push_bytes(&[0x00, 0xFF])?;
-    text.push_hex(0x0204_0000_00BE, 12)?;
+    text.push_decimal(0).expect(&rt, "memory");
+    text.push_decimal(u64::MAX).expect(&rt, "memory");
+    text.push_byte(0xA5).expect(&rt, "memory");
+    text.push_bytes(&[0x00, 0xFF]).expect(&rt, "memory");
+    text.push_hex(0x0204_0000_00BE, 12).expect(&rt, "memory");
     let wanted = b"018446744073709551615A500FF0204000000BE";
     same(&rt, text.as_bytes(), wanted.as_slice());
-    Ok(())
 }

@@ -4,7 +4,6 @@ use i3c_script::{ScriptFault, Tally, run_script};
 use std::alloc::Global;
 use std::io::{ErrorKind, Read, Write};
 use std::process::Abort;
-use std::test::Fail;
 use std::{io, str};
 
 mod joining;
@@ -36,17 +35,16 @@ fn prints(rt: &impl Abort, alloc: Global, script: &str, wanted: &str, refused: u
 }
 
 /// A script that follows the main controller's line prints this after its line.
-fn goes_on(
-    rt: &impl Abort,
-    alloc: Global,
-    script: &str,
-    wanted: &str,
-    refused: u64,
-) -> Result<(), Fail> {
-    let script = format!(in alloc; "{HUB}{script}")?;
-    let wanted = format!(in alloc; "{HUB_LINE}{wanted}")?;
+fn goes_on(rt: &impl Abort, alloc: Global, script: &str, wanted: &str, refused: u64) {
+    let script = format!(in alloc; "{HUB}{script}").expect(rt, "memory");
+    let wanted = format!(in alloc; "{HUB_LINE}{wanted}").expect(rt, "memory");
     prints(rt, alloc, script.as_str(), wanted.as_str(), refused);
-    Ok(())
+}
+
+/// The last line of what was printed.
+fn last_line<'a>(rt: &impl Abort, printed: &'a [u8]) -> &'a str {
+    let text = str::from_utf8(printed).expect(rt, "a text");
+    text.lines().last().expect(rt, "a line")
 }
 
 /// A device that interrupts with a mandatory byte.
@@ -75,7 +73,7 @@ fn skipped_lines(rt: HostRuntime) {
 
 // A line has at most 256 bytes, a comment too.
 #[test]
-fn long_lines(rt: HostRuntime) -> Result<(), Fail> {
+fn long_lines(rt: HostRuntime) {
     for (first, length, wanted) in [
         ('#', 256, ""),
         ('#', 257, "refused BadLine\n"),
@@ -83,69 +81,62 @@ fn long_lines(rt: HostRuntime) -> Result<(), Fail> {
         ('d', 256, "refused BadLine\n"),
         ('d', 257, "refused BadLine\n"),
     ] {
-        let line = long_line(rt.alloc(), first, length)?;
-        alone_and_not_last(&rt, rt.alloc(), line.as_str(), wanted)?;
+        let line = long_line(&rt, rt.alloc(), first, length);
+        alone_and_not_last(&rt, rt.alloc(), line.as_str(), wanted);
     }
-    Ok(())
 }
 
 /// A line of so many bytes.
-fn long_line(alloc: Global, first: char, length: usize) -> Result<String, Fail> {
+fn long_line(rt: &impl Abort, alloc: Global, first: char, length: usize) -> String {
     let mut line = String::new(alloc);
-    line.push(first)?;
+    line.push(first).expect(rt, "memory");
     for _ in 1..length {
-        line.push('a')?;
+        line.push('a').expect(rt, "memory");
     }
-    Ok(line)
+    line
 }
 
 /// A line prints this where it is the last one, and where another one follows.
-fn alone_and_not_last(
-    rt: &impl Abort,
-    alloc: Global,
-    line: &str,
-    wanted: &str,
-) -> Result<(), Fail> {
+fn alone_and_not_last(rt: &impl Abort, alloc: Global, line: &str, wanted: &str) {
     let (printed, _) = run(alloc, line.as_bytes());
     same_in(rt, line, printed.as_slice(), wanted.as_bytes());
-    let script = format!(in alloc; "{line}\ndaa\n")?;
-    let wanted = format!(in alloc; "{wanted}refused NoBus\n")?;
+    let script = format!(in alloc; "{line}\ndaa\n").expect(rt, "memory");
+    let wanted = format!(in alloc; "{wanted}refused NoBus\n").expect(rt, "memory");
     let (printed, _) = run(alloc, script.as_bytes());
     same_in(rt, line, printed.as_slice(), wanted.as_bytes());
-    Ok(())
 }
 
 /// A script of so many bytes: comments, and at last a line of four bytes.
-fn long_script(alloc: Global, length: usize) -> Result<Vec<u8>, Fail> {
+fn long_script(rt: &impl Abort, alloc: Global, length: usize) -> Vec<u8> {
     let mut script = Vec::new(alloc);
     for _ in 0..length {
         if script.len() + 4 >= length {
             break;
         }
-        script.extend_from_slice(b"#\n")?;
+        script.extend_from_slice(b"#\n").expect(rt, "memory");
     }
-    script.extend_from_slice(b"daa\n")?;
-    Ok(script)
+    script.extend_from_slice(b"daa\n").expect(rt, "memory");
+    script
 }
 
 // The line that ends with the last byte that a script may have is run, and one that ends later isn't.
 #[test]
-fn large_scripts(rt: HostRuntime) -> Result<(), Fail> {
-    let mut script = long_script(rt.alloc(), SCRIPT_LENGTH)?;
+fn large_scripts(rt: HostRuntime) {
+    let mut script = long_script(&rt, rt.alloc(), SCRIPT_LENGTH);
     same(&rt, script.len(), SCRIPT_LENGTH);
-    let (printed, outcome) = run(rt.alloc(), &script);
-    same(&rt, printed.as_slice(), b"refused NoBus\n".as_slice());
-    same(&rt, outcome, Ok(Tally { refused: 1 }));
-    script.push(b'#')?;
-    let (printed, outcome) = run(rt.alloc(), &script);
-    same(&rt, printed.as_slice(), b"refused NoBus\n".as_slice());
-    same(&rt, outcome, Err(ScriptFault::TooLarge));
+    has_no_bus(&rt, rt.alloc(), &script, Ok(Tally { refused: 1 }));
+    script.push(b'#').expect(&rt, "memory");
+    has_no_bus(&rt, rt.alloc(), &script, Err(ScriptFault::TooLarge));
     script.remove(0);
-    script.extend_from_slice(b"daa\n")?;
-    let (printed, outcome) = run(rt.alloc(), &script);
-    same(&rt, printed.as_slice(), b"refused NoBus\n".as_slice());
-    same(&rt, outcome, Err(ScriptFault::TooLarge));
-    Ok(())
+    script.extend_from_slice(b"daa\n").expect(&rt, "memory");
+    has_no_bus(&rt, rt.alloc(), &script, Err(ScriptFault::TooLarge));
+}
+
+/// A script whose last line wants a bus prints that there is none, and ends so.
+fn has_no_bus(rt: &impl Abort, alloc: Global, script: &[u8], ending: Result<Tally, ScriptFault>) {
+    let (printed, outcome) = run(alloc, script);
+    same(rt, printed.as_slice(), b"refused NoBus\n".as_slice());
+    same(rt, outcome, ending);
 }
 
 /// A reader of these bytes, a few at a time, that fails where they end.
@@ -211,7 +202,7 @@ impl Write for FullWriter {
 }
 
 #[test]
-fn a_writer_fails(rt: HostRuntime) -> Result<(), Fail> {
+fn a_writer_fails(rt: HostRuntime) {
     let script =
         b"main hub 020400000001 46 C0\nattach t 020400000010 06 44\nattach t 0\ndaa\nshow\n";
     let whole = run(rt.alloc(), script).0;
@@ -228,7 +219,6 @@ fn a_writer_fails(rt: HostRuntime) -> Result<(), Fail> {
             same(&rt, writer.printed.as_slice(), &whole[..room]);
         }
     }
-    Ok(())
 }
 
 /// A reader or a writer over memory, of which one call alone fails. Later calls go on as if nothing had been.
@@ -295,7 +285,7 @@ const EACH_LINE: &[u8] = b"show\nlegacy eep 50 20\nmain hub 020400000001 46 C0\n
 // Each write that fails alone ends the run, be it a reply's, a refusal's or a part of `show`, though all later ones
 // would be taken; nothing is printed after it.
 #[test]
-fn one_write_fails(rt: HostRuntime) -> Result<(), Fail> {
+fn one_write_fails(rt: HostRuntime) {
     let alloc = rt.alloc();
     let (whole, outcome) = run(alloc, EACH_LINE);
     same(&rt, outcome, Ok(Tally { refused: 5 }));
@@ -318,12 +308,11 @@ fn one_write_fails(rt: HostRuntime) -> Result<(), Fail> {
     }
     // there were writes to fail, one for almost each line that prints
     holds(&rt, failures > 20, "there were writes to fail");
-    Ok(())
 }
 
 // Each read that fails alone ends the run, though later ones would go on; the lines that were read before are run.
 #[test]
-fn one_read_fails(rt: HostRuntime) -> Result<(), Fail> {
+fn one_read_fails(rt: HostRuntime) {
     let alloc = rt.alloc();
     let (whole, _) = run(alloc, EACH_LINE);
     let mut printed = 0;
@@ -347,50 +336,51 @@ fn one_read_fails(rt: HostRuntime) -> Result<(), Fail> {
         printed = count;
     }
     same(&rt, printed, whole.len());
-    Ok(())
 }
 
 /// So many interrupts that are raised and served, as a script's lines.
-fn served(alloc: Global, count: u64) -> Result<String, Fail> {
+fn served(rt: &impl Abort, alloc: Global, count: u64) -> String {
     let mut script = String::new(alloc);
     for number in 1..=count {
-        write!(script, "raise t {:02X}\nserve\n", number % 256)?;
+        write!(script, "raise t {:02X}\nserve\n", number % 256).expect(rt, "memory");
     }
-    Ok(script)
+    script
 }
 
 /// What these lines print.
-fn served_lines(alloc: Global, count: u64) -> Result<String, Fail> {
+fn served_lines(rt: &impl Abort, alloc: Global, count: u64) -> String {
     let mut wanted = String::new(alloc);
     for number in 1..=count {
-        write!(wanted, "raised {number}\nrecorded {number}\n")?;
+        write!(wanted, "raised {number}\nrecorded {number}\n").expect(rt, "memory");
     }
-    Ok(wanted)
+    wanted
 }
 
 /// What `show` prints of their records.
-fn record_lines(alloc: Global, count: u64) -> Result<String, Fail> {
+fn record_lines(rt: &impl Abort, alloc: Global, count: u64) -> String {
     let mut wanted = String::new(alloc);
     for number in 1..=count {
         let byte = number % 256;
         writeln!(
             wanted,
             "record {number} slot 1 raise {number} at 09 byte {byte:02X}"
-        )?;
+        )
+        .expect(rt, "memory");
     }
-    Ok(wanted)
+    wanted
 }
 
 // Five hundred interrupts are recorded, each under its number.
 #[test]
-fn many_records(rt: HostRuntime) -> Result<(), Fail> {
+fn many_records(rt: HostRuntime) {
     let alloc = rt.alloc();
-    let served = served(alloc, 500)?;
-    let script = format!(in alloc; "{TARGET}daa\n{served}show\n")?;
-    let served = served_lines(alloc, 500)?;
-    let records = record_lines(alloc, 500)?;
-    let wanted = format!(in alloc; "{TARGET_LINES}{served}{SHOWN}{records}")?;
-    goes_on(&rt, alloc, script.as_str(), wanted.as_str(), 0)
+    let served = served(&rt, alloc, 500);
+    let script = format!(in alloc; "{TARGET}daa\n{served}show\n").expect(&rt, "memory");
+    let served = served_lines(&rt, alloc, 500);
+    let records = record_lines(&rt, alloc, 500);
+    let wanted = format!(in alloc; "{TARGET_LINES}{served}{SHOWN}{records}");
+    let wanted = wanted.expect(&rt, "memory");
+    goes_on(&rt, alloc, script.as_str(), wanted.as_str(), 0);
 }
 
 /// What `show` prints before five hundred records of one device.
@@ -398,18 +388,21 @@ const SHOWN: &str = "active 08\nhub 08 waiting 0\nt 09 waiting 0\nrecords 500\n"
 
 // What `symbols` prints of 42 sessions, of six symbols each, is a trace of as many.
 #[test]
-fn symbols_are_a_trace(rt: HostRuntime) -> Result<(), Fail> {
+fn symbols_are_a_trace(rt: HostRuntime) {
     let alloc = rt.alloc();
-    let mut script = String::from_str(alloc, HUB)?;
-    for _ in 0..42 {
-        script.push_str("daa\n")?;
-    }
-    script.push_str("symbols\n")?;
+    let script = sessions(&rt, alloc, 42);
     let (printed, outcome) = run(alloc, script.as_bytes());
     same(&rt, outcome, Ok(Tally { refused: 0 }));
-    let text = str::from_utf8(&printed)?;
-    let wire = text.lines().last().ok_or("a line")?;
-    let symbols = read_trace(alloc, wire)?;
+    let symbols = read_trace(alloc, last_line(&rt, &printed)).expect(&rt, "a trace");
     same(&rt, symbols.len(), 252);
-    Ok(())
+}
+
+/// A script of so many sessions, and then the wire's symbols.
+fn sessions(rt: &impl Abort, alloc: Global, count: u64) -> String {
+    let mut script = String::from_str(alloc, HUB).expect(rt, "memory");
+    for _ in 0..count {
+        script.push_str("daa\n").expect(rt, "memory");
+    }
+    script.push_str("symbols\n").expect(rt, "memory");
+    script
 }

@@ -3,12 +3,9 @@
 ghost use Rattle.std.specs.Prelude.{◌<◌};
 
 use crate::checks::holds;
-use crate::script::{HUB, HUB_LINE, prints, run};
+use crate::script::{HUB, HUB_LINE, last_line, prints, run};
 use std::alloc::Global;
-use std::io::Write;
 use std::process::Abort;
-use std::str;
-use std::test::Fail;
 
 /// The usable dynamic address that comes after so many others, from `08` on: `3E`, `5E`, `6E` and `76` are left out.
 fn usable_address(before: u8) -> u8
@@ -27,28 +24,30 @@ fn usable_address(before: u8) -> u8
 const DEVICES: u8 = 106;
 
 /// Devices come to slot 1 one after the other, as a script's lines.
-fn coming(alloc: Global) -> Result<String, Fail> {
+fn coming(rt: &impl Abort, alloc: Global) -> String {
     let mut script = String::new(alloc);
     for number in 1..=DEVICES {
         write!(
             script,
             "attach d 0204000100{number:02X} 06 44\ndaa\ndrop d\n"
-        )?;
+        )
+        .expect(rt, "memory");
     }
-    Ok(script)
+    script
 }
 
 /// What these lines print: each gets an address that nobody had before.
-fn coming_lines(alloc: Global) -> Result<String, Fail> {
+fn coming_lines(rt: &impl Abort, alloc: Global) -> String {
     let mut wanted = String::new(alloc);
     for number in 1..=DEVICES {
         let address = usable_address(number);
         write!(
             wanted,
             "d slot 1\nassigned {address:02X} 0204000100{number:02X} 06 44\ndone\ndropped\n"
-        )?;
+        )
+        .expect(rt, "memory");
     }
-    Ok(wanted)
+    wanted
 }
 
 /// The last address is given, and then there is none.
@@ -65,18 +64,23 @@ const WIRE: &str = " Sr 7E/R- P S 7E/W+ 07.0 Sr 7E/R+ =02040001006B0644 @EF+ P S
 
 // The main controller has the first address, so the 107th device gets the last. From then on no round sends a bit.
 #[test]
-fn addresses_run_out(rt: HostRuntime) -> Result<(), Fail> {
+fn addresses_run_out(rt: HostRuntime) {
     let alloc = rt.alloc();
-    let coming = coming(alloc)?;
-    let script = format!(in alloc; "{HUB}{coming}{LAST}")?;
-    let lines = coming_lines(alloc)?;
+    let script = all_come(&rt, alloc);
+    let lines = coming_lines(&rt, alloc);
     left_out(&rt, lines.as_str());
     let (printed, _) = run(alloc, script.as_bytes());
-    let wire = str::from_utf8(&printed)?.lines().last().ok_or("a line")?;
+    let wire = last_line(&rt, &printed);
     holds(&rt, wire.ends_with(WIRE), wire);
-    let wanted = format!(in alloc; "{HUB_LINE}{lines}{LAST_LINES}{wire}\n")?;
+    let wanted = format!(in alloc; "{HUB_LINE}{lines}{LAST_LINES}{wire}\n");
+    let wanted = wanted.expect(&rt, "memory");
     prints(&rt, alloc, script.as_str(), wanted.as_str(), 2);
-    Ok(())
+}
+
+/// The script in which they come, and the last two.
+fn all_come(rt: &impl Abort, alloc: Global) -> String {
+    let coming = coming(rt, alloc);
+    format!(in alloc; "{HUB}{coming}{LAST}").expect(rt, "memory")
 }
 
 /// The 53rd and the 54th device stand beside an address that is left out.

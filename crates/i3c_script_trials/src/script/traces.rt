@@ -1,8 +1,9 @@
 use super::{FailingReader, Flaky, FullWriter};
 use crate::checks::{holds, same, same_in};
 use i3c_script::{ScriptFault, Tally, run_trace};
-use std::alloc::{AllocError, Global};
+use std::alloc::Global;
 use std::io::ErrorKind;
+use std::process::Abort;
 
 /// A trace of two frames.
 const TRACE: &[u8] = b"S 7E/W+ 07.0 Sr 7E/R+ =0204000000100644 @13+ Sr 7E/R- P\nS 09/R+ 11.0 P\n";
@@ -66,31 +67,30 @@ fn one_read_of_a_trace_fails(rt: HostRuntime) {
 const FRAMES: u64 = 150;
 
 /// A trace of many frames, and what it tells.
-fn long_trace(alloc: Global) -> Result<(Vec<u8>, Vec<u8>), AllocError> {
-    let mut trace = Vec::new(alloc);
-    let mut told = Vec::new(alloc);
+fn long_trace(rt: &impl Abort, alloc: Global) -> (String, String) {
+    let mut trace = String::new(alloc);
+    let mut told = String::new(alloc);
     for frame in 1..FRAMES + 1 {
-        trace.extend_from_slice(b"S 09/R+ 11.0 P\n")?;
-        let number = format!(in alloc; "frame {frame}\n")?;
-        told.extend_from_slice(number.as_bytes())?;
-        told.extend_from_slice(b"request interrupt 09 accepted 11\n")?;
+        trace.push_str("S 09/R+ 11.0 P\n").expect(rt, "memory");
+        write!(told, "frame {frame}\nrequest interrupt 09 accepted 11\n").expect(rt, "memory");
     }
-    Ok((trace, told))
+    (trace, told)
 }
 
 // A write that fails alone ends it, though later ones would go on. Lines go out together, once they are 1,024 bytes or
 // more, and the last of them at the end.
 #[test]
-fn one_write_of_a_trace_fails(rt: HostRuntime) -> Result<(), AllocError> {
-    let (trace, told) = long_trace(rt.alloc())?;
+fn one_write_of_a_trace_fails(rt: HostRuntime) {
+    let (trace, told) = long_trace(&rt, rt.alloc());
+    let told = told.as_bytes();
     let mut failures = 0u64;
     for before in 0..1_000 {
-        let mut reader = trace.as_slice();
+        let mut reader = trace.as_bytes();
         let mut writer = Flaky::new(rt.alloc(), b"", before);
         let outcome = run_trace(rt.alloc(), &mut reader, &mut writer);
         if !writer.has_failed {
             same(&rt, outcome, Ok(Tally { refused: 0 }));
-            same(&rt, writer.printed.as_slice(), told.as_slice());
+            same(&rt, writer.printed.as_slice(), told);
             break;
         }
         failures = before + 1;
@@ -100,5 +100,4 @@ fn one_write_of_a_trace_fails(rt: HostRuntime) -> Result<(), AllocError> {
         same(&rt, writer.printed.as_slice(), &told[..count]);
     }
     same(&rt, failures, 7);
-    Ok(())
 }
