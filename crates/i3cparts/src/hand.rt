@@ -8,19 +8,40 @@ use i3c_ccc::Code;
 use i3c_device::Device;
 use std::alloc::Global;
 
+/// What changes the device in hand.
+const CHANGES: [&str; 6] = [
+    "take-address",
+    "fall-silent",
+    "lose-front",
+    "lose-join-wish",
+    "hear",
+    "fill",
+];
+
+/// What any device is asked.
+const QUESTIONS: [&str; 10] = [
+    "identity",
+    "address",
+    "is-hearing",
+    "is-willing",
+    "registers",
+    "waiting",
+    "front",
+    "answer-byte",
+    "may-raise",
+    "may-raise-masked",
+];
+
 /// The calls on the device in hand, and what any device is asked.
 pub(crate) fn call(setting: &mut Setting, call: &str, words: &mut Words<'_>) -> Answer {
-    match call {
-        "take-address" | "fall-silent" | "lose-front" | "lose-join-wish" | "hear" | "fill" => {
-            let alloc = setting.alloc;
-            change(alloc, in_hand(setting)?, call, words)
-        }
-        "identity" | "address" | "is-hearing" | "is-willing" | "registers" | "waiting" => {
-            ask(setting, call, words)
-        }
-        "front" | "answer-byte" | "may-raise" | "may-raise-masked" => ask(setting, call, words),
-        _ => events::call(setting, call, words),
+    if CHANGES.contains(&call) {
+        let alloc = setting.alloc;
+        return change(alloc, in_hand(setting)?, call, words);
     }
+    if QUESTIONS.contains(&call) {
+        return ask(setting, call, words);
+    }
+    events::call(setting, call, words)
 }
 
 /// A device of an identity, and at an address if one is given.

@@ -23,15 +23,26 @@ pub(crate) fn run<R: Env + Files + Print + Eprint + AllocGlobal>(rt: &R) -> u8 {
 
 /// Answers the lines of the file that the command line names.
 fn done<R: Env + Files + Print + AllocGlobal>(rt: &R) -> Result<(), Fault> {
-    let mut words = env::args(rt)?;
-    let _name = words.next();
-    let (Some(file), None) = (words.next(), words.next()) else {
-        return Err(Fault::Usage);
-    };
+    let file = file_named(rt)?;
     let text = fs::read_to_string(rt, file.as_str())?;
     let mut setting = Setting::new(rt.alloc());
+    tell_all(rt, &mut setting, text.as_str())
+}
+
+/// The one word of the command line behind the program's name.
+fn file_named<R: Env + AllocGlobal>(rt: &R) -> Result<String, Fault> {
+    let mut words = env::args(rt)?;
+    let _name = words.next();
+    match (words.next(), words.next()) {
+        (Some(file), None) => Ok(file),
+        _ => Err(Fault::Usage),
+    }
+}
+
+/// Prints each line of a text, with its answer.
+fn tell_all<R: Print>(rt: &R, setting: &mut Setting, text: &str) -> Result<(), Fault> {
     for line in text.lines() {
-        tell(rt, &mut setting, line)?;
+        tell(rt, setting, line)?;
     }
     Ok(())
 }

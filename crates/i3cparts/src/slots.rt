@@ -129,8 +129,9 @@ fn assign(setting: &mut Setting, words: &mut Words<'_>) -> Answer {
 fn hearers_of(setting: &Setting, identity: &Identity) -> Result<SlotSet, Fault> {
     let mut hearers = Vec::new(setting.alloc);
     for slot in &slots_of(setting.alloc, setting.devices.hearers())? {
-        if is_of(&setting.devices, *slot, identity) {
-            hearers.push(*slot)?;
+        match setting.devices.get(*slot) {
+            Some(device) if device.identity() == *identity => hearers.push(*slot)?,
+            _ => {}
         }
     }
     Ok(SlotSet::of(&hearers))
@@ -147,14 +148,6 @@ pub(crate) fn slots_of(alloc: Global, set: SlotSet) -> Result<Vec<Slot>, Fault> 
         slots.push(Slot::from_index(index))?;
     }
     Ok(slots)
-}
-
-/// Whether a slot's device has an identity.
-fn is_of(devices: &Devices, slot: Slot, identity: &Identity) -> bool {
-    match devices.get(slot) {
-        Some(device) => device.identity() == *identity,
-        None => false,
-    }
 }
 
 /// Bytes are written to an address.

@@ -104,16 +104,25 @@ fn legacy_registers(setting: &Setting, words: &mut Words<'_>) -> Answer {
 /// How a read is told after the header of its frame.
 fn trace_of_read(alloc: Global, words: &mut Words<'_>) -> Answer {
     let to = words.address()?;
-    let came = match words.word()? {
-        "nobody" => Read::Nobody,
-        "legacy" => Read::Legacy(registers(words)?),
-        "ended" => Read::Ended(registers(words)?),
-        "torn" => Read::Torn(registers(words)?),
-        _ => return Err(Fault::Unknown),
-    };
+    let came = read_named(words)?;
     let mut told = Told::begun(alloc);
     tell_read(&mut told, to, &came);
     told_trace(alloc, &told.symbols)
+}
+
+/// What a read came to.
+fn read_named(words: &mut Words<'_>) -> Result<Read, Fault> {
+    let name = words.word()?;
+    if name == "nobody" {
+        return Ok(Read::Nobody);
+    }
+    let registers = registers(words)?;
+    match name {
+        "legacy" => Ok(Read::Legacy(registers)),
+        "ended" => Ok(Read::Ended(registers)),
+        "torn" => Ok(Read::Torn(registers)),
+        _ => Err(Fault::Unknown),
+    }
 }
 
 /// A byte for each register.

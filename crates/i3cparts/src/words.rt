@@ -133,7 +133,7 @@ impl<'a> Words<'a> {
 
     /// A count, in decimal digits.
     pub fn count(&mut self) -> Result<u64, Fault> {
-        decimal_of(self.word()?)
+        u64::from_str_radix(self.word()?, 10).or(Err(Fault::Unknown))
     }
 
     /// A place in a list, in decimal digits.
@@ -240,11 +240,6 @@ fn hex_of(word: &str) -> Result<u64, Fault> {
     u64::from_str_radix(word, 16).or(Err(Fault::Unknown))
 }
 
-/// The number of a word in decimal digits.
-fn decimal_of(word: &str) -> Result<u64, Fault> {
-    u64::from_str_radix(word, 10).or(Err(Fault::Unknown))
-}
-
 /// The byte of a word in hex digits.
 fn byte_of(word: &str) -> Result<u8, Fault> {
     u8::from_str_radix(word, 16).or(Err(Fault::Unknown))
@@ -280,12 +275,7 @@ fn word_of(text: &str) -> Result<Word, Fault> {
         None => Ok(write_word(byte_of(text)?)),
         Some((byte, t)) => Ok(Word {
             byte: byte_of(byte)?,
-            t: bit_of(t)?,
+            t: named(&BITS, t)?,
         }),
     }
-}
-
-/// The bit that a word is.
-fn bit_of(word: &str) -> Result<bool, Fault> {
-    named(&BITS, word)
 }
