@@ -2,34 +2,29 @@ use crate::checks::same;
 use i3c_base::Cuts;
 use i3c_bus::{Bus, Event, Reply};
 use std::mem::size_of;
-use std::test::Fail;
 
 // Runs are kept by the million. A cut is a bit for each slot, and a mark whether it is cut.
 #[test]
-fn cuts_are_34_bytes(rt: HostRuntime) -> Result<(), Fail> {
+fn cuts_are_34_bytes(rt: HostRuntime) {
     same(&rt, size_of::<Cuts>(), 34);
-    Ok(())
 }
 
 // The largest event is a write: its address and policy, seventeen bytes with their number, which takes eight, and cuts.
 #[test]
-fn an_event_is_80_bytes(rt: HostRuntime) -> Result<(), Fail> {
+fn an_event_is_80_bytes(rt: HostRuntime) {
     same(&rt, size_of::<Event>(), 80);
-    Ok(())
 }
 
 // The largest reply is that of a read: what was served, with a record's number of eight bytes, and sixteen bytes.
 #[test]
-fn a_reply_is_48_bytes(rt: HostRuntime) -> Result<(), Fail> {
+fn a_reply_is_48_bytes(rt: HostRuntime) {
     same(&rt, size_of::<Reply>(), 48);
-    Ok(())
 }
 
 // A bus has sixteen devices with eight waiting interrupts each, nine marks and a key for each slot, a table with eleven
 // bytes for each address, of which one is for the order of known identities, a list of all addresses, and legacy targets
 // with sixteen registers: all inline, so that a frame wants no memory but for a record.
 #[test]
-fn a_bus_is_5840_bytes(rt: HostRuntime) -> Result<(), Fail> {
+fn a_bus_is_5840_bytes(rt: HostRuntime) {
     same(&rt, size_of::<Bus>(), 5840);
-    Ok(())
 }
