@@ -1,9 +1,10 @@
 -- A session without cuts comes to its end.
 use Rattle.std.proofs.lemmas.Bool.{both_ways, cond-false, eq-eqb, false≢true}
 use Rattle.std.proofs.lemmas.List.Elements.{All-head, All-tail}
+use Rattle.std.proofs.lemmas.List.Sums.{sum_by-cons}
 use Rattle.std.proofs.lemmas.List.{length-set}
 use Rattle.std.proofs.lemmas.Option.{none-some}
-use Rattle.std.proofs.Common.{◌≡◌, ℕ, zero, suc, ◌+◌, ◌≤◌, ◌<◌, Bool, true, false, not, ◌&&◌, List, [], ◌∷◌, length, get_or, Option, Some, None, is_some, option_map, MatchOption, if◌then◌else◌, ◌⊎◌, inl, inr, sym, refl, ap, ◌∙◌, subst, arith}
+use Rattle.std.proofs.Common.{◌≡◌, ℕ, zero, suc, ◌+◌, ◌≤◌, ◌<◌, Bool, true, false, not, ◌&&◌, List, [], ◌∷◌, ◌++◌, ◌==◌, count_by, length, get_or, Option, Some, None, is_some, option_map, MatchOption, if◌then◌else◌, ◌⊎◌, inl, inr, sym, refl, ap, ◌∙◌, subst, arith}
 use Rattle.std.specs.List.{All, Contains}
 use Rattle.i3c_base.specs.declared.answers.RoundReply.{RoundReply}
 use Rattle.i3c_base.specs.declared.device.Setup.{Setup}
@@ -14,13 +15,15 @@ use Rattle.i3c_base.specs.Cutting.{CutList, IsUncut, Lost, lost_by}
 use Rattle.i3c_base.specs.Numbers.{same_identity}
 use Rattle.i3c_base.specs.Round.{Rounds, assigned, winner, wins}
 use Rattle.i3c_base.specs.Serve.{emptied}
-use Rattle.i3c_base.specs.State.{Device, IsStart, State, attached, device_at, in_slot, no_devices}
-use Rattle.i3c_base.proofs.Lookups.{each_at, each_from, emptied_at, emptied_from, length-no_devices}
+use Rattle.i3c_base.specs.Local.{attach, drop_off, raise}
+use Rattle.i3c_base.specs.State.{Device, IsStart, State, attached, change, device_at, in_slot, no_devices, raised_at}
+use Rattle.i3c_base.proofs.Lookups.{change_at, drop_off_from, each_at, each_from, emptied_at, emptied_from, length-no_devices, set_at}
 use Rattle.i3c_step.specs.declared.events.Event.{Event}
+use Rattle.i3c_step.specs.declared.events.Event.TheVariants.{Attach, DropOff, Raise, AskJoin, AskRole, Serve, Enec, Disec, Reset, SendList, ReadFrom, WriteTo, OpenDaa, Round, EndDaa, HandOver}
 use Rattle.i3c_step.specs.declared.replies.Reply.{Reply}
 use Rattle.i3c_step.specs.declared.replies.Refusal.{Refusal}
 use Rattle.i3c_step.specs.Runs.{IsLegalRun, IsRun}
-use Rattle.i3c_step.specs.Sessions.{IsLastRound, IsUncutRound}
+use Rattle.i3c_step.specs.Sessions.{IsInSession, IsLastRound, is_round}
 use Rattle.i3c_step.specs.Sound.{HasActive}
 use Rattle.i3c_step.specs.Step.{Acts, IsShort, Step, checks, cuts_active, first_refusal}
 use Rattle.i3c_step.proofs.Follows.{Came-step, Follows-round}
@@ -28,6 +31,7 @@ use Rattle.i3c_step.proofs.Holding.{AllDeaf, active_start, active_step, deaf_sta
 use Rattle.i3c_step.proofs.Kept.{run_keeps}
 use Rattle.i3c_step.proofs.Lost.{unlost}
 use Rattle.i3c_step.proofs.Recording.{Contains-first}
+use Rattle.i3c_step.proofs.Steps.{no_test, step_cases, test_at}
 
 -- whoever is in this slot hears the session
 abbrev hears_at : Option Device → Bool
@@ -180,27 +184,118 @@ round_goes old cuts reply new uncut busy h = go (first_refusal (checks old (Even
 Contains-later : {A : Type 0} (y : A) (xs : List A) (x : A) → Contains xs x → Contains (y ∷ xs) x
 Contains-later y xs x h = (suc h.0, omega (arith, h.1), h.2)
 
+-- a step of the session that isn't its last round: those who hear are fewer by a round, and the session is open
+record Went (old : State) (event : Event) (new : State) : Type 0 where
+  less : one_if (is_round event) + hearers new.devices ≤ hearers old.devices
+  session : new.in_session ≡ true
+
+-- what else happens in it: nobody hears who didn't
+record Calm (old new : State) : Type 0 where
+  long : length new.devices ≡ length old.devices
+  within : IsWithin new.devices old.devices
+  session : new.in_session ≡ old.in_session
+
+calm_same : (st : State) → Calm st st
+calm_same st = record { long = refl; within = λ k hears. hears; session = refl }
+
+calm_attached : (s : ℕ) (setup : Setup) (st : State) → Calm st (attach s setup st)
+calm_attached s setup st = record {
+  long = length-set st.devices s (Some (attached setup));
+  within = λ k hears. elim (set_at st.devices s k (Some (attached setup)) None) [
+    | inl e ↦ absurd (false≢true (ap hears_at (sym e.1) ∙ hears))
+    | inr e ↦ ap hears_at (sym e) ∙ hears
+  ];
+  session = refl;
+}
+
+calm_dropped : (s : ℕ) (st : State) → Calm st (drop_off s st)
+calm_dropped s st = record {
+  long = length-set st.devices s None;
+  within = λ k hears. go k (device_at (drop_off s st) k) refl hears;
+  session = refl;
+}
+  where
+    go : (k : ℕ) (o : Option Device) → device_at (drop_off s st) k ≡ o → hears_at o ≡ true → hears_at (device_at st k) ≡ true
+    go k None e hears = absurd (false≢true hears)
+    go k (Some d) e hears = ap hears_at (drop_off_from s st k d e).1 ∙ hears
+
+-- a device that is changed hears as it heard
+as_before : (b : Bool) (f : Device → Device) (o : Option Device) → ((d : Device) → (f d).hearing ≡ d.hearing) → hears_at (option_map (λ d. if b then f d else d) o) ≡ hears_at o
+as_before b f None e = refl
+as_before true f (Some d) e = e d
+as_before false f (Some d) e = refl
+
+calm_changed : (s : ℕ) (f : Device → Device) (st : State) → ((d : Device) → (f d).hearing ≡ d.hearing) → Calm st (change s f st)
+calm_changed s f st e = record {
+  long = length-set st.devices s (option_map f (device_at st s));
+  within = λ k hears. sym (as_before (k == s) f (device_at st k) e) ∙ (ap hears_at (sym (change_at s f st k)) ∙ hears);
+  session = refl;
+}
+
+calm_raised : (s : ℕ) (byte : Option ℕ) (st : State) → Calm st (raise s byte st)
+calm_raised s byte st =
+    let changed = calm_changed s (λ d. record d { waiting = d.waiting ++ record { number = suc (raised_at st s); byte = byte } ∷ [] }) st (λ d. refl) in
+    record { long = changed.long; within = changed.within; session = refl }
+
+went_calm : (old : State) (event : Event) (new : State) → is_round event ≡ false → old.in_session ≡ true → Calm old new → Went old event new
+went_calm old event new other busy calm = record {
+  less = omega (arith, ap one_if other, not_more new.devices old.devices calm.long calm.within);
+  session = calm.session ∙ busy;
+}
+
+-- which is so of each event but a round and the end
+calm_step : (old : State) (event : Event) (reply : Reply) (new : State) → is_round event ≡ false → old.in_session ≡ true → (first_refusal (checks old event) ≡ None → Acts old event reply new → Calm old new)
+    → Step old event reply new → IsLastRound reply ⊎ Went old event new
+calm_step old event reply new other busy acts h =
+    inr (went_calm old event new other busy (step_cases old event reply new h (λ idle e. subst (Calm old) (sym e) (calm_same old)) acts))
+
+-- no frame but a round is sent while a session is open
+refused : {P : Type 0} (old : State) (event : Event) → old.in_session ≡ true → test_at 0 (checks old event) ≡ old.in_session → first_refusal (checks old event) ≡ None → P
+refused old event busy test free = absurd (both_ways _ (sym test ∙ no_test 0 (checks old event) free) busy)
+
+goes : (old : State) (event : Event) (reply : Reply) (new : State) → IsInSession event → old.in_session ≡ true → Step old event reply new → IsLastRound reply ⊎ Went old event new
+goes old (Round cuts) reply new uncut busy h = elim (round_goes old cuts reply new uncut busy h) [
+  | inl last ↦ inl last
+  | inr g ↦ inr (record { less = omega (arith, g.less); session = g.session })
+]
+goes old EndDaa reply new within busy h = absurd within
+goes old (Attach s setup) reply new within busy h = calm_step old (Attach s setup) reply new refl busy (λ free acts. subst (Calm old) (sym acts.1) (calm_attached s setup old)) h
+goes old (DropOff s) reply new within busy h = calm_step old (DropOff s) reply new refl busy (λ free acts. subst (Calm old) (sym acts.1) (calm_dropped s old)) h
+goes old (Raise s byte) reply new within busy h = calm_step old (Raise s byte) reply new refl busy (λ free acts. subst (Calm old) (sym acts.1) (calm_raised s byte old)) h
+goes old (AskJoin s) reply new within busy h =
+    calm_step old (AskJoin s) reply new refl busy (λ free acts. subst (Calm old) (sym acts.1) (calm_changed s (λ d. record d { join_wish = true }) old (λ d. refl))) h
+goes old (AskRole s) reply new within busy h =
+    calm_step old (AskRole s) reply new refl busy (λ free acts. subst (Calm old) (sym acts.1) (calm_changed s (λ d. record d { role_wish = true }) old (λ d. refl))) h
+goes old (Serve policy cuts) reply new within busy h = calm_step old (Serve policy cuts) reply new refl busy (λ free acts. refused old (Serve policy cuts) busy refl free) h
+goes old (Enec to kinds policy cuts) reply new within busy h = calm_step old (Enec to kinds policy cuts) reply new refl busy (λ free acts. refused old (Enec to kinds policy cuts) busy refl free) h
+goes old (Disec to kinds policy cuts) reply new within busy h = calm_step old (Disec to kinds policy cuts) reply new refl busy (λ free acts. refused old (Disec to kinds policy cuts) busy refl free) h
+goes old (Reset policy cuts) reply new within busy h = calm_step old (Reset policy cuts) reply new refl busy (λ free acts. refused old (Reset policy cuts) busy refl free) h
+goes old (SendList policy cuts) reply new within busy h = calm_step old (SendList policy cuts) reply new refl busy (λ free acts. refused old (SendList policy cuts) busy refl free) h
+goes old (ReadFrom a policy cuts) reply new within busy h = calm_step old (ReadFrom a policy cuts) reply new refl busy (λ free acts. refused old (ReadFrom a policy cuts) busy refl free) h
+goes old (WriteTo a bytes policy cuts) reply new within busy h = calm_step old (WriteTo a bytes policy cuts) reply new refl busy (λ free acts. refused old (WriteTo a bytes policy cuts) busy refl free) h
+goes old (OpenDaa cuts) reply new within busy h = calm_step old (OpenDaa cuts) reply new refl busy (λ free acts. refused old (OpenDaa cuts) busy refl free) h
+goes old (HandOver to cuts) reply new within busy h = calm_step old (HandOver to cuts) reply new refl busy (λ free acts. refused old (HandOver to cuts) busy refl free) h
+
 -- so a last one comes while fewer hear than rounds are left
-ends : (old : State) (rounds : List Event) (answers : List Reply) (new : State) → All IsUncutRound rounds → hearers old.devices < length rounds → old.in_session ≡ true → IsRun old rounds answers new
+ends : (old : State) (session : List Event) (answers : List Reply) (new : State) → All IsInSession session → hearers old.devices < count_by is_round session → old.in_session ≡ true → IsRun old session answers new
     → (answer : Reply) × Contains answers answer × IsLastRound answer
 ends old [] answers new all less busy run = absurd (omega (arith, less))
-ends old (round ∷ rounds) [] new all less busy run = absurd run
-ends old (round ∷ rounds) (answer ∷ answers) new all less busy run =
-    let r = All-head IsUncutRound round rounds all in
-    let step : Step old (Event.Round r.0) answer run.0 = subst (λ e. Step old e answer run.0) r.1 run.1 in
-    elim (round_goes old r.0 answer run.0 r.2 busy step) [
+ends old (event ∷ session) [] new all less busy run = absurd run
+ends old (event ∷ session) (answer ∷ answers) new all less busy run =
+    elim (goes old event answer run.0 (All-head IsInSession event session all) busy run.1) [
       | inl last ↦ (answer, Contains-first answer answers, last)
-      | inr g ↦
-          let later = ends run.0 rounds answers new (All-tail IsUncutRound round rounds all) (omega (arith, less, g.less)) g.session run.2 in
+      | inr went ↦
+          let more : count_by is_round (event ∷ session) ≡ one_if (is_round event) + count_by is_round session = sum_by-cons (λ e. one_if (is_round e)) event session in
+          let later = ends run.0 session answers new (All-tail IsInSession event session all) (omega (arith, less, went.less, more)) went.session run.2 in
           (later.0, Contains-later answer answers later.0 later.1, later.2)
     ]
 
 pub sessions_end : (main : Setup) (legacy : List (Option LegacyTarget)) (events : List Event) (replies : List Reply) (mid : State) → IsLegalRun main legacy events replies mid → mid.in_session ≡ true
-    → (rounds : List Event) (answers : List Reply) (new : State) → All IsUncutRound rounds → length rounds ≡ SLOTS → IsRun mid rounds answers new
+    → (session : List Event) (answers : List Reply) (new : State) → All IsInSession session → SLOTS ≤ count_by is_round session → IsRun mid session answers new
     → (answer : Reply) × Contains answers answer × IsLastRound answer
-sessions_end main legacy events replies mid legal busy rounds answers new all long run =
+sessions_end main legacy events replies mid legal busy session answers new all many run =
     let active : HasActive mid = run_keeps HasActive active_step legal.0 events replies mid legal.2 (active_start main legacy legal.0 legal.1) in
     let deaf : AllDeaf mid = run_keeps AllDeaf deaf_step legal.0 events replies mid legal.2 (deaf_start main legacy legal.0 legal.1) in
     let slots : length mid.devices ≡ SLOTS = run_keeps IsSlotted slotted_step legal.0 events replies mid legal.2 (slotted_start main legacy legal.0 legal.1) in
     let less : hearers mid.devices < length mid.devices = not_all mid.devices mid.active active.0 active.2 (deaf mid.active active.0 active.2 (ap is_some active.3)) in
-    ends mid rounds answers new all (omega (arith, less, slots, long)) busy run
+    ends mid session answers new all (omega (arith, less, slots, many)) busy run

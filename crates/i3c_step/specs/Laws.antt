@@ -1,5 +1,5 @@
 -- What holds over every legal run.
-use Rattle.std.specs.Prelude.{◌≡◌, ◌≢◌, ℕ, true, List, ◌++◌, length, Option, Some, All, Contains}
+use Rattle.std.specs.Prelude.{◌≡◌, ◌≢◌, ◌≤◌, ℕ, true, List, ◌++◌, count_by, length, Option, Some, All, Contains}
 use Rattle.i3c_base.specs.declared.range.TheConstants.{SLOTS}
 use Rattle.i3c_base.specs.declared.device.Setup.{Setup}
 use Rattle.i3c_base.specs.declared.device.LegacyTarget.{LegacyTarget}
@@ -16,7 +16,7 @@ use Rattle.i3c_step.specs.Runs.{IsLegalRun, IsRun}
 use Rattle.i3c_step.specs.History.{AllDistinct, History, IsLegal, events_of, reached, replies_of}
 use Rattle.i3c_step.specs.Records.{HasFaithfulRecords, IsRecordedOrTorn}
 use Rattle.i3c_step.specs.Giving.{given_by, under}
-use Rattle.i3c_step.specs.Sessions.{IsLastRound, IsUncutRound}
+use Rattle.i3c_step.specs.Sessions.{IsInSession, IsLastRound, is_round}
 use Rattle.i3c_step.specs.Serving.{policy_of, served_of}
 use Rattle.i3c_step.specs.Slots.{KeepsSlots}
 use Rattle.i3c_step.specs.Stays.{accepted_in_stay, accepted_since_attachment, recorded_in_stay}
@@ -76,9 +76,9 @@ abbrev pub StaysBeginByAttachments : Type 0
 StaysBeginByAttachments = (start : State) (h : History) → IsLegal start h
     → (s : ℕ) (d : Device) → device_at (reached start h) s ≡ Some d → accepted_in_stay start h s ≡ accepted_since_attachment h s
 
--- Of as many rounds as there are slots, in a session and without cuts, one answers that nobody hears any more, or that no
--- address is left.
+-- Of as many rounds as there are slots, in one session and without cuts, one answers that nobody hears any more, or that no
+-- address is left, whatever else happens between them.
 abbrev pub SessionsEnd : Type 0
 SessionsEnd = (main : Setup) (legacy : List (Option LegacyTarget)) (events : List Event) (replies : List Reply) (mid : State) → IsLegalRun main legacy events replies mid → mid.in_session ≡ true
-    → (rounds : List Event) (answers : List Reply) (new : State) → All IsUncutRound rounds → length rounds ≡ SLOTS → IsRun mid rounds answers new
+    → (session : List Event) (answers : List Reply) (new : State) → All IsInSession session → SLOTS ≤ count_by is_round session → IsRun mid session answers new
     → (answer : Reply) × Contains answers answer × IsLastRound answer

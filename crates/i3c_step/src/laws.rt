@@ -56,8 +56,8 @@ pub fn stays_begin_by_attachments()
     ensures { StaysBeginByAttachments }
 {}
 
-/// Of as many rounds as there are slots, in a session and without cuts, one answers that nobody hears any more, or that
-/// no address is left.
+/// Of as many rounds as there are slots, in one session and without cuts, one answers that nobody hears any more, or that
+/// no address is left, whatever else happens between them (I3C Basic 5.1.4.2).
 pub fn sessions_end()
     ensures { SessionsEnd }
 {}

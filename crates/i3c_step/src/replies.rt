@@ -40,17 +40,22 @@ pub enum Refusal {
 /// What a frame served, and the answer to its own part.
 #[derive(Clone, Copy, Debug, PartialEq, Eq)]
 pub struct Framed {
+    /// What became of the first request.
     pub served: Served,
+    /// What became of the frame itself.
     pub answer: Answer,
 }
 
 /// The reply to an event.
 #[derive(Clone, Copy, Debug, PartialEq, Eq)]
 pub enum Reply {
+    /// Nothing happened, for this reason.
     Refused(Refusal),
     /// There was no memory for a record, before the frame's first bit. Nothing changed.
     OutOfMemory,
+    /// The device is in its slot.
     Attached,
+    /// The device is gone.
     Dropped,
     /// The number of the raise: those of a slot count from 1, over all its stays.
     Raised(u64),
@@ -58,12 +63,15 @@ pub enum Reply {
     Asked,
     /// The frame served this, and nothing else.
     Served(Served),
+    /// A frame was sent, and came to this.
     Framed(Framed),
     /// A session is open; the frame served this.
     Opened(Served),
     /// The role was handed over; the frame served this.
     Handed(Served),
+    /// What a round came to.
     Round(RoundReply),
+    /// The session has ended.
     Ended,
 }
 
