@@ -3,7 +3,7 @@ use Rattle.std.proofs.Common.{◌≡◌, ℕ, suc, true, false, List, [], ◌∷
 use Rattle.std.proofs.lemmas.Bool.{both_ways}
 use Rattle.i3c_base.specs.declared.answers.RoundReply.{RoundReply}
 use Rattle.i3c_base.specs.Covered.{Table}
-use Rattle.i3c_base.specs.Cutting.{CutList, Lost, lost_by}
+use Rattle.i3c_base.specs.Cutting.{CutList, lost_by}
 use Rattle.i3c_base.specs.Frames.{handed}
 use Rattle.i3c_base.specs.Places.{changed_from}
 use Rattle.i3c_base.specs.Round.{Rounds}
@@ -12,20 +12,17 @@ use Rattle.i3c_base.specs.State.{Device, State, device_at, unkept}
 use Rattle.i3c_deftgts.specs.declared.entries.Entry.{Entry}
 use Rattle.i3c_bus.specs.Parts.{state_of}
 use Rattle.i3c_bus.specs.Whole.{IsCopyOf}
-
--- the same list of a state with the same table
-emptied_current : (st new : State) (last : Lost) (list : List Entry) → new ≡ emptied last st → (st.listed ≡ true → IsCopyOf st list) → new.listed ≡ true → IsCopyOf new list
-emptied_current st new last list e h listed =
-    let copy = h (ap (λ (s : State). s.listed) (sym e) ∙ listed) in
-    subst (λ (s : State). IsCopyOf s list) (sym e) copy
+use Rattle.i3c_bus.proofs.Owning.{copied_still, keeps_emptied}
 
 -- after a round the list is current only where nothing was assigned
-pub current_round : (old : State) (cuts : CutList) (answer : RoundReply) (new : State) (list : List Entry) → Rounds old cuts answer new → new.listed ≡ true → (old.listed ≡ true → IsCopyOf old list) → IsCopyOf new list
-current_round old cuts RoundReply.NoAddress new list h listed copied =
-    subst (λ (s : State). IsCopyOf s list) (sym h.1) (copied (ap (λ (s : State). s.listed) (sym h.1) ∙ listed))
-current_round old cuts RoundReply.Done new list h listed copied = emptied_current old new (lost_by cuts 0) list h.2 copied listed
-current_round old cuts RoundReply.Nobody new list h listed copied = emptied_current old new (lost_by cuts 73) list h.3 copied listed
-current_round old cuts (RoundReply.Assigned a i) new list h listed copied = absurd (both_ways _ (ap (λ (s : State). s.listed) h.3) listed)
+pub current_round : (old : State) (cuts : CutList) (answer : RoundReply) (new : State) (list : List Entry) → Rounds old cuts answer new → ((last : ℕ) → lost_by cuts last old.active ≡ false)
+    → (old.listed ≡ true → IsCopyOf old list) → new.listed ≡ true → IsCopyOf new list
+current_round old cuts RoundReply.NoAddress new list h left copied = subst (λ (s : State). s.listed ≡ true → IsCopyOf s list) (sym h.1) copied
+current_round old cuts RoundReply.Done new list h left copied =
+    subst (λ (s : State). s.listed ≡ true → IsCopyOf s list) (sym h.2) (copied_still old (emptied (lost_by cuts 0) old) list (keeps_emptied (lost_by cuts 0) old (left 0)) copied)
+current_round old cuts RoundReply.Nobody new list h left copied =
+    subst (λ (s : State). s.listed ≡ true → IsCopyOf s list) (sym h.3) (copied_still old (emptied (lost_by cuts 73) old) list (keeps_emptied (lost_by cuts 73) old (left 73)) copied)
+current_round old cuts (RoundReply.Assigned a i) new list h left copied = λ listed. absurd (both_ways _ (ap (λ (s : State). s.listed) h.3) listed)
 
 -- a map is a change that doesn't look at places
 map_from : {A : Type 0} (f : A → A) (n : ℕ) (xs : List A) → map f xs ≡ changed_from n (λ k x. f x) xs

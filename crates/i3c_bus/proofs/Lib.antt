@@ -7,6 +7,7 @@ pub mod RaiseSteps
 pub mod Agreeing
 pub mod Opening
 pub mod Starting
+pub mod Owning
 pub mod Currency
 pub mod ToAll
 pub mod Listing

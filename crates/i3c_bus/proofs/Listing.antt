@@ -26,6 +26,7 @@ use Rattle.i3c_frame.proofs.TapLaws.{NotesAll-append}
 use Rattle.i3c_word.specs.Parity.{HasOddParity}
 use Rattle.i3c_word.specs.declared.Word.{Word}
 use Rattle.i3c_bus.specs.Wire.{AreWordsOf, IsListOf}
+use Rattle.i3c_bus.proofs.Owning.{KeepsList, either_address, same_address}
 
 -- four words, one by one
 pub four_words : (words : List Word) (blank : Word) → length words ≡ 4 → words ≡ get_or words 0 blank ∷ get_or words 1 blank ∷ get_or words 2 blank ∷ get_or words 3 blank ∷ []
@@ -69,17 +70,12 @@ pub record KeepsTable (old new : State) : Type 0 where
   pub listed : new.listed ≡ old.listed
   pub own : (a : ℕ) → active_has new a ≡ active_has old a
 
-same_address : (a : ℕ) (b : Bool) (f : Device → Device) (o : Option Device) → ((d : Device) → (f d).address ≡ d.address) → in_slot (has_address a) (option_map (λ d. if b then f d else d) o) ≡ in_slot (has_address a) o
-same_address a b f None e = refl
-same_address a true f (Some d) e = ap (is_the a) (e d)
-same_address a false f (Some d) e = refl
-
 keeps_driver : (st : State) (r : Request) (f : Device → Device) → ((d : Device) → (f d).address ≡ d.address) → KeepsTable st (each_driver r f st)
 keeps_driver st r f e = record {
   given = refl;
   legacy = refl;
   listed = refl;
-  own = λ a. ap (in_slot (has_address a)) (each_at (λ s d. if drives st r s then f d else d) st st.active) ∙ same_address a (drives st r st.active) f (device_at st st.active) e;
+  own = λ a. ap (in_slot (has_address a)) (each_at (λ s d. if drives st r s then f d else d) st st.active) ∙ same_address a (λ d. if drives st r st.active then f d else d) (device_at st st.active) (λ d. either_address (drives st r st.active) (f d) d (e d));
 }
 
 keeps_all : (st : State) → KeepsTable st st
@@ -93,6 +89,12 @@ serves_keep st policy lost (WantsRole a) new h = subst (KeepsTable st) (sym h.2)
 serves_keep st policy lost (Recorded place) new h = subst (KeepsTable st) (sym h.left)
     (let k = keeps_driver st (Interrupt h.at) without_front (λ d. refl) in record { given = refl; legacy = refl; listed = refl; own = k.own })
 serves_keep st policy lost Torn new h = subst (KeepsTable st) (sym h.left) (keeps_driver st (Interrupt h.at) without_front (λ d. refl))
+
+-- and so the list is current as before
+pub serves_current : (st : State) (policy : Fixed) (lost : Lost) (served : Served) (new : State) → Serves st policy lost served new → KeepsList st new
+serves_current st policy lost served new h =
+    let keeps = serves_keep st policy lost served new h in
+    record { given = keeps.given; legacy = ap (map (option_map (λ (x : LegacyTarget). x.lvr))) keeps.legacy; listed = keeps.listed; own = keeps.own }
 
 -- so the list is the same after the frame has begun
 pub list_before : (old mid : State) (words : List Word) → KeepsTable old mid → IsListOf mid words → IsListOf old words

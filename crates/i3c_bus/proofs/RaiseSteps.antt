@@ -1,5 +1,5 @@
 -- Raises as steps.
-use Rattle.std.proofs.Common.{◌≡◌, ℕ, suc, ◌-◌, ◌^◌, Bool, true, false, ◌||◌, ◌==◌, sym, nat_le, not, List, [], ◌∷◌, length, Option, Some, None, option_map, is_some, is_none, if◌then◌else◌, refl, ap, subst, ◌∙◌, slice_index, slice_set}
+use Rattle.std.proofs.Common.{◌≡◌, ℕ, suc, ◌-◌, ◌^◌, Bool, true, false, ◌||◌, ◌==◌, sym, nat_le, not, List, [], ◌∷◌, ◌++◌, length, Option, Some, None, option_map, is_some, is_none, if◌then◌else◌, refl, ap, subst, ◌∙◌, slice_index, slice_set}
 use Rattle.std.proofs.lemmas.Bool.{true≢false}
 use Rattle.i3c_base.specs.declared.device.TheConstants.{WAITING}
 use Rattle.i3c_base.specs.Covered.{Table}
@@ -15,6 +15,7 @@ use Rattle.i3c_step.specs.Replies.{raise_refusal}
 use Rattle.i3c_deftgts.specs.declared.entries.Entry.{Entry}
 use Rattle.i3c_step.specs.Sound.{IsSound}
 use Rattle.i3c_bus.specs.Whole.{IsWhole}
+use Rattle.i3c_bus.proofs.Owning.{KeepsList, copied_still, keeps_change}
 use Rattle.i3c_step.specs.Step.{Checks, checks, first_refusal}
 use Rattle.i3c_step.proofs.Acting.{acting}
 use Rattle.i3c_step.proofs.Soundness.{sound_step}
@@ -71,7 +72,12 @@ whole_raise st table list more s index number byte d whole same there other faul
       (sound_step st (Event.Raise s byte) (Reply.Raised (suc (raised_at st s))) (raise s byte st)
       (acting st (Event.Raise s byte) _ (raise s byte st) (raise_free st s byte d there other none) (refl, refl)) whole.sound);
   covered = whole.covered;
-  copied = whole.copied;
+  copied = copied_still st _ list (subst (KeepsList st) (sym after) (record {
+    given = refl;
+    legacy = refl;
+    listed = refl;
+    own = (keeps_change s (λ d. record d { waiting = d.waiting ++ record { number = suc (raised_at st s); byte = byte } ∷ [] }) st (λ d. refl)).own;
+  })) whole.copied;
 }
   where
     none : next_fault d byte (raised_at st s) ≡ None

@@ -11,12 +11,11 @@ use Rattle.i3c_base.specs.declared.requests.Served.{Served}
 use Rattle.i3c_base.specs.declared.requests.Served.TheVariants.{Quiet, Recorded, Refused, Torn, Joining, WantsRole}
 use Rattle.i3c_base.specs.Covered.{Table, lvrs}
 use Rattle.i3c_base.specs.Cutting.{CutList, Lost, lost_by}
-use Rattle.i3c_base.specs.Frames.{Reads, Writes, legacy_written, written}
+use Rattle.i3c_base.specs.Frames.{Reads, Writes, legacy_written, overwritten, reaches, written}
 use Rattle.i3c_base.specs.Serve.{Frame, Serves, drives, given_for, header_bits, without_front, without_join, without_role}
 use Rattle.i3c_base.specs.State.{Device, Held, State, device_at, each}
 use Rattle.i3c_base.proofs.Lookups.{each_at, each_from}
 use Rattle.i3c_deftgts.specs.declared.entries.Entry.{Entry}
-use Rattle.i3c_deftgts.specs.Entries.{entries_of}
 use Rattle.i3c_frame.specs.declared.symbols.Symbol.{Symbol}
 use Rattle.i3c_frame.specs.Taps.{Tells}
 use Rattle.i3c_xfer.specs.declared.outcome.Read.{Read}
@@ -38,6 +37,7 @@ use Rattle.i3c_bus.specs.Hands.{HandFits}
 use Rattle.i3c_bus.specs.Whole.{IsWhole}
 use Rattle.i3c_bus.specs.Wire.{IsFrameWire, IsReadPart, IsWire, IsWritePart}
 use Rattle.i3c_bus.proofs.Framing.{fits_left, frame_by, tells_frame}
+use Rattle.i3c_bus.proofs.Owning.{copied_still, either_address, keeps_each}
 
 -- the one state has the other's legacy targets, and devices with the same addresses and registers
 pub record Alike (old new : State) : Type 0 where
@@ -198,11 +198,13 @@ whole_written table list a bytes st whole =
     let same : lvrs (written a bytes st) ≡ lvrs st = lvrs_set bytes a st.legacy in record {
       sound = sound_written a bytes st whole.sound;
       covered = (whole.covered.0, whole.covered.1 ∙ sym same, whole.covered.2);
-      copied = λ listed.
-          let copy = whole.copied listed in (
-            (copy.0.0, copy.0.1 ∙ sym same),
-            (copy.1.0, copy.1.1 ∙ ap (λ l. entries_of (record { given = st.given; legacy = l; listed = st.listed }) copy.1.0) (sym same)),
-          );
+      copied = copied_still st (written a bytes st) list (record {
+        given = refl;
+        legacy = same;
+        listed = refl;
+        own = (keeps_each (λ s d. if reaches st (Some a) s d then record d { registers = overwritten bytes d.registers } else d) st
+            (λ s d. either_address (reaches st (Some a) s d) (record d { registers = overwritten bytes d.registers }) d refl)).own;
+      }) whole.copied;
     }
 
 pub whole_writes : (table : Table) (list : List Entry) (a : ℕ) (bytes : List ℕ) (answer : Answer) (lost : Lost) (mid done : State) → Writes a bytes answer lost mid done → IsWhole mid table list → IsWhole done table list

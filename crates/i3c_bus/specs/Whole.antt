@@ -1,6 +1,7 @@
 -- What each bus keeps.
 use Rattle.std.specs.Prelude.{◌≡◌, ℕ, true, List}
 use Rattle.i3c_base.specs.Covered.{IsCopy, IsTable, Table, lvrs}
+use Rattle.i3c_base.specs.Frames.{active_has}
 use Rattle.i3c_base.specs.State.{State}
 use Rattle.i3c_deftgts.specs.declared.entries.Entry.{Entry}
 use Rattle.i3c_deftgts.specs.Copies.{table_of}
@@ -11,9 +12,9 @@ use Rattle.i3c_step.specs.Sound.{IsSound}
 abbrev pub the_table : State → Table
 the_table st = record { given = st.given; legacy = lvrs st; listed = st.listed }
 
--- these are the entries of its list, one of them first, and they give a copy of it
+-- these are the entries of its list, its own first, and they give a copy of it
 abbrev pub IsCopyOf : State → List Entry → Type 0
-IsCopyOf st list = IsCopy st (table_of list) × ((own : ℕ) × (list ≡ entries_of (the_table st) own))
+IsCopyOf st list = IsCopy st (table_of list) × ((own : ℕ) × (active_has st own ≡ true) × (list ≡ entries_of (the_table st) own))
 
 -- a sound bus that its active controller's table covers, and while the list is current what was read of it too
 pub record IsWhole (st : State) (table : Table) (list : List Entry) : Type 0 where

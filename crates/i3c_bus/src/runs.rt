@@ -14,8 +14,11 @@ use std::alloc::Global;
 
 /// What a run of events led to: the bus, the role or session in hand, and a reply for each event.
 pub struct Outcome {
+    /// The bus as the run left it.
     pub bus: Bus,
+    /// The role, or the session that is still open.
     pub hand: Hand,
+    /// The reply of each event, in order.
     pub replies: Vec<Reply>,
 }
 

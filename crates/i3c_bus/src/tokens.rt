@@ -17,7 +17,9 @@ impl Model for Session {
 
 /// The role, or the session that took its place.
 pub enum Hand {
+    /// No session is open.
     Role(Role),
+    /// One is.
     Session(Session),
 }
 

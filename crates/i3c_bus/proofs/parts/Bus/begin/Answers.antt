@@ -12,6 +12,8 @@ use Rattle.i3c_ibi.specs.Telling.{begun}
 use Rattle.i3c_bus.specs.Wire.{IsBegun}
 use Rattle.i3c_bus.proofs.Beginning.{begins_by, begun_by, fits_table}
 use Rattle.i3c_bus.proofs.Heard.{is_ack}
+use Rattle.i3c_bus.proofs.Listing.{serves_current}
+use Rattle.i3c_bus.proofs.Owning.{copied_still}
 use Rattle.i3c_bus.proofs.Seen.{seen}
 use Rattle.i3c_step.proofs.Soundness.{sound_serves}
 use Rattle.i3c_bus.proofs.parts.Bus.begin.Goals as goal
@@ -26,7 +28,7 @@ invariant_of-self g c =
     record {
       sound = sound_serves (seen c.self.inside) (given_for c.record_due-served.result) _ c.record_due-served.result _ (begins.serves 0) c.self.invariant.sound;
       covered = c.self.invariant.covered;
-      copied = c.self.invariant.copied;
+      copied = copied_still (seen c.self.inside) _ c.self.inside.list (serves_current (seen c.self.inside) (given_for c.record_due-served.result) _ c.record_due-served.result _ (begins.serves 0)) c.self.invariant.copied;
     }
 
 pub returns-clause-begins : goal.returns-clause-begins

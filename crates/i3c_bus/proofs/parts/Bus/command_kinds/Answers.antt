@@ -8,6 +8,7 @@ use Rattle.i3c_base.specs.State.{HasDevices, Held, State}
 use Rattle.i3c_events.specs.Hearing.{answer_of}
 use Rattle.i3c_bus.specs.Wire.{IsAnswered}
 use Rattle.i3c_bus.proofs.Heard.{answered_by}
+use Rattle.i3c_bus.proofs.Owning.{copied_still, keeps_rekinds}
 use Rattle.i3c_bus.proofs.Seen.{seen, seen_devices}
 use Rattle.i3c_step.proofs.Soundness.{sound_rekinds}
 use Rattle.i3c_bus.proofs.parts.Bus.command_kinds.Goals as goal
@@ -18,7 +19,8 @@ invariant_of-self g c =
       sound = sound_rekinds c.args.to (changed_kinds c.args.change c.args.kinds) (answer_of c.hear_kinds-heard.result) _ (seen c.self.inside) _ (c.hear_kinds-heard.ensures.rekinds (seen c.self.inside) same)
           c.self.invariant.sound;
       covered = c.self.invariant.covered;
-      copied = c.self.invariant.copied;
+      copied = copied_still (seen c.self.inside) _ c.self.inside.list
+          (keeps_rekinds c.args.to (changed_kinds c.args.change c.args.kinds) (answer_of c.hear_kinds-heard.result) _ (seen c.self.inside) _ (c.hear_kinds-heard.ensures.rekinds (seen c.self.inside) same)) c.self.invariant.copied;
     }
 
 pub returns-clause-rekinds : goal.returns-clause-rekinds

@@ -1,5 +1,6 @@
 -- A round over the parts of a bus is one of the bus.
-use Rattle.std.proofs.Common.{◌≡◌, false, refl, subst, sym, ◌∙◌}
+use Rattle.std.proofs.Common.{◌≡◌, ℕ, false, refl, subst, sym, ◌∙◌}
+use Rattle.i3c_base.specs.Cutting.{lost_by}
 use Rattle.i3c_base.specs.Round.{Rounds}
 use Rattle.i3c_base.specs.State.{Held, State}
 use Rattle.i3c_entdaa.specs.Rounds.{IsAcknowledged, IsRead, reply_of}
@@ -14,10 +15,11 @@ pub invariant_of-self : goal.invariant_of-self
 invariant_of-self g c =
     let before : State = state_of c.self.inside.devices c.self.inside.raised c.self.inside.active c.self.inside.table c.self.inside.legacy c.self.inside.in_session c.self.inside.records.items in
     let after : State = state_of c.round-round.new.devices c.self.inside.raised c.self.inside.active c.round-round.new.table c.self.inside.legacy c.self.inside.in_session c.self.inside.records.items in
+    let uncut : (last : ℕ) → lost_by c.args.cuts.now last before.active ≡ false = λ last. not_cut before c.args.cuts.now last (subst (λ (h : Held). cuts_active h.state c.args.cuts.now ≡ false) (sym c.self.view_is) c.requires) in
     record {
-      sound = sound_round before c.args.cuts.now (reply_of c.round-round.result) after (c.round-round.ensures.rounds before refl c.self.invariant.covered) (λ last. not_cut before c.args.cuts.now last (subst (λ (h : Held). cuts_active h.state c.args.cuts.now ≡ false) (sym c.self.view_is) c.requires)) c.self.invariant.sound;
+      sound = sound_round before c.args.cuts.now (reply_of c.round-round.result) after (c.round-round.ensures.rounds before refl c.self.invariant.covered) uncut c.self.invariant.sound;
       covered = (refl, c.round-round.ensures.legacy ∙ c.self.invariant.covered.1, refl);
-      copied = λ listed. current_round before c.args.cuts.now (reply_of c.round-round.result) after c.self.inside.list (c.round-round.ensures.rounds before refl c.self.invariant.covered) listed c.self.invariant.copied;
+      copied = current_round before c.args.cuts.now (reply_of c.round-round.result) after c.self.inside.list (c.round-round.ensures.rounds before refl c.self.invariant.covered) uncut c.self.invariant.copied;
     }
 
 pub returns-clause-rounds : goal.returns-clause-rounds
