@@ -1,7 +1,8 @@
--- What requests drive into an arbitrable header.
-use Rattle.std.specs.Prelude.{ℕ, ◌≤◌, Bool, true, false}
+-- What requests drive into an arbitrable header, and which of them is first.
+use Rattle.std.specs.Prelude.{ℕ, ◌≤◌, Bool, true, false, List, All, Contains}
 use Rattle.i3c_base.specs.declared.requests.Request.{Request}
 use Rattle.i3c_base.specs.declared.requests.Request.TheVariants.{Join, Role, Interrupt}
+use Rattle.i3c_base.specs.Serve.{rank}
 
 -- the address that a request drives: 02 for a join, else its own
 abbrev pub address_of : Request → ℕ
@@ -26,3 +27,7 @@ abbrev pub IsLawful : Request → Type 0
 IsLawful Join = Unit {0}
 IsLawful (Role a) = 0x08 ≤ a
 IsLawful (Interrupt a) = 0x08 ≤ a
+
+-- r is one of the requests, and none of them comes before it
+abbrev pub IsFirstOf : List Request → Request → Type 0
+IsFirstOf requests r = Contains requests r × All (λ q. rank r ≤ rank q) requests

@@ -1,11 +1,18 @@
-ghost use Rattle.std.specs.Prelude.{◌<◌, ◌↔◌, IsTrue};
+ghost use Rattle.std.specs.Prelude.{◌≡◌, ◌^◌, ◌<◌, ◌≤◌, ◌↔◌, [], length, All, IsTrue, MatchOption};
+ghost use Rattle.i3c_base.specs.declared.range.TheConstants.{SLOTS as SLOT_COUNT};
 ghost use Rattle.i3c_base.specs.Serve.{rank};
-ghost use Rattle.i3c_header.specs.Keys.{IsLawful};
+ghost use Rattle.i3c_header.specs.Keys.{IsFirstOf, IsLawful};
+ghost use Rattle.i3c_header.specs.Keyed.{keyed};
 
 use crate::keys::key;
-use i3c_base::Request;
+use arrayvec::ArrayVec;
+use i3c_base::{Cuts, Request, SLOTS, Slot};
+use i3c_wires::contest;
 
-/// Whether the first of two requests wins a header that both drive (I3C Basic 5.1.6.2). A line is low as soon as one
+/// The bits of a header that are contested: seven of the address, and RnW.
+const KEY_BITS: u32 = 8;
+
+/// Whether the first of two requests wins a header that both drive (I3C Basic 5.1.2.2.1). A line is low as soon as one
 /// pulls it low, and who reads another bit than its own gives up: so the lower key stays, and of equal keys neither wins.
 pub fn comes_before(one: &Request, other: &Request) -> bool
     requires one { IsLawful one.now }
@@ -13,4 +20,38 @@ pub fn comes_before(one: &Request, other: &Request) -> bool
     ensures { IsTrue result ↔ (rank one.now < rank other.now) }
 {
     key(*one) < key(*other)
+}
+
+/// The request that wins the header which all of these drive at once (I3C Basic 5.1.2.2.1): a join before all else, then
+/// the lower address, then at one address the role request. One that is alone wins without a contest. `None` only where
+/// there is none.
+pub fn arbitrate(requests: &[Request]) -> Option<Request>
+    requires few { length requests.now ≤ SLOT_COUNT }
+    requires lawful { All IsLawful requests.now }
+    ensures { MatchOption result (requests.now ≡ []) (IsFirstOf requests.now) }
+{
+    let [first, others @ ..] = requests else {
+        return None;
+    };
+    if others.is_empty() {
+        return Some(*first);
+    }
+    let keys = contenders(requests);
+    let outcome = contest(&keys, KEY_BITS, &Cuts::new());
+    let winner = outcome.winners[0];
+    Some(requests[winner.index()])
+}
+
+/// The key of each request, which contends under its place in the list.
+fn contenders(requests: &[Request]) -> ArrayVec<(Slot, u64), SLOTS>
+    requires { length requests.now ≤ SLOT_COUNT }
+    ensures keys { result.items ≡ keyed 0 requests.now }
+    ensures fit { All (λ e. e.1 < 2 ^ 8) result.items }
+{
+    let mut keys: ArrayVec<(Slot, u64), SLOTS> = ArrayVec::new();
+    for (index, request) in requests.iter().enumerate() {
+        let place = Slot::new(index as u8).unwrap();
+        keys.push((place, u64::from(key(*request))));
+    }
+    keys
 }

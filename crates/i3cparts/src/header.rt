@@ -6,7 +6,8 @@ use crate::setting::Setting;
 use crate::told::{Answer, told, told_hex};
 use crate::wires;
 use crate::words::Words;
-use i3c_header::{Request, comes_before, header, key};
+use i3c_header::{Request, arbitrate, comes_before, header, key};
+use std::alloc::Global;
 
 /// The calls on requests.
 pub(crate) fn call(setting: &mut Setting, call: &str, words: &mut Words<'_>) -> Answer {
@@ -18,8 +19,23 @@ pub(crate) fn call(setting: &mut Setting, call: &str, words: &mut Words<'_>) -> 
             let one = lawful(words)?;
             told(alloc, &comes_before(&one, &lawful(words)?))
         }
+        "arbitrate" => first_of(alloc, words),
         _ => wires::call(setting, call, words),
     }
+}
+
+/// The winner of no request, of one, or of the three that follow.
+fn first_of(alloc: Global, words: &mut Words<'_>) -> Answer {
+    if words.is_done() {
+        return told_hex(alloc, &arbitrate(&[]));
+    }
+    let one = lawful(words)?;
+    if words.is_done() {
+        return told_hex(alloc, &arbitrate(&[one]));
+    }
+    let other = lawful(words)?;
+    let last = lawful(words)?;
+    told_hex(alloc, &arbitrate(&[one, other, last]))
 }
 
 /// A request that a device may drive: the addresses below 08 are no device's.

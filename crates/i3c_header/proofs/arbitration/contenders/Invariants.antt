@@ -1,0 +1,6 @@
+use Rattle.i3c_header.proofs.KeyLaws.{KeyedSoFar}
+use Rattle.i3c_header.proofs.arbitration.contenders.Given as goal
+
+-- the contenders of the requests so far
+abbrev pub invariant-loop-index : goal.invariant-loop-index
+invariant-loop-index l = KeyedSoFar l.requests l.index l.keys.items
