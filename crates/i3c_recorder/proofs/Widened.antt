@@ -1,13 +1,15 @@
--- A run that goes on by a wide entry.
-use Rattle.std.proofs.Common.{◌≡◌, ℕ, List, [], ◌∷◌, ◌++◌, length, refl, ap, ◌∙◌, get_or}
+-- A run that goes on by one entry.
+use Rattle.std.proofs.Common.{◌≡◌, ℕ, List, [], ◌∷◌, ◌++◌, length, refl, sym, ap, ◌∙◌, get_or}
 use Rattle.std.specs.Prelude.{All}
 use Rattle.std.proofs.lemmas.List.{get_or_append_left}
 use Rattle.std.proofs.Math.Seq.{get_or-append_seam}
 use Rattle.std.proofs.lemmas.List.Elements.{All-head, All-tail}
 use Rattle.i3c_recorder.specs.declared.entry.Entry.{Entry}
+use Rattle.i3c_recorder.specs.declared.packing.Brief.{Brief}
+use Rattle.i3c_recorder.specs.declared.packing.Said.{Said}
 use Rattle.i3c_recorder.specs.declared.packing.Packed.{Packed}
 use Rattle.i3c_recorder.specs.declared.packing.Packed.TheVariants.{Short, Wide}
-use Rattle.i3c_recorder.specs.Packing.{IsWithin, entries_in, entry_in, no_entry}
+use Rattle.i3c_recorder.specs.Packing.{IsShort, IsWithin, entries_in, entry_in, no_entry}
 
 still_in : (wide more : List Entry) (p : Packed) → IsWithin (length wide) p → entry_in (wide ++ more) p ≡ entry_in wide p
 still_in wide more (Short brief said) h = refl
@@ -23,6 +25,11 @@ one_more : (wide : List Entry) (packed : List Packed) (p : Packed) → entries_i
 one_more wide [] p = refl
 one_more wide (q ∷ packed) p = ap (λ es. entry_in wide q ∷ es) (one_more wide packed p)
 
+-- a run that goes on by an entry in short
+pub shortened : (wide : List Entry) (packed : List Packed) (e : Entry) (brief : Brief) (said : Said) → IsShort (brief, said) e → entries_in wide (packed ++ Short brief said ∷ []) ≡ entries_in wide packed ++ e ∷ []
+shortened wide packed e brief said is = one_more wide packed (Short brief said) ∙ ap (λ x. entries_in wide packed ++ x ∷ []) (sym is)
+
+-- and by a wide one
 pub widened : (wide : List Entry) (packed : List Packed) (e : Entry) (at : ℕ) → at ≡ length wide → All (IsWithin (length wide)) packed
     → entries_in (wide ++ e ∷ []) (packed ++ Wide at ∷ []) ≡ entries_in wide packed ++ e ∷ []
 widened wide packed e at same h =

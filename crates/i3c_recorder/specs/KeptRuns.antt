@@ -1,5 +1,5 @@
 -- Runs as they are kept: a list of events with their replies.
-use Rattle.std.specs.Prelude.{ℕ, ◌+◌, List, [], ◌∷◌, map, Option, Some, None, if◌then◌else◌}
+use Rattle.std.specs.Prelude.{ℕ, ◌+◌, List, [], ◌∷◌, map, Option, if◌then◌else◌}
 use Rattle.i3c_base.specs.declared.device.Setup.{Setup}
 use Rattle.i3c_base.specs.declared.device.LegacyTarget.{LegacyTarget}
 use Rattle.i3c_base.specs.State.{IsStart, State}
@@ -28,11 +28,10 @@ abbrev pub IsLegalTo : List Entry → State → Type 0
 IsLegalTo run new = (main : Setup) × (legacy : List (Option LegacyTarget)) × IsLegalRun main legacy (events_of run) (replies_of run) new
 
 -- 1 where a handover was granted
-abbrev pub term_of : Option Reply → ℕ
-term_of None = 0
-term_of (Some reply) = if is_handed reply then 1 else 0
+abbrev pub term_of : Reply → ℕ
+term_of reply = if is_handed reply then 1 else 0
 
 -- how many handovers were granted in a run
 abbrev pub terms_of : List Entry → ℕ
 terms_of [] = 0
-terms_of (e ∷ run) = term_of (Some e.reply) + terms_of run
+terms_of (e ∷ run) = term_of e.reply + terms_of run

@@ -156,9 +156,8 @@ impl Recorder {
             unreachable!()
         };
         let reply = self.bus.command(hand, &command, policy, tap, &cuts);
-        let kept = reply;
-        let event = event_of(command, given(&kept), cuts);
-        self.run.push(Entry { event, reply: kept });
+        let event = event_of(command, given(&reply), cuts);
+        self.run.push(Entry { event, reply });
         reply
     }
 

@@ -2,7 +2,7 @@ ghost use Rattle.i3c_recorder.specs.KeptRuns.{term_of};
 ghost use Rattle.std.specs.Prelude.{◌≡◌, ◌+◌, ◌-◌, ◌<◌, ◌≤◌, ◌++◌, ◌∷◌, [], length, nat_eq, option_map, slice_get, IfOk, OnOk, vec_len, vec_capacity};
 
 use crate::entry::Entry;
-use crate::packing::{Brief, Packed, Said, copied, event_in, in_short, reply_in};
+use crate::packing::{Packed, copied, event_in, in_short, reply_in};
 use i3c_step::{OutOfMemory, Reply};
 use std::alloc::{AllocError, Global};
 use std::marker::Model;
@@ -14,11 +14,13 @@ use std::marker::Model;
 pub struct Run {
     packed: Vec<Packed>,
     wide: Vec<Entry>,
+    // how many handovers were granted
+    terms: u64,
 }
 
 impl Model for Run {
-    ghost use Rattle.i3c_recorder.specs.KeptRuns.{term_of};
-    ghost use Rattle.std.specs.Prelude.{◌-◌, min, length, All, vec_len, vec_capacity};
+    ghost use Rattle.std.specs.Prelude.{◌≡◌, ◌-◌, min, length, All, vec_len, vec_capacity};
+    ghost use Rattle.i3c_recorder.specs.KeptRuns.{terms_of};
     ghost use Rattle.i3c_recorder.specs.Packing.{IsWithin, entries_in};
     ghost use Rattle.i3c_recorder.specs.Values.{Story};
 
@@ -29,7 +31,10 @@ impl Model for Run {
       spare = min (vec_capacity r.packed - vec_len r.packed) (vec_capacity r.wide - vec_len r.wide);
     } };
 
-    ghost invariant = { λ r. All (IsWithin (length r.wide.items)) r.packed.items };
+    ghost invariant = { λ r. record {
+      within : All (IsWithin (length r.wide.items)) r.packed.items;
+      terms : r.terms ≡ terms_of (entries_in r.wide.items r.packed.items);
+    } };
 }
 
 impl Run {
@@ -42,6 +47,7 @@ impl Run {
         Run {
             packed: Vec::new(alloc),
             wide: Vec::new(alloc),
+            terms: 0,
         }
     }
 
@@ -98,11 +104,7 @@ impl Run {
     pub(crate) fn terms(&self) -> u64
         ensures { result ≡ terms_of self.now.entries }
     {
-        let mut terms = 0u64;
-        for place in 0..self.len() {
-            terms += term(self.reply(place));
-        }
-        terms
+        self.terms
     }
 
     /// Makes room for so many entries more.
@@ -126,10 +128,9 @@ impl Run {
         ensures entries { self.new.entries ≡ self.old.entries ++ entry ∷ [] }
         ensures spare { self.old.spare ≤ self.new.spare + 1 }
     {
+        self.terms += term(&entry.reply);
         match in_short(&entry) {
             Some((brief, said)) => {
-                let brief: Brief = brief;
-                let said: Said = said;
                 self.packed.push_reserved(Packed::Short(brief, said));
             }
             None => {
@@ -142,11 +143,11 @@ impl Run {
 }
 
 /// 1 where a handover was granted.
-fn term(reply: Option<Reply>) -> u64
-    ensures { result ≡ term_of reply }
+fn term(reply: &Reply) -> u64
+    ensures { result ≡ term_of reply.now }
 {
     match reply {
-        Some(Reply::Handed(_)) => 1,
+        Reply::Handed(_) => 1,
         _ => 0,
     }
 }

@@ -4,16 +4,17 @@ use Rattle.std.specs.Prelude.{Some, slice_get}
 use Rattle.std.proofs.lemmas.Bool.{false≢true}
 use Rattle.std.proofs.lemmas.Bool.Decides.{nat_tests}
 use Rattle.std.proofs.lemmas.Option.{same_Some, slice_get_within}
-use Rattle.i3c_shared.specs.Ports.{AllCovered, HasPort, IsAt, SamePort, SamePorts}
-use Rattle.i3c_shared.specs.Rings.{IsEndOf, IsWhole, ring_at}
+use Rattle.i3c_shared.specs.Ports.{AllBegun, AllCovered, HasPort, IsAt, SamePort, SamePorts}
+use Rattle.i3c_shared.specs.Rings.{IsBegun, IsEndOf, IsWhole, ring_at}
 use Rattle.i3c_shared.specs.Values.{PortValue, Rings}
-use Rattle.i3c_shared.proofs.Meeting.{whole_same}
+use Rattle.i3c_shared.proofs.Meeting.{begun_same, whole_same}
 
 -- the first i ports were compared
 pub record Covers (rings : Rings) (init items : List PortValue) (i : ℕ) (whole : Bool) : Type 0 where
   pub count : length items ≡ length init
   pub each : (k : ℕ) (p q : PortValue) → k < i → IsAt init k p → IsAt items k q → SamePort p q
   pub rest : (k : ℕ) → i ≤ k → slice_get items k ≡ slice_get init k
+  pub begun : (k : ℕ) (p : PortValue) → k < i → IsAt init k p → IsEndOf p (ring_at rings p.slot) → IsBegun p (ring_at rings p.slot)
   pub covered : whole ≡ true → (k : ℕ) (p : PortValue) → k < i → IsAt init k p → IsEndOf p (ring_at rings p.slot) → IsWhole p (ring_at rings p.slot)
 
 pub set_here : (items : List PortValue) (i : ℕ) (x : PortValue) → i < length items → slice_get (set items i x) i ≡ Some x
@@ -42,34 +43,44 @@ and_right true b h = h
 and_right false b h = absurd (false≢true h)
 
 pub covers_next : (rings : Rings) (init items : List PortValue) (i : ℕ) (whole covered : Bool) (was now : PortValue) → Covers rings init items i whole → IsAt items i was → SamePort was now
+    → (IsEndOf was (ring_at rings was.slot) → IsBegun now (ring_at rings was.slot))
     → (covered ≡ true → IsEndOf was (ring_at rings was.slot) → IsWhole now (ring_at rings was.slot)) → Covers rings init (set items i now) (i + 1) (whole && covered)
-covers_next rings init items i whole covered was now h here same all = record {
+covers_next rings init items i whole covered was now h here same first all = record {
   count = set_count items i now ∙ h.count;
   each = λ k p q low p_at q_at. each_at k p q low p_at q_at (k == i) refl;
   rest = λ k high. set_other items i k now (λ e. omega (arith, high, e)) ∙ h.rest k (omega (arith, high));
+  begun = λ k p low p_at end. begun_at k p low p_at end (k == i) refl;
   covered = λ both k p low p_at end. covered_at both k p low p_at end (k == i) refl;
 }
   where
     room : i < length items
     room = slice_get_within items i was here
 
-    first : (p : PortValue) → IsAt init i p → was ≡ p
-    first p p_at = same_Some was p (sym here ∙ (h.rest i (omega arith) ∙ p_at))
+    was_is : (p : PortValue) → IsAt init i p → was ≡ p
+    was_is p p_at = same_Some was p (sym here ∙ (h.rest i (omega arith) ∙ p_at))
 
     each_at : (k : ℕ) (p q : PortValue) → k < i + 1 → IsAt init k p → IsAt (set items i now) k q → (t : Bool) → (k == i) ≡ t → SamePort p q
     each_at k p q low p_at q_at true is =
         let e : k ≡ i = grind (arith, nat_tests) in
-        let p_is : was ≡ p = first p (subst (λ j. IsAt init j p) e p_at) in
+        let p_is : was ≡ p = was_is p (subst (λ j. IsAt init j p) e p_at) in
         let q_is : now ≡ q = same_Some now q (sym (set_here items i now room) ∙ subst (λ j. IsAt (set items i now) j q) e q_at) in
         subst (λ (x : PortValue). SamePort x q) p_is (subst (λ (x : PortValue). SamePort was x) q_is same)
     each_at k p q low p_at q_at false is =
         let n : k ≡ i → ⊥ = grind (arith, nat_tests) in
         h.each k p q (grind (arith, nat_tests)) p_at (sym (set_other items i k now n) ∙ q_at)
 
+    begun_at : (k : ℕ) (p : PortValue) → k < i + 1 → IsAt init k p → IsEndOf p (ring_at rings p.slot) → (t : Bool) → (k == i) ≡ t → IsBegun p (ring_at rings p.slot)
+    begun_at k p low p_at end true is =
+        let e : k ≡ i = grind (arith, nat_tests) in
+        let p_is : was ≡ p = was_is p (subst (λ j. IsAt init j p) e p_at) in
+        let end_was : IsEndOf was (ring_at rings was.slot) = subst (λ (x : PortValue). IsEndOf x (ring_at rings x.slot)) (sym p_is) end in
+        subst (λ (x : PortValue). IsBegun x (ring_at rings x.slot)) p_is (begun_same was now (ring_at rings was.slot) same (first end_was))
+    begun_at k p low p_at end false is = h.begun k p (grind (arith, nat_tests)) p_at end
+
     covered_at : (whole && covered) ≡ true → (k : ℕ) (p : PortValue) → k < i + 1 → IsAt init k p → IsEndOf p (ring_at rings p.slot) → (t : Bool) → (k == i) ≡ t → IsWhole p (ring_at rings p.slot)
     covered_at both k p low p_at end true is =
         let e : k ≡ i = grind (arith, nat_tests) in
-        let p_is : was ≡ p = first p (subst (λ j. IsAt init j p) e p_at) in
+        let p_is : was ≡ p = was_is p (subst (λ j. IsAt init j p) e p_at) in
         let end_was : IsEndOf was (ring_at rings was.slot) = subst (λ (x : PortValue). IsEndOf x (ring_at rings x.slot)) (sym p_is) end in
         subst (λ (x : PortValue). IsWhole x (ring_at rings x.slot)) p_is (whole_same was now (ring_at rings was.slot) same (all (and_right whole covered both) end_was))
     covered_at both k p low p_at end false is =
@@ -81,6 +92,7 @@ covers_none rings init = record {
   count = refl;
   each = λ k p q low p_at q_at. absurd (omega (arith, low));
   rest = λ k high. refl;
+  begun = λ k p low p_at end. absurd (omega (arith, low));
   covered = λ both k p low p_at end. absurd (omega (arith, low));
 }
 
@@ -90,6 +102,9 @@ covers_same rings init items i whole h high = record { count = h.count; each = �
 
 pub covers_all : (rings : Rings) (init items : List PortValue) (i : ℕ) (whole : Bool) → Covers rings init items i whole → length init ≤ i → whole ≡ true → AllCovered rings init
 covers_all rings init items i whole h high is k p p_at end = h.covered is k p (let low = slice_get_within init k p p_at in omega (arith, low, high)) p_at end
+
+pub all_begun : (rings : Rings) (init items : List PortValue) (i : ℕ) (whole : Bool) → Covers rings init items i whole → length init ≤ i → AllBegun rings init
+all_begun rings init items i whole h high k p p_at end = h.begun k p (let low = slice_get_within init k p p_at in omega (arith, low, high)) p_at end
 
 -- no port of the slot is among the first i
 pub no_port_next : (items : List PortValue) (i s : ℕ) (item : PortValue) → ((k : ℕ) (p : PortValue) → k < i → IsAt items k p → p.slot ≡ s → ⊥) → IsAt items i item → (item.slot ≡ s → ⊥) → (k : ℕ) (p : PortValue) → k < i + 1 → IsAt items k p → p.slot ≡ s → ⊥

@@ -5,7 +5,7 @@ use mathlib.Core.List.{IsPrefix}
 use Rattle.rtrb.specs.Ring.{received, known_items, consumer_capacity, sent}
 use Rattle.i3c_recorder.specs.declared.entry.Entry.{Entry}
 use Rattle.i3c_shared.specs.declared.port.TheConstants.{POSTS}
-use Rattle.i3c_shared.specs.Ports.{SamePort}
+use Rattle.i3c_shared.specs.Ports.{AllBegun, AllPostedFirst, SamePort}
 use Rattle.i3c_shared.specs.Raises.{raises_of}
 use Rattle.i3c_shared.specs.Rings.{AllDrained, AllLooked, Fits, HasDrained, HasLooked, IsBegun, IsEndOf, IsWhole, ring_at}
 use Rattle.i3c_shared.specs.Values.{PortValue, Reading, Rings}
@@ -52,3 +52,26 @@ whole_of p q (Some c) same whole = whole ∙ same
 -- what is all that a port posted is so of the port that comes back, and the other way round
 pub whole_same : (p q : PortValue) (c : Option Reading) → SamePort p q → IsWhole q c → IsWhole p c
 whole_same p q c same whole = whole_of p q c same.looked.1 whole
+
+begun_of : (p q : PortValue) (c : Option Reading) → sent q.producer ≡ sent p.producer → IsBegun q c → IsBegun p c
+begun_of p q None same begun = begun
+begun_of p q (Some c) same begun = (begun.0, begun.1 ∙ same)
+
+-- the same of what a port posted first
+pub begun_same : (p q : PortValue) (c : Option Reading) → SamePort p q → IsBegun q c → IsBegun p c
+begun_same p q c same begun = begun_of p q c same.looked.1 begun
+
+first_at : (p : PortValue) (s : ℕ) (c : Option Reading) (run : List Entry) → FitsAt s c run → IsBegun p c → IsPrefix (raises_of s run) (sent p.producer)
+first_at p s None run fits begun = absurd begun
+first_at p s (Some c) run fits begun = (
+  known_items c ++ begun.0,
+  ap (λ (l : List (Option ℕ)). l ++ (known_items c ++ begun.0)) (sym (fits c refl).0) ∙ sym (append_assoc (received c) (known_items c) begun.0) ∙ begun.1,
+)
+
+-- where what is known of each port's ring was posted first, the raises were too
+pub all_first : (rings : Rings) (run : List Entry) (ports : List PortValue) → Fits rings run → AllBegun rings ports → AllPostedFirst rings ports run
+all_first rings run ports fits begun k p at end = first_at p p.slot (ring_at rings p.slot) run (fits p.slot) (begun k p at end)
+
+-- and so they were before a look into the rings
+pub first_looked : (rings seen : Rings) (run : List Entry) (ports : List PortValue) → AllLooked rings seen → Fits rings run → AllBegun seen ports → AllPostedFirst rings ports run
+first_looked rings seen run ports looked fits begun k p at end = begun_raises p p.slot rings seen run looked fits (begun k p at (end_looked p p.slot rings seen looked end))

@@ -1,12 +1,10 @@
 -- Adding events to a run, one list after another.
 use Rattle.std.proofs.Common.{◌≡◌, ℕ, ◌+◌, List, [], ◌∷◌, ◌++◌, refl, sym, ap, ◌∙◌, subst, append_assoc, append-nil, add-one}
 use Rattle.std.specs.Prelude.{Option}
-use Rattle.i3c_base.specs.State.{State}
 use Rattle.i3c_step.specs.declared.events.Event.{Event}
 use Rattle.i3c_step.specs.declared.events.Event.TheVariants.{Raise}
 use Rattle.i3c_step.specs.declared.replies.Reply.{Reply}
 use Rattle.i3c_step.specs.Step.{Step}
-use Rattle.i3c_recorder.specs.declared.entry.Entry.{Entry}
 use Rattle.i3c_recorder.specs.KeptRuns.{events_of}
 use Rattle.i3c_recorder.specs.Values.{Recorded}
 use Rattle.i3c_recorder.proofs.Leading.{events_append, leads_append}

@@ -53,6 +53,7 @@ pub record AttachesWith (old new : KeptValue) (s : ℕ) (setup : Setup) (port : 
   pub put : new.log ≡ record taken { rings = put_out s ring taken.rings }
   pub parked : new.parked ≡ old.parked
 
+-- an attachment by its answer: one into an awaited slot is refused, and changes nothing
 abbrev pub Attaches : KeptValue → KeptValue → ℕ → Setup → Result PortValue AttachFault → Type 0
 Attaches old new s setup (Ok port) = (is_awaited old.log s ≡ false) × AttachesWith old new s setup port
 Attaches old new s setup (Err AttachFault.SlotTaken) =
@@ -70,6 +71,7 @@ abbrev pub DropsWith : KeptValue → KeptValue → ℕ → Reply → Type 0
 DropsWith old new s reply =
     (taken : Log) × Grows old.log (Event.DropOff s) reply taken × (new.log ≡ record taken { rings = taken_in s taken.rings }) × (new.parked ≡ old.parked)
 
+-- a drop-off that is refused: it is an event unless memory was short
 abbrev pub DropsNot : KeptValue → KeptValue → ℕ → DropFault → Type 0
 DropsNot old new s DropFault.ActiveStays = Does old (Event.DropOff s) (Reply.Refused Refusal.ActiveStays) new
 DropsNot old new s DropFault.OutOfMemory = DoesNothing old new
@@ -95,12 +97,14 @@ Sends gives p q old new command cuts reply =
     (reply ≢ Reply.OutOfMemory)
     × ((g : Grows old.log (event_of command (given_by reply) cuts) reply new.log) × Asks gives p q g.mid.state reply) × (new.parked ≡ old.parked)
 
+-- a frame under the role by its answer: the policy is asked only where it is sent
 abbrev pub Commands : {P : Type 0} → (P → Request → Verdict → P → Type 0) → P → P → KeptValue → KeptValue → ℕ → Command → CutList → Result Reply StaleRole → Type 0
 Commands gives p q old new role command cuts (Ok reply) =
     (role ≡ old.log.state.active)
     × (((reply ≡ Reply.OutOfMemory) × (q ≡ p) × DoesNothing old new) ⊎ Sends gives p q old new command cuts reply)
 Commands gives p q old new role command cuts (Err stale) = IsStale old new role stale × (q ≡ p)
 
+-- an opening that is refused: no event where the role is stale or memory was short
 abbrev pub OpensNot : KeptValue → KeptValue → ℕ → CutList → OpenFault → Type 0
 OpensNot old new role cuts (OpenFault.StaleRole stale) = IsStale old new role stale
 OpensNot old new role cuts OpenFault.OutOfMemory = (role ≡ old.log.state.active) × DoesNothing old new
@@ -111,10 +115,12 @@ abbrev pub Opens : KeptValue → KeptValue → ℕ → CutList → Result (ℕ �
 Opens old new role cuts (Ok opened) = (opened.0 ≡ role) × (role ≡ old.log.state.active) × Does old (Event.OpenDaa cuts) (Reply.Opened opened.1) new
 Opens old new role cuts (Err refused) = (refused.0 ≡ role) × OpensNot old new role cuts refused.1
 
+-- a round or an end that is refused: it is an event unless memory was short
 abbrev pub Fails : KeptValue → KeptValue → Event → SessionFault → Type 0
 Fails old new event (SessionFault.Refused why) = Does old event (Reply.Refused why) new
 Fails old new event SessionFault.OutOfMemory = DoesNothing old new
 
+-- a round by its answer
 abbrev pub Rounds : KeptValue → KeptValue → CutList → Result RoundReply SessionFault → Type 0
 Rounds old new cuts (Ok answer) = Does old (Event.Round cuts) (Reply.Round answer) new
 Rounds old new cuts (Err fault) = Fails old new (Event.Round cuts) fault
@@ -124,6 +130,7 @@ abbrev pub Ends : KeptValue → KeptValue → ℕ → Result ℕ (ℕ × Session
 Ends old new session (Ok role) = (role ≡ session) × Does old Event.EndDaa Reply.Ended new
 Ends old new session (Err refused) = (refused.0 ≡ session) × Fails old new Event.EndDaa refused.1
 
+-- a handover that the role comes back from: no event where it is stale or memory was short
 abbrev pub HandsNot : KeptValue → KeptValue → ℕ → ℕ → CutList → HandOverFault → Type 0
 HandsNot old new role to cuts (HandOverFault.StaleRole stale) = IsStale old new role stale
 HandsNot old new role to cuts HandOverFault.OutOfMemory = (role ≡ old.log.state.active) × DoesNothing old new

@@ -1,9 +1,10 @@
 -- Ports that are out, and those that are handed in.
 use Rattle.std.specs.Prelude.{◌≡◌, ℕ, ◌<◌, true, List, length, slice_get, Some}
+use mathlib.Core.List.{IsPrefix}
 use Rattle.rtrb.specs.Ring.{ProducerLooked, sent}
 use Rattle.i3c_shared.specs.Raises.{raises_of}
 use Rattle.i3c_recorder.specs.declared.entry.Entry.{Entry}
-use Rattle.i3c_shared.specs.Rings.{IsEndOf, IsWhole, is_out, ring_at}
+use Rattle.i3c_shared.specs.Rings.{IsBegun, IsEndOf, IsWhole, is_out, ring_at}
 use Rattle.i3c_shared.specs.Values.{PortValue, Rings}
 
 -- a port that comes back: of the same slot and ring, with the same posts
@@ -46,3 +47,11 @@ AllWhole old new ports = (k : ℕ) (p : PortValue) → IsAt ports k p → IsEndO
 -- of each of these ports whose ring was here: the raises are all that it posted
 abbrev pub AllPosted : Rings → List PortValue → List Entry → Type 0
 AllPosted rings ports run = (k : ℕ) (p : PortValue) → IsAt ports k p → IsEndOf p (ring_at rings p.slot) → raises_of p.slot run ≡ sent p.producer
+
+-- of each of these ports whose ring this is: what was taken and what is known was posted first
+abbrev pub AllBegun : Rings → List PortValue → Type 0
+AllBegun rings ports = (k : ℕ) (p : PortValue) → IsAt ports k p → IsEndOf p (ring_at rings p.slot) → IsBegun p (ring_at rings p.slot)
+
+-- of each of these ports whose ring was here: the raises are the first of its posts, in order
+abbrev pub AllPostedFirst : Rings → List PortValue → List Entry → Type 0
+AllPostedFirst rings ports run = (k : ℕ) (p : PortValue) → IsAt ports k p → IsEndOf p (ring_at rings p.slot) → IsPrefix (raises_of p.slot run) (sent p.producer)

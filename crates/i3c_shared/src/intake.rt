@@ -1,6 +1,6 @@
-ghost use Rattle.std.specs.Prelude.{◌≡◌, ◌≢◌, ℕ, ◌+◌, ◌*◌, ◌<◌, ◌≤◌, ◌++◌, ◌∷◌, ◌↔◌, ◌&&◌, [], length, true, Some, None, OnOk, IfOk, IsTrue};
+ghost use Rattle.std.specs.Prelude.{◌≡◌, ◌≢◌, ℕ, ◌+◌, ◌*◌, ◌<◌, ◌≤◌, ◌++◌, ◌∷◌, ◌↔◌, [], length, true, Some, None, OnOk, IfOk, IsTrue};
 ghost use Rattle.rtrb.specs.Ring.{known_items};
-ghost use Rattle.i3c_shared.specs.Ports.{AllCovered, HasPort, SamePort, SamePorts};
+ghost use Rattle.i3c_shared.specs.Ports.{AllBegun, AllCovered, HasPort, SamePort, SamePorts};
 ghost use Rattle.i3c_shared.specs.Rings.{AllDrained, AllFew, AllLooked, HasDrained, HasLooked, IsBegun, IsEndOf, IsWhole, known_of, put_out, raises_at, raises_in, ring_at, taken_in};
 ghost use Rattle.i3c_shared.specs.Taking.{Adds};
 ghost use Rattle.i3c_step.specs.Stays.{is_attached};
@@ -60,7 +60,7 @@ impl Intake {
     ghost use Rattle.i3c_step.specs.declared.replies.Reply.{Reply as ReplyValue};
     ghost use Rattle.i3c_shared.specs.Calls.{is_awaited};
     ghost use Rattle.i3c_recorder.specs.KeptRuns.{IsLegalTo, terms_of};
-    ghost use Rattle.i3c_shared.specs.Ports.{AllPosted, AllWhole, IsFirstMissing, IsMissing, NoneMissing};
+    ghost use Rattle.i3c_shared.specs.Ports.{AllPosted, AllPostedFirst, AllWhole, IsFirstMissing, IsMissing, NoneMissing};
     ghost use Rattle.i3c_shared.specs.Raises.{raises_of};
     ghost use Rattle.i3c_shared.specs.Rings.{Fits, is_out};
     ghost use Rattle.i3c_shared.specs.Taking.{Grows, IsKept, IsOther, IsReady, Makes, PutsOut, Stays, TakesUp};
@@ -266,6 +266,7 @@ impl Intake {
         ensures ports { SamePorts ports.old.items ports.new.items }
         ensures closed { IfOk result (λ c. (seen : Seen) × (end : Log) × AllLooked self.log.rings seen × TakesUp self.log seen end × (c.0.entries ≡ end.run) × (c.1 ≡ end.state.records) × IsLegalTo end.run end.state) }
         ensures whole { IfOk result (λ c. AllPosted self.log.rings ports.old.items c.0.entries) }
+        ensures prefix { IfErr result (λ k. AllPostedFirst self.log.rings ports.old.items k.log.run) }
         ensures back { IfErr result (λ k. Stays self.log k.log) }
     {
         let mut intake = self;
@@ -312,11 +313,21 @@ impl Intake {
         recorder.let_go();
     }
 
+    /// Compares all these ports with their slots' rings, and takes nothing up.
+    pub(crate) fn compare_all(&mut self, ports: &mut Vec<Port>)
+        ensures same { self.new ≡ self.old }
+        ensures ports { SamePorts ports.old.items ports.new.items }
+        ensures prefix { AllPostedFirst self.old.log.rings ports.old.items self.old.log.run }
+    {
+        covers_all(&mut self.rings, ports);
+    }
+
     /// Looks into the rings with all these ports in hand, and makes room.
     fn ready_for_all(&mut self, ports: &mut Vec<Port>) -> Result<(), OutOfMemory>
         ensures same { Stays self.old.log self.new.log }
         ensures few { AllFew self.new.log.rings }
         ensures ports { SamePorts ports.old.items ports.new.items }
+        ensures prefix { AllPostedFirst self.old.log.rings ports.old.items self.old.log.run }
         ensures whole { OnOk result (AllWhole self.old.log.rings self.new.log.rings ports.old.items) }
         ensures room { OnOk result (IsReady self.new) }
     {
@@ -473,19 +484,12 @@ fn covers_all(rings: &mut Rings, ports: &mut Vec<Port>) -> bool
     requires { length rings.old.items ≡ SLOTS }
     ensures rings { rings.new.items ≡ rings.old.items }
     ensures ports { SamePorts ports.old.items ports.new.items }
+    ensures prefix { AllBegun rings.old.items ports.old.items }
     ensures whole { IsTrue result → AllCovered rings.old.items ports.old.items }
 {
     let mut whole = true;
     for port in ports.iter_mut() {
-        let covered = covers_one(rings, port);
-        whole = both(whole, covered);
+        whole &= covers_one(rings, port);
     }
     whole
-}
-
-/// Whether both hold.
-fn both(first: bool, second: bool) -> bool
-    ensures { result ≡ (first && second) }
-{
-    first && second
 }

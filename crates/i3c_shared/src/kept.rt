@@ -52,7 +52,7 @@ pub struct Unclosed<B> {
 }
 
 impl Kept {
-    ghost use Rattle.std.specs.Prelude.{◌≡◌, ◌≢◌, ◌↔◌, true, false, IfOk, IfErr, IsErrOf, OnOk, Err};
+    ghost use Rattle.std.specs.Prelude.{◌≡◌, ◌≢◌, ◌↔◌, true, false, IfOk, IfErr, IsErrOf, MatchResult, OnOk, Err};
     ghost use mathlib.Core.List.{IsPrefix};
     ghost use Rattle.rtrb.specs.Ring.{sent};
     ghost use Rattle.i3c_base.specs.Numbers.{is_capable};
@@ -64,7 +64,7 @@ impl Kept {
     ghost use Rattle.i3c_shared.specs.Beginning.{IsMade};
     ghost use Rattle.i3c_shared.specs.Calls.{AsksFor, Attaches, Commands, Drops, Ends, Hands, Opens, Rounds, TakesRole};
     ghost use Rattle.i3c_shared.specs.Closing.{Closes, RefusesClose, is_role_out};
-    ghost use Rattle.i3c_shared.specs.Ports.{NoneMissing, SamePort, SamePorts};
+    ghost use Rattle.i3c_shared.specs.Ports.{AllPostedFirst, NoneMissing, SamePort, SamePorts};
     ghost use Rattle.i3c_shared.specs.Raises.{raises_of};
     ghost use Rattle.i3c_shared.specs.Rings.{IsEndOf, ring_at};
     ghost use Rattle.i3c_shared.specs.Taking.{IsKept};
@@ -308,24 +308,32 @@ impl Kept {
         ensures closed { IfOk result (λ c. Closes self role ports.items c.run.entries c.records) }
         ensures refused { IfErr result (λ u. RefusesClose self role ports.items u.fault u.bus) }
         ensures back { IfErr result (λ u. (u.role ≡ role) × SamePorts ports.items u.ports.items) }
+        ensures prefix { MatchResult result (λ c. AllPostedFirst self.log.rings ports.items c.run.entries) (λ u. AllPostedFirst self.log.rings ports.items u.bus.log.run) }
     {
         if self.is_role_out(&role) {
-            return Err(Unclosed {
-                bus: self,
-                role,
-                ports,
-                fault: CloseFault::RoleOut,
-            });
+            return Err(self.refused(role, ports, CloseFault::RoleOut));
         }
         if let Some(slot) = self.intake.missing(&ports) {
-            return Err(Unclosed {
-                bus: self,
-                role,
-                ports,
-                fault: CloseFault::PortOut(slot),
-            });
+            return Err(self.refused(role, ports, CloseFault::PortOut(slot)));
         }
         self.close_all(role, ports)
+    }
+
+    /// All comes back as it was, with this fault.
+    fn refused(self, role: Option<HeldRole>, ports: Vec<Port>, fault: CloseFault) -> Unclosed<Kept>
+        ensures same { (result.bus ≡ self) × (result.role ≡ role) × (result.fault ≡ fault) }
+        ensures ports { SamePorts ports.items result.ports.items }
+        ensures prefix { AllPostedFirst self.log.rings ports.items self.log.run }
+    {
+        let mut bus = self;
+        let mut ports = ports;
+        bus.intake.compare_all(&mut ports);
+        Unclosed {
+            bus,
+            role,
+            ports,
+            fault,
+        }
     }
 
     /// Whether a session is open, or no role is handed in and none is parked.
@@ -342,6 +350,7 @@ impl Kept {
         ensures closed { IfOk result (λ c. Closes self role ports.items c.run.entries c.records) }
         ensures refused { IfErr result (λ u. RefusesClose self role ports.items u.fault u.bus) }
         ensures back { IfErr result (λ u. (u.role ≡ role) × SamePorts ports.items u.ports.items) }
+        ensures prefix { MatchResult result (λ c. AllPostedFirst self.log.rings ports.items c.run.entries) (λ u. AllPostedFirst self.log.rings ports.items u.bus.log.run) }
     {
         let Kept {
             alloc,

@@ -8,10 +8,15 @@ use thiserror::Error;
 /// bus, recorded, and waited at the end.
 #[derive(Clone, Copy, Debug, PartialEq, Eq, Drop)]
 pub struct StressReport {
+    /// The tries: as many as devices times posts.
     pub tried: u64,
+    /// The tries that were taken into a ring.
     pub posted: u64,
+    /// The raises that the bus refused.
     pub turned_away: u64,
+    /// The records of the devices.
     pub recorded: u64,
+    /// The interrupts that wait at the end.
     pub waiting: u64,
 }
 

@@ -1,6 +1,6 @@
 use Rattle.std.proofs.Common.{◌∙◌, ◌≡◌, refl, arith, length, take, drop, ◌++◌}
 use Rattle.std.proofs.lemmas.Option.{slice_get-get_or}
-use Rattle.i3c_shared.proofs.Covering.{covers_all, covers_next, covers_none, covers_same, taken_all}
+use Rattle.i3c_shared.proofs.Covering.{all_begun, covers_all, covers_next, covers_none, covers_same, taken_all}
 use Rattle.i3c_shared.proofs.intake.covers_all.Goals as goal
 
 pub loop-port-init : goal.loop-port-init
@@ -8,8 +8,8 @@ loop-port-init c = (refl, covers_none _ _)
 
 pub loop-port-preserved : goal.loop-port-preserved
 loop-port-preserved c = (
-  c.covers_one-covered.ensures.rings ∙ c.loop-port.invariant.0,
-  rw c.both-whole.ensures (covers_next _ _ _ _ _ _ _ _ c.loop-port.invariant.1 (slice_get-get_or c.loop-port.port-items c.loop-port.port-index c.port-item.result (search arith)) c.covers_one-covered.ensures.port (rw (← c.loop-port.invariant.0) c.covers_one-covered.ensures.whole)),
+  c.covers_one-whole.ensures.rings ∙ c.loop-port.invariant.0,
+  covers_next _ _ _ _ _ _ _ _ c.loop-port.invariant.1 (slice_get-get_or c.loop-port.port-items c.loop-port.port-index c.port-item.result (search arith)) c.covers_one-whole.ensures.port (rw (← c.loop-port.invariant.0) c.covers_one-whole.ensures.prefix) (rw (← c.loop-port.invariant.0) c.covers_one-whole.ensures.whole),
 )
 
 pub returns-clause-ports : goal.returns-clause-ports
@@ -19,3 +19,6 @@ returns-clause-ports c =
 
 pub returns-clause-whole : goal.returns-clause-whole
 returns-clause-whole c = λ whole. rw (← c.deref_mut-port-items.ensures.value) (covers_all _ _ _ _ _ c.loop-port.invariant.1 c.loop-port-test.false whole)
+
+pub returns-clause-prefix : goal.returns-clause-prefix
+returns-clause-prefix c = rw (← c.deref_mut-port-items.ensures.value) (all_begun _ _ _ _ _ c.loop-port.invariant.1 c.loop-port-test.false)

@@ -1,4 +1,4 @@
-use Rattle.i3c_shared.proofs.Growing.{all_raised}
+use Rattle.i3c_shared.proofs.Growing.{all_raised, grown}
 use Rattle.i3c_shared.proofs.Meeting.{all_prefix}
 use Rattle.i3c_shared.proofs.intake.Intake.carry_for.Goals as goal
 
@@ -9,3 +9,6 @@ returns-clause-prefix c = λ pair.
 pub returns-clause-all : goal.returns-clause-all
 returns-clause-all c = λ pair.
     all_raised c.ready_for.new.port c.args.port.now.slot c.ready_for.new.self.log c.take_up.new.self.log c.make.new.self.log c.args.event c.make.result (c.in_ok-ready_for.ensures.whole pair) c.take_up.ensures.taken.left c.take_up.ensures.fits c.make.ensures.made c.requires
+
+pub returns-clause-grows : goal.returns-clause-grows
+returns-clause-grows c = (c.make.ensures.memory, grown _ _ _ _ _ _ c.ready_for.ensures.same c.take_up.ensures.taken c.make.ensures.made)

@@ -20,3 +20,6 @@ pub returns-clause-whole : goal.returns-clause-whole
 returns-clause-whole c = λ k p at end.
     ap (raises_of p.slot) (c.retire.ensures.run ∙ ap (λ (v : IntakeValue). v.log.run) c.intake.view_is)
     ∙ all_posted c.args.self.log.rings c.ready_for_all.new.self.log.rings c.take_up.new.self.log.rings c.args.ports.now.items c.take_up.new.self.log.run c.in-Ok.ensures.whole c.take_up.ensures.taken.left c.take_up.ensures.fits k p at end
+
+pub returns-in_default-clause-prefix : goal.returns-in_default-clause-prefix
+returns-in_default-clause-prefix c = rw c.ready_for_all.ensures.same.run c.in_default.ensures.prefix

@@ -1,5 +1,6 @@
 use Rattle.std.proofs.Common.{◌∙◌, sym, refl}
 use Rattle.i3c_shared.proofs.Growing.{puts_out_is, with_reply}
+use Rattle.i3c_shared.proofs.Replies.{attach_replies}
 use Rattle.i3c_shared.proofs.kept.Kept.attach.Goals as goal
 
 pub returns : goal.returns
@@ -18,3 +19,6 @@ returns c =
         parked = refl;
       },
     )
+
+pub attached-requires : goal.attached-requires
+attached-requires c = attach_replies _ c.args.slot c.args.setup _ _ c.in-Ok-attach.ensures.1.makes.step

@@ -1,3 +1,4 @@
+use Rattle.i3c_shared.proofs.Meeting.{all_prefix}
 use Rattle.i3c_shared.proofs.kept.Kept.close_all.Goals as goal
 
 pub returns-in-Ok-clause-closed : goal.returns-in-Ok-clause-closed
@@ -9,3 +10,9 @@ returns-in-Ok-clause-closed c =
       takes = rw (← c.self.view_is) (record { seen = e.0; end = e.1; looked = e.2; takes = e.3; ran = e.4; recorded = e.5; legal = e.6 });
       all = rw (← c.self.view_is) c.in-Ok.ensures.whole;
     }
+
+pub returns-in-Ok-clause-prefix : goal.returns-in-Ok-clause-prefix
+returns-in-Ok-clause-prefix c = rw (← c.self.view_is) (λ k p at end. all_prefix _ _ (c.in-Ok.ensures.whole k p at end))
+
+pub returns-in-Err-clause-prefix : goal.returns-in-Err-clause-prefix
+returns-in-Err-clause-prefix c = rw (← c.self.view_is) c.in-Err.ensures.prefix

@@ -1,4 +1,5 @@
 use Rattle.std.proofs.Common.{rules}
+use Rattle.i3c_shared.proofs.Replies.{drop_replies}
 use Rattle.i3c_shared.proofs.kept.Kept.drop_off.Goals as goal
 
 pub returns-in_default-clause-drops : goal.returns-in_default-clause-drops
@@ -24,3 +25,6 @@ returns-in-Err-clause-prefix c = search rules
 
 pub returns-in-Err-clause-stays : goal.returns-in-Err-clause-stays
 returns-in-Err-clause-stays c = search rules
+
+pub dropped-requires : goal.dropped-requires
+dropped-requires c = drop_replies _ c.slot-slot.result _ _ c.in-Ok.ensures.grows.1.makes.step
