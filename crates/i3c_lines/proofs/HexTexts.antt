@@ -5,7 +5,7 @@ use lib.Ieee.Fits.{and_l, and_r}
 use Rattle.std.specs.Fmt.{digit_glyph}
 use Rattle.std.specs.Int.{bytes_high_first, to_be_bytes}
 use Rattle.i3c_lines.specs.Hex.{byte_text, bytes_text, hex_text}
-use Rattle.i3c_lines.specs.declared.numerals.TheConstants.{DIGITS, PAIRS}
+use Rattle.i3c_lines.specs.declared.numerals.TheConstants.{PAIRS}
 
 -- the last two digits and those before them
 pub hex_text_more : (count n : ℕ) → 1 < count → hex_text count n ≡ hex_text (count - 2) (n / 256) ++ byte_text (n % 256)
@@ -21,13 +21,6 @@ hex_text_more (suc (suc count)) n h =
     ∙ ap (λ d. hex_text count (n / 256) ++ digit_glyph true d ∷ digit_glyph true (n % 16) ∷ []) high
     ∙ ap (λ d. hex_text count (n / 256) ++ digit_glyph true (n % 256 / 16) ∷ digit_glyph true d ∷ []) low
     ∙ ap (λ k. hex_text k (n / 256) ++ byte_text (n % 256)) (sym fewer)
-
--- the last digit and those before it
-pub hex_text_last : (count n : ℕ) → 0 < count → hex_text count n ≡ hex_text (count - 1) (n / 16) ++ digit_glyph true (n % 16) ∷ []
-hex_text_last zero n h = absurd (omega arith)
-hex_text_last (suc count) n h =
-    let fewer : suc count - 1 ≡ count = omega arith in
-    ap (λ k. hex_text k (n / 16) ++ digit_glyph true (n % 16) ∷ []) (sym fewer)
 
 hex_length : (count n : ℕ) → length (hex_text count n) ≡ count
 hex_length zero n = refl
@@ -89,28 +82,7 @@ eight_bytes n =
 pub sixteen_digits : (n : ℕ) → bytes_text (to_be_bytes w64 n) ≡ hex_text 16 n
 sixteen_digits n = ap bytes_text (eight_bytes n) ∙ last_bytes_text 8 n
 
-pub hex_text_none : (count n : ℕ) → count ≤ 0 → hex_text count n ≡ []
-hex_text_none zero n h = refl
-hex_text_none (suc count) n h = absurd (omega arith)
-
--- the first digits of the table are those of their values
-abbrev are_digits : ℕ → Bool
-are_digits zero = true
-are_digits (suc n) = eqb (get_or DIGITS n 0) (digit_glyph true n) && are_digits n
-
-below : (n value : ℕ) → T (are_digits n) → value < n → get_or DIGITS value 0 ≡ digit_glyph true value
-below zero value t h = absurd (omega arith)
-below (suc n) value t h =
-    elim (eq-zero-or-pos (n - value)) [
-      | inl z ↦ let e : value ≡ n = omega arith in rw e (eqb→eq _ _ (and_l _ (are_digits n) t))
-      | inr g ↦ below n value (and_r _ (are_digits n) t) (omega arith)
-    ]
-
--- a digit of the table is its value's
-pub digit_at : (value : ℕ) → value < 16 → get_or DIGITS value 0 ≡ digit_glyph true value
-digit_at value h = below 16 value tt h
-
--- and so are the pairs of the table, byte by byte
+-- the pairs of the table are the digits of their bytes
 abbrev are_pairs : ℕ → Bool
 are_pairs zero = true
 are_pairs (suc n) = (eqb (get_or PAIRS (2 * n) 0) (digit_glyph true (n / 16)) && eqb (get_or PAIRS (2 * n + 1) 0) (digit_glyph true (n % 16))) && are_pairs n

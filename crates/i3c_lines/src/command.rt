@@ -3,7 +3,7 @@ use crate::policies::policy;
 use crate::words::{self, Words};
 use arrayvec::ArrayVec;
 use i3c_base::{Addr7, Bcr, Dcr, Fixed, Identity, Kinds, Lvr, Setup};
-use i3c_step::WRITE_KEPT;
+use i3c_step::Command as Frame;
 use std::str;
 
 /// `raise` and a space, behind the first letter. Letters that are compared at once take fewer steps than one by one.
@@ -18,61 +18,21 @@ const ENEC: &[u8] = b"nec ";
 /// `disec` and a space, behind the first letter.
 const DISEC: &[u8] = b"isec ";
 
-/// Kinds of events, and the address of the devices that are meant. Without one all are but the active controller.
-#[derive(Clone, Copy)]
-pub struct Choice {
-    pub kinds: Kinds,
-    pub to: Option<Addr7>,
-}
-
-/// A line that is one event of the bus, with the names as they stand there.
+/// A line that is one event of the bus and no frame under the role, with the names as they stand there.
 #[derive(Drop)]
 pub enum Wish {
     /// `attach NAME PID BCR DCR [decline]`: a device enters the lowest free slot.
-    Attach {
-        name: Name,
-        setup: Setup,
-    },
+    Attach { name: Name, setup: Setup },
     /// `drop NAME`: a device loses power, and is gone.
-    DropOff {
-        name: Name,
-    },
+    DropOff { name: Name },
     /// `raise NAME [BYTE]`: a device raises an interrupt, with its mandatory byte where one is due.
-    Raise {
-        name: Name,
-        byte: Option<u8>,
-    },
+    Raise { name: Name, byte: Option<u8> },
     /// `ask-join NAME`: a device wishes to join.
-    AskJoin {
-        name: Name,
-    },
+    AskJoin { name: Name },
     /// `ask-role NAME`: a device wishes for the controller role.
-    AskRole {
-        name: Name,
-    },
-    /// `serve`: the first request is served.
-    Serve,
-    /// `enec BYTE [ADDR]`: kinds of events are enabled.
-    Enec(Choice),
-    /// `disec BYTE [ADDR]`: kinds of events are disabled.
-    Disec(Choice),
-    /// `reset`: each address but the active controller's is cleared.
-    Reset,
-    /// `list`: the devices are told of all addresses.
-    List,
-    /// `read ADDR`: the registers of the device or legacy target at an address are read.
-    Read {
-        at: Addr7,
-    },
-    /// `write ADDR [BYTES]`: its first registers are replaced. Of more bytes than may be written one more is kept.
-    Write {
-        at: Addr7,
-        bytes: ArrayVec<u8, WRITE_KEPT>,
-    },
+    AskRole { name: Name },
     /// `handover ADDR`: the role is offered to the device at an address.
-    HandOver {
-        to: Addr7,
-    },
+    HandOver { to: Addr7 },
     /// `open`: a session of dynamic address assignment is opened, and stays open.
     Open,
     /// `round`: one round of the open session.
@@ -95,7 +55,10 @@ pub enum Command {
         name: Name,
         setup: Setup,
     },
-    /// A line that is one event.
+    /// A line that sends a frame under the role: `serve`, `enec BYTE [ADDR]`, `disec BYTE [ADDR]`, `reset`, `list`,
+    /// `read ADDR` or `write ADDR [BYTES]`. Of more bytes than may be written one more is kept.
+    Frame(Frame),
+    /// A line that is any other event.
     Event(Wish),
     /// `policy all|none|joins|roles|interrupts`: which requests the frames from now on accept.
     Policy(Fixed),
@@ -149,7 +112,7 @@ impl Command {
         }
         match tail {
             [b'e', b'a', b'd', b' ', word @ ..] => self.read_read(word),
-            b"eset" => self.set(Command::Event(Wish::Reset)),
+            b"eset" => self.set(Command::Frame(Frame::Reset)),
             b"ound" => self.set(Command::Event(Wish::Round)),
             _ => None,
         }
@@ -158,7 +121,7 @@ impl Command {
     /// Becomes a command whose first letter is an `s`, by the line behind that.
     fn read_s(&mut self, tail: &[u8]) -> Option<()> {
         if tail.len() == SERVE.len() && tail.starts_with(SERVE) {
-            return self.set(Command::Event(Wish::Serve));
+            return self.set(Command::Frame(Frame::Serve));
         }
         match tail {
             b"how" => self.set(Command::Show),
@@ -192,7 +155,7 @@ impl Command {
     /// Becomes a command whose first letter is an `l`, by the line behind that, or by the line.
     fn read_l(&mut self, tail: &[u8], line: &[u8]) -> Option<()> {
         match tail {
-            b"ist" => self.set(Command::Event(Wish::List)),
+            b"ist" => self.set(Command::Frame(Frame::SendList)),
             _ => self.read_words(line),
         }
     }
@@ -228,7 +191,7 @@ impl Command {
     /// Becomes a private read by the word behind its first: an address.
     fn read_read(&mut self, word: &[u8]) -> Option<()> {
         let at = words::address(word)?;
-        *self = Command::Event(Wish::Read { at });
+        *self = Command::Frame(Frame::ReadFrom(at));
         Some(())
     }
 
@@ -244,19 +207,21 @@ impl Command {
             [b' ', digits @ ..] => words::bytes(digits)?,
             _ => return None,
         };
-        *self = Command::Event(Wish::Write { at, bytes });
+        *self = Command::Frame(Frame::WriteTo(at, bytes));
         Some(())
     }
 
     /// Becomes the command that enables kinds of events, by the words behind its first.
     fn read_enec(&mut self, line: &[u8]) -> Option<()> {
-        *self = Command::Event(Wish::Enec(parse_choice(line)?));
+        let (to, kinds) = parse_kinds(line)?;
+        *self = Command::Frame(Frame::Enec(to, kinds));
         Some(())
     }
 
     /// Becomes the command that disables kinds of events, by the words behind its first.
     fn read_disec(&mut self, line: &[u8]) -> Option<()> {
-        *self = Command::Event(Wish::Disec(parse_choice(line)?));
+        let (to, kinds) = parse_kinds(line)?;
+        *self = Command::Frame(Frame::Disec(to, kinds));
         Some(())
     }
 
@@ -393,7 +358,7 @@ fn parse_cut(words: &mut Words<'_>) -> Option<Command> {
 }
 
 /// The words of `enec` and of `disec`: a byte, and an address if one is given.
-fn parse_choice(line: &[u8]) -> Option<Choice> {
+fn parse_kinds(line: &[u8]) -> Option<(Option<Addr7>, Kinds)> {
     let (byte, rest) = line.split_at_checked(2)?;
     let kinds = words::kinds(byte)?;
     let to = match rest {
@@ -401,5 +366,5 @@ fn parse_choice(line: &[u8]) -> Option<Choice> {
         [b' ', word @ ..] => Some(words::address(word)?),
         _ => return None,
     };
-    Some(Choice { kinds, to })
+    Some((to, kinds))
 }

@@ -2,11 +2,10 @@ ghost use Rattle.std.specs.Prelude.{◌≡◌, ◌+◌, ◌*◌, ◌/◌, ◌%�
 ghost use Rattle.std.specs.Fmt.{decimal, digit_glyph};
 ghost use Rattle.i3c_lines.specs.Hex.{byte_text, bytes_text, hex_text};
 
+use crate::words::PID_DIGITS;
+use i3c_base::Pid;
 use itoa::Buffer;
 use std::alloc::AllocError;
-
-/// The hex digits, each at its value.
-static DIGITS: [u8; 16] = *b"0123456789ABCDEF";
 
 /// The two hex digits of each byte, one byte after another.
 static PAIRS: [u8; 512] = *b"000102030405060708090A0B0C0D0E0F101112131415161718191A1B1C1D1E1F\
@@ -211,27 +210,19 @@ fn low_digit(byte: u8) -> u8
     PAIRS[2 * usize::from(byte) + 1]
 }
 
-/// Appends the last hex digits of a number to a text, so many.
-pub(crate) fn push_hex(text: &mut Vec<u8>, number: u64, count: usize) -> Result<(), AllocError>
-    ensures { OnOk result (text.new.items ≡ text.old.items ++ hex_text count number) }
+/// Appends a number to a text, in hex digits, with the zeros that lead it.
+pub(crate) fn push_hex(text: &mut Vec<u8>, number: u64) -> Result<(), AllocError>
+    ensures { OnOk result (text.new.items ≡ text.old.items ++ hex_text MOST_DIGITS number) }
 {
-    if count > MOST_DIGITS {
-        return push_longer_hex(text, number, count);
-    }
-    let digits = hex_digits(number);
-    text.extend_from_slice(&digits[MOST_DIGITS - count..])
+    text.extend_from_slice(&hex_digits(number))
 }
 
-/// Appends the hex digits of a number, more than it has.
-// kept apart, since nobody asks for so many
-#[cold]
-#[inline(never)]
-fn push_longer_hex(text: &mut Vec<u8>, number: u64, count: usize) -> Result<(), AllocError>
-    ensures { OnOk result (text.new.items ≡ text.old.items ++ hex_text count number) }
+/// Appends a provisioned ID to a text, in hex digits, with the zeros that lead it.
+pub(crate) fn push_pid(text: &mut Vec<u8>, pid: Pid) -> Result<(), AllocError>
+    ensures { OnOk result (text.new.items ≡ text.old.items ++ hex_text PID_DIGITS pid) }
 {
-    text.reserve(count)?;
-    push_digits(text, number, count);
-    Ok(())
+    let digits = hex_digits(pid.get());
+    text.extend_from_slice(&digits[MOST_DIGITS - PID_DIGITS..])
 }
 
 /// The hex digits of a number, with the zeros that lead it.
@@ -241,27 +232,4 @@ fn hex_digits(number: u64) -> [u8; MOST_DIGITS]
     let mut digits = [0; MOST_DIGITS];
     write_pairs(&mut digits, &number.to_be_bytes());
     digits
-}
-
-/// Appends the last hex digits of a number, for which there is room.
-#[tactic(auto, using(crate::proofs::HexTexts::hex_text_none))]
-fn push_digits(text: &mut Vec<u8>, number: u64, count: usize)
-    requires { vec_len text.old + count ≤ vec_capacity text.old }
-    ensures digits { text.new.items ≡ text.old.items ++ hex_text count number }
-    ensures len { vec_len text.new ≡ vec_len text.old + count }
-    ensures capacity { vec_capacity text.new ≡ vec_capacity text.old }
-{
-    if count > 0 {
-        push_digits(text, number / 16, count - 1);
-        text.push_reserved(digit((number % 16) as u8));
-    }
-}
-
-/// A hex digit, in upper case.
-#[tactic(auto, using(crate::proofs::HexTexts::digit_at))]
-fn digit(value: u8) -> u8
-    requires { value < 16 }
-    ensures { result ≡ digit_glyph true value }
-{
-    DIGITS[usize::from(value)]
 }

@@ -17,25 +17,39 @@ pub enum Refusal {
     BusMade,
     /// A present device or a legacy target has this name.
     NameTaken,
+    /// A legacy target's static address is `08` to `77`.
     LegacyAddress,
+    /// A legacy target stands at this address.
     LegacyTwice,
+    /// No more legacy targets may be declared.
     TooManyLegacy,
+    /// The device can't do this by its BCR, or none that is known to can has the address that the role is offered to.
     NotCapable,
+    /// Each slot holds a device.
     SlotTaken,
+    /// A session of dynamic address assignment is open.
     SessionOpen,
+    /// No session of dynamic address assignment is open.
     NoSession,
+    /// The active controller can't be cut or leave.
     ActiveStays,
     /// No name like this was given.
     NoName,
     /// The name is a legacy target's, or its device is gone.
     NoDevice,
+    /// The device is the active controller.
     IsActive,
     /// No address is left to give, or the device has none.
     NoAddress,
+    /// The device has an address.
     HasAddress,
+    /// A mandatory byte is due by the device's BCR and is missing, or is given and isn't due.
     ByteMismatch,
+    /// The device's events of this kind are disabled.
     Masked,
+    /// No more interrupts of the device may wait or be counted.
     Full,
+    /// The devices haven't got the list of the addresses as they are now.
     ListStale,
     /// More bytes than a device has registers.
     TooLong,

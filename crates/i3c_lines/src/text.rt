@@ -1,4 +1,5 @@
-use crate::numerals::{push_byte, push_bytes, push_decimal, push_hex, push_numbered};
+use crate::numerals::{push_byte, push_bytes, push_decimal, push_hex, push_numbered, push_pid};
+use i3c_base::Pid;
 use std::alloc::{AllocError, Global};
 use std::fmt;
 use std::marker::Model;
@@ -82,11 +83,18 @@ impl Text {
         push_bytes(&mut self.bytes, bytes)
     }
 
-    /// Appends the last hex digits of a number, so many.
-    pub fn push_hex(&mut self, number: u64, count: usize) -> Result<(), AllocError>
-        ensures { OnOk result (self.new ≡ self.old ++ hex_text count number) }
+    /// Appends a number, in sixteen hex digits.
+    pub fn push_hex(&mut self, number: u64) -> Result<(), AllocError>
+        ensures { OnOk result (self.new ≡ self.old ++ hex_text 16 number) }
     {
-        push_hex(&mut self.bytes, number, count)
+        push_hex(&mut self.bytes, number)
+    }
+
+    /// Appends a provisioned ID, in twelve hex digits.
+    pub fn push_pid(&mut self, pid: Pid) -> Result<(), AllocError>
+        ensures { OnOk result (self.new ≡ self.old ++ hex_text 12 pid) }
+    {
+        push_pid(&mut self.bytes, pid)
     }
 
     /// Ends the line.

@@ -41,7 +41,7 @@ const BIT_RADIX: u32 = 10;
 const BYTE_DIGITS: usize = 2;
 
 /// How many digits a provisioned ID has.
-const PID_DIGITS: usize = 12;
+pub(crate) const PID_DIGITS: usize = 12;
 
 /// The words of a line, which are parted by exactly one space: those that weren't read yet.
 #[derive(Clone, Copy)]

@@ -36,10 +36,7 @@ impl Seen {
             Seen::Disec(kinds) => push_byte(b"DISEC ", *kinds, text),
             Seen::Rstdaa => text.push(b"RSTDAA"),
             Seen::Entdaa => text.push(b"ENTDAA"),
-            Seen::Deftgts(entries) => {
-                push_number(b"DEFTGTS ", *entries, text)?;
-                text.push(b" entries")
-            }
+            Seen::Deftgts(entries) => push_list(*entries, text),
             Seen::Other(byte) => push_byte(b"Other ", *byte, text),
             Seen::Round {
                 identity,
@@ -51,10 +48,7 @@ impl Seen {
                 command,
                 address,
                 byte,
-            } => {
-                push_address(command_words(command), *address, text)?;
-                push_answer(*byte, text)
-            }
+            } => push_single(command, *address, *byte, text),
             Seen::Transfer {
                 address,
                 read,
@@ -63,10 +57,7 @@ impl Seen {
                 push_address(transfer_words(*read), *address, text)?;
                 push_bytes(span, trace, text)
             }
-            Seen::Refused(fault) => {
-                text.push(b"refused ")?;
-                push_fault(fault, text)
-            }
+            Seen::Refused(fault) => push_refusal(fault, text),
         }
     }
 }
@@ -92,6 +83,14 @@ fn push_address(words: &[u8], address: Addr7, text: &mut Text) -> Result<(), All
     ensures { OnOk result (text.new ≡ text.old ++ words_text words.now address) }
 {
     push_byte(words, address.get(), text)
+}
+
+/// Appends how many entries a list has.
+fn push_list(entries: usize, text: &mut Text) -> Result<(), AllocError>
+    ensures { OnOk result (text.new ≡ text.old ++ (number_text (codes "DEFTGTS ") entries ++ codes " entries")) }
+{
+    push_number(b"DEFTGTS ", entries, text)?;
+    text.push(b" entries")
 }
 
 /// Appends a request and the controller's answer to it.
@@ -135,7 +134,7 @@ fn push_round(identity: u64, byte: u8, taken: bool, text: &mut Text) -> Result<(
     ensures { OnOk result (text.new ≡ text.old ++ (codes "round " ++ (hex_text 16 identity ++ (words_text (codes " ") byte ++ taken_text taken)))) }
 {
     text.push(b"round ")?;
-    text.push_hex(identity, 16)?;
+    text.push_hex(identity)?;
     push_byte(b" ", byte, text)?;
     text.push(taken_words(taken))
 }
@@ -145,6 +144,19 @@ fn taken_words(taken: bool) -> &'static [u8]
     ensures { result.now ≡ taken_text taken }
 {
     if taken { b" taken" } else { b" not taken" }
+}
+
+/// Appends a command to single targets, and the byte behind its header.
+fn push_single(
+    command: &Direct,
+    address: Addr7,
+    byte: Option<u8>,
+    text: &mut Text,
+) -> Result<(), AllocError>
+    ensures { OnOk result (text.new ≡ text.old ++ (words_text (command_text command.now) address ++ answer_text byte)) }
+{
+    push_address(command_words(command), address, text)?;
+    push_answer(byte, text)
 }
 
 /// The words for a command to single targets.
@@ -216,6 +228,14 @@ fn push_after(byte: Option<u8>, text: &mut Text) -> Result<(), AllocError>
         Some(byte) => push_byte(b" ", byte, text),
         None => Ok(()),
     }
+}
+
+/// Appends that a trace is refused, and its fault.
+fn push_refusal(fault: &Fault, text: &mut Text) -> Result<(), AllocError>
+    ensures { OnOk result (text.new ≡ text.old ++ (codes "refused " ++ fault_text fault.now)) }
+{
+    text.push(b"refused ")?;
+    push_fault(fault, text)
 }
 
 /// Appends a fault, and its number if it has one.

@@ -4,9 +4,7 @@ use Rattle.i3c_base.specs.declared.answers.RoundReply.{RoundReply}
 use Rattle.i3c_base.specs.declared.range.TheConstants.{SLOTS}
 use Rattle.i3c_base.specs.Cutting.{CutList, no_cuts}
 use Rattle.i3c_base.specs.State.{State}
-use Rattle.i3c_step.specs.declared.events.Command.{Command as Frame}
 use Rattle.i3c_step.specs.declared.events.Event.{Event}
-use Rattle.i3c_step.specs.Commands.{event_of}
 use Rattle.i3c_step.specs.declared.replies.Reply.{Reply}
 use Rattle.i3c_step.specs.Step.{Acts, IsShort, Step, cuts_active, first_refusal}
 use Rattle.i3c_step.specs.declared.replies.Refusal.{Refusal as BusRefusal}
@@ -18,35 +16,24 @@ use Rattle.i3c_script.specs.declared.faults.Stop.{Stop}
 use Rattle.i3c_lines.specs.Naming.{place_named, slot_named}
 use Rattle.i3c_lines.specs.declared.names.Name.{Name}
 use Rattle.i3c_lines.specs.declared.names.Names.{Names}
-use Rattle.i3c_script.specs.Asking.{AreOver, Asked, AsksForNone, Assigns, Carries, ComesOf, Does, EndsRounds, GoOn, IsFrameOf, Ran, Rounds, RoundsUp, goes_on, in_its_slot}
+use Rattle.i3c_script.specs.Asking.{AreOver, Asked, AsksForNone, Assigns, Carries, ComesOf, Does, EndsRounds, GoOn, Ran, Rounds, RoundsUp, goes_on, in_its_slot}
 use Rattle.i3c_script.specs.Stops.{reply_stop}
 
 -- a line that is refused asks for no event
-pub none_asked : (ran : Ran) (names : Names) (wish : Wish) (why : Refusal) → Asked ran.state names ran.policy ran.cuts wish (Err why) → AsksForNone ran names wish (Stop.Refused why)
+pub none_asked : (ran : Ran) (names : Names) (wish : Wish) (why : Refusal) → Asked ran.state names ran.cuts wish (Err why) → AsksForNone ran names wish (Stop.Refused why)
 none_asked ran names (Wish.Attach name setup) why asked = inl (why, asked, refl)
 none_asked ran names (Wish.DropOff name) why asked = (why, asked, refl)
 none_asked ran names (Wish.Raise name byte) why asked = (why, asked, refl)
 none_asked ran names (Wish.AskJoin name) why asked = (why, asked, refl)
 none_asked ran names (Wish.AskRole name) why asked = (why, asked, refl)
-none_asked ran names Wish.Reset why asked = (why, asked, refl)
-none_asked ran names Wish.List why asked = (why, asked, refl)
-none_asked ran names (Wish.Read at) why asked = (why, asked, refl)
-none_asked ran names (Wish.Write at bytes) why asked = (why, asked, refl)
 none_asked ran names (Wish.HandOver to) why asked = (why, asked, refl)
-none_asked ran names Wish.Serve why asked = (why, asked, refl)
-none_asked ran names (Wish.Enec choice) why asked = (why, asked, refl)
-none_asked ran names (Wish.Disec choice) why asked = (why, asked, refl)
 none_asked ran names Wish.Open why asked = (why, asked, refl)
 none_asked ran names Wish.Round why asked = (why, asked, refl)
 none_asked ran names Wish.End why asked = (why, asked, refl)
 
 -- a line's event is asked for, and the bus's step is its reply
-pub carried_by : (ran : Ran) (names : Names) (wish : Wish) (event : Event) (reply : Reply) (mid new : State) → Asked ran.state names ran.policy ran.cuts wish (Ok event) → Step mid event reply new → mid ≡ ran.state → Carries ran names wish reply new
+pub carried_by : (ran : Ran) (names : Names) (wish : Wish) (event : Event) (reply : Reply) (mid new : State) → Asked ran.state names ran.cuts wish (Ok event) → Step mid event reply new → mid ≡ ran.state → Carries ran names wish reply new
 carried_by ran names wish event reply mid new asked step same = (event, asked, subst (λ st. Step st event reply new) same step)
-
--- a frame under the role is its line's event
-pub sent_by : (ran : Ran) (names : Names) (wish : Wish) (frame : Frame) (reply : Reply) (new : State) → IsFrameOf wish frame → Step ran.state (event_of frame ran.policy ran.cuts) reply new → Carries ran names wish reply new
-sent_by ran names wish frame reply new is step = (event_of frame ran.policy ran.cuts, is.1 ran.state names ran.policy ran.cuts, step)
 
 -- a raise by a device's name
 pub raised_by : (ran : Ran) (names : Names) (name : Name) (byte : Option ℕ) (slot : ℕ) (reply : Reply) (new : State) → Ok slot ≡ slot_named (place_named names name) → Step ran.state (Event.Raise slot byte) reply new

@@ -1,5 +1,5 @@
 -- The event that a line asks for, what the line comes to, and the cuts that it takes or leaves.
-use Rattle.std.specs.Prelude.{◌≡◌, ◌⊎◌, ℕ, Bool, true, false, List, [], ◌∷◌, length, Option, Some, None, Result, Ok, Err, IfErr, if◌then◌else◌, is_some, slice_set}
+use Rattle.std.specs.Prelude.{◌≡◌, ◌⊎◌, ℕ, Bool, true, false, List, [], ◌∷◌, length, Option, Some, None, Result, Ok, Err, IfErr, MatchResult, if◌then◌else◌, is_some, slice_set}
 use Rattle.i3c_base.specs.declared.answers.RoundReply.{RoundReply}
 use Rattle.i3c_base.specs.declared.device.Setup.{Setup}
 use Rattle.i3c_base.specs.declared.range.TheConstants.{SLOTS}
@@ -47,32 +47,25 @@ abbrev pub in_its_slot : (ℕ → Event) → Result ℕ Refusal → Result Event
 in_its_slot event (Ok slot) = Ok (event slot)
 in_its_slot event (Err why) = Err why
 
--- the event that a line asks for under this policy and with these cuts, or why it asks for none
-abbrev pub Asked : State → Names → Fixed → CutList → Wish → Result Event Refusal → Type 0
-Asked st names policy cuts (Wish.Attach name setup) asked = Attaches st (place_named names name) setup asked
-Asked st names policy cuts (Wish.DropOff name) asked = asked ≡ in_its_slot Event.DropOff (slot_named (place_named names name))
-Asked st names policy cuts (Wish.Raise name byte) asked = asked ≡ in_its_slot (λ slot. Event.Raise slot byte) (slot_named (place_named names name))
-Asked st names policy cuts (Wish.AskJoin name) asked = asked ≡ in_its_slot Event.AskJoin (slot_named (place_named names name))
-Asked st names policy cuts (Wish.AskRole name) asked = asked ≡ in_its_slot Event.AskRole (slot_named (place_named names name))
-Asked st names policy cuts Wish.Reset asked = asked ≡ Ok (Event.Reset policy cuts)
-Asked st names policy cuts Wish.List asked = asked ≡ Ok (Event.SendList policy cuts)
-Asked st names policy cuts (Wish.Read at) asked = asked ≡ Ok (Event.ReadFrom at policy cuts)
-Asked st names policy cuts (Wish.Write at bytes) asked = asked ≡ Ok (Event.WriteTo at bytes policy cuts)
-Asked st names policy cuts (Wish.HandOver to) asked = asked ≡ Ok (Event.HandOver to cuts)
-Asked st names policy cuts Wish.Serve asked = asked ≡ Ok (Event.Serve policy cuts)
-Asked st names policy cuts (Wish.Enec choice) asked = asked ≡ Ok (Event.Enec choice.to choice.kinds policy cuts)
-Asked st names policy cuts (Wish.Disec choice) asked = asked ≡ Ok (Event.Disec choice.to choice.kinds policy cuts)
-Asked st names policy cuts Wish.Open asked = asked ≡ Ok (Event.OpenDaa cuts)
-Asked st names policy cuts Wish.Round asked = asked ≡ Ok (Event.Round cuts)
-Asked st names policy cuts Wish.End asked = asked ≡ Ok Event.EndDaa
+-- the event that a line asks for with these cuts, or why it asks for none
+abbrev pub Asked : State → Names → CutList → Wish → Result Event Refusal → Type 0
+Asked st names cuts (Wish.Attach name setup) asked = Attaches st (place_named names name) setup asked
+Asked st names cuts (Wish.DropOff name) asked = asked ≡ in_its_slot Event.DropOff (slot_named (place_named names name))
+Asked st names cuts (Wish.Raise name byte) asked = asked ≡ in_its_slot (λ slot. Event.Raise slot byte) (slot_named (place_named names name))
+Asked st names cuts (Wish.AskJoin name) asked = asked ≡ in_its_slot Event.AskJoin (slot_named (place_named names name))
+Asked st names cuts (Wish.AskRole name) asked = asked ≡ in_its_slot Event.AskRole (slot_named (place_named names name))
+Asked st names cuts (Wish.HandOver to) asked = asked ≡ Ok (Event.HandOver to cuts)
+Asked st names cuts Wish.Open asked = asked ≡ Ok (Event.OpenDaa cuts)
+Asked st names cuts Wish.Round asked = asked ≡ Ok (Event.Round cuts)
+Asked st names cuts Wish.End asked = asked ≡ Ok Event.EndDaa
 
 -- the event that a line asks for, with this reply, is one step to this state
 abbrev pub Carries : Ran → Names → Wish → Reply → State → Type 0
-Carries ran names wish reply new = (event : Event) × Asked ran.state names ran.policy ran.cuts wish (Ok event) × Step ran.state event reply new
+Carries ran names wish reply new = (event : Event) × Asked ran.state names ran.cuts wish (Ok event) × Step ran.state event reply new
 
 -- the line asks for no event, and is refused so
 abbrev pub IsRefused : Ran → Names → Wish → Stop → Type 0
-IsRefused ran names wish stop = (why : Refusal) × Asked ran.state names ran.policy ran.cuts wish (Err why) × (stop ≡ Stop.Refused why)
+IsRefused ran names wish stop = (why : Refusal) × Asked ran.state names ran.cuts wish (Err why) × (stop ≡ Stop.Refused why)
 
 -- the same; the line of a device that comes may be short of memory for its name besides
 abbrev pub AsksForNone : Ran → Names → Wish → Stop → Type 0
@@ -97,10 +90,16 @@ abbrev pub StopsAt : Ran → Names → Wish → Stop → State → Type 0
 StopsAt ran names wish stop new = ((new ≡ ran.state) × AsksForNone ran names wish stop)
     ⊎ ((reply : Reply) × Carries ran names wish reply new × ((stop ≡ Stop.Memory) ⊎ (reply_stop reply ≡ Some stop)))
 
--- what a line that is one event comes to
+-- what a line that is such an event comes to
 abbrev pub Does : Ran → Names → Wish → Result (Unit {0}) Stop → State → Type 0
 Does ran names wish (Ok done) new = (reply : Reply) × Carries ran names wish reply new × (reply_stop reply ≡ None)
 Does ran names wish (Err stop) new = StopsAt ran names wish stop new
+
+-- what a line comes to that sends a frame under the role: the frame, with the policy and the cuts of the script, is one step to this state, and the line
+-- stops if its reply is that, or if memory is short for what it prints
+abbrev pub Sends : Ran → Frame → Result (Unit {0}) Stop → State → Type 0
+Sends ran frame result new = (reply : Reply) × Step ran.state (event_of frame ran.policy ran.cuts) reply new
+    × MatchResult result (λ _. reply_stop reply ≡ None) (λ stop. (stop ≡ Stop.Memory) ⊎ (reply_stop reply ≡ Some stop))
 
 -- a round's reply after which there is another: an address was given, or its acknowledgment was missing
 abbrev pub goes_on : Reply → Bool
@@ -165,6 +164,7 @@ Assigns old cuts result new = (opened : State) × (reply : Reply) × Step old (E
 
 -- what a line comes to and does to the bus
 abbrev pub Moves : Ran → Names → Command → Result (Unit {0}) Stop → State → Type 0
+Moves ran names (Command.Frame frame) result new = Sends ran frame result new
 Moves ran names (Command.Event wish) result new = Does ran names wish result new
 Moves ran names Command.Daa result new = Assigns ran.state ran.cuts result new
 Moves ran names (Command.Cut name bit) result new = (new ≡ ran.state) × (result ≡ comes_to (device_named ran.state (place_named names name)))
@@ -181,21 +181,10 @@ sends_frame (Wish.DropOff name) = false
 sends_frame (Wish.Raise name byte) = false
 sends_frame (Wish.AskJoin name) = false
 sends_frame (Wish.AskRole name) = false
-sends_frame Wish.Reset = true
-sends_frame Wish.List = true
-sends_frame (Wish.Read at) = true
-sends_frame (Wish.Write at bytes) = true
 sends_frame (Wish.HandOver to) = true
-sends_frame Wish.Serve = true
-sends_frame (Wish.Enec choice) = true
-sends_frame (Wish.Disec choice) = true
 sends_frame Wish.Open = true
 sends_frame Wish.Round = true
 sends_frame Wish.End = false
-
--- the line sends this frame under the role, with the policy and the cuts of the script
-abbrev pub IsFrameOf : Wish → Frame → Type 0
-IsFrameOf wish frame = (sends_frame wish ≡ true) × ((st : State) (names : Names) (policy : Fixed) (cuts : CutList) → Asked st names policy cuts wish (Ok (event_of frame policy cuts)))
 
 -- the cuts that an event's line takes with it: those that wait, if it sends a frame
 abbrev pub cuts_taken : Wish → CutList → CutList
@@ -212,6 +201,7 @@ cut_named (Err why) bit cuts = cuts
 
 -- the cuts that wait after a line, be it refused or not
 abbrev pub cuts_after : Ran → Names → Command → CutList
+cuts_after ran names (Command.Frame frame) = no_cuts
 cuts_after ran names (Command.Event wish) = cuts_left wish ran.cuts
 cuts_after ran names Command.Daa = no_cuts
 cuts_after ran names (Command.Cut name bit) = cut_named (device_named ran.state (place_named names name)) bit ran.cuts

@@ -1,14 +1,13 @@
-ghost use Rattle.std.specs.Prelude.{◌≡◌, ◌↔◌, IfSome, IsTrue, MatchOption};
+ghost use Rattle.std.specs.Prelude.{◌≡◌, ◌↔◌, IsTrue, MatchOption};
 ghost use Rattle.i3c_base.specs.Cutting.{no_cuts};
 ghost use Rattle.i3c_base.specs.State.{IsPresent};
-ghost use Rattle.i3c_script.specs.Asking.{Asked, Attaches, IsFrameOf, IsTaken, cuts_left, cuts_taken, device_named};
+ghost use Rattle.i3c_script.specs.Asking.{Asked, Attaches, IsTaken, cuts_left, cuts_taken, device_named};
 ghost use Rattle.i3c_lines.specs.Naming.{place_named};
 ghost use Rattle.i3c_script.specs.Slots.{AllPresentBelow};
 
-use arrayvec::ArrayVec;
-use i3c_base::{Cuts, Fixed, SLOTS, Setup, Slot};
-use i3c_bus::{Bus, Command as Frame, Event, WRITE_KEPT};
-use i3c_lines::{Choice, Name, Names, Place, Refusal, Wish};
+use i3c_base::{Cuts, SLOTS, Setup, Slot};
+use i3c_bus::{Bus, Event};
+use i3c_lines::{Name, Names, Place, Refusal, Wish};
 use std::mem;
 
 /// The event that a line asks for, with its names as slots, or why it asks for none. A frame takes the cuts that wait
@@ -16,11 +15,10 @@ use std::mem;
 pub(crate) fn event_of(
     bus: &Bus,
     names: &Names,
-    policy: Fixed,
     cuts: &mut Cuts,
     wish: &Wish,
 ) -> Result<Event, Refusal>
-    ensures asked { Asked bus.now.state names.now policy cuts.old wish.now result }
+    ensures asked { Asked bus.now.state names.now cuts.old wish.now result }
     ensures cuts { cuts.new ≡ cuts_left wish.now cuts.old }
 {
     let waiting = frame_cuts(cuts, wish);
@@ -29,54 +27,12 @@ pub(crate) fn event_of(
         Wish::DropOff { name } => Ok(Event::DropOff(names.slot_of(name)?)),
         Wish::Raise { name, byte } => Ok(Event::Raise(names.slot_of(name)?, *byte)),
         Wish::AskJoin { name } => Ok(Event::AskJoin(names.slot_of(name)?)),
-        Wish::Serve => Ok(Event::Serve(policy, waiting)),
-        Wish::Enec(Choice { kinds, to }) => Ok(Event::Enec(*to, *kinds, policy, waiting)),
-        Wish::Disec(Choice { kinds, to }) => Ok(Event::Disec(*to, *kinds, policy, waiting)),
         Wish::AskRole { name } => Ok(Event::AskRole(names.slot_of(name)?)),
-        Wish::Reset => Ok(Event::Reset(policy, waiting)),
-        Wish::List => Ok(Event::SendList(policy, waiting)),
-        Wish::Read { at } => Ok(Event::ReadFrom(*at, policy, waiting)),
-        Wish::Write { at, bytes } => Ok(Event::WriteTo(*at, copied(bytes), policy, waiting)),
         Wish::HandOver { to } => Ok(Event::HandOver(*to, waiting)),
         Wish::Open => Ok(Event::OpenDaa(waiting)),
         Wish::Round => Ok(Event::Round(waiting)),
         Wish::End => Ok(Event::EndDaa),
     }
-}
-
-/// The frame under the role that a line sends, if it sends one.
-pub(crate) fn frame_of(wish: &Wish) -> Option<Frame>
-    ensures sent { IfSome result (λ frame. IsFrameOf wish.now frame) }
-{
-    match wish {
-        Wish::Serve => Some(Frame::Serve),
-        Wish::Enec(Choice { kinds, to }) => Some(Frame::Enec(*to, *kinds)),
-        Wish::Disec(Choice { kinds, to }) => Some(Frame::Disec(*to, *kinds)),
-        Wish::Reset => Some(Frame::Reset),
-        Wish::List => Some(Frame::SendList),
-        Wish::Read { at } => Some(Frame::ReadFrom(*at)),
-        Wish::Write { at, bytes } => Some(Frame::WriteTo(*at, copied(bytes))),
-        Wish::Attach { .. }
-        | Wish::DropOff { .. }
-        | Wish::Raise { .. }
-        | Wish::AskJoin { .. }
-        | Wish::AskRole { .. }
-        | Wish::HandOver { .. }
-        | Wish::Open
-        | Wish::Round
-        | Wish::End => None,
-    }
-}
-
-/// The same bytes.
-fn copied(bytes: &ArrayVec<u8, WRITE_KEPT>) -> ArrayVec<u8, WRITE_KEPT>
-    ensures { result ≡ bytes.now }
-{
-    let mut copy = ArrayVec::new();
-    let Ok(()) = copy.try_extend_from_slice(bytes.as_slice()) else {
-        unreachable!()
-    };
-    copy
 }
 
 /// The cuts that a line's frame takes, of those that wait. A line that sends none leaves them.

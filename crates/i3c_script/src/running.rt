@@ -1,7 +1,7 @@
 ghost use Rattle.std.specs.Prelude.{◌≡◌, Some, None};
 ghost use Rattle.i3c_bus.specs.declared.tokens.Hand.{Hand as HandValue};
 
-use crate::asking::{event_of, frame_of, slot_of_device};
+use crate::asking::{event_of, slot_of_device};
 use crate::assigning;
 use crate::faults::{Stop, line_refusal};
 use crate::show::show;
@@ -46,9 +46,8 @@ impl Running {
     ghost use Rattle.i3c_base.specs.Cutting.{no_cuts};
     ghost use Rattle.i3c_base.specs.State.{IsStart, legacy_targets_of};
     ghost use Rattle.i3c_base.specs.declared.requests.Verdict.TheVariants.{Accept};
-    ghost use Rattle.i3c_lines.specs.declared.command.Wish.{Wish as WishValue};
     ghost use Rattle.i3c_step.specs.Step.{Step};
-    ghost use Rattle.i3c_script.specs.Asking.{AsksForNone, Asked, Assigns, Does, IsFrameOf, Moves, comes_to, cut_named, cuts_after, cuts_left, device_named};
+    ghost use Rattle.i3c_script.specs.Asking.{AsksForNone, Asked, Assigns, Does, Moves, Sends, comes_to, cut_named, cuts_after, cuts_left, device_named};
     ghost use Rattle.i3c_lines.specs.Naming.{place_named};
     ghost use Rattle.i3c_lines.specs.Policies.{each_kind};
 
@@ -91,6 +90,7 @@ impl Running {
     {
         match command {
             Command::Legacy { .. } | Command::Main { .. } => Err(Refusal::BusMade.into()),
+            Command::Frame(frame) => self.send(names, frame, text),
             Command::Event(wish) => self.carry_out(names, wish, text),
             Command::Policy(named) => {
                 self.policy = *named;
@@ -116,7 +116,7 @@ impl Running {
         Ok(())
     }
 
-    /// A line that is one event.
+    /// A line that is any other event.
     fn carry_out(&mut self, names: &mut Names, wish: &Wish, text: &mut Text) -> Result<(), Stop>
         ensures policy { self.new.policy ≡ self.old.policy }
         ensures cuts { self.new.cuts ≡ cuts_left wish.now self.old.cuts }
@@ -124,11 +124,7 @@ impl Running {
     {
         match wish {
             Wish::Raise { name, byte } => self.raise(names, name, *byte, text),
-            Wish::Serve => self.send(names, &Frame::Serve, text),
-            _ => match &frame_of(wish) {
-                Some(frame) => self.send(names, frame, text),
-                None => self.carry_event(names, wish, text),
-            },
+            _ => self.carry_event(names, wish, text),
         }
     }
 
@@ -161,7 +157,7 @@ impl Running {
     fn send(&mut self, names: &Names, frame: &Frame, text: &mut Text) -> Result<(), Stop>
         ensures policy { self.new.policy ≡ self.old.policy }
         ensures cuts { self.new.cuts ≡ no_cuts }
-        ensures carried { (wish : WishValue) → IsFrameOf wish frame.now → Does self.old names.now wish result self.new.state }
+        ensures carried { Sends self.old frame.now result self.new.state }
     {
         let Some(hand) = &self.hand else {
             unreachable!()
@@ -174,7 +170,7 @@ impl Running {
         tell(names, Subject::Nothing, &reply, text)
     }
 
-    /// Any other event that is a line: the wish is read to the event, the bus answers, and the reply is printed.
+    /// An event that is a line: the wish is read to the event, the bus answers, and the reply is printed.
     // kept apart, so that raises and the frames under the role don't pay for the room that an event takes on the stack
     #[inline(never)]
     fn carry_event(&mut self, names: &mut Names, wish: &Wish, text: &mut Text) -> Result<(), Stop>
@@ -194,10 +190,10 @@ impl Running {
         ensures policy { self.new.policy ≡ self.old.policy }
         ensures cuts { self.new.cuts ≡ cuts_left wish.now self.old.cuts }
         ensures asked { MatchResult result
-            (λ event. Asked self.old.state names.old self.old.policy self.old.cuts wish.now (Ok event))
+            (λ event. Asked self.old.state names.old self.old.cuts wish.now (Ok event))
             (λ stop. AsksForNone self.old names.old wish.now stop) }
     {
-        let event = match event_of(&self.bus, names, self.policy, &mut self.cuts, wish) {
+        let event = match event_of(&self.bus, names, &mut self.cuts, wish) {
             Ok(event) => event,
             Err(why) => return Err(Stop::Refused(why)),
         };

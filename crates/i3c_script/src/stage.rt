@@ -41,7 +41,8 @@ impl Stage {
                     declare(legacies, names, name, *address, *lvr, text)
                 }
                 Command::Main { name, setup } => self.begin(alloc, names, name, *setup, text),
-                Command::Event(_)
+                Command::Frame(_)
+                | Command::Event(_)
                 | Command::Policy(_)
                 | Command::Cut { .. }
                 | Command::Daa

@@ -10,9 +10,6 @@ use i3c_bus::{Event, Framed, Reply};
 use i3c_lines::{Names, Text};
 use std::alloc::AllocError;
 
-/// How many hex digits a provisioned ID has.
-const PID_DIGITS: usize = 12;
-
 /// What of its event a reply's text has in it.
 #[derive(Clone, Copy)]
 pub(crate) enum Subject {
@@ -198,7 +195,7 @@ fn show_assigned(address: Addr7, identity: &Identity, text: &mut Text) -> Result
 fn show_identity(identity: &Identity, text: &mut Text) -> Result<(), AllocError>
     ensures { OnOk result (text.new ≡ text.old ++ identity_text identity.now) }
 {
-    text.push_hex(identity.pid.get(), PID_DIGITS)?;
+    text.push_pid(identity.pid)?;
     show_field(identity.bcr.0, text)?;
     show_field(identity.dcr.0, text)?;
     text.end()

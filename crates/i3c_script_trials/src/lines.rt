@@ -1,5 +1,5 @@
 use crate::checks::{holds, same};
-use i3c_base::{Addr7, Slot};
+use i3c_base::{Addr7, Pid, Slot};
 use i3c_lines::{Name, Names, Refusal, Text};
 use std::process::Abort;
 
@@ -110,12 +110,13 @@ fn words_of_refusals(rt: HostRuntime) {
 // Numbers as they are printed.
 #[test]
 fn numerals(rt: HostRuntime) {
+    let pid = Pid::new(0x0204_0000_00BE).expect(&rt, "a provisioned ID");
     let mut text = Text::new(rt.alloc());
     text.push_decimal(0).expect(&rt, "memory");
     text.push_decimal(u64::MAX).expect(&rt, "memory");
     text.push_byte(0xA5).expect(&rt, "memory");
     text.push_bytes(&[0x00, 0xFF]).expect(&rt, "memory");
-    text.push_hex(0x0204_0000_00BE, 12).expect(&rt, "memory");
+    text.push_pid(pid).expect(&rt, "memory");
     let wanted = b"018446744073709551615A500FF0204000000BE";
     same(&rt, text.as_bytes(), wanted.as_slice());
 }

@@ -1,9 +1,9 @@
 use crate::faults::Fault;
 use crate::script::{KNOWN, Script, legacies_of};
 use i3c_base::{Addr7, Cuts, Fixed, Lvr, RoundReply, SLOTS, Setup, Slot};
-use i3c_bus::{Event, Reply, copy_of};
+use i3c_bus::{Command as Frame, Event, Reply, copy_of};
 use i3c_legacy::Legacies;
-use i3c_lines::{ACCEPT_ALL, Choice as Kinds, Command, Name, Names, Place, Wish, read_line};
+use i3c_lines::{ACCEPT_ALL, Command, Name, Names, Place, Wish, read_line};
 use i3c_model::{Choice, Plain};
 use std::alloc::Global;
 use std::{mem, str};
@@ -167,6 +167,11 @@ impl Running {
     fn obey(&mut self, names: &mut Names, command: &Command) -> Result<(), Fault> {
         let _ = KNOWN;
         match command {
+            Command::Frame(frame) => {
+                let event = self.sent(frame);
+                let _ = self.happen(event)?;
+                Ok(())
+            }
             Command::Event(wish) => {
                 if let Some(event) = self.event_of(names, wish) {
                     if let (Wish::Attach { name, .. }, Event::Attach(slot, _)) = (wish, &event) {
@@ -292,26 +297,24 @@ impl Running {
             | Wish::Raise { name, .. }
             | Wish::AskJoin { name }
             | Wish::AskRole { name } => event_at(names.slot_of(name).ok()?, wish),
+            Wish::HandOver { to } => Some(Event::HandOver(*to, self.take())),
+            Wish::Open => Some(Event::OpenDaa(self.take())),
+            Wish::Round => Some(Event::Round(self.take())),
             Wish::End => Some(Event::EndDaa),
-            _ => self.frame_of(wish),
         }
     }
 
-    // The frame that a line asks for, if it asks for one: with the cuts that were noted for it.
-    fn frame_of(&mut self, wish: &Wish) -> Option<Event> {
+    // A frame under the role: with the policy, and with the cuts that were noted for it.
+    fn sent(&mut self, frame: &Frame) -> Event {
         let (policy, cuts) = (self.policy, self.take());
-        match wish {
-            Wish::Serve => Some(Event::Serve(policy, cuts)),
-            Wish::Enec(Kinds { kinds, to }) => Some(Event::Enec(*to, *kinds, policy, cuts)),
-            Wish::Disec(Kinds { kinds, to }) => Some(Event::Disec(*to, *kinds, policy, cuts)),
-            Wish::Reset => Some(Event::Reset(policy, cuts)),
-            Wish::List => Some(Event::SendList(policy, cuts)),
-            Wish::Read { at } => Some(Event::ReadFrom(*at, policy, cuts)),
-            Wish::Write { at, bytes } => Some(Event::WriteTo(*at, copy_of(bytes), policy, cuts)),
-            Wish::HandOver { to } => Some(Event::HandOver(*to, cuts)),
-            Wish::Open => Some(Event::OpenDaa(cuts)),
-            Wish::Round => Some(Event::Round(cuts)),
-            _ => None,
+        match frame {
+            Frame::Serve => Event::Serve(policy, cuts),
+            Frame::Enec(to, kinds) => Event::Enec(*to, *kinds, policy, cuts),
+            Frame::Disec(to, kinds) => Event::Disec(*to, *kinds, policy, cuts),
+            Frame::Reset => Event::Reset(policy, cuts),
+            Frame::SendList => Event::SendList(policy, cuts),
+            Frame::ReadFrom(at) => Event::ReadFrom(*at, policy, cuts),
+            Frame::WriteTo(at, bytes) => Event::WriteTo(*at, copy_of(bytes), policy, cuts),
         }
     }
 
