@@ -3,7 +3,7 @@ use crate::status::{came_to, status_of};
 use crate::stressing::run_stress;
 use crate::words::{STANDARD_INPUT, Task, Work, stress_named, task_named};
 use i3c_scenario::{Tally, run_script, run_trace};
-use std::io::{BufWriter, ErrorKind, Read, Write};
+use std::io::{ErrorKind, Read, Write};
 use std::rt::{Env, Files};
 use std::sync::Wait;
 use std::thread::Threads;
@@ -71,9 +71,7 @@ fn run_from<R: Print + AllocGlobal, S: Read>(
     work: &Work,
     input: &mut S,
 ) -> Result<Tally, Fault> {
-    let Ok(mut printed) = BufWriter::new(rt.alloc(), io::writer(rt)) else {
-        return Err(Fault::Memory);
-    };
+    let mut printed = io::writer(rt);
     let outcome = match work {
         Work::Run => run_script(rt.alloc(), input, &mut printed),
         Work::Trace => run_trace(rt.alloc(), input, &mut printed),

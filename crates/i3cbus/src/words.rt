@@ -30,6 +30,8 @@ const FILE: &str = "FILE";
 
 /// What `--help` says below the list of commands.
 const TEACHING: &str = "\
+Without a command, the script on standard input is run, as 'run -' does.
+
 A script says what happens on the bus, one line for each event, and each line prints what came of it:
 
   main hub 020400000001 46 C0   the bus starts with its controller: name, PID, BCR, DCR
@@ -208,7 +210,7 @@ fn posts_argument<'a>(alloc: Global) -> Arg<'a> {
         .value_parser(value_parser!(u32).range(1..=i64::from(MOST_POSTS)))
 }
 
-/// The argument of both commands.
+/// The argument of the commands that read a file.
 fn file_argument<'a>(alloc: Global, help: &'a str) -> Arg<'a> {
     Arg::new(alloc, FILE).required(true).help(help)
 }
