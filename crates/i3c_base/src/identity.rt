@@ -15,8 +15,11 @@ pub struct Lvr(pub u8);
 /// A device's identity: the 64 bits that it drives in an assignment (I3C Basic 5.1.4.2).
 #[derive(Clone, Copy, Debug, PartialEq, Eq, PartialOrd, Ord, Default)]
 pub struct Identity {
+    /// The provisioned ID, 48 bits.
     pub pid: Pid,
+    /// The bus characteristics.
     pub bcr: Bcr,
+    /// The device characteristics.
     pub dcr: Dcr,
 }
 

@@ -5,7 +5,9 @@ use bitflags::{Flag, Flags, bitflag_items};
 /// What a command does to the kinds of events that are enabled: ENEC enables, DISEC disables (I3C Basic 5.1.9.3.1).
 #[derive(Clone, Copy, Debug, PartialEq, Eq)]
 pub enum Change {
+    /// ENEC: the kinds are enabled.
     Enable,
+    /// DISEC: they are disabled.
     Disable,
 }
 

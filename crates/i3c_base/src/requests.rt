@@ -21,15 +21,20 @@ impl Default for Request {
 /// The controller's answer to a request: ACK or NACK.
 #[derive(Clone, Copy, Debug, PartialEq, Eq)]
 pub enum Verdict {
+    /// The header is acknowledged.
     Accept,
+    /// It is not, and the request stays as it was.
     Refuse,
 }
 
 /// A verdict for each kind of request: the policy that events carry.
 #[derive(Clone, Copy, Debug, PartialEq, Eq)]
 pub struct Fixed {
+    /// On a Hot-Join.
     pub join: Verdict,
+    /// On a request for the controller role.
     pub role: Verdict,
+    /// On an interrupt.
     pub interrupt: Verdict,
 }
 
@@ -53,8 +58,12 @@ pub enum Served {
 /// A recorded interrupt: the slot and number of its raise, and the address and byte that the controller read.
 #[derive(Clone, Copy, Debug, PartialEq, Eq, Drop)]
 pub struct Record {
+    /// The slot of the device that raised it.
     pub slot: Slot,
+    /// The number of the raise, from 1 on for each slot.
     pub number: u64,
+    /// The address that the device had in the frame.
     pub at: Addr7,
+    /// The mandatory byte that was read, where one is due.
     pub byte: Option<u8>,
 }

@@ -9,7 +9,9 @@ use thiserror::Error;
 /// A command as it is read after one header: its code, and the byte of kinds of a broadcast ENEC or DISEC.
 #[derive(Clone, Copy, Debug, PartialEq, Eq)]
 pub struct Command {
+    /// What is commanded.
     pub code: Code,
+    /// The byte of kinds, of ENEC and DISEC to all.
     pub kinds: Option<u8>,
 }
 

@@ -8,7 +8,7 @@ use i3c_base::{Addr7, Request};
 use i3c_header::key;
 
 /// The lowest of some keys and the slots that drive it, where this slot drives a key too. The lower key wins a header
-/// (I3C Basic 5.1.6.2): a line is low as soon as one pulls it low, and who reads another bit than its own gives up.
+/// (I3C Basic 5.1.2.2.1): a line is low as soon as one pulls it low, and who reads another bit than its own gives up.
 pub(crate) fn joined(first: Option<(u8, SlotSet)>, key: u8, index: usize) -> (u8, SlotSet)
     requires { index < SLOT_COUNT }
     ensures { MatchOption first (IsAlone key index result) (λ f. Precedes f key index result) }

@@ -147,7 +147,7 @@ impl Devices {
         self.occupants.raise(slot, raised, byte, enabled)
     }
 
-    /// The first of the requests that the devices drive into one header, and the slots that drive it (I3C Basic 5.1.6.2).
+    /// The first of the requests that the devices drive into one header, and the slots that drive it (I3C Basic 5.1.2.2.1).
     /// The active controller drives none.
     pub fn first_request(&self, active: Slot) -> Option<(Request, SlotSet)>
         ensures first { MatchOption result (NobodyDrives active self.now) (IsFirstDriven active self.now) }

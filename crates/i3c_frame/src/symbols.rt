@@ -26,7 +26,7 @@ const BROADCAST: u8 = 0x7E;
 /// hexadecimal.
 #[derive(Clone, Copy, Debug, PartialEq, Eq)]
 pub enum Symbol {
-    /// START: `S` (I3C Basic 5.1.2.1).
+    /// START: `S` (I3C Basic 5.1.2).
     Start,
     /// Repeated START: `Sr`.
     Repeated,

@@ -10,7 +10,9 @@ use thiserror::Error;
 /// A written word: eight bits, and the T bit that follows them (I3C Basic 5.1.2.3).
 #[derive(Clone, Copy, Debug, PartialEq, Eq, Default)]
 pub struct Word {
+    /// The eight bits.
     pub byte: u8,
+    /// The ninth.
     pub t: bool,
 }
 
