@@ -6,9 +6,7 @@ use i3c_frame::Tap;
 use i3c_handoff::Role;
 use i3c_ibi::Policy;
 use i3c_step::{FrameFault, Framed};
-
-/// The bits of a word, of which a code is one.
-const WORD_BITS: u16 = 9;
+use i3c_word::WORD_BITS;
 
 impl Bus {
     ghost use Rattle.std.specs.Prelude.{◌≡◌, ◌≤◌};

@@ -14,9 +14,7 @@ use i3c_ibi::{
     tell_request,
 };
 use i3c_step::{Command, FrameFault, Framed, OutOfMemory, Refusal, Reply, TargetFault};
-
-/// The bits of a header.
-const HEADER_BITS: u16 = 9;
+use i3c_word::HEADER_BITS;
 
 /// How a frame began: what it served, and how many bits it has sent after its first, which is the header's ninth.
 #[derive(Clone, Copy)]

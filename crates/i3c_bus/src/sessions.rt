@@ -7,9 +7,7 @@ use i3c_entdaa::{Round, round, tell_round};
 use i3c_frame::{Symbol, Tap};
 use i3c_handoff::Role;
 use i3c_step::ActiveStays;
-
-/// The bits of ENTDAA's code.
-const CODE_BITS: u16 = 9;
+use i3c_word::WORD_BITS;
 
 impl Bus {
     ghost use Rattle.std.specs.Prelude.{◌≡◌, true, false, IfErr};
@@ -43,7 +41,7 @@ impl Bus {
         let Begun { served, bits } = self.go_on(begun, tap, cuts);
         tell_open(tap);
         self.open();
-        self.drop_lost(cuts, bits + CODE_BITS);
+        self.drop_lost(cuts, bits + WORD_BITS);
         Ok((Session { role }, served))
     }
 

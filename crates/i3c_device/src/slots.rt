@@ -10,11 +10,8 @@ use crate::walks::{
 };
 use i3c_base::{Addr7, Change, Cuts, Kinds, REGISTERS, RaiseRefusal, Request, Slot};
 use i3c_ccc::Code;
-use i3c_word::Word;
+use i3c_word::{WORD_BITS, Word};
 use std::marker::Model;
-
-/// The bits of a word.
-const WORD_BITS: u16 = 9;
 
 /// The devices of a bus in their slots.
 ///

@@ -6,13 +6,11 @@ ghost use Rattle.i3c_events.specs.Hearing.{answer_of};
 
 use i3c_base::{Addr7, Answer, Change, Cuts, Kinds, Slot};
 use i3c_device::Devices;
+use i3c_word::{HEADER_BITS, WORD_BITS};
 use thiserror::Error;
 
-/// The bits of a word.
-const WORD_BITS: u16 = 9;
-
 /// How many bits a direct command has up to its target's acknowledgement: a word and a header.
-const ACK_BITS: u16 = 18;
+const ACK_BITS: u16 = WORD_BITS + HEADER_BITS;
 
 /// No device other than the active controller has the address, or none of them was left to acknowledge it.
 #[derive(Clone, Copy, Debug, PartialEq, Eq, Drop, Error)]

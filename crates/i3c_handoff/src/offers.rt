@@ -6,13 +6,10 @@ ghost use Rattle.i3c_handoff.specs.Offers.{IsOffered, IsReadAs, IsTornByte, Some
 use crate::outcome::Offer;
 use i3c_base::{Addr7, Cuts, Slot};
 use i3c_device::Devices;
-use i3c_word::address_byte;
+use i3c_word::{HEADER_BITS, WORD_BITS, address_byte};
 
 /// How many bits a handover has up to its target's acknowledgement: a word and a header.
-const ACK_BITS: u16 = 18;
-
-/// The bits of the target's byte, and its T.
-const WORD_BITS: u16 = 9;
+const ACK_BITS: u16 = WORD_BITS + HEADER_BITS;
 
 /// The byte as it is read where those who send it are cut: ones from the bit on at which the last of them is gone. Its
 /// first bit comes after so many bits of the frame.

@@ -13,9 +13,7 @@ use crate::readings::{END_BIT, byte_is_due, reading};
 use i3c_base::{Addr7, Cuts, Record, Request, Slot, Verdict};
 use i3c_device::{Devices, SlotSet};
 use i3c_table::Table;
-
-/// The bits of a word.
-const WORD_BITS: u16 = 9;
+use i3c_word::WORD_BITS;
 
 /// What came of a frame's first request, as the controller saw it on the wire.
 #[derive(Clone, Copy, Debug, PartialEq, Eq)]

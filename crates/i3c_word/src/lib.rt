@@ -7,6 +7,12 @@ ghost use Rattle.i3c_word.specs.Parity.{HasOddParity, IsAddressByte};
 use i3c_base::Addr7;
 use thiserror::Error;
 
+/// How many bits a word has on the lines: eight, and its ninth (I3C Basic 5.1.2.3).
+pub const WORD_BITS: u16 = 9;
+
+/// How many bits a header has: seven of its address, the direction, and its acknowledgement (I3C Basic 5.1.2.2).
+pub const HEADER_BITS: u16 = 9;
+
 /// A written word: eight bits, and the T bit that follows them (I3C Basic 5.1.2.3).
 #[derive(Clone, Copy, Debug, PartialEq, Eq, Default)]
 pub struct Word {

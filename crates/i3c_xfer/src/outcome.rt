@@ -3,12 +3,10 @@ ghost use Rattle.i3c_base.specs.declared.device.TheConstants.{REGISTERS as REGIS
 ghost use Rattle.i3c_base.specs.Frames.{read_bits, write_bits};
 
 use i3c_base::{Addr7, Answer, REGISTERS};
-
-/// The bits of a word.
-const WORD_BITS: u16 = 9;
+use i3c_word::{HEADER_BITS, WORD_BITS};
 
 /// How many bits a private transfer has up to its target's acknowledgement: a header.
-pub(crate) const ACK_BITS: u16 = 9;
+pub(crate) const ACK_BITS: u16 = HEADER_BITS;
 
 /// How many bits a private read has that is acknowledged: a header, and a word for each register.
 pub(crate) const READ_BITS: u16 = ACK_BITS + WORD_BITS * REGISTERS as u16;
