@@ -1,5 +1,5 @@
 -- The list of a bus, written and read.
-use Rattle.std.proofs.Common.{◌≡◌, ℕ, ◌+◌, ◌*◌, Bool, true, false, if◌then◌else◌, count_by, is_some, ◌<◌, List, [], ◌∷◌, ◌++◌, length, take, get_or, map, Option, Some, None, option_map, refl, sym, ap, ◌∙◌, arith, subst}
+use Rattle.std.proofs.Common.{◌≡◌, ℕ, ◌+◌, ◌*◌, if◌then◌else◌, count_by, is_some, ◌<◌, List, [], ◌∷◌, ◌++◌, length, take, get_or, map, option_map, refl, sym, ap, ◌∙◌, arith, subst}
 use Rattle.std.specs.List.{flat_map}
 use Rattle.std.proofs.lemmas.List.{flat_map_more, map-append, take_more}
 use Rattle.std.proofs.lemmas.List.Elements.{All-nil}
@@ -13,7 +13,7 @@ use Rattle.i3c_base.specs.Covered.{IsCopy, IsTable, Table}
 use Rattle.i3c_base.specs.Cutting.{Lost}
 use Rattle.i3c_base.specs.Frames.{active_has, list_bits}
 use Rattle.i3c_base.specs.Serve.{Serves, drives, each_driver, without_front, without_join, without_role}
-use Rattle.i3c_base.specs.State.{Device, State, device_at, has_address, in_slot, is_the, unkept}
+use Rattle.i3c_base.specs.State.{Device, State, device_at, has_address, in_slot, unkept}
 use Rattle.i3c_base.proofs.Lookups.{each_at}
 use Rattle.i3c_deftgts.specs.declared.entries.Entry.{Entry}
 use Rattle.i3c_deftgts.specs.Copies.{copy_of, table_of}

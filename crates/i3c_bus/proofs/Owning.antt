@@ -1,9 +1,8 @@
 -- What leaves the active controller its address and its table leaves its list current.
-use Rattle.std.proofs.Common.{◌≡◌, ℕ, Bool, true, false, List, Option, Some, None, Result, Ok, Err, OnOk, OnErr, if◌then◌else◌, is_none, is_some, ◌==◌, map, option_map, ap, inl, inr, refl, sym, ◌∙◌, subst, set, slice_set}
+use Rattle.std.proofs.Common.{◌≡◌, ℕ, Bool, true, false, List, Option, Some, None, Result, Ok, Err, OnOk, OnErr, if◌then◌else◌, is_none, ◌==◌, map, option_map, ap, inl, inr, refl, sym, ◌∙◌, subst, set, slice_set}
 use Rattle.std.proofs.lemmas.Bool.{cond-false, eqb-false, ne_eqb}
 use Rattle.std.proofs.lemmas.Option.{none-some}
 use Rattle.i3c_base.specs.declared.answers.Answer.{Answer}
-use Rattle.i3c_base.specs.declared.answers.RoundReply.{RoundReply}
 use Rattle.i3c_base.specs.Covered.{lvrs}
 use Rattle.i3c_base.specs.Cutting.{Lost}
 use Rattle.i3c_base.specs.Frames.{Rekinds, active_has, reaches, rekinded}
@@ -16,7 +15,7 @@ use Rattle.i3c_base.proofs.Lookups.{change_at, drop_off_at, each_at, emptied_at,
 use Rattle.i3c_deftgts.specs.declared.entries.Entry.{Entry}
 use Rattle.i3c_deftgts.specs.Entries.{entries_of}
 use Rattle.i3c_step.specs.Sound.{HasActive}
-use Rattle.i3c_bus.specs.Whole.{IsCopyOf, the_table}
+use Rattle.i3c_bus.specs.Whole.{IsCopyOf}
 
 -- the table says the same, and the active controller has the address that it had
 pub record KeepsList (old new : State) : Type 0 where

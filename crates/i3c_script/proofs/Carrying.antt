@@ -1,5 +1,5 @@
 -- What it comes to that a line is carried out which names no device.
-use Rattle.std.proofs.Common.{◌≡◌, ◌⊎◌, ◌∙◌, ℕ, ◌+◌, Bool, true, false, arith, List, [], ◌∷◌, length, Option, None, Some, MatchOption, MatchResult, Result, Ok, Err, ap, inl, inr, refl, subst, sym}
+use Rattle.std.proofs.Common.{◌≡◌, ◌⊎◌, ◌∙◌, ℕ, ◌+◌, true, false, arith, List, [], ◌∷◌, length, Option, None, Some, MatchOption, MatchResult, Result, Ok, Err, ap, inl, inr, refl, subst, sym}
 use Rattle.i3c_base.specs.declared.answers.RoundReply.{RoundReply}
 use Rattle.i3c_base.specs.declared.range.TheConstants.{SLOTS}
 use Rattle.i3c_base.specs.Cutting.{CutList, no_cuts}

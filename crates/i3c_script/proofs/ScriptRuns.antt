@@ -1,6 +1,6 @@
 -- What the lines of a script put out, piece by piece of its bytes.
 use Rattle.std.proofs.Common.{◌≡◌, ◌≢◌, ◌<◌, ◌∙◌, ℕ, zero, suc, ◌+◌, ◌-◌, List, [], ◌∷◌, ◌++◌, length, take, drop, min, arith, slice_get, Option, Some, None, Result, Ok, Err, MatchResult, ap, inl, inr, append_assoc, append-nil, refl, subst, sym}
-use Rattle.std.proofs.lemmas.List.{length-drop, take-append-drop, take_all}
+use Rattle.std.proofs.lemmas.List.{length-drop, take_all}
 use Rattle.std.proofs.lemmas.List.Elements.{All-append}
 use Rattle.i3c_lines.specs.declared.refusals.Refusal.{Refusal}
 use Rattle.i3c_script.specs.declared.faults.ScriptFault.{ScriptFault}

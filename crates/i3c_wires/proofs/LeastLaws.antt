@@ -1,14 +1,14 @@
 -- Without cuts the least key is read.
-use Rattle.std.proofs.Common.{◌≡◌, ◌≢◌, ◌⊎◌, ℕ, suc, ◌+◌, ◌-◌, ◌*◌, ◌/◌, ◌%◌, ◌^◌, ◌<◌, ◌≤◌, ◌==◌, min, Bool, true, false, cond, not, ◌&&◌, List, [], ◌∷◌, ◌++◌, length, map, get_or, take, refl, ap, sym, subst, ◌∙◌, arith, inl, inr}
+use Rattle.std.proofs.Common.{◌≡◌, ◌⊎◌, ℕ, suc, ◌+◌, ◌-◌, ◌*◌, ◌/◌, ◌^◌, ◌<◌, ◌≤◌, ◌==◌, min, Bool, true, false, not, ◌&&◌, List, [], ◌∷◌, length, get_or, take, refl, ap, sym, subst, ◌∙◌, arith, inl, inr}
 use Rattle.std.proofs.lemmas.Bool.{and_from, and_parts, both_ways, cases_Bool, cases_lt, cond-true, cond-false, eq-eqb, eqb-true}
 use Rattle.std.proofs.lemmas.List.{take_all}
 use Rattle.std.proofs.lemmas.List.Elements.{All-contains, All-from_recursion, All-more, All-weaker}
 use Rattle.std.proofs.Math.Nat.{div-mul-le_self, div-one}
 use Rattle.std.proofs.lemmas.Nat.{le-div, pow_pos}
 use mir.Val.{bool_byte}
-use Rattle.std.specs.List.{All, AllByRecursion, Contains, filter, list_all}
+use Rattle.std.specs.List.{All, Contains, filter, list_all}
 use Rattle.i3c_base.specs.Cutting.{CutList, IsUncut, is_by}
-use Rattle.i3c_wires.specs.Contest.{drives_one, is_cut, is_lost, is_one}
+use Rattle.i3c_wires.specs.Contest.{drives_one, is_cut, is_one}
 use Rattle.i3c_wires.specs.Least.{IsLeast}
 use Rattle.i3c_wires.proofs.Reading.{Reading, all_kept}
 use Rattle.i3c_wires.proofs.TurnLaws.{whole}

@@ -1,7 +1,7 @@
 -- The code, the count, the words of each entry, and STOP.
-use Rattle.std.proofs.Common.{[], ◌∷◌, ◌++◌, ◌-◌, length, ap, refl, subst, ◌∙◌}
+use Rattle.std.proofs.Common.{[], ◌∷◌, ◌++◌, ◌-◌, length, ap, subst, ◌∙◌}
 use Rattle.std.specs.List.{flat_map}
-use Rattle.i3c_deftgts.specs.Layout.{bytes_of, list_bytes, Carry}
+use Rattle.i3c_deftgts.specs.Layout.{bytes_of, Carry}
 use Rattle.i3c_deftgts.proofs.LayoutLaws.{carry_append, carry_one}
 use Rattle.i3c_frame.proofs.TapLaws.{NotesAll-push}
 use Rattle.i3c_frame.specs.declared.symbols.Symbol.TheVariants.{Stop, Word}

@@ -1,7 +1,6 @@
 -- One hearer more, until nobody hears.
-use Rattle.std.proofs.Common.{◌+◌, ◌≡◌, arith, ap, get_or, sym, subst, refl, None, ◌∙◌}
+use Rattle.std.proofs.Common.{◌+◌, arith, get_or, sym, subst, refl, None}
 use Rattle.i3c_base.specs.declared.range.TheConstants.{SLOTS}
-use Rattle.i3c_base.specs.State.{in_slot}
 use Rattle.i3c_entdaa.proofs.HearersLaws.{ContendersSoFar, contenders_complete, contenders_exact, contenders_more, contenders_none, contenders_skip, left_first, left_more, none_from, silent_below, taken_from}
 use Rattle.i3c_entdaa.proofs.hearers.contenders.Goals as goal
 use Rattle.i3c_entdaa.proofs.hearers.contenders.Goals.{In_default}

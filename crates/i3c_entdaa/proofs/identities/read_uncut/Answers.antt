@@ -1,8 +1,4 @@
-use Rattle.std.proofs.Common.{MatchOption, subst, sym}
-use Rattle.i3c_base.specs.Cutting.{lost_by}
-use Rattle.i3c_base.specs.Round.{AllHearersLost}
-use Rattle.i3c_entdaa.specs.Parts.{IsContest}
-use Rattle.i3c_entdaa.proofs.ContestLaws.{none_heard, uncut_contest, uncut_takers}
+use Rattle.i3c_entdaa.proofs.ContestLaws.{uncut_contest, uncut_takers}
 use Rattle.i3c_entdaa.proofs.identities.read_uncut.Goals as goal
 
 pub returns-clause-contest : goal.returns-clause-contest

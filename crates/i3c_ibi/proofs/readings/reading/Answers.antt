@@ -1,7 +1,6 @@
 -- The byte that the fronts have is read where one is due, and there is none where none is.
 use Rattle.std.proofs.Common.{◌≡◌, ℕ, ◌∙◌, ap, sym, subst, is_some}
 use Rattle.i3c_base.specs.declared.requests.Request.TheVariants.{Interrupt}
-use Rattle.i3c_base.specs.State.{State}
 use Rattle.i3c_device.specs.Walks.{AreDrivers}
 use Rattle.i3c_ibi.specs.Driving.{HaveBytes, IsReading}
 use Rattle.i3c_ibi.proofs.ReadingLaws.{due_byte, no_byte}

@@ -2,7 +2,7 @@
 use Rattle.std.proofs.Common.{◌≡◌, ◌∙◌, true, ap, subst, refl}
 use Rattle.i3c_base.specs.Places.{changed}
 use Rattle.i3c_base.specs.Serve.{IsFirst}
-use Rattle.i3c_device.specs.Walks.{AreDrivers, accepted_at}
+use Rattle.i3c_device.specs.Walks.{accepted_at}
 use Rattle.i3c_ibi.specs.Policies.{is_known}
 use Rattle.i3c_ibi.proofs.ServingLaws.{join_served, role_served}
 use Rattle.i3c_ibi.proofs.serving.accept.Goals as goal

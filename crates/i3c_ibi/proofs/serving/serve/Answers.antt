@@ -1,9 +1,8 @@
 -- Nobody asks, or the first request is turned down or accepted.
-use Rattle.std.proofs.Common.{◌∙◌, ap, length, subst, sym}
-use Rattle.i3c_device.specs.Walks.{AreDrivers}
+use Rattle.std.proofs.Common.{◌∙◌, ap, length}
 use Rattle.i3c_ibi.specs.Policies.{is_known}
-use Rattle.i3c_ibi.proofs.Scans.{drivers_on, first_on, none_on}
-use Rattle.i3c_ibi.proofs.ServingLaws.{decided_acceptance, decided_refusal, known_accepted, quiet_served, refused_served}
+use Rattle.i3c_ibi.proofs.Scans.{drivers_on, first_on}
+use Rattle.i3c_ibi.proofs.ServingLaws.{decided_acceptance, decided_refusal, known_accepted, refused_served}
 use Rattle.i3c_ibi.proofs.serving.serve.Goals as goal
 
 pub accept-requires : goal.accept-requires

@@ -1,5 +1,5 @@
 use Rattle.std.proofs.Common.{◌≡◌, ◌∙◌, ◌+◌, ◌++◌, ap, min, subst}
-use Rattle.i3c_script.specs.Outcomes.{Puts, PutsOrFails, output}
+use Rattle.i3c_script.specs.Outcomes.{PutsOrFails, output}
 use Rattle.i3c_script.specs.Printed.{end_text}
 use Rattle.i3c_script.specs.Stops.{refusals}
 use Rattle.i3c_script.proofs.ScriptRuns.{is_read, line_put}
