@@ -1,6 +1,6 @@
 -- Cuts as a mask and an array are the cuts by slot.
 use Rattle.std.specs.Prelude.{map}
-use Rattle.std.proofs.Common.{Bool, true, false, option_map, ◌≡◌, ◌≢◌, ℕ, zero, suc, ◌+◌, ◌*◌, ◌/◌, ◌%◌, ◌<◌, ◌≤◌, ◌^◌, List, [], ◌∷◌, length, get_or, set, Option, Some, None, ◌==◌, inl, inr, lit<, if◌then◌else◌, sym, refl, ap, subst, ◌∙◌, arith, zero-add}
+use Rattle.std.proofs.Common.{Bool, true, false, option_map, ◌≡◌, ◌≢◌, ℕ, zero, suc, ◌+◌, ◌*◌, ◌/◌, ◌%◌, ◌<◌, ◌≤◌, ◌^◌, List, [], ◌∷◌, length, get_or, replicate, set, Option, Some, None, ◌==◌, inl, inr, lit<, if◌then◌else◌, sym, refl, ap, subst, ◌∙◌, arith, zero-add}
 use Rattle.std.proofs.lemmas.Bool.{cond-true, cond-false, eq-eqb, ne_eqb, cases_eq, cases_lt}
 use Rattle.std.proofs.lemmas.List.{get_or_past}
 use Rattle.std.proofs.lemmas.Option.{none-some}
@@ -9,7 +9,8 @@ use Rattle.std.specs.Int.{bit_at, w16}
 use Rattle.std.specs.Int.RustNames.{bit_or}
 use lib.Bits.{bit_and}
 use Rattle.i3c_base.specs.Places.{masked_from}
-use Rattle.i3c_base.specs.Cutting.{IsUncut, cut_of}
+use Rattle.i3c_base.specs.Cutting.{IsUncut, cut_of, no_cuts}
+use Rattle.i3c_base.specs.declared.range.TheConstants.{SLOTS}
 
 pub length-masked_from : (n mask : ℕ) (xs : List ℕ) → length (masked_from n mask xs) ≡ length xs
 length-masked_from n mask [] = refl
@@ -73,6 +74,18 @@ zero_uncut mask xs small long h = same_from_bits_below 16 mask 0 small (lit< tt)
   where
     bit_is_zero : (b : ℕ) → b < 2 → (b ≡ 1 → ⊥) → b ≡ 0
     bit_is_zero b l n = elim (cases_eq b 1) [ inl e ↦ absurd (n e) | inr m ↦ omega arith ]
+
+-- an empty mask, place by place
+pub zero_none : (xs : List ℕ) → length xs ≡ SLOTS → masked_from 0 0 xs ≡ no_cuts
+unfolding no_cuts
+zero_none xs long = all_none 0 xs ∙ ap (λ n. replicate n None) long
+  where
+    all_none : (n : ℕ) (ys : List ℕ) → masked_from n 0 ys ≡ replicate (length ys) None
+    all_none n [] = refl
+    all_none n (y ∷ ys) = ap (λ (b : Option ℕ). b ∷ masked_from (suc n) 0 ys) (cond-false (bit_at 0 n == 1) (Some y) None (ap (λ b. b == 1) (bit_at-zero n))) ∙ ap (λ zs. None ∷ zs) (all_none (suc n) ys)
+
+pub none_uncut : IsUncut no_cuts
+none_uncut = subst IsUncut (zero_none (replicate SLOTS 0) refl) (uncut_zero (replicate SLOTS 0))
 
 -- what is read of a slot
 pub read_in : (mask : ℕ) (xs : List ℕ) (now : List (Option ℕ)) (i s : ℕ) → masked_from 0 mask xs ≡ now → i ≡ s → i < length xs → bit_and (mask / 2 ^ i) 1 ≡ 1 → Some (get_or xs i 0) ≡ cut_of now s

@@ -89,7 +89,8 @@ impl Cuts {
 
     /// Whether no slot is cut.
     pub fn is_empty(&self) -> bool
-        ensures { IsTrue result ↔ IsUncut self.now }
+        ensures uncut { IsTrue result ↔ IsUncut self.now }
+        ensures none { IsTrue result ↔ self.now ≡ no_cuts }
     {
         self.cut == 0
     }

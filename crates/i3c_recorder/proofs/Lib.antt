@@ -1,4 +1,3 @@
-mod SameCuts
 mod Widened
 mod Terms
 pub mod Leading

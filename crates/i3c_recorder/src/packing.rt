@@ -1,5 +1,4 @@
-ghost use Rattle.std.specs.Prelude.{◌≡◌, IfOk, IsTrue, MatchOption, ⊤};
-ghost use Rattle.i3c_base.specs.Cutting.{no_cuts};
+ghost use Rattle.std.specs.Prelude.{◌≡◌, IfOk, MatchOption, ⊤};
 ghost use Rattle.i3c_recorder.specs.Packing.{IsShort, event_in, reply_in};
 
 use crate::entry::Entry;
@@ -59,13 +58,6 @@ pub(crate) enum Packed {
 // Runs are kept by the million.
 const _: () = prove!(size_of::<Packed>() <= 64);
 
-/// Whether nobody is cut.
-fn cuts_nobody(cuts: &Cuts) -> bool
-    ensures { IsTrue result → cuts.now ≡ no_cuts }
-{
-    *cuts == Cuts::new()
-}
-
 /// The event in short, where it cuts nobody and writes nothing.
 pub(crate) fn brief_of(event: &Event) -> Option<Brief>
     ensures { MatchOption result ⊤ (λ brief. event.now ≡ event_in brief) }
@@ -90,21 +82,21 @@ fn brief_frame(event: &Event) -> Option<Brief>
     ensures { MatchOption result ⊤ (λ brief. event.now ≡ event_in brief) }
 {
     match event {
-        Event::Serve(policy, cuts) if cuts_nobody(cuts) => Some(Brief::Serve(*policy)),
-        Event::Enec(to, kinds, policy, cuts) if cuts_nobody(cuts) => {
+        Event::Serve(policy, cuts) if cuts.is_empty() => Some(Brief::Serve(*policy)),
+        Event::Enec(to, kinds, policy, cuts) if cuts.is_empty() => {
             Some(Brief::Enec(*to, *kinds, *policy))
         }
-        Event::Disec(to, kinds, policy, cuts) if cuts_nobody(cuts) => {
+        Event::Disec(to, kinds, policy, cuts) if cuts.is_empty() => {
             Some(Brief::Disec(*to, *kinds, *policy))
         }
-        Event::Reset(policy, cuts) if cuts_nobody(cuts) => Some(Brief::Reset(*policy)),
-        Event::SendList(policy, cuts) if cuts_nobody(cuts) => Some(Brief::SendList(*policy)),
-        Event::ReadFrom(from, policy, cuts) if cuts_nobody(cuts) => {
+        Event::Reset(policy, cuts) if cuts.is_empty() => Some(Brief::Reset(*policy)),
+        Event::SendList(policy, cuts) if cuts.is_empty() => Some(Brief::SendList(*policy)),
+        Event::ReadFrom(from, policy, cuts) if cuts.is_empty() => {
             Some(Brief::ReadFrom(*from, *policy))
         }
-        Event::HandOver(to, cuts) if cuts_nobody(cuts) => Some(Brief::HandOver(*to)),
-        Event::OpenDaa(cuts) if cuts_nobody(cuts) => Some(Brief::OpenDaa),
-        Event::Round(cuts) if cuts_nobody(cuts) => Some(Brief::Round),
+        Event::HandOver(to, cuts) if cuts.is_empty() => Some(Brief::HandOver(*to)),
+        Event::OpenDaa(cuts) if cuts.is_empty() => Some(Brief::OpenDaa),
+        Event::Round(cuts) if cuts.is_empty() => Some(Brief::Round),
         _ => None,
     }
 }

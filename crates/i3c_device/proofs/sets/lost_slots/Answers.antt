@@ -4,4 +4,4 @@ use Rattle.i3c_base.specs.Cutting.{is_by}
 use Rattle.i3c_device.proofs.sets.lost_slots.Goals as goal
 
 pub returns-then-is_empty : goal.returns-then-is_empty
-returns-then-is_empty c s l = c.none.ensures s ∙ sym (ap (is_by c.args.last) (c.is_empty.ensures.0 c.if-is_empty.true s))
+returns-then-is_empty c s l = c.none.ensures s ∙ sym (ap (is_by c.args.last) (c.is_empty.ensures.uncut.0 c.if-is_empty.true s))

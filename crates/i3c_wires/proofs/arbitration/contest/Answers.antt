@@ -101,7 +101,7 @@ returns-then-is_empty c =
     let keys = c.args.keys.now.items in
     let bits = c.uncut_contest.result.bits in
     let first = first_of _ keys c.in-Some.first.now c.deref.ensures.0 c.in-Some.ensures.value in
-    let uncut = c.is_empty.ensures.0 c.if-is_empty.true in
+    let uncut = c.is_empty.ensures.uncut.0 c.if-is_empty.true in
     let read : Reading cuts keys c.args.width 0 bits = least_read cuts keys c.args.width c.in-Some.first.now.1 bits c.in-Some.first.now uncut c.requires.fit (0, first.0, sym first.1) refl c.uncut_contest.ensures.read in
     let won = c.uncut_contest.ensures.won ∙ sym (uncut_holders cuts keys c.args.width bits uncut) in
     record {

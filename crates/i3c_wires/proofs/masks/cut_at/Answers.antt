@@ -12,7 +12,7 @@ use Rattle.i3c_wires.proofs.masks.cut_at.Goals.{then-is_cut_at, else-is_cut_at}
 
 pub returns-then-is_empty : goal.returns-then-is_empty
 returns-then-is_empty c =
-    let uncut = c.if-is_empty.ensures.0 refl in
+    let uncut = c.if-is_empty.ensures.uncut.0 refl in
     sym (mask_none (λ (e : ℕ × ℕ). is_at c.args.bit (cut_of c.args.cuts.now e.0)) c.args.keys.now.items (λ e. ap (is_at c.args.bit) (uncut e.0)))
 
 pub loop-place-preserved : goal.loop-place-preserved
