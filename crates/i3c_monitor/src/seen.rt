@@ -20,7 +20,9 @@ pub enum Direct {
 /// Symbols of a trace that follow one another: how many come before them, and how many they are.
 #[derive(Clone, Copy, Debug, PartialEq, Eq)]
 pub struct Span {
+    /// How many symbols stand before it.
     pub before: usize,
+    /// How many symbols it has.
     pub count: usize,
 }
 

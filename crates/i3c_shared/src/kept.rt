@@ -39,15 +39,21 @@ impl Model for Kept {
 /// What a bus was: its run and its records.
 #[derive(Drop)]
 pub struct Closed {
+    /// The events that the bus went through, with their replies.
     pub run: Run,
+    /// The interrupts that were accepted, in their order.
     pub records: Records,
 }
 
 /// What a refused close hands back.
 pub struct Unclosed<B> {
+    /// The bus, as it was.
     pub bus: B,
+    /// The role, if one was given.
     pub role: Option<HeldRole>,
+    /// The ports that were given.
     pub ports: Vec<Port>,
+    /// Why the bus stays open.
     pub fault: CloseFault,
 }
 
