@@ -5,3 +5,4 @@ pub mod NumberLaws
 pub mod LostLaws
 pub mod Verdicts
 pub mod BitLaws
+pub mod SetLaws

@@ -4,6 +4,7 @@
 //! assignment and the frames. They know no bits, headers, parity, rows or copies.
 #![tactic(auto)]
 
+mod addresses;
 mod answers;
 mod cuts;
 mod device;
@@ -13,6 +14,7 @@ mod range;
 mod refusals;
 mod requests;
 
+pub use addresses::Addresses;
 pub use answers::{Answer, RoundReply};
 pub use cuts::Cuts;
 pub use device::{LegacyTarget, REGISTERS, Setup, WAITING, Waiting};

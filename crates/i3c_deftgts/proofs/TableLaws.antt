@@ -8,7 +8,7 @@ use Rattle.i3c_base.specs.Covered.{Table}
 use Rattle.i3c_base.specs.Places.{changed_from}
 use Rattle.i3c_base.specs.State.{Entry as Given, entry_in}
 use Rattle.i3c_base.proofs.Lookups.{changed_at, length-changed}
-use Rattle.i3c_table.specs.Sets.{is_in, IsLowest}
+use Rattle.i3c_base.specs.Sets.{is_in, IsLowest}
 use Rattle.i3c_deftgts.specs.declared.entries.Entry.{Entry}
 use Rattle.i3c_deftgts.specs.Entries.{device_at, entries_of, given_in, legacy_at, own_entry, upwards}
 use Rattle.i3c_deftgts.proofs.UpwardLaws.{length-upwards}

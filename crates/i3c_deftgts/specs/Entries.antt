@@ -7,7 +7,7 @@ use Rattle.i3c_base.specs.declared.identity.Lvr.{Lvr}
 use Rattle.i3c_base.specs.Covered.{Table}
 use Rattle.i3c_base.specs.Places.{changed}
 use Rattle.i3c_base.specs.State.{Entry as Given, entry_in}
-use Rattle.i3c_table.specs.Sets.{is_in}
+use Rattle.i3c_base.specs.Sets.{is_in}
 use Rattle.i3c_deftgts.specs.declared.entries.Entry.{Entry}
 use Rattle.i3c_deftgts.specs.declared.entries.Entry.TheVariants.{Device, Legacy}
 

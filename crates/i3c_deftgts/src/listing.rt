@@ -12,9 +12,9 @@ ghost use Rattle.i3c_deftgts.specs.Reading.{ReadAs};
 
 use crate::entries::{ENTRIES, Entry, List};
 use arrayvec::ArrayVec;
-use i3c_base::{Addr7, Lvr};
+use i3c_base::{Addr7, Addresses, Lvr};
 use i3c_legacy::{LEGACIES, Legacies};
-use i3c_table::{Addresses, ROWS, Row, Table};
+use i3c_table::{ROWS, Row, Table};
 
 /// The most entries that a table's list has: a row's or a legacy target's each.
 pub(crate) const WRITTEN: usize = ROWS + LEGACIES;

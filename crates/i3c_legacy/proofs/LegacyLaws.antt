@@ -1,18 +1,20 @@
 -- The declared targets, seen as the LVRs at their addresses.
-use Rattle.std.proofs.Common.{◌≡◌, ◌≢◌, ℕ, ◌<◌, Bool, true, false, not, List, [], ◌∷◌, ◌++◌, length, get_or, set, take, Option, Some, None, option_map, is_some, count_by, nat_le, IsTrue, IfSome, ◌+◌, ◌≤◌, sym, refl, ap, ◌∙◌, arith, if◌then◌else◌}
+use Rattle.std.proofs.Common.{◌≡◌, ◌≢◌, ℕ, ◌<◌, Bool, true, false, not, List, [], ◌∷◌, ◌++◌, length, get_or, set, take, Option, Some, None, option_map, is_some, count_by, nat_le, IsTrue, IfSome, ◌+◌, ◌≤◌, sym, refl, ap, ◌∙◌, arith, if◌then◌else◌, inl, inr}
 use Rattle.std.specs.List.{All, HoldsAt}
-use Rattle.std.proofs.lemmas.Bool.{and_parts, le-leb, leb-true, lt-leb}
-use Rattle.std.proofs.lemmas.List.{take_all}
+use Rattle.std.proofs.lemmas.Bool.{and_parts, cases_eq, le-leb, leb-true, lt-leb}
+use Rattle.std.proofs.lemmas.List.{get_or-set_other, get_or-set_same, take_all}
 use Rattle.std.proofs.lemmas.List.Elements.{All-contains, All-push}
 use Rattle.i3c_base.specs.declared.range.TheConstants.{ADDRESSES}
 use Rattle.i3c_base.specs.declared.identity.Lvr.{Lvr}
+use Rattle.i3c_base.specs.Sets.{is_in}
 use Rattle.i3c_base.specs.State.{no_lvrs}
+use Rattle.i3c_base.proofs.Lookups.{replicate_at}
 use Rattle.i3c_legacy.specs.declared.faults.LegacyFault.{LegacyFault}
 use Rattle.i3c_legacy.specs.declared.faults.LegacyFault.TheVariants.{LegacyAddress, LegacyTwice, TooManyLegacy}
 use Rattle.i3c_legacy.specs.declared.legacies.Declared.{Declared}
 use Rattle.i3c_legacy.specs.declared.legacies.TheConstants.{LEGACIES}
 use Rattle.i3c_legacy.specs.Declaring.{first_fault, is_static}
-use Rattle.i3c_legacy.specs.Rows.{places, row_at, HasOwnAddresses}
+use Rattle.i3c_legacy.specs.Rows.{places, row_at, HasOwnAddresses, IsSetOf}
 use Rattle.i3c_legacy.proofs.RowLaws.{length-places, no_rows, places-nil, places_at, places_more, places_push, row_from, row_here, row_none, row_missing, own_push, count-places}
 
 abbrev pub address_of : Declared → ℕ
@@ -28,6 +30,13 @@ own_none rows e = rw e (no_rows address_of)
 pub view_none : (rows : List Declared) → rows ≡ [] → lvrs_of rows ≡ no_lvrs
 unfolding no_lvrs
 view_none rows e = rw e (places-nil address_of (λ d. d.lvr))
+
+pub set_none : (rows : List Declared) (none : ℕ) → rows ≡ [] → ((a : ℕ) → is_in none a ≡ false) → IsSetOf (lvrs_of rows) none
+unfolding no_lvrs
+set_none rows none e nothing a = nothing a ∙ ap is_some (sym (at_none a) ∙ ap (λ places. get_or places a None) (sym (view_none rows e)))
+  where
+    at_none : (k : ℕ) → ◌≡◌ {A = Option Lvr} (get_or no_lvrs k None) None
+    at_none k = elim (replicate_at ADDRESSES k None None) [ inl e ↦ e | inr e ↦ e ]
 
 pub found : (rows : List Declared) (legacy : List (Option Lvr)) (i a : ℕ) (d : Declared) → HasOwnAddresses address_of rows → lvrs_of rows ≡ legacy → i < length rows → HoldsAt (λ r. r.address ≡ a) rows i → ◌≡◌ {A = Option Lvr} (Some (get_or rows i d).lvr) (get_or legacy a None)
 found rows legacy i a d own view l same =
@@ -65,6 +74,10 @@ no_fault rows legacy a own view s n f =
     let many = counted rows legacy own view in
     chosen_none (is_static a) (is_some (get_or legacy a None)) (nat_le LEGACIES (count_by is_some legacy)) s n (lt-leb LEGACIES (count_by is_some legacy) (omega (arith, many, f)))
 
+-- no target stands at an address that isn't in their set
+pub not_there : (rows : List Declared) (legacy : List (Option Lvr)) (had a : ℕ) → lvrs_of rows ≡ legacy → IsSetOf (lvrs_of rows) had → is_in had a ≡ false → is_some (get_or legacy a None) ≡ false
+not_there rows legacy had a view is out = ap (λ places. is_some (get_or places a None)) (sym view) ∙ (sym (is a) ∙ out)
+
 -- a static address is one of 7 bits
 static_below : (a : ℕ) → is_static a ≡ true → a < ADDRESSES
 static_below a s = let at_most = leb-true a 0x77 (and_parts (nat_le 0x08 a) (nat_le a 0x77) s).1 in omega arith
@@ -82,6 +95,17 @@ view_more rows legacy d own view s n =
 
 pub static_more : (rows : List Declared) (d : Declared) → All (λ r. IsTrue (is_static r.address)) rows → is_static d.address ≡ true → All (λ r. IsTrue (is_static r.address)) (rows ++ d ∷ [])
 static_more rows d all s = All-push (λ r. IsTrue (is_static r.address)) rows d all s
+
+-- and one more address in their set
+pub set_more : (rows : List Declared) (legacy : List (Option Lvr)) (d : Declared) (had more : ℕ) → HasOwnAddresses address_of rows → lvrs_of rows ≡ legacy → is_static d.address ≡ true → is_some (get_or legacy d.address None) ≡ false
+    → IsSetOf (lvrs_of rows) had → is_in more d.address ≡ true → ((a : ℕ) → a ≢ d.address → is_in more a ≡ is_in had a) → IsSetOf (lvrs_of (rows ++ d ∷ [])) more
+set_more rows legacy d had more own view s n was has others a = elim (cases_eq a d.address) [
+  | inl e ↦ rw e (has ∙ ap is_some (sym (at d.address ∙ get_or-set_same legacy d.address (Some d.lvr) None (omega (arith, static_below d.address s, long rows legacy view)))))
+  | inr other ↦ others a other ∙ (was a ∙ ap is_some (ap (λ places. get_or places a None) view ∙ sym (at a ∙ get_or-set_other legacy d.address a (Some d.lvr) None other)))
+]
+  where
+    at : (k : ℕ) → get_or (lvrs_of (rows ++ d ∷ [])) k None ≡ get_or (set legacy d.address (Some d.lvr)) k None
+    at k = ap (λ places. get_or places k None) (view_more rows legacy d own view s n)
 
 -- the targets so far, seen by address
 pub first_more : (rows : List Declared) (lvrs : List (Option Lvr)) (i : ℕ) (d : Declared) → HasOwnAddresses address_of rows → i < length rows → d ≡ get_or rows i d → lvrs ≡ lvrs_of (take i rows) → set lvrs d.address (Some d.lvr) ≡ lvrs_of (take (i + 1) rows)

@@ -1,7 +1,8 @@
 -- Rows, each with an address of its own, seen as the places of all 128 addresses.
-use Rattle.std.specs.Prelude.{ℕ, ◌<◌, ◌==◌, nat_eq, List, map, find, All, Option, option_map}
+use Rattle.std.specs.Prelude.{◌≡◌, ℕ, ◌<◌, ◌==◌, nat_eq, List, map, find, All, Option, None, option_map, is_some, slice_index_or}
 use Rattle.std.specs.List.{IsDistinct, range_with_len}
 use Rattle.i3c_base.specs.declared.range.TheConstants.{ADDRESSES}
+use Rattle.i3c_base.specs.Sets.{is_in}
 
 -- the row with the address a
 abbrev pub row_at : {R : Type 0} → (R → ℕ) → List R → ℕ → Option R
@@ -15,3 +16,7 @@ places address value rows = map (λ a. option_map value (row_at address rows a))
 pub record HasOwnAddresses {R : Type 0} (address : R → ℕ) (rows : List R) : Type 0 where
   pub distinct : IsDistinct nat_eq (map address rows)
   pub in_range : All (λ row. address row < ADDRESSES) rows
+
+-- the set has the addresses at which something stands
+abbrev pub IsSetOf : {A : Type 0} → List (Option A) → ℕ → Type 0
+IsSetOf places set = (a : ℕ) → is_in set a ≡ is_some (slice_index_or places a None)

@@ -3,7 +3,7 @@ ghost use Rattle.i3c_legacy.specs.Declaring.{is_static};
 
 use crate::LegacyFault;
 use arrayvec::ArrayVec;
-use i3c_base::{ADDRESSES, Addr7, Lvr};
+use i3c_base::{ADDRESSES, Addr7, Addresses, Lvr};
 use std::marker::Model;
 
 /// How many legacy targets a bus may have (this project's choice).
@@ -22,6 +22,8 @@ pub(crate) struct Declared {
 #[derive(Drop)]
 pub struct Legacies {
     pub(crate) targets: ArrayVec<Declared, LEGACIES>,
+    // theirs
+    addresses: Addresses,
 }
 
 impl Model for Legacies {
@@ -32,12 +34,13 @@ impl Model for Legacies {
 
     ghost use Rattle.std.specs.Prelude.{All, IsTrue};
     ghost use Rattle.i3c_legacy.specs.Declaring.{is_static};
-    ghost use Rattle.i3c_legacy.specs.Rows.{places, HasOwnAddresses};
+    ghost use Rattle.i3c_legacy.specs.Rows.{places, HasOwnAddresses, IsSetOf};
 
     ghost view = { λ l. places (λ d. d.address) (λ d. d.lvr) l.targets.items };
 
     ghost invariant = { λ l. HasOwnAddresses (λ d. d.address) l.targets.items
-        × All (λ d. IsTrue (is_static d.address)) l.targets.items };
+        × All (λ d. IsTrue (is_static d.address)) l.targets.items
+        × IsSetOf (places (λ d. d.address) (λ d. d.lvr) l.targets.items) l.addresses.0 };
 }
 
 impl Legacies {
@@ -46,14 +49,16 @@ impl Legacies {
     ghost use Rattle.i3c_base.specs.State.{no_lvrs};
     ghost use Rattle.i3c_legacy.specs.declared.legacies.TheConstants.{LEGACIES};
     ghost use Rattle.i3c_legacy.specs.Declaring.{first_fault, is_static};
+    ghost use Rattle.i3c_legacy.specs.Rows.{IsSetOf};
 
     /// No legacy target.
-    #[tactic(auto, using(crate::proofs::LegacyLaws::own_none, crate::proofs::LegacyLaws::view_none))]
+    #[tactic(auto, using(crate::proofs::LegacyLaws::own_none, crate::proofs::LegacyLaws::set_none, crate::proofs::LegacyLaws::view_none))]
     pub fn new() -> Legacies
         ensures { result ≡ no_lvrs }
     {
         Legacies {
             targets: ArrayVec::new(),
+            addresses: Addresses::new(),
         }
     }
 
@@ -67,6 +72,13 @@ impl Legacies {
             Some(index) => Some(targets[index].lvr),
             None => None,
         }
+    }
+
+    /// The static addresses of the targets.
+    pub fn addresses(&self) -> Addresses
+        ensures { IsSetOf self.now result.0 }
+    {
+        self.addresses
     }
 
     /// The LVRs of all targets, each at its static address.
@@ -108,13 +120,14 @@ impl Legacies {
         if !is_static(address) {
             return Err(LegacyFault::LegacyAddress);
         }
-        if self.lvr_at(address).is_some() {
+        if self.addresses.has(address) {
             return Err(LegacyFault::LegacyTwice);
         }
         if self.targets.is_full() {
             return Err(LegacyFault::TooManyLegacy);
         }
         self.targets.push(Declared { address, lvr });
+        self.addresses = self.addresses.with(address);
         Ok(())
     }
 }

@@ -1,1 +1,1 @@
-pub mod OpenLaws
+pub mod Picking

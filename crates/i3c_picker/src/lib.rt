@@ -13,14 +13,5 @@ pub fn pick(table: &Table) -> Option<Addr7>
     ensures { MatchOption result ((a : ℕ) → ¬ IsPickableIn table.now.given table.now.legacy a)
         (λ a. IsPickIn table.now.given table.now.legacy a) }
 {
-    let mut left = table.open_addresses();
-    while left != 0 {
-        let lowest = left.trailing_zeros();
-        let address = Addr7::new(lowest as u8).unwrap();
-        if table.lvr_at(address).is_none() {
-            return Some(address);
-        }
-        left &= !(1 << lowest);
-    }
-    None
+    table.open_addresses().lowest()
 }

@@ -9,7 +9,7 @@ use Rattle.i3c_base.specs.Numbers.{IsInRange, number_of}
 use Rattle.i3c_base.specs.State.{IsKeptIn, IsUnknownIn, IsUsable, entry_in, kept_of}
 use Rattle.i3c_table.specs.declared.table.Registers.{Registers}
 use Rattle.i3c_table.specs.Ranks.{IsFirstOf, IsNoneOf}
-use Rattle.i3c_table.specs.Sets.{is_in}
+use Rattle.i3c_base.specs.Sets.{is_in}
 use Rattle.i3c_table.specs.Stored.{identity_of, stored, IsInOrder, IsWhole}
 use Rattle.i3c_table.proofs.StoredLaws.{IsSmall, identity_again, kept_stored, number_again, some_or_none}
 

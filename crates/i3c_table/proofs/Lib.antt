@@ -1,4 +1,3 @@
-pub mod SetLaws
 pub mod Ranking
 pub mod Ordering
 pub mod StoredLaws

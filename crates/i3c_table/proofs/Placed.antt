@@ -9,9 +9,9 @@ use Rattle.i3c_base.specs.State.{Entry, IsFree, IsUsable, entry_in}
 use Rattle.i3c_table.specs.declared.row.Row.{Row}
 use Rattle.i3c_table.specs.declared.table.Registers.{Registers}
 use Rattle.i3c_table.specs.Rows.{entry_of_row}
-use Rattle.i3c_table.specs.Sets.{is_in}
+use Rattle.i3c_base.specs.Sets.{is_in}
 use Rattle.i3c_table.specs.Stored.{IsWhole, stored}
-use Rattle.i3c_table.proofs.SetLaws.{is_usable, is_usable-true}
+use Rattle.i3c_base.proofs.SetLaws.{is_usable, is_usable-true}
 use Rattle.i3c_table.proofs.StoredLaws.{IsSmall, entry_stored, length-stored, out_of, small_whole, some_or_none}
 
 -- what stands at a place is the row of its address

@@ -15,9 +15,8 @@ use Rattle.i3c_base.proofs.NumberLaws.{same_number}
 use Rattle.i3c_table.specs.declared.table.Registers.{Registers}
 use Rattle.i3c_table.specs.declared.row.Row.{Row}
 use Rattle.i3c_table.specs.Putting.{MayPut, only_at}
-use Rattle.i3c_table.specs.Sets.{is_in}
+use Rattle.i3c_base.specs.Sets.{is_in}
 use Rattle.i3c_table.specs.Stored.{identity_of, kept_at, no_registers, stored, stored_at, IsWhole}
-use Rattle.i3c_table.proofs.SetLaws.{in_nothing}
 
 -- ---- identities and their numbers
 
@@ -113,10 +112,17 @@ put_stored held kept held' kept' registers registers' numbers numbers' a e fits 
         if others b other t then Some (record { bcr = (registers_others b other t).bcr; dcr = (registers_others b other t).dcr; kept = if kept_others b other t then Some (identity_of (numbers_others b other t)) else None }) else None
 
 -- nothing stored
-pub none_stored : (registers : List Registers) (numbers : List ℕ) → stored 0 0 registers numbers ≡ no_entries
-none_stored registers numbers =
-    let long = length-stored 0 0 registers numbers in
-    ext_get_or None (stored 0 0 registers numbers) no_entries (long ∙ sym length-no_entries) (λ a below. entry_stored 0 0 registers numbers a (λ b past. in_nothing b) ∙ (out_of 0 0 registers numbers a (in_nothing a) ∙ sym (no_entries_at a)))
+pub whole_none : (none : ℕ) (legacy : List (Option Lvr)) → ((a : ℕ) → is_in none a ≡ false) → IsWhole none none legacy
+whole_none none legacy nothing = record {
+  usable = λ a has. absurd (both_ways (is_in none a) (nothing a) has);
+  apart = λ a has. absurd (both_ways (is_in none a) (nothing a) has);
+  among = λ a has. has;
+}
+
+pub none_stored : (none : ℕ) (registers : List Registers) (numbers : List ℕ) → ((a : ℕ) → is_in none a ≡ false) → stored none none registers numbers ≡ no_entries
+none_stored none registers numbers nothing =
+    let long = length-stored none none registers numbers in
+    ext_get_or None (stored none none registers numbers) no_entries (long ∙ sym length-no_entries) (λ a below. entry_stored none none registers numbers a (λ b past. nothing b) ∙ (out_of none none registers numbers a (nothing a) ∙ sym (no_entries_at a)))
 
 -- ---- what holds of each table
 
@@ -133,11 +139,11 @@ whole_put held kept held' kept' a legacy h new has others kept_others = record {
     here = elim (some_or_none (is_in held a)) [ inl stood ↦ (h.usable a stood, h.apart a stood) | inr out ↦ new out ]
 
 -- one address alone, which isn't kept
-pub whole_only : (held kept held' a : ℕ) (legacy : List (Option Lvr)) → IsWhole held kept legacy → is_in held' a ≡ is_in held a → ((b : ℕ) → b ≢ a → is_in held' b ≡ false) → IsWhole held' 0 legacy
-whole_only held kept held' a legacy h here others = record {
+pub whole_only : (held kept held' none a : ℕ) (legacy : List (Option Lvr)) → IsWhole held kept legacy → is_in held' a ≡ is_in held a → ((b : ℕ) → b ≢ a → is_in held' b ≡ false) → ((b : ℕ) → is_in none b ≡ false) → IsWhole held' none legacy
+whole_only held kept held' none a legacy h here others nothing = record {
   usable = λ b in_it. h.usable b (stood b in_it);
   apart = λ b in_it. h.apart b (stood b in_it);
-  among = λ b in_it. absurd (both_ways (is_in 0 b) (in_nothing b) in_it);
+  among = λ b in_it. absurd (both_ways (is_in none b) (nothing b) in_it);
 }
   where
     stood : (b : ℕ) → is_in held' b ≡ true → is_in held b ≡ true
@@ -185,20 +191,20 @@ only_at_at own given a = changed_at (λ b place. if b == own then option_map unk
     none_if false = refl
 
 -- the controller's own entry alone, kept for nobody
-pub only_stored : (held kept held' own : ℕ) (registers : List Registers) (numbers : List ℕ) → IsSmall held → is_in held' own ≡ is_in held own → ((b : ℕ) → b ≢ own → is_in held' b ≡ false)
-    → stored held' 0 registers numbers ≡ only_at own (stored held kept registers numbers)
-only_stored held kept held' own registers numbers fits here others =
+pub only_stored : (held kept held' none own : ℕ) (registers : List Registers) (numbers : List ℕ) → IsSmall held → is_in held' own ≡ is_in held own → ((b : ℕ) → b ≢ own → is_in held' b ≡ false) → ((b : ℕ) → is_in none b ≡ false)
+    → stored held' none registers numbers ≡ only_at own (stored held kept registers numbers)
+only_stored held kept held' none own registers numbers fits here others nothing =
     let old : List (Option Entry) = stored held kept registers numbers in
-    ext_get_or None (stored held' 0 registers numbers) (only_at own old) (length-stored held' 0 registers numbers ∙ sym (length-changed (λ b place. if b == own then option_map unkept place else None) old ∙ length-stored held kept registers numbers)) (λ a below.
-    entry_stored held' 0 registers numbers a small ∙ (elim (cases_eq a own) [
+    ext_get_or None (stored held' none registers numbers) (only_at own old) (length-stored held' none registers numbers ∙ sym (length-changed (λ b place. if b == own then option_map unkept place else None) old ∙ length-stored held kept registers numbers)) (λ a below.
+    entry_stored held' none registers numbers a small ∙ (elim (cases_eq a own) [
       | inl e ↦ rw e (alone (is_in held own) refl) ∙ sym (only_at_at own old a ∙ (cond-true (a == own) (option_map unkept (entry_in old a)) None (eq-eqb a own e) ∙ ap (λ b. option_map unkept (entry_in old b)) e))
-      | inr other ↦ out_of held' 0 registers numbers a (others a other) ∙ sym (only_at_at own old a ∙ cond-false (a == own) (option_map unkept (entry_in old a)) None (ne_eqb a own other))
+      | inr other ↦ out_of held' none registers numbers a (others a other) ∙ sym (only_at_at own old a ∙ cond-false (a == own) (option_map unkept (entry_in old a)) None (ne_eqb a own other))
     ]))
   where
     small : IsSmall held'
     small b past = elim (cases_eq b own) [ inl e ↦ ap (is_in held') e ∙ (here ∙ (ap (is_in held) (sym e) ∙ fits b past)) | inr other ↦ others b other ]
 
-    alone : (b : Bool) → is_in held own ≡ b → stored_at held' 0 registers numbers own ≡ option_map unkept (entry_in (stored held kept registers numbers) own)
-    alone true e = cond-true (is_in held' own) _ None (here ∙ e) ∙ (ap (λ k. Some (record { bcr = (get_or registers own no_registers).bcr; dcr = (get_or registers own no_registers).dcr; kept = k })) (cond-false (is_in 0 own) _ None (in_nothing own))
+    alone : (b : Bool) → is_in held own ≡ b → stored_at held' none registers numbers own ≡ option_map unkept (entry_in (stored held kept registers numbers) own)
+    alone true e = cond-true (is_in held' own) _ None (here ∙ e) ∙ (ap (λ k. Some (record { bcr = (get_or registers own no_registers).bcr; dcr = (get_or registers own no_registers).dcr; kept = k })) (cond-false (is_in none own) _ None (nothing own))
         ∙ sym (ap (option_map unkept) (entry_stored held kept registers numbers own fits ∙ cond-true (is_in held own) _ None e)))
-    alone false e = out_of held' 0 registers numbers own (here ∙ e) ∙ sym (ap (option_map unkept) (entry_stored held kept registers numbers own fits ∙ out_of held kept registers numbers own e))
+    alone false e = out_of held' none registers numbers own (here ∙ e) ∙ sym (ap (option_map unkept) (entry_stored held kept registers numbers own fits ∙ out_of held kept registers numbers own e))

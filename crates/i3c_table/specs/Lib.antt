@@ -1,4 +1,3 @@
-pub mod Sets
 pub mod Ranks
 pub mod Stored
 pub mod Rows

@@ -1,5 +1,5 @@
 -- Rows, seen as the entries at their addresses.
-use Rattle.std.specs.Prelude.{ℕ, List, map, Option}
+use Rattle.std.specs.Prelude.{List, Option}
 use Rattle.i3c_base.specs.State.{Entry}
 use Rattle.i3c_legacy.specs.Rows.{places}
 use Rattle.i3c_table.specs.declared.row.Row.{Row}

@@ -8,7 +8,7 @@ use Rattle.i3c_base.specs.declared.range.TheConstants.{ADDRESSES}
 use Rattle.i3c_base.specs.State.{Entry, IsFree, IsUsable}
 use Rattle.i3c_table.specs.declared.table.Registers.{Registers}
 use Rattle.i3c_table.specs.Ranks.{rank}
-use Rattle.i3c_table.specs.Sets.{is_in}
+use Rattle.i3c_base.specs.Sets.{is_in}
 
 -- the identity of a number
 abbrev pub identity_of : ℕ → Identity

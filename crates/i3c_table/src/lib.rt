@@ -1,12 +1,10 @@
 //! What a controller knows of the addresses of its bus: those that were given, and the legacy targets'.
 #![tactic(auto)]
 
-mod addresses;
 mod order;
 mod row;
 mod table;
 
-pub use addresses::Addresses;
 pub use i3c_legacy::Legacies;
 pub use row::Row;
 pub use table::{ROWS, Table};

@@ -1,20 +1,16 @@
 ghost use Rattle.std.specs.Prelude.{◌≡◌, ◌≢◌, ℕ, true, false, slice_index_or, MatchOption};
 ghost use Rattle.i3c_base.specs.Numbers.{number_of};
-ghost use Rattle.i3c_table.specs.Sets.{is_in};
+ghost use Rattle.i3c_base.specs.Sets.{is_in};
 ghost use Rattle.i3c_table.specs.Stored.{kept_at, IsInOrder};
 
-use crate::addresses::Addresses;
 use crate::order::Order;
 use crate::row::Row;
-use i3c_base::{ADDRESSES, Addr7, Bcr, Dcr, Identity, Lvr};
+use i3c_base::{ADDRESSES, Addr7, Addresses, Bcr, Dcr, Identity, Lvr};
 use i3c_legacy::Legacies;
 use std::marker::Model;
 
 /// How many dynamic addresses there are: `08` to `77` without `3E`, `5E`, `6E` and `76` (I3C Basic 5.1.2.2.5).
 pub const ROWS: usize = 108;
-
-/// The addresses that devices may have, one bit for each.
-const USABLE: u128 = 0x00BF_BFFF_BFFF_FFFF_BFFF_FFFF_FFFF_FF00;
 
 // what a device's registers say of it
 #[derive(Clone, Copy, Default)]
@@ -58,19 +54,19 @@ impl Table {
     ghost use Rattle.std.specs.Prelude.{◌≡◌, ◌↔◌, ℕ, ◌≤◌, None, Some, true, false, count_by, is_some, length, map, option_map, slice_index_or, IfSome, IsSome, MatchOption};
     ghost use Rattle.i3c_base.specs.declared.range.TheConstants.{ADDRESSES};
     ghost use Rattle.i3c_table.specs.declared.table.TheConstants.{ROWS};
-    ghost use Rattle.i3c_base.specs.State.{entry_in, kept_of, no_entries, IsFree, IsKeptIn, IsUnknownIn, IsUsable};
-    ghost use Rattle.std.specs.Int.{bit_at};
+    ghost use Rattle.i3c_base.specs.State.{entry_in, kept_of, no_entries, IsFree, IsKeptIn, IsPickableIn, IsUnknownIn, IsUsable};
     ghost use Rattle.i3c_table.specs.Rows.{entry_of_row};
-    ghost use Rattle.i3c_table.specs.Sets.{is_in};
+    ghost use Rattle.i3c_base.specs.Sets.{is_in};
     ghost use Rattle.i3c_table.specs.Putting.{cleared, unkept_table, with_row, MayPut};
 
     /// A table in which no address was given.
     pub fn new(legacies: Legacies) -> Table
         ensures { result ≡ record { given = no_entries; legacy = legacies; listed = false } }
     {
+        let none = Addresses::new();
         Table {
-            held: Addresses(0),
-            kept: Addresses(0),
+            held: none,
+            kept: none,
             registers: [Registers::default(); ADDRESSES],
             numbers: [0; ADDRESSES],
             legacies,
@@ -97,11 +93,15 @@ impl Table {
         })
     }
 
-    /// The addresses that may be given and were not, one bit for each. Legacy targets may have some of them.
-    pub fn open_addresses(&self) -> u128
-        ensures { (a : ℕ) → (bit_at result a ≡ 1) ↔ (IsUsable a × IsFree self.now.given a) }
+    /// The addresses that may be picked: usable ones that were not given, and that are no legacy targets' (I3C Basic
+    /// 5.1.4).
+    pub fn open_addresses(&self) -> Addresses
+        ensures { (a : ℕ) → (is_in result.0 a ≡ true) ↔ IsPickableIn self.now.given self.now.legacy a }
     {
-        USABLE & !self.held.0
+        let taken = self.legacies.addresses();
+        Addresses::usable()
+            .without_all(self.held)
+            .without_all(taken)
     }
 
     /// The addresses that were given.
@@ -154,7 +154,7 @@ impl Table {
         ensures { self.new ≡ cleared own self.old }
     {
         self.listed = false;
-        self.kept = Addresses(0);
+        self.kept = Addresses::new();
         self.order.clear();
         self.held = self.held.only(own);
     }
@@ -165,7 +165,7 @@ impl Table {
         ensures { self.new ≡ unkept_table self.old }
     {
         self.listed = false;
-        self.kept.0 = 0;
+        self.kept = Addresses::new();
         self.order.clear();
     }
 

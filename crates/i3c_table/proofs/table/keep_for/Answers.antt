@@ -3,7 +3,7 @@ use Rattle.std.proofs.Common.{◌≡◌, ℕ, ◌∙◌, List, MatchOption, None
 use Rattle.std.proofs.lemmas.Bool.{cases_eq, cond-false, cond-true}
 use Rattle.std.proofs.lemmas.List.{get_or-set_other, get_or-set_same}
 use Rattle.i3c_base.specs.Numbers.{number_of}
-use Rattle.i3c_table.specs.Sets.{is_in}
+use Rattle.i3c_base.specs.Sets.{is_in}
 use Rattle.i3c_table.specs.Stored.{identity_of, IsInOrder}
 use Rattle.i3c_table.proofs.Ordering.{order_numbered, order_same}
 use Rattle.i3c_table.proofs.StoredLaws.{identity_again}

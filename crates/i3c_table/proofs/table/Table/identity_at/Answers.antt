@@ -1,7 +1,7 @@
 use Rattle.std.proofs.Common.{◌∙◌, ap, sym, Some, None}
 use Rattle.std.proofs.lemmas.Bool.{cond-false, cond-true}
 use Rattle.i3c_base.specs.State.{entry_in, kept_of}
-use Rattle.i3c_table.specs.Sets.{is_in}
+use Rattle.i3c_base.specs.Sets.{is_in}
 use Rattle.i3c_table.proofs.StoredLaws.{identity_is, kept_stored, small_whole}
 use Rattle.i3c_table.proofs.table.Table.identity_at.Goals as goal
 

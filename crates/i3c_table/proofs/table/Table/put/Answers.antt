@@ -3,7 +3,7 @@ use Rattle.std.proofs.lemmas.List.{get_or-set_other, get_or-set_same}
 use Rattle.i3c_base.specs.State.{IsFree, IsUsable}
 use Rattle.i3c_table.specs.declared.table.Registers.{Registers}
 use Rattle.i3c_table.specs.Rows.{entry_of_row}
-use Rattle.i3c_table.specs.Sets.{is_in}
+use Rattle.i3c_base.specs.Sets.{is_in}
 use Rattle.i3c_table.specs.Stored.{no_registers, stored}
 use Rattle.i3c_table.specs.Putting.{with_row}
 use Rattle.i3c_table.proofs.StoredLaws.{fitting_row, new_row, put_stored, small_put, small_whole, whole_put}

@@ -1,14 +1,14 @@
--- Sets of addresses, and those that are usable and not in one.
-use Rattle.std.proofs.Common.{◌≡◌, ◌≢◌, ◌↔◌, ℕ, zero, suc, ◌+◌, ◌-◌, ◌*◌, ◌%◌, ◌^◌, ◌<◌, ◌≤◌, ◌&&◌, ◌==◌, if◌then◌else◌, nat_le, min, Bool, true, false, not, sym, refl, ap, ◌∙◌, inl, inr, arith}
+-- Sets of addresses, and the set of the usable ones.
+use Rattle.std.proofs.Common.{◌≡◌, ◌≢◌, ◌↔◌, ℕ, zero, suc, ◌+◌, ◌-◌, ◌*◌, ◌%◌, ◌^◌, ◌<◌, ◌≤◌, ◌&&◌, ◌==◌, if◌then◌else◌, nat_le, min, Bool, true, false, not, sym, refl, ap, ◌∙◌, inl, inr, arith, lit<}
 use Rattle.std.specs.List.{list_all, range_with_len}
-use Rattle.std.proofs.lemmas.Bool.{and_from, and_parts, both_ways, cases_eq, cases_lt, eq-eqb, eqb-true, le-leb, leb-true, ne_eqb}
+use Rattle.std.proofs.lemmas.Bool.{and_from, and_parts, both_ways, cases_eq, cases_lt, cond-true, eq-eqb, eqb-true, le-leb, leb-true, ne_eqb}
 use Rattle.std.proofs.lemmas.Nat.{and_le_l, one_shl}
-use Rattle.std.proofs.lemmas.Nat.Bits.{bit_at-pow_other, bit_at-pow_same, bit_at-lt, bit_at-trailing_zeros, bit_at-zero, bit_at_above, bit_at_and, bit_at_clear_other, bit_at_clear_same, bit_at_not, bit_at_set_other, bit_at_set_same}
+use Rattle.std.proofs.lemmas.Nat.Bits.{bit_at-pow_other, bit_at-pow_same, bit_at-lt, bit_at-trailing_zeros, bit_at-zero, bit_at_above, bit_at_and, bit_at_clear_other, bit_at_clear_same, bit_at_not, bit_at_set_other, bit_at_set_same, same_from_bits_below}
 use Rattle.std.specs.Int.{w128, bit_at, bit_not, trailing_zeros}
 use Rattle.std.specs.Int.RustNames.{bit_or}
 use lib.Bits.{bit_and}
 use Rattle.i3c_base.specs.State.{IsUsable}
-use Rattle.i3c_table.specs.Sets.{is_in, IsLowest}
+use Rattle.i3c_base.specs.Sets.{is_in, IsLowest}
 
 -- the test of a usable address
 abbrev pub is_usable : ℕ → Bool
@@ -18,9 +18,7 @@ pub is_usable-true : (a : ℕ) → IsUsable a → is_usable a ≡ true
 is_usable-true a u =
     and_from _ _ (le-leb 0x08 a u.0) (and_from _ _ (le-leb a 0x77 u.1) (and_from _ _ (ap not (ne_eqb a 0x3E u.2)) (and_from _ _ (ap not (ne_eqb a 0x5E u.3)) (and_from _ _ (ap not (ne_eqb a 0x6E u.4)) (ap not (ne_eqb a 0x76 u.5))))))
 
--- ---- the usable ones that aren't held
-
-pub is_usable-from : (a : ℕ) → is_usable a ≡ true → IsUsable a
+is_usable-from : (a : ℕ) → is_usable a ≡ true → IsUsable a
 is_usable-from a e =
     let p0 = and_parts _ _ e in
     let p1 = and_parts _ _ p0.1 in
@@ -33,7 +31,7 @@ is_usable-from a e =
     isnt a b n e = both_ways (not (a == b)) (ap not (eq-eqb a b e)) n
 
 -- the set of the usable addresses
-abbrev pub usable_set : ℕ
+abbrev usable_set : ℕ
 usable_set = 995622902817012564592952254314577664
 
 usable_bits : list_all (λ a. bit_at usable_set a == (if is_usable a then 1 else 0)) (range_with_len 0 128) ≡ true
@@ -51,12 +49,6 @@ in_all p (suc n) a k h low high =
 usable_at : (a : ℕ) → a < 128 → bit_at usable_set a ≡ (if is_usable a then 1 else 0)
 usable_at a l = eqb-true _ _ (in_all (λ a. bit_at usable_set a == (if is_usable a then 1 else 0)) 128 0 a usable_bits (omega arith) (omega arith))
 
-pub open_bit : (held a : ℕ) → held < 2 ^ 128 → a < 128 → bit_at (bit_and usable_set (bit_not w128 held)) a ≡ min (if is_usable a then 1 else 0) (1 - bit_at held a)
-open_bit held a fits l = bit_at_and usable_set (bit_not w128 held) a ∙ (ap (λ n. min n (bit_at (bit_not w128 held) a)) (usable_at a l) ∙ ap (min (if is_usable a then 1 else 0)) (bit_at_not w128 held a fits l))
-
-pub open_above : (held a : ℕ) → 128 ≤ a → bit_at (bit_and usable_set (bit_not w128 held)) a ≡ 0
-open_above held a l = bit_at_and usable_set (bit_not w128 held) a ∙ (let none = bit_at_above usable_set 128 a (omega arith) l in omega (arith, none))
-
 -- ---- membership
 
 pub in_from : (set a : ℕ) → bit_at set a ≡ 1 → is_in set a ≡ true
@@ -71,8 +63,50 @@ out_from set a e = ap (λ n. n == 1) e
 pub in_nothing : (a : ℕ) → is_in 0 a ≡ false
 in_nothing a = out_from 0 a (bit_at-zero a)
 
+-- a set that has no address is the empty one
+pub empty_is : (set : ℕ) → set < 2 ^ 128 → ((a : ℕ) → is_in set a ≡ false) → set ≡ 0
+empty_is set fits none = same_from_bits_below 128 set 0 fits (lit< tt) (λ a l. bit_out a ∙ sym (bit_at-zero a))
+  where
+    bit_out : (a : ℕ) → bit_at set a ≡ 0
+    bit_out a = elim (cases_lt (bit_at set a) 1) [ inl l ↦ omega (arith, l) | inr l ↦ absurd (both_ways (is_in set a) (none a) (in_from set a (omega (arith, l, bit_at-lt set a)))) ]
+
 pub beyond : (set a : ℕ) → set < 2 ^ 128 → 128 ≤ a → is_in set a ≡ false
 beyond set a fits past = out_from set a (bit_at_above set 128 a (omega arith) past)
+
+-- the usable addresses are those of their set
+pub usable_in : (a : ℕ) → (is_in usable_set a ≡ true) ↔ IsUsable a
+usable_in a = (
+  λ has. elim (cases_lt a 128) [
+    | inl l ↦ is_usable-from a (one_if (is_usable a) (sym (usable_at a l) ∙ in_to usable_set a has))
+    | inr past ↦ absurd (both_ways (is_in usable_set a) (beyond usable_set a (omega arith) past) has)
+  ],
+  λ usable.
+      let most = usable.1 in
+      let l : a < 128 = omega (arith, most) in
+      in_from usable_set a (usable_at a l ∙ cond-true (is_usable a) 1 0 (is_usable-true a usable)),
+)
+  where
+    one_if : (b : Bool) → ◌≡◌ {A = ℕ} (if b then 1 else 0) 1 → b ≡ true
+    one_if true e = refl
+    one_if false e = absurd (omega (arith, e))
+
+-- those of another less
+pub less_all : (set others a : ℕ) → set < 2 ^ 128 → others < 2 ^ 128 → is_in (bit_and set (bit_not w128 others)) a ≡ (is_in set a && not (is_in others a))
+less_all set others a fits small = elim (cases_lt a 128) [
+  | inl l ↦ ap (λ n. n == 1) (bit_at_and set (bit_not w128 others) a ∙ ap (min (bit_at set a)) (bit_at_not w128 others a small l)) ∙ by_bits (bit_at set a) (bit_at others a) (bit_at-lt set a) (bit_at-lt others a)
+  | inr past ↦
+      beyond (bit_and set (bit_not w128 others)) a (omega (arith, fits, and_le_l set (bit_not w128 others))) past
+      ∙ sym (ap (λ b. b && not (is_in others a)) (beyond set a fits past))
+]
+  where
+    by_bits : (m n : ℕ) → m < 2 → n < 2 → (min m (1 - n) == 1) ≡ (m == 1 && not (n == 1))
+    by_bits zero zero l k = refl
+    by_bits zero (suc zero) l k = refl
+    by_bits (suc zero) zero l k = refl
+    by_bits (suc zero) (suc zero) l k = refl
+    by_bits (suc (suc m)) n l k = absurd (omega arith)
+    by_bits zero (suc (suc n)) l k = absurd (omega arith)
+    by_bits (suc zero) (suc (suc n)) l k = absurd (omega arith)
 
 -- an address more
 pub with_same : (set k : ℕ) → k < 128 → is_in (bit_or set (1 * 2 ^ k % 2 ^ 128)) k ≡ true

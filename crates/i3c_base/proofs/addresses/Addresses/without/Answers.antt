@@ -1,6 +1,6 @@
 use Rattle.std.proofs.Common.{arith}
-use Rattle.i3c_table.proofs.SetLaws.{less_below, less_other, less_same}
-use Rattle.i3c_table.proofs.addresses.Addresses.without.Goals as goal
+use Rattle.i3c_base.proofs.SetLaws.{less_below, less_other, less_same}
+use Rattle.i3c_base.proofs.addresses.Addresses.without.Goals as goal
 
 pub returns-clause-not_in_it : goal.returns-clause-not_in_it
 returns-clause-not_in_it c = rw c.get.ensures.same (less_same c.args.self.0 c.args.address (omega arith))

@@ -1,6 +1,6 @@
 use Rattle.std.proofs.Common.{arith}
-use Rattle.i3c_table.proofs.SetLaws.{with_other, with_same}
-use Rattle.i3c_table.proofs.addresses.Addresses.with.Goals as goal
+use Rattle.i3c_base.proofs.SetLaws.{with_other, with_same}
+use Rattle.i3c_base.proofs.addresses.Addresses.with.Goals as goal
 
 pub returns-clause-in_it : goal.returns-clause-in_it
 returns-clause-in_it c = rw c.get.ensures.same (with_same c.args.self.0 c.args.address (omega arith))

@@ -1,8 +1,7 @@
-use Rattle.std.proofs.Common.{◌≡◌, arith, subst, sym, ◌∙◌}
+use Rattle.std.proofs.Common.{◌≡◌, arith}
 use Rattle.std.specs.Int.{w128, trailing_zeros}
-use Rattle.i3c_table.specs.Sets.{IsLowest}
-use Rattle.i3c_table.proofs.SetLaws.{in_nothing, lowest}
-use Rattle.i3c_table.proofs.addresses.Addresses.lowest.Goals as goal
+use Rattle.i3c_base.proofs.SetLaws.{in_nothing, lowest}
+use Rattle.i3c_base.proofs.addresses.Addresses.lowest.Goals as goal
 
 pub returns-then-self-eq0 : goal.returns-then-self-eq0
 returns-then-self-eq0 c = rw c.if-self-eq0.true in_nothing

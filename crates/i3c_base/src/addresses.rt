@@ -1,14 +1,32 @@
 ghost use Rattle.std.specs.Prelude.{◌≡◌};
 
-use i3c_base::Addr7;
+use crate::range::Addr7;
+
+/// The addresses that devices may be given, one bit for each.
+const USABLE: u128 = 0x00BF_BFFF_BFFF_FFFF_BFFF_FFFF_FFFF_FF00;
 
 /// A set of addresses (I3C Basic 5.1.2.2.5), one bit for each.
 #[derive(Clone, Copy, Debug, PartialEq, Eq)]
-pub struct Addresses(pub(crate) u128);
+pub struct Addresses(u128);
 
 impl Addresses {
-    ghost use Rattle.std.specs.Prelude.{◌≡◌, ◌≢◌, ◌↔◌, ◌<◌, ◌≤◌, ℕ, IsTrue, MatchOption, false, true};
-    ghost use Rattle.i3c_table.specs.Sets.{is_in, IsLowest};
+    ghost use Rattle.std.specs.Prelude.{◌≡◌, ◌≢◌, ◌↔◌, ◌&&◌, ◌<◌, ◌≤◌, ℕ, IsTrue, MatchOption, false, not, true};
+    ghost use Rattle.i3c_base.specs.Sets.{is_in, IsLowest};
+    ghost use Rattle.i3c_base.specs.State.{IsUsable};
+
+    /// The empty set.
+    pub fn new() -> Addresses
+        ensures { (a : ℕ) → is_in result.0 a ≡ false }
+    {
+        Addresses(0)
+    }
+
+    /// The addresses that devices may be given: `08` to `77` without `3E`, `5E`, `6E` and `76`.
+    pub fn usable() -> Addresses
+        ensures { (a : ℕ) → (is_in result.0 a ≡ true) ↔ IsUsable a }
+    {
+        Addresses(USABLE)
+    }
 
     /// Whether an address is in the set.
     pub fn has(self, address: Addr7) -> bool
@@ -32,6 +50,13 @@ impl Addresses {
         ensures less { is_in self.0 address ≡ true → result.0 < self.0 }
     {
         Addresses(self.0 & !(1 << address.get()))
+    }
+
+    /// The set without the addresses of another.
+    pub fn without_all(self, others: Addresses) -> Addresses
+        ensures { (a : ℕ) → is_in result.0 a ≡ (is_in self.0 a && not (is_in others.0 a)) }
+    {
+        Addresses(self.0 & !others.0)
     }
 
     /// The set of this address, or the empty set where the set doesn't have it.
