@@ -1,13 +1,22 @@
 use crate::fault::Fault;
 use crate::status::{came_to, status_of};
 use crate::stressing::run_stress;
-use crate::words::{STANDARD_INPUT, Task, Work, stress_named, task_named};
+use crate::words::{STANDARD_INPUT, Task, task_named};
 use i3c_scenario::{Tally, run_script, run_trace};
 use std::io::{ErrorKind, Read, Write};
 use std::rt::{Env, Files};
 use std::sync::Wait;
 use std::thread::Threads;
 use std::{env, fs, io};
+
+/// What the program does with a file.
+#[derive(Clone, Copy)]
+enum Work {
+    /// Runs it as a script.
+    Run,
+    /// Reads it as a trace.
+    Trace,
+}
 
 /// Runs the program, tells standard error why it gave up, if it did, and gives its exit status. Somebody may watch
 /// standard error on a terminal.
@@ -28,22 +37,23 @@ where
     R: Env + Files + Input + Print + Eprint + AllocGlobal + Threads + Wait + Sync,
 {
     let words = words_given(rt)?;
-    match stress_named(rt.alloc(), &words)? {
-        Some(stress) => run_stress(rt, &stress, is_watched),
-        None => run_task(rt, &task_named(rt.alloc(), &words)?),
+    match task_named(rt.alloc(), &words)? {
+        Task::Run(file) => run_file(rt, Work::Run, file),
+        Task::Trace(file) => run_file(rt, Work::Trace, file),
+        Task::Stress(stress) => run_stress(rt, &stress, is_watched),
     }
 }
 
-/// Does this with its file, or with standard input.
-fn run_task<R>(rt: &R, task: &Task<'_>) -> Result<Tally, Fault>
+/// Does this with a file, or with standard input.
+fn run_file<R>(rt: &R, work: Work, file: &str) -> Result<Tally, Fault>
 where
     R: Files + Input + Print + AllocGlobal,
 {
-    if task.file == STANDARD_INPUT {
-        return run_from(rt, &task.work, &mut rt.reader());
+    if file == STANDARD_INPUT {
+        return run_from(rt, work, &mut rt.reader());
     }
-    match fs::open(rt, task.file) {
-        Ok(mut input) => run_from(rt, &task.work, &mut input),
+    match fs::open(rt, file) {
+        Ok(mut input) => run_from(rt, work, &mut input),
         Err(error) => Err(reading_fault(&error)),
     }
 }
@@ -68,7 +78,7 @@ fn reading_fault(error: &io::Error) -> Fault {
 /// is told.
 fn run_from<R: Print + AllocGlobal, S: Read>(
     rt: &R,
-    work: &Work,
+    work: Work,
     input: &mut S,
 ) -> Result<Tally, Fault> {
     let mut printed = io::writer(rt);

@@ -1,4 +1,5 @@
-ghost use Rattle.std.specs.Prelude.{◌≡◌, length, codes, None, IsOkAnd};
+ghost use Rattle.std.specs.Prelude.{◌≡◌, length, IsOkAnd};
+ghost use Rattle.i3cbus.specs.Words.{RunsInput};
 
 use crate::fault::Fault;
 use clap::{Arg, ArgMatches, Command, value_parser};
@@ -53,20 +54,15 @@ Exit status:
 
 docs/FORMATS.md has every line of a script, what it prints and when it is refused; examples/ has scripts.";
 
-/// What to do, and the file to do it with.
+/// What the program does.
 #[derive(Clone, Copy)]
-pub(crate) struct Task<'a> {
-    pub work: Work,
-    pub file: &'a str,
-}
-
-/// What the program does with a file.
-#[derive(Clone, Copy, Debug, PartialEq, Eq)]
-pub(crate) enum Work {
-    /// Runs it as a script.
-    Run,
-    /// Reads it as a trace.
-    Trace,
+pub(crate) enum Task<'a> {
+    /// Runs this file as a script.
+    Run(&'a str),
+    /// Reads this file as a trace.
+    Trace(&'a str),
+    /// Lets devices post from threads of their own.
+    Stress(Stress),
 }
 
 /// How many devices post, and how often each tries to.
@@ -76,14 +72,30 @@ pub(crate) struct Stress {
     pub posts: u64,
 }
 
-/// The stress that the command line's words ask for, if they do.
-pub(crate) fn stress_named(alloc: Global, words: &[String]) -> Result<Option<Stress>, Fault>
-    ensures none { length words.now ≡ 0 → IsOkAnd result (λ stress. stress ≡ None) }
+/// What the command line's words ask for, which come without the program's. No words at all mean `run -`.
+pub(crate) fn task_named<'a>(alloc: Global, words: &'a [String]) -> Result<Task<'a>, Fault>
+    ensures none { length words.now ≡ 0 → IsOkAnd result RunsInput }
 {
     if words.is_empty() {
-        return Ok(None);
+        return Ok(Task::Run(STANDARD_INPUT));
     }
-    Ok(stress_given(&parsed(alloc, words)?))
+    Ok(task_given(&parsed(alloc, words)?))
+}
+
+/// The words, as the parser reads them.
+fn parsed<'a>(alloc: Global, words: &'a [String]) -> Result<ArgMatches<'a>, Fault> {
+    Ok(commands(alloc)?.try_get_matches_from(words)?)
+}
+
+/// The task that was given. The parser requires a command, and its arguments.
+fn task_given<'a>(matches: &ArgMatches<'a>) -> Task<'a> {
+    if let Some(stress) = stress_given(matches) {
+        return Task::Stress(stress);
+    }
+    match file_given(matches, TRACE) {
+        Some(trace) => Task::Trace(trace),
+        None => Task::Run(file_given(matches, RUN).unwrap_or(STANDARD_INPUT)),
+    }
 }
 
 /// The stress that was given, if it was. The parser requires both numbers, within their limits.
@@ -98,39 +110,9 @@ fn stress_given(matches: &ArgMatches<'_>) -> Option<Stress> {
     }
 }
 
-/// What the command line's words ask for, which come without the program's. No words at all mean `run -`.
-pub(crate) fn task_named<'a>(alloc: Global, words: &'a [String]) -> Result<Task<'a>, Fault>
-    ensures none { length words.now ≡ 0 → IsOkAnd result (λ task. (task.work ≡ Work.Run) × (task.file.now ≡ codes "-")) }
-{
-    if words.is_empty() {
-        return Ok(Task {
-            work: Work::Run,
-            file: STANDARD_INPUT,
-        });
-    }
-    Ok(task_given(&parsed(alloc, words)?))
-}
-
-/// The words, as the parser reads them.
-fn parsed<'a>(alloc: Global, words: &'a [String]) -> Result<ArgMatches<'a>, Fault> {
-    Ok(commands(alloc)?.try_get_matches_from(words)?)
-}
-
-/// The task that was given. The parser requires a command, and its argument.
-fn task_given<'a>(matches: &ArgMatches<'a>) -> Task<'a> {
-    let (work, given) = match matches.subcommand_matches(TRACE) {
-        Some(trace) => (Work::Trace, trace.get_str(FILE)),
-        None => (Work::Run, script_given(matches)),
-    };
-    Task {
-        work,
-        file: given.unwrap_or(STANDARD_INPUT),
-    }
-}
-
-/// The script that was given, if it was.
-fn script_given<'a>(matches: &ArgMatches<'a>) -> Option<&'a str> {
-    matches.subcommand_matches(RUN)?.get_str(FILE)
+/// The file that was given to a command, if the command was given.
+fn file_given<'a>(matches: &ArgMatches<'a>, command: &str) -> Option<&'a str> {
+    matches.subcommand_matches(command)?.get_str(FILE)
 }
 
 /// What the command line may ask for.
