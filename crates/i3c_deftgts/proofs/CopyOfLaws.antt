@@ -81,7 +81,7 @@ row_of a g = record { address = a; bcr = g.bcr; dcr = g.dcr; identity = None }
 abbrev target_of : ℕ → Lvr → Target
 target_of a lvr = (a, lvr)
 
-is_usable-true : (a : ℕ) → IsUsable a → is_usable a ≡ true
+pub is_usable-true : (a : ℕ) → IsUsable a → is_usable a ≡ true
 is_usable-true a u =
     and_from _ _ (le-leb 0x08 a u.0) (and_from _ _ (le-leb a 0x77 u.1) (and_from _ _ (ap not (ne_eqb a 0x3E u.2)) (and_from _ _ (ap not (ne_eqb a 0x5E u.3)) (and_from _ _ (ap not (ne_eqb a 0x6E u.4)) (ap not (ne_eqb a 0x76 u.5))))))
 

@@ -3,7 +3,7 @@ ghost use Rattle.i3c_deftgts.specs.Copies.{is_usable, legacies_in, row_in};
 ghost use Rattle.i3c_deftgts.specs.Entries.{HaveOwnAddresses};
 
 use crate::entries::{Entry, List};
-use i3c_base::Addr7;
+use i3c_base::{Addr7, Addresses};
 use i3c_table::{Legacies, Row, Table};
 
 impl List {
@@ -65,5 +65,5 @@ fn row_in(entry: &Entry) -> Option<Row>
 fn is_usable(address: Addr7) -> bool
     ensures { result ≡ is_usable address }
 {
-    matches!(address.get(), 0x08..=0x77) && !matches!(address.get(), 0x3E | 0x5E | 0x6E | 0x76)
+    Addresses::usable().has(address)
 }

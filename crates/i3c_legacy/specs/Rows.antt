@@ -17,6 +17,6 @@ pub record HasOwnAddresses {R : Type 0} (address : R → ℕ) (rows : List R) : 
   pub distinct : IsDistinct nat_eq (map address rows)
   pub in_range : All (λ row. address row < ADDRESSES) rows
 
--- the set has the addresses at which something stands
+-- the set has just the addresses at which something stands
 abbrev pub IsSetOf : {A : Type 0} → List (Option A) → ℕ → Type 0
-IsSetOf places set = (a : ℕ) → is_in set a ≡ is_some (slice_index_or places a None)
+IsSetOf there set = (a : ℕ) → is_in set a ≡ is_some (slice_index_or there a None)

@@ -1,4 +1,4 @@
-ghost use Rattle.std.specs.Prelude.{◌≡◌, ◌≢◌, ◌<◌, ◌↔◌, IsTrue, All, HoldsAt, MatchOption, length};
+ghost use Rattle.std.specs.Prelude.{◌≡◌, ◌≢◌, ◌<◌, All, HoldsAt, MatchOption, length};
 ghost use Rattle.i3c_legacy.specs.Declaring.{is_static};
 
 use crate::LegacyFault;
@@ -22,7 +22,7 @@ pub(crate) struct Declared {
 #[derive(Drop)]
 pub struct Legacies {
     pub(crate) targets: ArrayVec<Declared, LEGACIES>,
-    // theirs
+    // the addresses of these
     addresses: Addresses,
 }
 
@@ -44,7 +44,7 @@ impl Model for Legacies {
 }
 
 impl Legacies {
-    ghost use Rattle.std.specs.Prelude.{◌≡◌, ℕ, ◌≤◌, ◌↔◌, IsTrue, count_by, is_some, None, Some, length, slice_set, slice_index_or, IfSome, MatchOption, MatchResult, OnOk, OnErr};
+    ghost use Rattle.std.specs.Prelude.{◌≡◌, ℕ, ◌≤◌, ◌↔◌, IsTrue, count_by, is_some, None, Some, length, slice_set, slice_index_or, IfSome, MatchResult, OnOk, OnErr};
     ghost use Rattle.i3c_base.specs.declared.range.TheConstants.{ADDRESSES};
     ghost use Rattle.i3c_base.specs.State.{no_lvrs};
     ghost use Rattle.i3c_legacy.specs.declared.legacies.TheConstants.{LEGACIES};

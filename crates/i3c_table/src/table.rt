@@ -165,7 +165,7 @@ impl Table {
         ensures { self.new ≡ unkept_table self.old }
     {
         self.listed = false;
-        self.kept = Addresses::new();
+        self.kept = Addresses::new(); // a list names no identities
         self.order.clear();
     }
 
@@ -207,14 +207,6 @@ impl Table {
         ensures { result.now ≡ self.now.legacy }
     {
         &self.legacies
-    }
-
-    /// The LVR of the legacy target at a static address, if there is one.
-    pub fn lvr_at(&self, address: Addr7) -> Option<Lvr>
-        ensures same { result ≡ slice_index_or self.now.legacy address None }
-        ensures all_places { length self.now.legacy ≡ ADDRESSES }
-    {
-        self.legacies.lvr_at(address)
     }
 
     // The identity that an address is kept for, if there is one.

@@ -47,7 +47,7 @@ fn put(table: &mut Table, words: &mut Words<'_>, is_kept: bool) -> Result<(), Fa
     let identity = words.identity()?;
     if !matches!(address.get(), 0x08..0x3E)
         || table.row_of(address).is_some()
-        || table.lvr_at(address).is_some()
+        || table.legacies().lvr_at(address).is_some()
     {
         return Err(Fault::Unknown);
     }
@@ -67,7 +67,7 @@ fn ask(setting: &mut Setting, call: &str, words: &mut Words<'_>) -> Answer {
     match call {
         "known" => told_hex(alloc, &table.address_known(&words.identity()?)),
         "row-at" => told_hex(alloc, &table.row_of(words.address()?)),
-        "lvr-at" => told_hex(alloc, &table.lvr_at(words.address()?)),
+        "lvr-at" => told_hex(alloc, &table.legacies().lvr_at(words.address()?)),
         "rows" => rows(alloc, table),
         "lvrs" => told_hex(alloc, &declared(alloc, table.legacies())?),
         "list-current" => told(alloc, &table.list_current()),
@@ -131,7 +131,7 @@ fn put_again(table: &mut Table, words: &mut Words<'_>) -> Result<(), Fault> {
 fn ask_table(alloc: Global, table: &Table, method: &str, words: &mut Words<'_>) -> Answer {
     match method {
         "row_of" => told(alloc, &table.row_of(words.address()?)),
-        "lvr_at" => told_lvrs(alloc, &table.lvr_at(words.address()?)),
+        "lvr_at" => told_lvrs(alloc, &table.legacies().lvr_at(words.address()?)),
         "address_known" => told_hex(alloc, &table.address_known(&words.identity()?)),
         "by_address" => told_if(alloc, alike(table)),
         "given_addresses" => told_if(alloc, given(table)),
