@@ -41,7 +41,7 @@ impl Model for Kept {
 pub struct Closed {
     /// The events that the bus went through, with their replies.
     pub run: Run,
-    /// The interrupts that were accepted, in their order.
+    /// The interrupts that were recorded, in their order.
     pub records: Records,
 }
 
