@@ -1,22 +1,13 @@
 use crate::fault::Fault;
 use crate::status::{came_to, status_of};
 use crate::stressing::run_stress;
-use crate::words::{STANDARD_INPUT, Task, task_named};
+use crate::words::{STANDARD_INPUT, Task, Work, task_named};
 use i3c_scenario::{Tally, run_script, run_trace};
 use std::io::{ErrorKind, Read, Write};
 use std::rt::{Env, Files};
 use std::sync::Wait;
 use std::thread::Threads;
 use std::{env, fs, io};
-
-/// What the program does with a file.
-#[derive(Clone, Copy)]
-enum Work {
-    /// Runs it as a script.
-    Run,
-    /// Reads it as a trace.
-    Trace,
-}
 
 /// Runs the program, tells standard error why it gave up, if it did, and gives its exit status. Somebody may watch
 /// standard error on a terminal.
@@ -38,8 +29,7 @@ where
 {
     let words = words_given(rt)?;
     match task_named(rt.alloc(), &words)? {
-        Task::Run(file) => run_file(rt, Work::Run, file),
-        Task::Trace(file) => run_file(rt, Work::Trace, file),
+        Task::File(work, file) => run_file(rt, work, file),
         Task::Stress(stress) => run_stress(rt, &stress, is_watched),
     }
 }

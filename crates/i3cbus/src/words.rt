@@ -57,12 +57,19 @@ docs/FORMATS.md has every line of a script, what it prints and when it is refuse
 /// What the program does.
 #[derive(Clone, Copy)]
 pub(crate) enum Task<'a> {
-    /// Runs this file as a script.
-    Run(&'a str),
-    /// Reads this file as a trace.
-    Trace(&'a str),
+    /// Reads this file, and does this with it.
+    File(Work, &'a str),
     /// Lets devices post from threads of their own.
     Stress(Stress),
+}
+
+/// What the program does with a file.
+#[derive(Clone, Copy, Debug, PartialEq, Eq)]
+pub(crate) enum Work {
+    /// Runs it as a script.
+    Run,
+    /// Tells it as a trace.
+    Trace,
 }
 
 /// How many devices post, and how often each tries to.
@@ -77,7 +84,7 @@ pub(crate) fn task_named<'a>(alloc: Global, words: &'a [String]) -> Result<Task<
     ensures none { length words.now ≡ 0 → IsOkAnd result RunsInput }
 {
     if words.is_empty() {
-        return Ok(Task::Run(STANDARD_INPUT));
+        return Ok(Task::File(Work::Run, STANDARD_INPUT));
     }
     Ok(task_given(&parsed(alloc, words)?))
 }
@@ -93,8 +100,11 @@ fn task_given<'a>(matches: &ArgMatches<'a>) -> Task<'a> {
         return Task::Stress(stress);
     }
     match file_given(matches, TRACE) {
-        Some(trace) => Task::Trace(trace),
-        None => Task::Run(file_given(matches, RUN).unwrap_or(STANDARD_INPUT)),
+        Some(trace) => Task::File(Work::Trace, trace),
+        None => Task::File(
+            Work::Run,
+            file_given(matches, RUN).unwrap_or(STANDARD_INPUT),
+        ),
     }
 }
 
