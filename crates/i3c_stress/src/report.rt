@@ -1,6 +1,7 @@
-ghost use Rattle.std.specs.Prelude.{◌≡◌, ◌+◌, ◌≤◌, IfOk};
+ghost use Rattle.std.specs.Prelude.{◌≡◌, ◌+◌, ◌≤◌, length, IfOk};
+ghost use Rattle.i3c_stress.specs.Counting.{accepted_in, is_accepted, is_raise, is_raised, is_refused, refused_in};
 
-use i3c_shared::Closed;
+use i3c_shared::{Closed, Entry};
 use i3c_step::{Event, Reply};
 use thiserror::Error;
 
@@ -44,6 +45,9 @@ pub(crate) struct Counted {
 pub(crate) fn report(tried: u64, posted: u64, counted: Counted) -> Result<StressReport, StressFault>
     ensures tried { IfOk result (λ r. r.tried ≡ tried) }
     ensures posted { IfOk result (λ r. r.posted ≤ r.tried) }
+    ensures all_posted { IfOk result (λ r. r.posted ≡ posted) }
+    ensures turned_away { IfOk result (λ r. r.turned_away ≡ counted.refused) }
+    ensures recorded { IfOk result (λ r. r.recorded ≡ counted.recorded) }
     ensures balanced { IfOk result (λ r. r.posted ≡ r.turned_away + r.recorded + r.waiting) }
 {
     let Counted {
@@ -69,23 +73,52 @@ pub(crate) fn report(tried: u64, posted: u64, counted: Counted) -> Result<Stress
     })
 }
 
-/// Counts the devices' raises in a run, and their records.
-pub(crate) fn count(closed: &Closed) -> Result<Counted, StressFault> {
-    let mut counted = Counted {
-        accepted: 0,
-        refused: 0,
-        recorded: closed.records.as_slice().len() as u64,
-    };
+/// Counts the raises in a run by their replies, and the records.
+pub(crate) fn count(closed: &Closed) -> Result<Counted, StressFault>
+    ensures accepted { IfOk result (λ c. c.accepted ≡ accepted_in closed.now.run.entries) }
+    ensures refused { IfOk result (λ c. c.refused ≡ refused_in closed.now.run.entries) }
+    ensures recorded { IfOk result (λ c. c.recorded ≡ length closed.now.records) }
+{
+    let mut accepted = 0u64;
+    let mut refused = 0u64;
     for place in 0..closed.run.len() {
         let Ok(Some(entry)) = closed.run.get(place) else {
             return Err(StressFault::Memory);
         };
-        if let Event::Raise(_, _) = entry.event {
-            match entry.reply {
-                Reply::Raised(_) => counted.accepted = counted.accepted.saturating_add(1),
-                _ => counted.refused = counted.refused.saturating_add(1),
-            }
-        }
+        accepted += u64::from(is_accepted(&entry));
+        refused += u64::from(is_refused(&entry));
     }
-    Ok(counted)
+    Ok(Counted {
+        accepted,
+        refused,
+        recorded: closed.records.as_slice().len() as u64,
+    })
+}
+
+/// Whether an entry is an accepted raise.
+fn is_accepted(entry: &Entry) -> bool
+    ensures { result ≡ is_accepted entry.now }
+{
+    is_raise(&entry.event) && is_raised(&entry.reply)
+}
+
+/// Whether an entry is a refused raise.
+fn is_refused(entry: &Entry) -> bool
+    ensures { result ≡ is_refused entry.now }
+{
+    is_raise(&entry.event) && !is_raised(&entry.reply)
+}
+
+/// Whether an event is a raise.
+fn is_raise(event: &Event) -> bool
+    ensures { result ≡ is_raise event.now }
+{
+    matches!(event, Event::Raise(_, _))
+}
+
+/// Whether a reply accepts a raise.
+fn is_raised(reply: &Reply) -> bool
+    ensures { result ≡ is_raised reply.now }
+{
+    matches!(reply, Reply::Raised(_))
 }
