@@ -77,6 +77,7 @@ impl Recorder {
     ghost use Rattle.i3c_base.specs.Numbers.{is_capable};
     ghost use Rattle.i3c_base.specs.State.{IsStart, device_at, legacy_targets_of};
     ghost use Rattle.i3c_bus.specs.Asking.{Asks};
+    ghost use Rattle.i3c_bus.specs.Readings.{waiting_of};
     ghost use Rattle.i3c_step.specs.Serving.{recorded_at};
     ghost use Rattle.i3c_step.specs.Step.{Step};
     ghost use Rattle.i3c_step.specs.declared.replies.Reply.{Reply as ReplyValue};
@@ -173,6 +174,13 @@ impl Recorder {
         ensures { result ≡ is_some (device_at self.now.state slot) }
     {
         self.bus.present(slot)
+    }
+
+    /// How many interrupts of a slot's device wait.
+    pub fn waiting(&self, slot: Slot) -> usize
+        ensures { result ≡ waiting_of (device_at self.now.state slot) }
+    {
+        self.bus.waiting(slot)
     }
 
     /// Whether a session is open.

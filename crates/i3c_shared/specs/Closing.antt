@@ -1,6 +1,9 @@
 -- When a bus may be closed, and what it was.
-use Rattle.std.specs.Prelude.{◌≡◌, ℕ, Bool, true, false, ◌||◌, ◌&&◌, List, Option, is_none}
+use Rattle.std.specs.Prelude.{◌≡◌, ℕ, ◌<◌, Bool, true, false, ◌||◌, ◌&&◌, List, length, slice_index, Option, is_none}
+use Rattle.i3c_base.specs.declared.range.TheConstants.{SLOTS}
 use Rattle.i3c_base.specs.declared.requests.Record.{Record}
+use Rattle.i3c_base.specs.State.{State, device_at}
+use Rattle.i3c_bus.specs.Readings.{waiting_of}
 use Rattle.i3c_recorder.specs.declared.entry.Entry.{Entry}
 use Rattle.i3c_shared.specs.declared.faults.CloseFault.{CloseFault}
 use Rattle.i3c_recorder.specs.KeptRuns.{IsLegalTo}
@@ -13,8 +16,13 @@ use Rattle.i3c_shared.specs.Values.{KeptValue, Log, PortValue, Rings}
 abbrev pub is_role_out : KeptValue → Option ℕ → Bool
 is_role_out k role = k.log.state.in_session || (is_none role && is_none k.parked)
 
--- posts are taken up for the last time: the run is legal and leads to a state that has these records
-pub record TakesLast (old : Log) (run : List Entry) (records : List Record) : Type 0 where
+-- so many interrupts wait on the bus, by slot
+pub record AreWaiting (waiting : List ℕ) (st : State) : Type 0 where
+  pub slots : length waiting ≡ SLOTS
+  pub each : (s : ℕ) → s < SLOTS → slice_index waiting s ≡ waiting_of (device_at st s)
+
+-- posts are taken up for the last time: the run is legal and leads to a state that has these records, and in which so many interrupts wait
+pub record TakesLast (old : Log) (run : List Entry) (records : List Record) (waiting : List ℕ) : Type 0 where
   pub seen : Rings
   pub looked : AllLooked old.rings seen
   pub end : Log
@@ -22,12 +30,13 @@ pub record TakesLast (old : Log) (run : List Entry) (records : List Record) : Ty
   pub legal : IsLegalTo end.run end.state
   pub ran : run ≡ end.run
   pub recorded : records ≡ end.state.records
+  pub waits : AreWaiting waiting end.state
 
 -- a close that is accepted: of each port handed in whose ring was here, the raises are all that it posted
-pub record Closes (old : KeptValue) (role : Option ℕ) (ports : List PortValue) (run : List Entry) (records : List Record) : Type 0 where
+pub record Closes (old : KeptValue) (role : Option ℕ) (ports : List PortValue) (run : List Entry) (records : List Record) (waiting : List ℕ) : Type 0 where
   pub role_in : is_role_out old role ≡ false
   pub ports_in : NoneMissing old.log.rings ports
-  pub takes : TakesLast old.log run records
+  pub takes : TakesLast old.log run records waiting
   pub all : AllPosted old.log.rings ports run
 
 -- why it is refused, and that nothing changed

@@ -9,11 +9,12 @@ ghost use Rattle.i3c_recorder.specs.Values.{Recorded};
 ghost use Rattle.i3c_shared.specs.declared.port.TheConstants.{POSTS};
 ghost use Rattle.i3c_base.specs.declared.range.TheConstants.{SLOTS};
 
+use crate::closed::Closed;
 use crate::port::{POSTS, Port};
 use i3c_base::{Cuts, SLOTS, Setup, Slot};
-use i3c_bus::{Policy, Records};
+use i3c_bus::Policy;
 use i3c_frame::{Silent, Tap};
-use i3c_recorder::{Recorder, Run};
+use i3c_recorder::Recorder;
 use i3c_step::{Command, Event, OutOfMemory, Reply};
 use rtrb::Consumer;
 use std::alloc::{AllocError, Global};
@@ -60,6 +61,7 @@ impl Intake {
     ghost use Rattle.i3c_step.specs.declared.replies.Reply.{Reply as ReplyValue};
     ghost use Rattle.i3c_shared.specs.Calls.{is_awaited};
     ghost use Rattle.i3c_recorder.specs.KeptRuns.{IsLegalTo, terms_of};
+    ghost use Rattle.i3c_shared.specs.Closing.{AreWaiting};
     ghost use Rattle.i3c_shared.specs.Ports.{AllPosted, AllPostedFirst, AllWhole, IsFirstMissing, IsMissing, NoneMissing};
     ghost use Rattle.i3c_shared.specs.Raises.{raises_of};
     ghost use Rattle.i3c_shared.specs.Rings.{Fits, is_out};
@@ -262,10 +264,10 @@ impl Intake {
 
     /// Takes up what is posted, and takes it apart. With all ports in hand whose rings are here, all that was posted is
     /// taken up. Where there is no memory, it comes back.
-    pub(crate) fn retire(self, ports: &mut Vec<Port>) -> Result<(Run, Records), Intake>
+    pub(crate) fn retire(self, ports: &mut Vec<Port>) -> Result<Closed, Intake>
         ensures ports { SamePorts ports.old.items ports.new.items }
-        ensures closed { IfOk result (λ c. (seen : Seen) × (end : Log) × AllLooked self.log.rings seen × TakesUp self.log seen end × (c.0.entries ≡ end.run) × (c.1 ≡ end.state.records) × IsLegalTo end.run end.state) }
-        ensures whole { IfOk result (λ c. AllPosted self.log.rings ports.old.items c.0.entries) }
+        ensures closed { IfOk result (λ c. (seen : Seen) × (end : Log) × AllLooked self.log.rings seen × TakesUp self.log seen end × (c.run.entries ≡ end.run) × (c.records ≡ end.state.records) × AreWaiting c.waiting end.state × IsLegalTo end.run end.state) }
+        ensures whole { IfOk result (λ c. AllPosted self.log.rings ports.old.items c.run.entries) }
         ensures prefix { IfErr result (λ k. AllPostedFirst self.log.rings ports.old.items k.log.run) }
         ensures back { IfErr result (λ k. Stays self.log k.log) }
     {
@@ -274,8 +276,22 @@ impl Intake {
             return Err(intake);
         };
         intake.take_up();
+        let waiting = intake.waiting();
         let Intake { recorder, rings: _ } = intake;
-        Ok(recorder.retire())
+        let (run, records) = recorder.retire();
+        Ok(Closed {
+            run,
+            records,
+            waiting,
+        })
+    }
+
+    /// How many interrupts of each slot's device wait.
+    fn waiting(&self) -> [usize; SLOTS]
+        ensures { AreWaiting result self.now.log.state }
+    {
+        let recorder = &self.recorder;
+        std::array::from_fn(|index| recorder.waiting(Slot::from_index(index)))
     }
 
     /// The run is legal and leads to the bus, and what was received from the ring of each port that is out are the bytes

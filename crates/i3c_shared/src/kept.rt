@@ -1,3 +1,4 @@
+use crate::closed::Closed;
 use crate::faults::{
     AskFault, AttachFault, CloseFault, DropFault, HandOverFault, Left, OpenFault, SessionFault,
     StaleRole, StartFault,
@@ -7,10 +8,10 @@ use crate::intake::{Intake, first_rings};
 use crate::port::{POSTS, Port, spend_ports};
 use crate::replying::{asked, attached, dropped, ended, handed, opened, rounded};
 use i3c_base::{Addr7, Cuts, RoundReply, Served, Setup, Slot};
-use i3c_bus::{Policy, Records};
+use i3c_bus::Policy;
 use i3c_frame::Tap;
 use i3c_legacy::Legacies;
-use i3c_recorder::{Recorder, Run};
+use i3c_recorder::Recorder;
 use i3c_step::{Command, Event, Reply};
 use rtrb::RingBuffer;
 use std::alloc::Global;
@@ -34,15 +35,6 @@ impl Model for Kept {
     ghost Value = { KeptValue };
 
     ghost view = { λ k. record { log = k.intake.log; parked = k.parked } };
-}
-
-/// What a bus was: its run and its records.
-#[derive(Drop)]
-pub struct Closed {
-    /// The events that the bus went through, with their replies.
-    pub run: Run,
-    /// The interrupts that were recorded, in their order.
-    pub records: Records,
 }
 
 /// What a refused close hands back.
@@ -311,7 +303,7 @@ impl Kept {
     /// Ends the bus. Its role has to be handed in or parked, with no session open, and each port that is out handed in;
     /// else all comes back.
     pub fn close(self, role: Option<HeldRole>, ports: Vec<Port>) -> Result<Closed, Unclosed<Kept>>
-        ensures closed { IfOk result (λ c. Closes self role ports.items c.run.entries c.records) }
+        ensures closed { IfOk result (λ c. Closes self role ports.items c.run.entries c.records c.waiting) }
         ensures refused { IfErr result (λ u. RefusesClose self role ports.items u.fault u.bus) }
         ensures back { IfErr result (λ u. (u.role ≡ role) × SamePorts ports.items u.ports.items) }
         ensures prefix { MatchResult result (λ c. AllPostedFirst self.log.rings ports.items c.run.entries) (λ u. AllPostedFirst self.log.rings ports.items u.bus.log.run) }
@@ -353,7 +345,7 @@ impl Kept {
     fn close_all(self, role: Option<HeldRole>, ports: Vec<Port>) -> Result<Closed, Unclosed<Kept>>
         requires role_in { is_role_out self role ≡ false }
         requires ports_in { NoneMissing self.log.rings ports.items }
-        ensures closed { IfOk result (λ c. Closes self role ports.items c.run.entries c.records) }
+        ensures closed { IfOk result (λ c. Closes self role ports.items c.run.entries c.records c.waiting) }
         ensures refused { IfErr result (λ u. RefusesClose self role ports.items u.fault u.bus) }
         ensures back { IfErr result (λ u. (u.role ≡ role) × SamePorts ports.items u.ports.items) }
         ensures prefix { MatchResult result (λ c. AllPostedFirst self.log.rings ports.items c.run.entries) (λ u. AllPostedFirst self.log.rings ports.items u.bus.log.run) }
@@ -365,11 +357,11 @@ impl Kept {
         } = self;
         let mut ports = ports;
         match intake.retire(&mut ports) {
-            Ok((run, records)) => {
+            Ok(closed) => {
                 spend_role(role);
                 spend_role(parked);
                 spend_ports(ports);
-                Ok(Closed { run, records })
+                Ok(closed)
             }
             Err(intake) => Err(Unclosed {
                 bus: Kept {

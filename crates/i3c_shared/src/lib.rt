@@ -1,6 +1,7 @@
 //! The bus that threads share: one lock, and under it the bus with the run that led to it.
 #![tactic(auto)]
 
+mod closed;
 mod compare;
 mod faults;
 mod held;
@@ -11,13 +12,14 @@ mod port;
 mod replying;
 mod shared;
 
+pub use closed::Closed;
 pub use faults::{
     AskFault, AttachFault, CloseFault, DropFault, HandOverFault, Left, OpenFault, SessionFault,
     StaleRole, StartFault,
 };
 pub use held::{HeldRole, HeldSession};
 pub use i3c_recorder::{Entry, Recorder, Run};
-pub use kept::{Closed, Kept, Unclosed};
+pub use kept::{Kept, Unclosed};
 pub use laws::posts_are_accounted_for;
 pub use port::{Full, POSTS, Port, spend_ports};
 pub use shared::SharedBus;

@@ -1,9 +1,10 @@
+use crate::closed::Closed;
 use crate::faults::{
     AskFault, AttachFault, DropFault, HandOverFault, Left, OpenFault, SessionFault, StaleRole,
     StartFault,
 };
 use crate::held::{HeldRole, HeldSession, spend_role};
-use crate::kept::{Closed, Kept, Unclosed};
+use crate::kept::{Kept, Unclosed};
 use crate::port::{Port, spend_ports};
 use i3c_base::{Addr7, Cuts, RoundReply, Served, Setup, Slot};
 use i3c_bus::Policy;
@@ -26,7 +27,9 @@ impl SharedBus {
     ghost use Rattle.rtrb.specs.Ring.{sent};
     ghost use Rattle.i3c_base.specs.Numbers.{is_capable};
     ghost use Rattle.i3c_shared.specs.declared.faults.StartFault.{StartFault as StartFaultValue};
+    ghost use Rattle.i3c_shared.specs.Closing.{Closes};
     ghost use Rattle.i3c_shared.specs.Ports.{SamePort, SamePorts};
+    ghost use Rattle.i3c_shared.specs.Values.{KeptValue};
 
     /// A bus with its main controller in slot 0, and with its role and its port. It answers `NotCapable` where the main
     /// device's BCR isn't a controller's, and `OutOfMemory`.
@@ -157,7 +160,8 @@ impl SharedBus {
         role: Option<HeldRole>,
         ports: Vec<Port>,
     ) -> Result<Closed, Unclosed<SharedBus>>
-        ensures { IfErr result (λ u. (u.role ≡ role) × SamePorts ports.items u.ports.items) }
+        ensures closed { IfOk result (λ c. (old : KeptValue) × Closes old role ports.items c.run.entries c.records c.waiting) }
+        ensures back { IfErr result (λ u. (u.role ≡ role) × SamePorts ports.items u.ports.items) }
     {
         let SharedBus { kept } = self;
         match kept.into_inner().close(role, ports) {

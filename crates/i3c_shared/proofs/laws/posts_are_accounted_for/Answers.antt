@@ -7,7 +7,7 @@ use Rattle.i3c_shared.proofs.Balanced.{accounted}
 use Rattle.i3c_shared.proofs.laws.posts_are_accounted_for.Goals as goal
 
 pub returns : goal.returns
-returns c old role ports run records closes start h is k p d at end there =
+returns c old role ports run records waiting closes start h is k p d at end there =
     let here : device_at (reached start h) p.slot ≡ Some d = ap (λ (st : State). device_at st p.slot) is.reached ∙ there in
     ap length (sym (closes.all k p at end))
     ∙ accounted p.slot start h run d.waiting is.events is.replies

@@ -11,14 +11,15 @@ returns-clause-closed c = (
   c.take_up.new.self.log,
   c.ready_for_all.ensures.same.rings,
   takes_from _ _ _ c.ready_for_all.ensures.same c.take_up.ensures.taken,
-  c.retire.ensures.run ∙ ap (λ (v : IntakeValue). v.log.run) c.intake.view_is,
-  c.retire.ensures.records ∙ ap (λ (v : IntakeValue). v.log.state.records) c.intake.view_is,
-  subst (λ (v : IntakeValue). IsLegalTo v.log.run v.log.state) c.intake.view_is c.retire.ensures.legal,
+  c.retire-run.ensures.run ∙ ap (λ (v : IntakeValue). v.log.run) c.intake.view_is,
+  c.retire-run.ensures.records ∙ ap (λ (v : IntakeValue). v.log.state.records) c.intake.view_is,
+  c.waiting-waiting.ensures,
+  subst (λ (v : IntakeValue). IsLegalTo v.log.run v.log.state) c.intake.view_is c.retire-run.ensures.legal,
 )
 
 pub returns-clause-whole : goal.returns-clause-whole
 returns-clause-whole c = λ k p at end.
-    ap (raises_of p.slot) (c.retire.ensures.run ∙ ap (λ (v : IntakeValue). v.log.run) c.intake.view_is)
+    ap (raises_of p.slot) (c.retire-run.ensures.run ∙ ap (λ (v : IntakeValue). v.log.run) c.intake.view_is)
     ∙ all_posted c.args.self.log.rings c.ready_for_all.new.self.log.rings c.take_up.new.self.log.rings c.args.ports.now.items c.take_up.new.self.log.run c.in-Ok.ensures.whole c.take_up.ensures.taken.left c.take_up.ensures.fits k p at end
 
 pub returns-in_default-clause-prefix : goal.returns-in_default-clause-prefix

@@ -7,7 +7,7 @@ returns-in-Ok-clause-closed c =
     record {
       role_in = c.requires.role_in;
       ports_in = c.requires.ports_in;
-      takes = rw (← c.self.view_is) (record { seen = e.0; end = e.1; looked = e.2; takes = e.3; ran = e.4; recorded = e.5; legal = e.6 });
+      takes = rw (← c.self.view_is) (record { seen = e.0; end = e.1; looked = e.2; takes = e.3; ran = e.4; recorded = e.5; waits = e.6; legal = e.7 });
       all = rw (← c.self.view_is) c.in-Ok.ensures.whole;
     }
 
