@@ -1,4 +1,5 @@
-ghost use Rattle.std.specs.Prelude.{◌≤◌};
+ghost use Rattle.std.specs.Prelude.{◌≤◌, IfOk};
+ghost use Rattle.i3c_stress.specs.Reporting.{WasOfBus};
 ghost use Rattle.i3c_stress.specs.declared.stressing.TheConstants.{MOST_DEVICES};
 
 use crate::report::StressFault;
@@ -170,7 +171,9 @@ fn ending(why: SessionFault) -> StressFault {
 }
 
 /// Closes the bus, or spends all where that is refused.
-pub(crate) fn end(party: Party) -> Result<Closed, StressFault> {
+pub(crate) fn end(party: Party) -> Result<Closed, StressFault>
+    ensures { IfOk result (λ c. WasOfBus c.run.entries c.records c.waiting) }
+{
     let Party { bus, role, ports } = party;
     match bus.close(Some(role), ports) {
         Ok(closed) => Ok(closed),

@@ -1,4 +1,5 @@
-ghost use Rattle.std.specs.Prelude.{◌≡◌, ◌+◌, ◌≤◌, length, IfOk};
+ghost use Rattle.std.specs.Prelude.{◌≡◌, ◌+◌, ◌^◌, ◌≤◌, ◌↔◌, length, sum, IfOk, IsOk, MatchOption};
+ghost use Rattle.i3c_stress.specs.Agreeing.{Agree};
 ghost use Rattle.i3c_stress.specs.Counting.{accepted_in, is_accepted, is_raise, is_raised, is_refused, refused_in};
 
 use i3c_shared::{Closed, Entry};
@@ -32,36 +33,36 @@ pub enum StressFault {
     NotBalanced,
 }
 
-/// What a run says of the devices' raises.
+/// What a closed bus says of the devices' raises.
 #[derive(Clone, Copy)]
 pub(crate) struct Counted {
     accepted: u64,
     refused: u64,
     recorded: u64,
+    waiting: u64,
 }
 
-/// The report, where the counts agree: what was posted was accepted or refused, and what was accepted is recorded or
-/// waits.
+/// The report, where the counts agree.
 pub(crate) fn report(tried: u64, posted: u64, counted: Counted) -> Result<StressReport, StressFault>
+    ensures agreed { IsOk result ↔ Agree tried posted counted }
     ensures tried { IfOk result (λ r. r.tried ≡ tried) }
-    ensures posted { IfOk result (λ r. r.posted ≤ r.tried) }
-    ensures all_posted { IfOk result (λ r. r.posted ≡ posted) }
+    ensures posted { IfOk result (λ r. r.posted ≡ posted) }
     ensures turned_away { IfOk result (λ r. r.turned_away ≡ counted.refused) }
     ensures recorded { IfOk result (λ r. r.recorded ≡ counted.recorded) }
+    ensures waiting { IfOk result (λ r. r.waiting ≡ counted.waiting) }
+    ensures within { IfOk result (λ r. r.posted ≤ r.tried) }
     ensures balanced { IfOk result (λ r. r.posted ≡ r.turned_away + r.recorded + r.waiting) }
+    ensures taken { IfOk result (λ r. r.posted ≡ counted.accepted + counted.refused) }
 {
     let Counted {
         accepted,
         refused,
         recorded,
+        waiting,
     } = counted;
-    let Some(taken) = accepted.checked_add(refused) else {
-        return Err(StressFault::NotBalanced);
-    };
-    let Some(waiting) = accepted.checked_sub(recorded) else {
-        return Err(StressFault::NotBalanced);
-    };
-    if posted > tried || posted != taken {
+    let taken = accepted.checked_add(refused);
+    let kept = recorded.checked_add(waiting);
+    if posted > tried || taken != Some(posted) || kept != Some(accepted) {
         return Err(StressFault::NotBalanced);
     }
     Ok(StressReport {
@@ -73,11 +74,12 @@ pub(crate) fn report(tried: u64, posted: u64, counted: Counted) -> Result<Stress
     })
 }
 
-/// Counts the raises in a run by their replies, and the records.
+/// Counts the raises of a closed bus's run by their replies, its records, and the interrupts that wait.
 pub(crate) fn count(closed: &Closed) -> Result<Counted, StressFault>
     ensures accepted { IfOk result (λ c. c.accepted ≡ accepted_in closed.now.run.entries) }
     ensures refused { IfOk result (λ c. c.refused ≡ refused_in closed.now.run.entries) }
     ensures recorded { IfOk result (λ c. c.recorded ≡ length closed.now.records) }
+    ensures waiting { IfOk result (λ c. c.waiting ≡ sum closed.now.waiting) }
 {
     let mut accepted = 0u64;
     let mut refused = 0u64;
@@ -88,11 +90,26 @@ pub(crate) fn count(closed: &Closed) -> Result<Counted, StressFault>
         accepted += u64::from(is_accepted(&entry));
         refused += u64::from(is_refused(&entry));
     }
+    let Some(waiting) = total(&closed.waiting) else {
+        return Err(StressFault::NotBalanced);
+    };
     Ok(Counted {
         accepted,
         refused,
         recorded: closed.records.as_slice().len() as u64,
+        waiting,
     })
+}
+
+/// The sum of these numbers, where it fits.
+fn total(numbers: &[usize]) -> Option<u64>
+    ensures { MatchOption result (2 ^ 64 ≤ sum numbers.now) (λ found. found ≡ sum numbers.now) }
+{
+    let mut total = 0u64;
+    for number in numbers {
+        total = total.checked_add(*number as u64)?;
+    }
+    Some(total)
 }
 
 /// Whether an entry is an accepted raise.

@@ -1,4 +1,5 @@
 ghost use Rattle.std.specs.Prelude.{◌≡◌, ◌+◌, ◌*◌, ◌≤◌, IfOk};
+ghost use Rattle.i3c_stress.specs.Reporting.{CountsBus};
 ghost use Rattle.i3c_stress.specs.declared.stressing.TheConstants.{MOST_DEVICES, MOST_POSTS};
 
 use crate::party::{Party, begin, end};
@@ -40,6 +41,7 @@ pub fn stress<R: Threads + Wait + Sync, P: Policy, G: Gate + Sync>(
     ensures tried { IfOk result (λ r. r.tried ≡ devices * posts) }
     ensures posted { IfOk result (λ r. r.posted ≤ r.tried) }
     ensures balanced { IfOk result (λ r. r.posted ≡ r.turned_away + r.recorded + r.waiting) }
+    ensures counted { IfOk result CountsBus }
 {
     let tried = u64::from(devices) * posts;
     let Party {
