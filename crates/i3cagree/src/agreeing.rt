@@ -10,12 +10,6 @@ use std::alloc::Global;
 /// What drop-offs may leave open, in the order in which it is tried.
 const CHOICES: [Choice; 3] = [Choice::Heard, Choice::Lost, Choice::Silent];
 
-/// Of a script with more events than this only the last ones are cut, for each cut runs all that are before it.
-const LONG: usize = 200;
-
-/// So many of them.
-const LAST: usize = 20;
-
 /// What was tried, and where the two machines disagree.
 #[derive(Debug, Drop)]
 pub(crate) struct Verdict {
@@ -226,12 +220,7 @@ fn clear(script: &mut Script) {
 fn each_frame(alloc: Global, script: &mut Script, verdict: &mut Verdict) -> Result<(), Fault> {
     let _ = KNOWN;
     let heard = all_heard(alloc, script.events.len())?;
-    let first = if script.own > LONG {
-        script.own - LAST
-    } else {
-        0
-    };
-    for at in first..script.own {
+    for at in 0..script.own {
         one_frame(alloc, script, &heard, at, verdict)?;
     }
     Ok(())
