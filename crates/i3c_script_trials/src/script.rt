@@ -7,6 +7,7 @@ use std::process::Abort;
 use std::{io, str};
 
 mod joining;
+mod refused_io;
 mod traces;
 
 /// How many bytes a script may have.
