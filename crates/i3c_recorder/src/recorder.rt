@@ -78,6 +78,8 @@ impl Recorder {
     ghost use Rattle.i3c_base.specs.State.{IsStart, device_at, legacy_targets_of};
     ghost use Rattle.i3c_bus.specs.Asking.{Asks};
     ghost use Rattle.i3c_bus.specs.Readings.{waiting_of};
+    ghost use Rattle.i3c_bus.specs.Wire.{IsWire};
+    ghost use Rattle.i3c_frame.specs.Taps.{Tells};
     ghost use Rattle.i3c_step.specs.Serving.{recorded_at};
     ghost use Rattle.i3c_step.specs.Step.{Step};
     ghost use Rattle.i3c_step.specs.declared.replies.Reply.{Reply as ReplyValue};
@@ -114,12 +116,13 @@ impl Recorder {
         self.bus.make_room()
     }
 
-    /// One event, which is kept with its reply.
+    /// One event, which is kept with its reply. The tap is told its wire.
     pub fn apply<T: Tap>(&mut self, event: Event, tap: &mut T) -> Reply
         requires spare { 0 < self.old.spare }
         ensures start { self.new.start ≡ self.old.start }
         ensures run { self.new.run ≡ self.old.run ++ record { event = event; reply = result } ∷ [] }
         ensures step { Step self.old.state event result self.new.state }
+        ensures told { Tells T.note_gives tap.old tap.new (IsWire self.old.state event result self.new.state) }
         ensures memory { self.old.room ≡ true → result ≢ ReplyValue.OutOfMemory }
         ensures room { self.old.room ≡ true → recorded_at result ≡ None → self.new.room ≡ true }
         ensures spare { self.old.spare ≤ self.new.spare + 1 }
@@ -137,7 +140,7 @@ impl Recorder {
         reply
     }
 
-    /// A frame under the role, which is kept with the verdicts that its policy gave.
+    /// A frame under the role, which is kept with the verdicts that its policy gave. The tap is told its wire.
     pub fn frame<P: Policy, T: Tap>(
         &mut self,
         command: Command,
@@ -149,6 +152,7 @@ impl Recorder {
         ensures start { self.new.start ≡ self.old.start }
         ensures run { self.new.run ≡ self.old.run ++ record { event = event_of command (given_by result) cuts; reply = result } ∷ [] }
         ensures step { Step self.old.state (event_of command (given_by result) cuts) result self.new.state }
+        ensures told { Tells T.note_gives tap.old tap.new (IsWire self.old.state (event_of command (given_by result) cuts) result self.new.state) }
         ensures asked { Asks P.verdict_gives policy.old policy.new self.old.state result }
         ensures memory { self.old.room ≡ true → result ≢ ReplyValue.OutOfMemory }
         ensures spare { self.old.spare ≤ self.new.spare + 1 }

@@ -1,5 +1,6 @@
 mod Compared
 mod Told
+mod ToldReplies
 mod Taken
 mod Fitting
 mod Events

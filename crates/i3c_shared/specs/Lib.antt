@@ -4,6 +4,7 @@ pub mod Rings
 pub mod Ends
 pub mod Ports
 pub mod Taking
+pub mod Telling
 pub mod Calls
 pub mod Closing
 pub mod Replying

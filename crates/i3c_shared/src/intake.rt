@@ -55,6 +55,8 @@ impl Intake {
     ghost use Rattle.rtrb.specs.Ring.{consumer_capacity, received, sent};
     ghost use Rattle.i3c_base.specs.State.{device_at};
     ghost use Rattle.i3c_bus.specs.Asking.{Asks};
+    ghost use Rattle.i3c_bus.specs.Wire.{IsWire};
+    ghost use Rattle.i3c_frame.specs.Taps.{Tells};
     ghost use Rattle.i3c_step.specs.Commands.{event_of};
     ghost use Rattle.i3c_step.specs.Giving.{given_by};
     ghost use Rattle.i3c_step.specs.declared.events.Event.{Event as EventValue};
@@ -66,6 +68,7 @@ impl Intake {
     ghost use Rattle.i3c_shared.specs.Raises.{raises_of};
     ghost use Rattle.i3c_shared.specs.Rings.{Fits, is_out};
     ghost use Rattle.i3c_shared.specs.Taking.{Grows, IsKept, IsOther, IsReady, Makes, PutsOut, Stays, TakesUp};
+    ghost use Rattle.i3c_shared.specs.Telling.{TellsOf};
     ghost use Rattle.i3c_shared.specs.Values.{Log, Rings as Seen};
 
     /// A bus whose main controller's port is out with this ring.
@@ -164,14 +167,18 @@ impl Intake {
         requires other { IsOther event }
         ensures memory { result ≢ ReplyValue.OutOfMemory }
         ensures made { Makes self.old.log event result self.new.log }
+        ensures told { Tells T.note_gives tap.old tap.new (IsWire self.old.log.state event result self.new.log.state) }
     {
         self.recorder.apply(event, tap)
     }
 
-    /// Takes up what is posted, and then makes one event that is neither a raise nor an attachment.
+    /// Takes up what is posted, and then makes one event that is neither a raise nor an attachment. The tap is told the
+    /// wire of that event.
     pub(crate) fn carry<T: Tap>(&mut self, event: Event, tap: &mut T) -> Result<Reply, OutOfMemory>
         requires { IsOther event }
-        ensures { MatchResult result (λ reply. (reply ≢ ReplyValue.OutOfMemory) × Grows self.old.log event reply self.new.log) (λ _. Stays self.old.log self.new.log) }
+        ensures { MatchResult result
+            (λ reply. (reply ≢ ReplyValue.OutOfMemory) × TellsOf T.note_gives tap.old tap.new self.old.log event reply self.new.log)
+            (λ _. (tap.new ≡ tap.old) × Stays self.old.log self.new.log) }
     {
         self.ready()?;
         self.take_up();
@@ -200,8 +207,10 @@ impl Intake {
         cuts: Cuts,
     ) -> Result<Reply, OutOfMemory>
         ensures { MatchResult result
-            (λ reply. (reply ≢ ReplyValue.OutOfMemory) × ((g : Grows self.old.log (event_of command (given_by reply) cuts) reply self.new.log) × Asks P.verdict_gives policy.old policy.new g.mid.state reply))
-            (λ _. (policy.new ≡ policy.old) × Stays self.old.log self.new.log) }
+            (λ reply. (reply ≢ ReplyValue.OutOfMemory) × ((g : Grows self.old.log (event_of command (given_by reply) cuts) reply self.new.log)
+            × Asks P.verdict_gives policy.old policy.new g.mid.state reply
+            × Tells T.note_gives tap.old tap.new (IsWire g.mid.state (event_of command (given_by reply) cuts) reply self.new.log.state)))
+            (λ _. (policy.new ≡ policy.old) × (tap.new ≡ tap.old) × Stays self.old.log self.new.log) }
     {
         self.ready()?;
         self.take_up();
@@ -220,6 +229,7 @@ impl Intake {
         ensures memory { result ≢ ReplyValue.OutOfMemory }
         ensures made { Makes self.old.log (event_of command (given_by result) cuts) result self.new.log }
         ensures asked { Asks P.verdict_gives policy.old policy.new self.old.log.state result }
+        ensures told { Tells T.note_gives tap.old tap.new (IsWire self.old.log.state (event_of command (given_by result) cuts) result self.new.log.state) }
     {
         self.recorder.frame(command, policy, tap, cuts)
     }

@@ -66,6 +66,7 @@ impl Kept {
     ghost use Rattle.i3c_shared.specs.Raises.{raises_of};
     ghost use Rattle.i3c_shared.specs.Rings.{IsEndOf, ring_at};
     ghost use Rattle.i3c_shared.specs.Taking.{IsKept};
+    ghost use Rattle.i3c_shared.specs.Telling.{TellsFrame, TellsIf, ending_reply, handing_reply, opening_reply, round_reply};
 
     /// A bus with its main controller in slot 0, whose role and port are out, and an empty run. It answers `NotCapable`
     /// where the main device's BCR isn't a controller's.
@@ -185,6 +186,7 @@ impl Kept {
     ) -> Result<Reply, StaleRole>
         ensures role { role.new ≡ role.old }
         ensures sent { Commands P.verdict_gives policy.old policy.new self.old self.new role.old command cuts result }
+        ensures told { TellsFrame T.note_gives tap.old tap.new self.old.log command cuts result self.new.log }
     {
         if role.holder != self.intake.active() {
             return Err(StaleRole(self.intake.terms()));
@@ -203,7 +205,8 @@ impl Kept {
         tap: &mut T,
         cuts: Cuts,
     ) -> Result<(HeldSession, Served), (HeldRole, OpenFault)>
-        ensures { Opens self.old self.new role cuts result }
+        ensures opens { Opens self.old self.new role cuts result }
+        ensures told { TellsIf T.note_gives tap.old tap.new self.old.log (EventValue.OpenDaa cuts) (opening_reply result) self.new.log }
     {
         if role.holder != self.intake.active() {
             return Err((role, OpenFault::StaleRole(StaleRole(self.intake.terms()))));
@@ -229,6 +232,7 @@ impl Kept {
     ) -> Result<RoundReply, SessionFault>
         ensures session { _session.new ≡ _session.old }
         ensures rounds { Rounds self.old self.new cuts result }
+        ensures told { TellsIf T.note_gives tap.old tap.new self.old.log (EventValue.Round cuts) (round_reply result) self.new.log }
     {
         let Ok(reply) = self.intake.carry(Event::Round(cuts), tap) else {
             return Err(SessionFault::OutOfMemory);
@@ -245,7 +249,8 @@ impl Kept {
         session: HeldSession,
         tap: &mut T,
     ) -> Result<HeldRole, (HeldSession, SessionFault)>
-        ensures { Ends self.old self.new session result }
+        ensures ends { Ends self.old self.new session result }
+        ensures told { TellsIf T.note_gives tap.old tap.new self.old.log EventValue.EndDaa (ending_reply result) self.new.log }
     {
         let Ok(reply) = self.intake.carry(Event::EndDaa, tap) else {
             return Err((session, SessionFault::OutOfMemory));
@@ -268,7 +273,8 @@ impl Kept {
         tap: &mut T,
         cuts: Cuts,
     ) -> Result<Served, (HeldRole, HandOverFault)>
-        ensures { Hands self.old self.new role to cuts result }
+        ensures hands { Hands self.old self.new role to cuts result }
+        ensures told { TellsIf T.note_gives tap.old tap.new self.old.log (EventValue.HandOver to cuts) (handing_reply result) self.new.log }
     {
         if role.holder != self.intake.active() {
             return Err((

@@ -9,4 +9,4 @@ mod report;
 mod stressing;
 
 pub use report::{StressFault, StressReport};
-pub use stressing::{Gate, MOST_DEVICES, MOST_POSTS, stress};
+pub use stressing::{Gate, MOST_DEVICES, MOST_POSTS, Watch, stress, stress_watched};

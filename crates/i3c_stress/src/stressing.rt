@@ -7,7 +7,7 @@ use crate::report::{StressFault, StressReport, count, report};
 use i3c_base::{Cuts, Slot};
 use i3c_bus::Policy;
 use i3c_frame::Silent;
-use i3c_shared::{HeldRole, Port, SharedBus};
+use i3c_shared::{Closed, HeldRole, Port, SharedBus};
 use i3c_step::{Command, Reply};
 use std::alloc::Global;
 use std::sync::{Mutex, Wait};
@@ -24,6 +24,34 @@ pub const MOST_POSTS: u32 = 100_000;
 pub trait Gate {
     /// The slot's device has had its nth answer, from 1.
     fn answered(&self, slot: Slot, n: u64);
+}
+
+/// Watches a run: a gate, and told of each serve and of the closed bus besides. Tests hold threads up by it.
+pub trait Watch {
+    /// The slot's device has had its nth answer, from 1.
+    fn answered(&self, slot: Slot, n: u64);
+
+    /// The nth serve begins, from 1.
+    fn serving(&self, n: u64);
+
+    /// The bus was closed. Its run is counted next.
+    fn closed(&self, closed: &Closed);
+}
+
+/// A gate alone: nobody is told of serves, or of the closed bus.
+#[derive(Drop)]
+struct Unwatched<'a, G> {
+    gate: &'a G,
+}
+
+impl<'a, G: Gate> Watch for Unwatched<'a, G> {
+    fn answered(&self, slot: Slot, n: u64) {
+        self.gate.answered(slot, n);
+    }
+
+    fn serving(&self, _n: u64) {}
+
+    fn closed(&self, _closed: &Closed) {}
 }
 
 /// Devices in slots from 1 raise interrupts from threads of their own, each so many times with bytes that count from 0,
@@ -43,6 +71,25 @@ pub fn stress<R: Threads + Wait + Sync, P: Policy, G: Gate + Sync>(
     ensures balanced { IfOk result (λ r. r.posted ≡ r.turned_away + r.recorded + r.waiting) }
     ensures counted { IfOk result CountsBus }
 {
+    stress_watched(rt, alloc, devices, posts, policy, &Unwatched { gate })
+}
+
+/// The same, watched.
+pub fn stress_watched<R: Threads + Wait + Sync, P: Policy, W: Watch + Sync>(
+    rt: &R,
+    alloc: Global,
+    devices: u8,
+    posts: u64,
+    policy: &mut P,
+    watch: &W,
+) -> Result<StressReport, StressFault>
+    requires devices { (1 ≤ devices) × (devices ≤ MOST_DEVICES) }
+    requires posts { (1 ≤ posts) × (posts ≤ MOST_POSTS) }
+    ensures tried { IfOk result (λ r. r.tried ≡ devices * posts) }
+    ensures posted { IfOk result (λ r. r.posted ≤ r.tried) }
+    ensures balanced { IfOk result (λ r. r.posted ≡ r.turned_away + r.recorded + r.waiting) }
+    ensures counted { IfOk result CountsBus }
+{
     let tried = u64::from(devices) * posts;
     let Party {
         bus,
@@ -54,16 +101,17 @@ pub fn stress<R: Threads + Wait + Sync, P: Policy, G: Gate + Sync>(
         role: &mut role,
         policy,
     });
-    let posted = post_and_serve(rt, alloc, &bus, &server, &mut ports, tried, posts, gate);
+    let posted = post_and_serve(rt, alloc, &bus, &server, &mut ports, tried, posts, watch);
     drop(server);
     let closed = end(Party { bus, role, ports })?;
+    watch.closed(&closed);
     let counted = count(&closed)?;
     let posted = posted?;
     report(tried, posted, counted)
 }
 
 /// A device's tries, with bytes that count from 0. It answers how many were posted.
-fn post_all<G: Gate>(port: &mut Port, gate: &G, posts: u64) -> u64
+fn post_all<W: Watch>(port: &mut Port, watch: &W, posts: u64) -> u64
     ensures { result ≤ posts }
 {
     let slot = port.slot();
@@ -72,13 +120,13 @@ fn post_all<G: Gate>(port: &mut Port, gate: &G, posts: u64) -> u64
         if port.post(Some((n % 256) as u8)).is_ok() {
             posted += 1;
         }
-        gate.answered(slot, n + 1);
+        watch.answered(slot, n + 1);
     }
     posted
 }
 
 /// Starts a thread for each device, serves on this one, and joins them all. It answers how many tries were posted.
-fn post_and_serve<R: Threads + Wait + Sync, P: Policy, G: Gate + Sync>(
+fn post_and_serve<R: Threads + Wait + Sync, P: Policy, W: Watch + Sync>(
     rt: &R,
     alloc: Global,
     bus: &SharedBus,
@@ -86,7 +134,7 @@ fn post_and_serve<R: Threads + Wait + Sync, P: Policy, G: Gate + Sync>(
     ports: &mut Vec<Port>,
     tried: u64,
     posts: u64,
-    gate: &G,
+    watch: &W,
 ) -> Result<u64, StressFault>
     requires { posts ≤ MOST_POSTS }
 {
@@ -98,7 +146,7 @@ fn post_and_serve<R: Threads + Wait + Sync, P: Policy, G: Gate + Sync>(
             let mut handles: Vec<JoinHandle<u64>> = Vec::new(alloc);
             for port in ports.iter_mut() {
                 if port.slot() != Slot::default() {
-                    match scope.spawn(move || post_all(port, gate, posts)) {
+                    match scope.spawn(move || post_all(port, watch, posts)) {
                         Ok(handle) => {
                             if handles.push(handle).is_err() {
                                 started = false;
@@ -108,7 +156,7 @@ fn post_and_serve<R: Threads + Wait + Sync, P: Policy, G: Gate + Sync>(
                     }
                 }
             }
-            let served = server.lock(rt).serve_all(rt, bus, tried);
+            let served = server.lock(rt).serve_all(rt, bus, tried, watch);
             let mut posted = 0u64;
             while let Some(handle) = handles.pop() {
                 posted = posted.saturating_add(handle.join(rt));
@@ -132,13 +180,15 @@ struct Server<'a, P> {
 
 impl<'a, P: Policy> Server<'a, P> {
     /// Serves so many times.
-    fn serve_all<R: Threads + Wait + Sync>(
+    fn serve_all<R: Threads + Wait + Sync, W: Watch>(
         &mut self,
         rt: &R,
         bus: &SharedBus,
         times: u64,
+        watch: &W,
     ) -> Result<(), StressFault> {
-        for _ in 0..times {
+        for n in 0..times {
+            watch.serving(n + 1);
             let reply = bus.command(
                 rt,
                 self.role,

@@ -3,7 +3,7 @@
 //!
 //! `runs` has whole runs with each of their events, `handing` the role that is parked for its new holder, `closing` when
 //! a bus may be closed, `foreign` ports and roles of another bus, `threads` devices that post while the bus is
-//! busy, and `sharing` threads that call on one bus.
+//! busy, `sharing` threads that call on one bus, and `stressed` what a stress run posts, serves and counts.
 //! `setting` has what they share: there a call that was short of memory is given again. `strict` makes each call once.
 //! `checks` has what they assert.
 #![tactic(auto)]
@@ -22,6 +22,8 @@ mod runs;
 mod setting;
 #[cfg(test)]
 mod sharing;
+#[cfg(test)]
+mod stressed;
 #[cfg(test)]
 mod strict;
 #[cfg(test)]

@@ -13,5 +13,6 @@ returns g c = (
       makes = c.send.ensures.made;
     },
     c.send.ensures.asked,
+    c.send.ensures.told,
   ),
 )

@@ -7,3 +7,6 @@ invariant_of-self g c = record { size = c.self.invariant.size; fits = fits_event
 
 pub returns-clause-made : goal.returns-clause-made
 returns-clause-made g c = rw (← c.self.view_is) (record { step = c.apply.ensures.step; run = c.apply.ensures.run; start = c.apply.ensures.start; rings = refl })
+
+pub returns-clause-told : goal.returns-clause-told
+returns-clause-told g c = rw (← c.self.view_is) c.apply.ensures.told
