@@ -27,7 +27,7 @@ use Rattle.i3c_device.specs.Marks.{AreMarks, IsSetOf}
 use Rattle.i3c_device.specs.Raising.{interrupting_if, next_fault}
 use Rattle.i3c_device.specs.Reading.{AreReadOf, PullsLow}
 use Rattle.i3c_device.specs.Sets.{SomeLeft, has}
-use Rattle.i3c_device.specs.Walks.{AreReached, AreWillingLost, IsFirstIdentity, IsLowestWilling, NobodyHears, SomeReached, hears_as, heard_at, reaches_at, willing_at}
+use Rattle.i3c_device.specs.Walks.{AreReached, AreWillingLost, IsLowestWilling, SomeReached, heard_at, reaches_at, willing_at}
 use Rattle.i3c_device.specs.Wishing.{asks_some, wishes_interrupt, wishes_join, wishes_role}
 use Rattle.i3c_device.proofs.EachLaws.{all_changed}
 use Rattle.i3c_device.proofs.SeenLaws.{kinds_seen, length_seen, seen_at, seen_turned}
@@ -180,26 +180,6 @@ unheard active to now = all_changed (λ s place. option_map (λ d. if reaches_at
     go : (s : ℕ) (o : Option Device) → o ≡ option_map (λ d. if reaches_at active to s d then d else d) o
     go s None = refl
     go s (Some d) = ap Some (same (reaches_at active to s d) d)
-
--- who hears, and the first of them
-pub silent_seen : (e : Enabled) (xs now : List (Option Device)) → seen e xs ≡ now → NobodyHears xs → NobodyHears now
-silent_seen e xs now is none s = ap (in_slot (λ d. d.hearing)) (now_at e xs now s is) ∙ (test_seen e (λ d. d.hearing) s (get_or xs s None) (λ kinds d. refl) ∙ none s)
-
-pub first_seen : (e : Enabled) (xs now : List (Option Device)) (first : ℕ × SlotSet) → seen e xs ≡ now → IsFirstIdentity xs first → IsFirstIdentity now first
-first_seen e xs now first is h = record {
-  holders = λ s l. h.holders s l ∙ sym (ap (hears_as first.0) (now_at e xs now s is) ∙ test_seen e (λ d. d.hearing && number_of d.identity == first.0) s (get_or xs s None) (λ kinds d. refl));
-  held = h.held;
-  least = λ s d there hears.
-      let u = unseen e s (get_or xs s None) d (sym (now_at e xs now s is) ∙ there) in
-      subst (λ (x : Device). first.0 ≤ number_of x.identity) (sym u.2) (h.least s u.0 u.1 (sym (ap (λ (x : Device). x.hearing) u.2) ∙ hears));
-  ranged = λ s d there hears.
-      let u = unseen e s (get_or xs s None) d (sym (now_at e xs now s is) ∙ there) in
-      subst (λ (x : Device). IsInRange x.identity) (sym u.2) (h.ranged s u.0 u.1 (sym (ap (λ (x : Device). x.hearing) u.2) ∙ hears));
-}
-
-pub first_or_none : (e : Enabled) (xs now : List (Option Device)) (first : Option (ℕ × SlotSet)) → seen e xs ≡ now → MatchOption first (NobodyHears xs) (IsFirstIdentity xs) → MatchOption first (NobodyHears now) (IsFirstIdentity now)
-first_or_none e xs now None is h = silent_seen e xs now is h
-first_or_none e xs now (Some first) is h = first_seen e xs now first is h
 
 -- whoever drives a request asks for something
 there : (a : ℕ) (o : Option ℕ) → is_the a o ≡ true → is_some o ≡ true

@@ -2,7 +2,7 @@ pub mod Hearing
 pub mod Raising
 pub mod Addressing
 pub mod Walks
-pub mod First
+pub mod Driven
 pub mod Wishing
 pub mod Enabling
 pub mod Sets

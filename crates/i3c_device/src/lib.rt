@@ -3,8 +3,8 @@
 #![tactic(auto)]
 
 mod attached;
+mod driven;
 mod enabled;
-mod first;
 mod kinds;
 mod marks;
 mod occupants;

@@ -1,6 +1,6 @@
 use crate::attached::Device;
+use crate::driven::{requests_in, slots_with};
 use crate::enabled::Enabled;
-use crate::first::{joined, request_of};
 use crate::kinds::named;
 use crate::occupants::Occupants;
 use crate::sets::{SlotSet, lost_slots};
@@ -10,6 +10,7 @@ use crate::walks::{
 };
 use i3c_base::{Addr7, Change, Cuts, Kinds, REGISTERS, RaiseRefusal, Request, Slot};
 use i3c_ccc::Code;
+use i3c_header::arbitrate;
 use i3c_word::{WORD_BITS, Word};
 use std::marker::Model;
 
@@ -40,7 +41,7 @@ impl Devices {
     ghost use Rattle.i3c_base.specs.Frames.{changed_kinds};
     ghost use Rattle.i3c_base.specs.Places.{changed};
     ghost use Rattle.i3c_device.specs.Enabling.{bare};
-    ghost use Rattle.i3c_device.specs.Walks.{accepted_at, heard_at, left_at, taken_at, AreDrivers, AreHearers, AreReached, AreWillingLost, IsFirstDriven, IsFirstIdentity, IsLowestWilling, NobodyDrives, NobodyHears, SomeReached, rekinded_at, written_at};
+    ghost use Rattle.i3c_device.specs.Walks.{accepted_at, heard_at, left_at, taken_at, AreDrivers, AreHearers, AreReached, AreWillingLost, IsFirstDriven, IsLowestWilling, NobodyDrives, SomeReached, rekinded_at, written_at};
     ghost use Rattle.i3c_device.specs.Reading.{AreReadOf, IsRegisterOf};
     ghost use Rattle.i3c_device.specs.Sets.{has};
     ghost use Rattle.i3c_device.specs.Wishing.{asks_some};
@@ -144,20 +145,18 @@ impl Devices {
         self.occupants.raise(slot, raised, byte, enabled)
     }
 
-    /// The first of the requests that the devices drive into one header, and the slots that drive it (I3C Basic 5.1.2.2.1).
-    /// The active controller drives none.
+    /// The request that wins the header into which the devices drive theirs at once, and the slots that drive it (I3C Basic
+    /// 5.1.2.2.1). The active controller drives none.
     pub fn first_request(&self, active: Slot) -> Option<(Request, SlotSet)>
         ensures first { MatchOption result (NobodyDrives active self.now) (IsFirstDriven active self.now) }
         ensures slots { length self.now ≡ SLOT_COUNT }
     {
+        let driving = self.driving(active);
         let keys = self.occupants.marks().keys;
-        let mut first: Option<(u8, SlotSet)> = None;
-        let mut left = self.driving(active);
-        while let Some(index) = left.take_lowest() {
-            first = Some(joined(first, keys[index], index));
-        }
-        let (key, drivers) = first?;
-        Some((request_of(key), drivers))
+        let requests = requests_in(driving, &keys);
+        let winner = arbitrate(&requests)?;
+        let drivers = slots_with(driving, &keys, &winner);
+        Some((winner, drivers))
     }
 
     /// The slots whose device drives a request. The active controller drives none.
@@ -306,15 +305,6 @@ impl Devices {
         ensures slots { length self.now ≡ SLOT_COUNT }
     {
         self.occupants.marks().hearing
-    }
-
-    /// The least of the identities of those who hear the open session, as a number, and the slots that have it
-    /// (I3C Basic 5.1.4.2).
-    pub fn first_identity(&self) -> Option<(u64, SlotSet)>
-        ensures first { MatchOption result (NobodyHears self.now) (IsFirstIdentity self.now) }
-        ensures slots { length self.now ≡ SLOT_COUNT }
-    {
-        self.occupants.first_identity()
     }
 
     /// The devices in these slots won a round: each takes the address (I3C Basic 5.1.4.2).

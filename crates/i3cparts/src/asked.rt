@@ -31,7 +31,6 @@ fn together(setting: &mut Setting, call: &str, words: &mut Words<'_>) -> Answer 
         "is-heard" => is_heard(setting, words),
         "lowest-willing" => lowest_willing(setting, words),
         "hearers" => told_set(alloc, setting.devices.hearers()),
-        "first-identity" => first_identity(setting),
         "read-from" => read_from(setting, words),
         _ => hand::call(setting, call, words),
     }
@@ -131,17 +130,6 @@ fn lowest_willing(setting: &Setting, words: &mut Words<'_>) -> Answer {
         .devices
         .lowest_willing(setting.active, address, &setting.cuts, last);
     told_slots(setting.alloc, &lowest)
-}
-
-/// The least identity of those who hear, and their slots.
-fn first_identity(setting: &Setting) -> Answer {
-    let alloc = setting.alloc;
-    let Some((number, slots)) = setting.devices.first_identity() else {
-        return told_text(alloc, "None");
-    };
-    let number = told_hex(alloc, &number)?;
-    let slots = told_set(alloc, slots)?;
-    format!(in alloc; "{number} in {slots}").or(Err(Fault::Memory))
 }
 
 /// What the lines give of the registers at an address.
