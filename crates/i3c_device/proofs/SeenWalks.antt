@@ -23,6 +23,7 @@ use Rattle.i3c_device.specs.declared.sets.SlotSet.{SlotSet}
 use Rattle.i3c_device.specs.Enabling.{kinds_in, seen, seen_in, under}
 use Rattle.i3c_device.specs.Finding.{IsLowestFound, IsNowhere, within}
 use Rattle.i3c_device.specs.Hearing.{named_kinds}
+use Rattle.i3c_device.specs.Holding.{address_in, byte_in, front_in, identity_in, waiting_in}
 use Rattle.i3c_device.specs.Marks.{AreMarks, IsSetOf}
 use Rattle.i3c_device.specs.Raising.{interrupting_if, next_fault}
 use Rattle.i3c_device.specs.Reading.{AreReadOf, PullsLow}
@@ -47,6 +48,38 @@ slots_seen e xs now long is = sym (ap length is) ∙ (length_seen e xs ∙ long)
 
 pub now_at : (e : Enabled) (xs now : List (Option Device)) (s : ℕ) → seen e xs ≡ now → get_or now s None ≡ seen_in e s (get_or xs s None)
 now_at e xs now s is = ap (λ ys. get_or ys s None) (sym is) ∙ seen_at e xs s
+
+-- a slot's device with the kinds of the slot, and an empty slot
+pub single_seen : (e : Enabled) (xs now : List (Option Device)) (s i : ℕ) (place : Option Device) (d x : Device) (kinds : KindSet) → seen e xs ≡ now → place ≡ get_or xs s None → place ≡ Some d → x ≡ d → i ≡ s → kinds ≡ kinds_in e i
+    → Some (under kinds x) ≡ get_or now s None
+single_seen e xs now s i place d x kinds is at there same here own = (λ t. Some (under ((own ∙ ap (kinds_in e) here) t) (same t))) ∙ (ap (seen_in e s) (sym there ∙ at) ∙ sym (now_at e xs now s is))
+
+pub nobody_seen : (e : Enabled) (xs now : List (Option Device)) (s : ℕ) (place : Option Device) → seen e xs ≡ now → place ≡ get_or xs s None → place ≡ None → None ≡ get_or now s None
+nobody_seen e xs now s place is at none = ap (seen_in e s) (sym none ∙ at) ∙ sym (now_at e xs now s is)
+
+-- an answer that no kind changes
+pub asked_seen : {A : Type 0} (f : Option Device → A) (e : Enabled) (xs now : List (Option Device)) (s : ℕ) → seen e xs ≡ now → ((kinds : KindSet) (o : Option Device) → f (option_map (under kinds) o) ≡ f o) → f (get_or now s None) ≡ f (get_or xs s None)
+asked_seen f e xs now s is alike = ap f (now_at e xs now s is) ∙ alike (kinds_in e s) (get_or xs s None)
+
+pub identity_alike : (kinds : KindSet) (o : Option Device) → identity_in (option_map (under kinds) o) ≡ identity_in o
+identity_alike kinds None = refl
+identity_alike kinds (Some d) = refl
+
+pub address_alike : (kinds : KindSet) (o : Option Device) → address_in (option_map (under kinds) o) ≡ address_in o
+address_alike kinds None = refl
+address_alike kinds (Some d) = refl
+
+pub waiting_alike : (kinds : KindSet) (o : Option Device) → waiting_in (option_map (under kinds) o) ≡ waiting_in o
+waiting_alike kinds None = refl
+waiting_alike kinds (Some d) = refl
+
+pub front_alike : (kinds : KindSet) (o : Option Device) → front_in (option_map (under kinds) o) ≡ front_in o
+front_alike kinds None = refl
+front_alike kinds (Some d) = refl
+
+pub byte_alike : (kinds : KindSet) (o : Option Device) → byte_in (option_map (under kinds) o) ≡ byte_in o
+byte_alike kinds None = refl
+byte_alike kinds (Some d) = refl
 
 -- a device that is seen stands there
 unseen : (e : Enabled) (s : ℕ) (o : Option Device) (d : Device) → seen_in e s o ≡ Some d → (x : Device) × (o ≡ Some x) × (d ≡ under (kinds_in e s) x)

@@ -8,4 +8,5 @@ pub mod Enabling
 pub mod Sets
 pub mod Marks
 pub mod Finding
+pub mod Holding
 pub mod Reading

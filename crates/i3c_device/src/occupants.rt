@@ -1,4 +1,4 @@
-use crate::attached::Device;
+use crate::attached::Attached;
 use crate::marks::Marks;
 use crate::places::{raise, register_from};
 use crate::sets::SlotSet;
@@ -9,7 +9,7 @@ use std::marker::Model;
 /// The devices of a bus in their slots, each as if all kinds of its events were enabled.
 #[derive(Drop)]
 pub(crate) struct Occupants {
-    places: [Option<Device>; SLOTS],
+    places: [Option<Attached>; SLOTS],
     // so that no walk looks into a slot where there is nothing for it
     marks: Marks,
 }
@@ -48,12 +48,12 @@ impl Occupants {
         }
     }
 
-    /// The device in a slot.
-    pub fn get(&self, slot: Slot) -> Option<&Device>
-        ensures device { option_map (λ d. d.now) result ≡ slice_index_or self.now slot None }
+    /// Whatever stands in a slot.
+    pub fn at(&self, slot: Slot) -> &Option<Attached>
+        ensures place { result.now ≡ slice_index_or self.now slot None }
         ensures slots { length self.now ≡ SLOT_COUNT }
     {
-        self.places[slot.index()].as_ref()
+        &self.places[slot.index()]
     }
 
     /// In which slots a walk may find something.
@@ -65,7 +65,7 @@ impl Occupants {
     }
 
     /// This stands in a slot from now on.
-    pub fn put(&mut self, slot: Slot, place: Option<Device>)
+    pub fn put(&mut self, slot: Slot, place: Option<Attached>)
         ensures put { self.new ≡ slice_set self.old slot place }
         ensures slots { length self.old ≡ SLOT_COUNT }
     {

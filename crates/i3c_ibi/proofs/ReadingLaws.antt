@@ -13,6 +13,7 @@ use Rattle.i3c_base.specs.declared.requests.Record.{Record}
 use Rattle.i3c_base.specs.Cutting.{CutList, cut_of, is_by, lost_by}
 use Rattle.i3c_base.specs.State.{Device, State, device_at, has_address}
 use Rattle.i3c_base.specs.Serve.{DrivesByte, IsLowestDriver, asks, drives, is_empty}
+use Rattle.i3c_device.specs.Holding.{front_in}
 use Rattle.i3c_device.specs.Raising.{front_byte}
 use Rattle.i3c_device.specs.declared.sets.SlotSet.{SlotSet}
 use Rattle.i3c_device.specs.Sets.{IsLowestOf, has}
@@ -218,6 +219,10 @@ front_at place d w there first = go d.waiting refl first
     go : (ws : List Waiting) → d.waiting ≡ ws → slice_get ws 0 ≡ Some w → IsFrontOf place w
     go [] e k = absurd (none-some w k)
     go (v ∷ ws) e k = (d, ws, sym there, e ∙ ap (λ x. x ∷ ws) (same_Some v w k))
+
+pub front_held : (place : Option Device) (w : Waiting) → front_in place ≡ Some w → IsFrontOf place w
+front_held None w first = absurd (none-some w first)
+front_held (Some d) w first = front_at (Some d) d w refl first
 
 -- where the lowest of the drivers has no front, there is none
 pub no_driver : (active at : ℕ) (devices : List (Option Device)) (drivers : SlotSet) (slot : ℕ) → AreDrivers active (Interrupt at) devices drivers → IsLowestOf drivers slot

@@ -1,5 +1,5 @@
 use Rattle.std.proofs.Common.{rules}
-use Rattle.i3c_device.proofs.attached.Device.write.Goals as goal
+use Rattle.i3c_device.proofs.enabled.Enabled.at.Goals as goal
 
 pub returns : goal.returns
 returns c = search rules
