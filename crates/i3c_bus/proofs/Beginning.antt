@@ -93,8 +93,8 @@ begun_as st cuts Quiet devices records ack h e acked = (ack, acked, refl)
 begun_as st cuts (Refused r) devices records ack h e acked = (r, h.first, refl)
 begun_as st cuts Joined devices records ack h e acked = refl
 begun_as st cuts (WantsRole a) devices records ack h e acked = refl
-begun_as st cuts (Due r) devices records ack h e acked = (r, e, due_is st r (suc (length st.records)) h.first h.word, h.ended, refl)
-begun_as st cuts (Torn a byte) devices records ack h e acked = (a, byte, h.first, torn_gone st _ _ a _ h.first (h.serves 0), refl)
+begun_as st cuts (Due r) devices records ack h e acked = (r, e, due_is st r (suc (length st.records)) h.first h.word, h.ended, h.read, refl)
+begun_as st cuts (Torn a byte) devices records ack h e acked = (a, byte, h.first, torn_gone st _ _ a _ h.first (h.serves 0), h.read, refl)
 
 pub begun_by : (st : State) (cuts : CutList) (reading : Reading) (devices : List (Option Device)) (records : List Record) (served : Served) (ack : Bool) → IsServing st cuts reading devices
     → served ≡ served_as (length st.records) reading → records ≡ kept_in reading st.records → IsAck st cuts 0 ack

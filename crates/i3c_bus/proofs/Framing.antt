@@ -70,7 +70,7 @@ begun_later old cuts Quiet mid new wire e h = h
 begun_later old cuts Refused mid new wire e h = h
 begun_later old cuts Joining mid new wire e h = h
 begun_later old cuts (WantsRole a) mid new wire e h = h
-begun_later old cuts (Recorded place) mid new wire e h = (h.0, e ∙ h.1, h.2, h.3, h.4)
+begun_later old cuts (Recorded place) mid new wire e h = (h.0, e ∙ h.1, h.2, h.3, h.4, h.5)
 begun_later old cuts Torn mid new wire e h = h
 
 -- a frame that ends where it has begun

@@ -1,5 +1,5 @@
 -- What an event puts on the wire, for whoever taps it. An ACK depends on who is left at its bit.
-use Rattle.std.specs.Prelude.{◌≡◌, ◌↔◌, ℕ, ◌+◌, Bool, true, false, List, [], ◌∷◌, ◌++◌, map, Option, Some, None, is_some, MatchOption, ⊤}
+use Rattle.std.specs.Prelude.{◌≡◌, ◌↔◌, ℕ, ◌+◌, Bool, true, false, List, [], ◌∷◌, ◌++◌, map, Option, Some, None, is_some, IfSome, MatchOption, ⊤}
 use Rattle.i3c_base.specs.declared.answers.Answer.{Answer}
 use Rattle.i3c_base.specs.declared.answers.RoundReply.{RoundReply}
 use Rattle.i3c_base.specs.declared.kinds.Change.{Change}
@@ -23,6 +23,7 @@ use Rattle.i3c_events.specs.Telling.{IsKindsWire, IsWord}
 use Rattle.i3c_handoff.specs.declared.outcome.Offer.{Offer}
 use Rattle.i3c_handoff.specs.Offers.{IsReadAs, SomeTakes, is_acknowledged}
 use Rattle.i3c_handoff.specs.Telling.{IsOfferWire}
+use Rattle.i3c_ibi.specs.Driving.{IsByteRead}
 use Rattle.i3c_ibi.specs.Telling.{byte_word, request_header}
 use Rattle.i3c_xfer.specs.declared.outcome.Read.{Read}
 use Rattle.i3c_xfer.specs.declared.outcome.Write.{Write}
@@ -40,18 +41,21 @@ use Rattle.i3c_bus.specs.Whole.{the_table}
 abbrev pub IsAck : State → CutList → ℕ → Bool → Type 0
 IsAck st cuts bit ack = (ack ≡ true) ↔ AnyLeft st (lost_by cuts bit)
 
--- an accepted interrupt: its header, and the mandatory byte where one is due, as the new record says, which a driver that
--- isn't lost by its T ended
+-- an accepted interrupt: its header, and the mandatory byte where one is due, as the new record says: the byte that its
+-- drivers put on the lines, which one of them that isn't lost by its T ended
 abbrev pub IsRecordedWire : State → CutList → State → List Symbol → Type 0
 IsRecordedWire old cuts new wire =
     (r : Record) × (new.records ≡ old.records ++ r ∷ []) × (is_some r.byte ≡ byte_due (entry_at old r.at))
     × (is_some r.byte ≡ true → (s : ℕ) × (drives old (Interrupt r.at) s ≡ true) × (lost_by cuts 9 s ≡ false))
+    × IfSome r.byte (IsByteRead old cuts r.at)
     × (wire ≡ Start ∷ request_header (Interrupt r.at) true ∷ byte_word r.byte)
 
--- an accepted interrupt whose byte nobody ended: each driver is lost by its T, which is read as 1
+-- an accepted interrupt whose byte nobody ended: each driver is lost by its T, which is read as 1, and the byte is what
+-- they put on the lines until then
 abbrev pub IsTornWire : State → CutList → List Symbol → Type 0
 IsTornWire old cuts wire =
     (a : ℕ) × (byte : ℕ) × IsFirst old (Interrupt a) × ((s : ℕ) → drives old (Interrupt a) s ≡ true → lost_by cuts 9 s ≡ true)
+    × IsByteRead old cuts a byte
     × (wire ≡ Start ∷ request_header (Interrupt a) true ∷ Symbol.Word (record { byte = byte; t = true }) ∷ [])
 
 -- the beginning of a frame by what it served: START, the header of the broadcast or of who won it, and what was read

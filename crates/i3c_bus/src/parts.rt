@@ -145,17 +145,14 @@ impl Bus {
     pub fn address(&self, slot: Slot) -> Option<Addr7>
         ensures { result ≡ address_of (device_at self.now.state slot) }
     {
-        self.devices.get(slot)?.address()
+        self.devices.address(slot)
     }
 
     /// How many interrupts of a slot's device wait.
     pub fn waiting(&self, slot: Slot) -> usize
         ensures { result ≡ waiting_of (device_at self.now.state slot) }
     {
-        match self.devices.get(slot) {
-            Some(device) => device.waiting(),
-            None => 0,
-        }
+        self.devices.waiting(slot)
     }
 
     /// The recorded interrupts, the oldest first.
@@ -278,8 +275,8 @@ impl Bus {
     pub fn copy(&self, slot: Slot) -> Option<&List>
         ensures { MatchOption result (keeps_copy self.now.state slot ≡ false) (λ list. (keeps_copy self.now.state slot ≡ true) × IsCopyOf self.now.state list.now) }
     {
-        let device = self.devices.get(slot)?;
-        let keeps = device.address().is_some() && device.identity().bcr.capable();
+        let identity = self.devices.identity(slot)?;
+        let keeps = self.devices.address(slot).is_some() && identity.bcr.capable();
         if self.listed() && slot != self.active() && keeps {
             Some(&self.list)
         } else {

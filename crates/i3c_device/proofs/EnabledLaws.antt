@@ -2,7 +2,6 @@
 use Rattle.std.proofs.Common.{◌≡◌, Bool, true, false, not, ◌&&◌, ◌||◌, if◌then◌else◌, refl, ◌∙◌}
 use Rattle.i3c_base.specs.Frames.{with_kinds, without_kinds}
 use Rattle.i3c_base.specs.Numbers.{KindSet}
-use Rattle.i3c_base.specs.State.{all_kinds}
 
 -- one kind, in a slot that is one of these or isn't
 one_more : (here had more : Bool) → (had || (more && here)) ≡ (if here then had || more else had)
@@ -21,11 +20,11 @@ one_less false true true = refl
 one_less false true false = refl
 one_less false false less = refl
 
--- all kinds
-pub kinds_all : (here : Bool) (had now : KindSet) → now.interrupt ≡ (if here then true else had.interrupt) → now.role ≡ (if here then true else had.role) → now.join ≡ (if here then true else had.join)
-    → now ≡ (if here then all_kinds else had)
-kinds_all true had now i r j = λ t. record { interrupt = i t; role = r t; join = j t }
-kinds_all false had now i r j = λ t. record { interrupt = i t; role = r t; join = j t }
+-- other kinds
+pub kinds_anew : (here : Bool) (had own now : KindSet) → now.interrupt ≡ (if here then own.interrupt else had.interrupt) → now.role ≡ (if here then own.role else had.role) → now.join ≡ (if here then own.join else had.join)
+    → now ≡ (if here then own else had)
+kinds_anew true had own now i r j = λ t. record { interrupt = i t; role = r t; join = j t }
+kinds_anew false had own now i r j = λ t. record { interrupt = i t; role = r t; join = j t }
 
 -- these kinds more
 pub kinds_more : (here : Bool) (had more now : KindSet) → now.interrupt ≡ (had.interrupt || (more.interrupt && here)) → now.role ≡ (had.role || (more.role && here)) → now.join ≡ (had.join || (more.join && here))

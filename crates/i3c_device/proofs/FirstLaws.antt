@@ -1,174 +1,31 @@
--- The first of the requests that are driven in some slots, looked through one after another.
-use Rattle.std.proofs.Common.{◌≡◌, ℕ, ◌<◌, ◌≤◌, Bool, true, false, not, ◌&&◌, ◌==◌, if◌then◌else◌, ◌⊎◌, List, length, get_or, Option, Some, None, MatchOption, inl, inr, sym, ap, subst, ◌∙◌, arith}
-use Rattle.std.proofs.lemmas.Bool.{and_left, and_right, both_ways, cases_Bool, cases_eq, cases_lt, cond-true, cond-false, eq-eqb, false_from_ne_true, ne_eqb}
+-- The request that wins a header: what some slots drive into it, by their keys, and which of them drive the winner's.
+use Rattle.std.proofs.Common.{◌≡◌, ℕ, suc, ◌+◌, ◌*◌, ◌<◌, ◌≤◌, Bool, true, false, not, ◌&&◌, ◌==◌, if◌then◌else◌, ◌⊎◌, List, [], ◌∷◌, ◌++◌, length, length-append, get_or, slice_index, Option, None, Some, inl, inr, refl, sym, ap, subst, ◌∙◌, arith}
+use Rattle.std.specs.List.{All, Contains}
+use Rattle.std.proofs.lemmas.Bool.{and_left, and_parts, both_ways, cases_Bool, cases_eq, cases_lt, cond-true, cond-false, eq-eqb, false_from_ne_true, ne_eqb}
 use Rattle.std.proofs.lemmas.List.{get_or_past}
+use Rattle.std.proofs.lemmas.List.Elements.{All-append, All-cons, All-contains, All-nil, All-weaker, Contains-append_left, Contains-push}
 use Rattle.i3c_base.specs.declared.range.TheConstants.{SLOTS}
 use Rattle.i3c_base.specs.declared.requests.Request.{Request}
 use Rattle.i3c_base.specs.Serve.{rank}
-use Rattle.i3c_base.specs.State.{Device}
-use Rattle.i3c_header.specs.Keys.{IsLawful}
+use Rattle.i3c_base.specs.State.{Device, in_slot}
+use Rattle.i3c_header.specs.Keys.{IsFirstOf, IsLawful}
+use Rattle.i3c_header.proofs.KeyLaws.{key_of as key_of_request}
+use Rattle.i3c_device.specs.declared.enabled.Enabled.{Enabled}
 use Rattle.i3c_device.specs.declared.sets.SlotSet.{SlotSet}
+use Rattle.i3c_device.specs.Driven.{IsDrivenIn}
+use Rattle.i3c_device.specs.Enabling.{seen}
+use Rattle.i3c_device.specs.Marks.{AreKeys}
 use Rattle.i3c_device.specs.Sets.{has}
-use Rattle.i3c_device.specs.Walks.{AnyDrives, IsFirstDriven, NobodyDrives, drives_at}
-use Rattle.i3c_device.proofs.FindLaws.{TakesOut, still_in}
+use Rattle.i3c_device.specs.Walks.{IsFirstDriven, NobodyDrives, drives_at}
+use Rattle.i3c_device.specs.Wishing.{asks_some, request_of}
+use Rattle.i3c_device.proofs.FindLaws.{TakesOut, not_taken, still_in}
+use Rattle.i3c_device.proofs.KeyLaws.{IsAsked, key_driven, key_requested}
 use Rattle.i3c_device.proofs.MarkLaws.{undriven_past}
-
--- slot i alone drives the request
-pub record IsAlone (r : Request) (i : ℕ) (next : Request × SlotSet) : Type 0 where
-  pub request : next.0 ≡ r
-  pub drivers : (s : ℕ) → s < SLOTS → has next.1 s ≡ (if s == i then true else false)
-
--- the same request, which slot i drives as well
-pub record IsShared (first : Request × SlotSet) (i : ℕ) (next : Request × SlotSet) : Type 0 where
-  pub request : next.0 ≡ first.0
-  pub drivers : (s : ℕ) → s < SLOTS → has next.1 s ≡ (if s == i then true else has first.1 s)
-
--- of what was first, and the request r of slot i, what comes first; both where they are one
-abbrev pub Precedes : Request × SlotSet → Request → ℕ → Request × SlotSet → Type 0
-Precedes first r i next =
-    ((first.0 ≡ r) × IsShared first i next)
-    ⊎ ((rank r < rank first.0) × IsAlone r i next)
-    ⊎ ((rank first.0 < rank r) × (next ≡ first))
+use Rattle.i3c_device.proofs.SeenWalks.{and_join, asked_of}
 
 -- what a slot drives
 abbrev pub drives_in : ℕ → List (Option Device) → ℕ → Request → Bool
 drives_in active places s q = drives_at active s (get_or places s None) q
-
--- of the requests in the slots that aren't left this is the first, and these slots drive it
-pub record Leads (active : ℕ) (left : SlotSet) (places : List (Option Device)) (first : Request × SlotSet) : Type 0 where
-  pub drivers : (s : ℕ) → s < SLOTS → has first.1 s ≡ (not (has left s) && drives_in active places s first.0)
-  pub driven : AnyDrives active first.0 places
-  pub least : (s : ℕ) (q : Request) → s < SLOTS → drives_in active places s q ≡ true → (has left s ≡ true) ⊎ (rank first.0 ≤ rank q)
-  pub lawful : IsLawful first.0
-
--- whoever drives a request is left
-abbrev pub AllLeft : ℕ → SlotSet → List (Option Device) → Type 0
-AllLeft active left places = (s : ℕ) (q : Request) → s < SLOTS → drives_in active places s q ≡ true → has left s ≡ true
-
-abbrev pub LeadsSoFar : ℕ → SlotSet → List (Option Device) → Option (Request × SlotSet) → Type 0
-LeadsSoFar active left places first = MatchOption first (AllLeft active left places) (Leads active left places)
-
-taken : (i : ℕ) (left next : SlotSet) → TakesOut i left next → i < SLOTS → has next i ≡ false
-taken i left next out l = out i l ∙ cond-true (i == i) false (has left i) (eq-eqb i i (λ t. i))
-
--- neither the slot that is looked at nor one that is left was a driver so far
-and_not : (a b : Bool) → a ≡ true → (not a && b) ≡ false
-and_not a b e = and_left (not a) b (ap not e)
-
-and_is : (a b : Bool) → a ≡ false → (not a && b) ≡ b
-and_is a b e = ap (λ x. not x && b) e
-
--- a slot that drives nothing
-pub leads_skip : (active : ℕ) (left next : SlotSet) (places : List (Option Device)) (first : Option (Request × SlotSet)) (i : ℕ) → LeadsSoFar active left places first → i < SLOTS → has left i ≡ true → TakesOut i left next
-    → ((q : Request) → drives_in active places i q ≡ false) → LeadsSoFar active next places first
-leads_skip active left next places None i h low there out none = λ s q l d. elim (cases_eq s i) [
-  | inl e ↦ absurd (both_ways _ (none q) (subst (λ k. drives_in active places k q ≡ true) e d))
-  | inr ne ↦ still_in i left next out s l ne ∙ h s q l d
-]
-leads_skip active left next places (Some f) i h low there out none = record {
-  drivers = λ s l. elim (cases_eq s i) [
-    | inl e ↦
-        h.drivers s l ∙ (and_not (has left s) (drives_in active places s f.0) (ap (has left) e ∙ there)
-        ∙ sym (and_right (not (has next s)) (drives_in active places s f.0) (ap (λ k. drives_in active places k f.0) e ∙ none f.0)))
-    | inr ne ↦ h.drivers s l ∙ ap (λ b. not b && drives_in active places s f.0) (sym (still_in i left next out s l ne))
-  ];
-  driven = h.driven;
-  least = λ s q l d. elim (cases_eq s i) [
-    | inl e ↦ absurd (both_ways _ (none q) (subst (λ k. drives_in active places k q ≡ true) e d))
-    | inr ne ↦ elim (h.least s q l d) [ inl t ↦ inl (still_in i left next out s l ne ∙ t) | inr t ↦ inr t ]
-  ];
-  lawful = h.lawful;
-}
-
--- what slot i drives comes before all that was seen, or nothing was seen
-alone : (active : ℕ) (left next : SlotSet) (places : List (Option Device)) (r : Request) (i : ℕ) (more : Request × SlotSet) → i < SLOTS → TakesOut i left next → drives_in active places i r ≡ true
-    → ((q : Request) → drives_in active places i q ≡ true → q ≡ r) → IsLawful r → IsAlone r i more → ((s : ℕ) (q : Request) → s < SLOTS → drives_in active places s q ≡ true → (has left s ≡ true) ⊎ (rank r < rank q))
-    → Leads active next places more
-alone active left next places r i more low out d one lawful h before = record {
-  drivers = λ s l. h.drivers s l ∙ (elim (cases_eq s i) [
-    | inl e ↦
-        cond-true (s == i) true false (eq-eqb s i e)
-        ∙ sym (and_is (has next s) (drives_in active places s more.0) (ap (has next) e ∙ taken i left next out low) ∙ (ap (λ k. drives_in active places k more.0) e ∙ (ap (drives_in active places i) h.request ∙ d)))
-    | inr ne ↦ cond-false (s == i) true false (ne_eqb s i ne) ∙ sym (other s l ne)
-  ]);
-  driven = subst (λ q. AnyDrives active q places) (sym h.request) (i, d);
-  least = λ s q l dq. elim (cases_eq s i) [
-    | inl e ↦ inr (same q (one q (subst (λ k. drives_in active places k q ≡ true) e dq)))
-    | inr ne ↦ elim (before s q l dq) [ inl t ↦ inl (still_in i left next out s l ne ∙ t) | inr t ↦ inr (later q t) ]
-  ];
-  lawful = subst IsLawful (sym h.request) lawful;
-}
-  where
-    place : rank more.0 ≡ rank r
-    place = ap rank h.request
-
-    same : (q : Request) → q ≡ r → rank more.0 ≤ rank q
-    same q e = let is = ap rank e in omega (arith, is, place)
-
-    later : (q : Request) → rank r < rank q → rank more.0 ≤ rank q
-    later q t = omega (arith, t, place)
-
-    undriven : (s : ℕ) → s < SLOTS → has left s ≡ false → drives_in active places s more.0 ≡ true → ⊥
-    undriven s l n t = elim (before s more.0 l t) [ inl k ↦ both_ways _ n k | inr k ↦ omega (arith, k, place) ]
-
-    other : (s : ℕ) → s < SLOTS → (s ≡ i → ⊥) → (not (has next s) && drives_in active places s more.0) ≡ false
-    other s l ne = elim (cases_Bool (has left s)) [
-      | inl t ↦ and_not (has next s) (drives_in active places s more.0) (still_in i left next out s l ne ∙ t)
-      | inr n ↦ and_right (not (has next s)) (drives_in active places s more.0) (false_from_ne_true (drives_in active places s more.0) (undriven s l n))
-    ]
-
--- a slot that drives r
-pub leads_first : (active : ℕ) (left next : SlotSet) (places : List (Option Device)) (r : Request) (i : ℕ) (more : Request × SlotSet) → AllLeft active left places → i < SLOTS → TakesOut i left next
-    → drives_in active places i r ≡ true → ((q : Request) → drives_in active places i q ≡ true → q ≡ r) → IsLawful r → IsAlone r i more → Leads active next places more
-leads_first active left next places r i more none low out d one lawful h = alone active left next places r i more low out d one lawful h (λ s q l dq. inl (none s q l dq))
-
--- what was first stays so
-stays : (active : ℕ) (left next : SlotSet) (places : List (Option Device)) (f : Request × SlotSet) (r : Request) (i : ℕ) (more : Request × SlotSet) → Leads active left places f → i < SLOTS → has left i ≡ true
-    → TakesOut i left next → ((q : Request) → drives_in active places i q ≡ true → q ≡ r) → rank f.0 < rank r → more ≡ f → Leads active next places more
-stays active left next places f r i more h low there out one before e = subst (Leads active next places) (sym e) (record {
-  drivers = λ s l. elim (cases_eq s i) [
-    | inl same ↦
-        h.drivers s l ∙ (and_not (has left s) (drives_in active places s f.0) (ap (has left) same ∙ there)
-        ∙ sym (and_right (not (has next s)) (drives_in active places s f.0) (ap (λ k. drives_in active places k f.0) same ∙ false_from_ne_true (drives_in active places i f.0) (λ t. let is = ap rank (one f.0 t) in omega (arith, is, before)))))
-    | inr ne ↦ h.drivers s l ∙ ap (λ b. not b && drives_in active places s f.0) (sym (still_in i left next out s l ne))
-  ];
-  driven = h.driven;
-  least = λ s q l d. elim (cases_eq s i) [
-    | inl same ↦ inr (let is = ap rank (one q (subst (λ k. drives_in active places k q ≡ true) same d)) in omega (arith, is, before))
-    | inr ne ↦ elim (h.least s q l d) [ inl t ↦ inl (still_in i left next out s l ne ∙ t) | inr t ↦ inr t ]
-  ];
-  lawful = h.lawful;
-})
-
--- what was first is driven by slot i as well
-shared : (active : ℕ) (left next : SlotSet) (places : List (Option Device)) (f : Request × SlotSet) (r : Request) (i : ℕ) (more : Request × SlotSet) → Leads active left places f → i < SLOTS
-    → TakesOut i left next → drives_in active places i r ≡ true → ((q : Request) → drives_in active places i q ≡ true → q ≡ r) → f.0 ≡ r → IsShared f i more → Leads active next places more
-shared active left next places f r i more h low out d one is k = record {
-  drivers = λ s l. k.drivers s l ∙ (elim (cases_eq s i) [
-    | inl e ↦
-        cond-true (s == i) true (has f.1 s) (eq-eqb s i e)
-        ∙ sym (and_is (has next s) (drives_in active places s more.0) (ap (has next) e ∙ taken i left next out low) ∙ (ap (λ j. drives_in active places j more.0) e ∙ (ap (drives_in active places i) (k.request ∙ is) ∙ d)))
-    | inr ne ↦
-        cond-false (s == i) true (has f.1 s) (ne_eqb s i ne)
-        ∙ (h.drivers s l ∙ (λ t. not (sym (still_in i left next out s l ne) t) && drives_in active places s (sym k.request t)))
-  ]);
-  driven = subst (λ q. AnyDrives active q places) (sym k.request) h.driven;
-  least = λ s q l dq. elim (cases_eq s i) [
-    | inl e ↦ inr (let same = ap rank (one q (subst (λ j. drives_in active places j q ≡ true) e dq)) in let there = ap rank (k.request ∙ is) in omega (arith, same, there))
-    | inr ne ↦ elim (h.least s q l dq) [ inl t ↦ inl (still_in i left next out s l ne ∙ t) | inr t ↦ inr (let there = ap rank k.request in omega (arith, t, there)) ]
-  ];
-  lawful = subst IsLawful (sym k.request) h.lawful;
-}
-
-pub leads_more : (active : ℕ) (left next : SlotSet) (places : List (Option Device)) (f : Request × SlotSet) (r : Request) (i : ℕ) (more : Request × SlotSet) → Leads active left places f → i < SLOTS → has left i ≡ true
-    → TakesOut i left next → drives_in active places i r ≡ true → ((q : Request) → drives_in active places i q ≡ true → q ≡ r) → IsLawful r → Precedes f r i more → Leads active next places more
-leads_more active left next places f r i more h low there out d one lawful p = elim p [
-  | inl k ↦ shared active left next places f r i more h low out d one k.0 k.1
-  | inr k ↦ elim k [
-    | inl m ↦ alone active left next places r i more low out d one lawful m.1 (λ s q l dq. elim (h.least s q l dq) [ inl t ↦ inl t | inr t ↦ inr (omega (arith, t, m.0)) ])
-    | inr m ↦ stays active left next places f r i more h low there out one m.0 m.1
-  ]
-]
 
 -- past the last slot nobody drives
 pub driven_below : (active : ℕ) (places : List (Option Device)) (s : ℕ) (q : Request) → length places ≡ SLOTS → drives_in active places s q ≡ true → s < SLOTS
@@ -177,17 +34,142 @@ driven_below active places s q long d = elim (cases_lt s SLOTS) [
   | inr past ↦ absurd (undriven_past active s (get_or places s None) q (get_or_past places s None (omega (arith, long, past))) d)
 ]
 
-pub leads_all : (active : ℕ) (left : SlotSet) (places : List (Option Device)) (first : Option (Request × SlotSet)) → length places ≡ SLOTS → LeadsSoFar active left places first → ((s : ℕ) → s < SLOTS → has left s ≡ false)
-    → MatchOption first (NobodyDrives active places) (IsFirstDriven active places)
-leads_all active left places None long h none = λ s q. false_from_ne_true (drives_in active places s q) (λ d. let l = driven_below active places s q long d in both_ways _ (none s l) (h s q l d))
-leads_all active left places (Some f) long h none = record {
-  drivers = λ s l. h.drivers s l ∙ and_is (has left s) (drives_in active places s f.0) (none s l);
-  driven = h.driven;
-  least = λ s q d. let l = driven_below active places s q long d in elim (h.least s q l d) [ inl t ↦ absurd (both_ways _ (none s l) t) | inr t ↦ t ];
+taken : (i : ℕ) (left next : SlotSet) → TakesOut i left next → i < SLOTS → has next i ≡ false
+taken i left next out l = out i l ∙ cond-true (i == i) false (has left i) (eq-eqb i i refl)
+
+-- ---- the requests of some slots, one slot after another
+
+-- these are the requests of the slots that aren't left, and those that are come after them
+pub record RequestsSoFar (among left : SlotSet) (keys : List ℕ) (first : ℕ) (requests : List Request) : Type 0 where
+  pub within : (s : ℕ) → s < SLOTS → has left s ≡ true → has among s ≡ true
+  pub after : (s : ℕ) → s < SLOTS → has left s ≡ true → first ≤ s
+  pub low : first ≤ SLOTS
+  pub short : length requests ≤ first
+  pub sound : All (IsDrivenIn among keys) requests
+  pub complete : (s : ℕ) → s < SLOTS → has among s ≡ true → (has left s ≡ true) ⊎ Contains requests (request_of (slice_index keys s))
+
+pub requests_none : (among : SlotSet) (keys : List ℕ) (requests : List Request) → requests ≡ [] → RequestsSoFar among among keys 0 requests
+requests_none among keys requests e = record {
+  within = λ s l t. t;
+  after = λ s l t. omega arith;
+  low = omega arith;
+  short = let none = ap length e in omega (arith, none);
+  sound = subst (All (IsDrivenIn among keys)) (sym e) (All-nil (IsDrivenIn among keys));
+  complete = λ s l t. inl t;
 }
 
-pub leads_joined : (active : ℕ) (left next : SlotSet) (places : List (Option Device)) (first : Option (Request × SlotSet)) (r : Request) (i : ℕ) (more : Request × SlotSet) → LeadsSoFar active left places first → i < SLOTS
-    → has left i ≡ true → TakesOut i left next → drives_in active places i r ≡ true → ((q : Request) → drives_in active places i q ≡ true → q ≡ r) → IsLawful r
-    → MatchOption first (IsAlone r i more) (λ f. Precedes f r i more) → Leads active next places more
-leads_joined active left next places None r i more h low there out d one lawful p = leads_first active left next places r i more h low out d one lawful p
-leads_joined active left next places (Some f) r i more h low there out d one lawful p = leads_more active left next places f r i more h low there out d one lawful p
+pub requests_more : (among left next : SlotSet) (keys : List ℕ) (first i : ℕ) (requests more : List Request) (r : Request) → RequestsSoFar among left keys first requests → i < SLOTS → has left i ≡ true
+    → ((s : ℕ) → s < i → has left s ≡ false) → TakesOut i left next → r ≡ request_of (slice_index keys i) → more ≡ requests ++ r ∷ [] → RequestsSoFar among next keys (i + 1) more
+requests_more among left next keys first i requests more r h low there below out is e = record {
+  within = λ s l t. h.within s l (was s l t);
+  after = λ s l t. elim (cases_lt s i) [
+    | inl before ↦ absurd (both_ways _ (below s before) (was s l t))
+    | inr later ↦ let other = not_taken i left next out s l t in elim (cases_eq s i) [ inl same ↦ absurd (other same) | inr ne ↦ omega (arith, later, ne) ]
+  ];
+  low = omega (arith, low);
+  short = let long = ap length e ∙ length-append requests (r ∷ []) in let start = h.after i low there in omega (arith, long, h.short, start);
+  sound = subst (All (IsDrivenIn among keys)) (sym e)
+      (All-append (IsDrivenIn among keys) requests (r ∷ []) h.sound (All-cons (IsDrivenIn among keys) r [] (i, low, h.within i low there, is) (All-nil (IsDrivenIn among keys))));
+  complete = λ s l t. elim (cases_eq s i) [
+    | inl same ↦ inr (subst (λ ks. Contains ks (request_of (slice_index keys s))) (sym e) (subst (Contains (requests ++ r ∷ [])) (is ∙ ap (λ k. request_of (slice_index keys k)) (sym same)) (Contains-push requests r)))
+    | inr ne ↦ elim (h.complete s l t) [
+      | inl later ↦ inl (still_in i left next out s l ne ∙ later)
+      | inr held ↦ inr (subst (λ ks. Contains ks (request_of (slice_index keys s))) (sym e) (Contains-append_left requests (r ∷ []) (request_of (slice_index keys s)) held))
+    ]
+  ];
+}
+  where
+    was : (s : ℕ) → s < SLOTS → has next s ≡ true → has left s ≡ true
+    was s l t = sym (still_in i left next out s l (not_taken i left next out s l t)) ∙ t
+
+pub requests_all : (among left : SlotSet) (keys : List ℕ) (first : ℕ) (requests : List Request) → RequestsSoFar among left keys first requests → ((s : ℕ) → s < SLOTS → has left s ≡ false)
+    → (s : ℕ) → s < SLOTS → has among s ≡ true → Contains requests (request_of (slice_index keys s))
+requests_all among left keys first requests h none s l t = elim (h.complete s l t) [ inl later ↦ absurd (both_ways _ (none s l) later) | inr held ↦ held ]
+
+-- ---- the slots with a key, one after another
+
+pub record SlotsSoFar (among left : SlotSet) (keys : List ℕ) (key : ℕ) (slots : SlotSet) : Type 0 where
+  pub within : (s : ℕ) → s < SLOTS → has left s ≡ true → has among s ≡ true
+  pub are : (s : ℕ) → s < SLOTS → has slots s ≡ (not (has left s) && (has among s && slice_index keys s == key))
+
+pub slots_none : (among : SlotSet) (keys : List ℕ) (key : ℕ) (slots : SlotSet) → ((s : ℕ) → has slots s ≡ false) → SlotsSoFar among among keys key slots
+slots_none among keys key slots none = record { within = λ s l t. t; are = λ s l. none s ∙ sym (neither (has among s) (slice_index keys s == key)) }
+  where
+    neither : (a b : Bool) → (not a && (a && b)) ≡ false
+    neither true b = refl
+    neither false b = refl
+
+pub slots_more : (among left next : SlotSet) (keys : List ℕ) (key i : ℕ) (slots more : SlotSet) → SlotsSoFar among left keys key slots → i < SLOTS → has left i ≡ true → TakesOut i left next
+    → ((s : ℕ) → s < SLOTS → has more s ≡ (if s == i then (slice_index keys i == key) else has slots s)) → SlotsSoFar among next keys key more
+slots_more among left next keys key i slots more h low there out put = record {
+  within = λ s l t. h.within s l (sym (still_in i left next out s l (not_taken i left next out s l t)) ∙ t);
+  are = λ s l. put s l ∙ (elim (cases_eq s i) [
+    | inl e ↦
+        cond-true (s == i) (slice_index keys i == key) (has slots s) (eq-eqb s i e)
+        ∙ sym (ap (λ b. not b && (has among s && slice_index keys s == key)) (ap (has next) e ∙ taken i left next out low)
+        ∙ (ap (λ b. b && slice_index keys s == key) (ap (has among) e ∙ h.within i low there) ∙ ap (λ k. slice_index keys k == key) e))
+    | inr ne ↦
+        cond-false (s == i) (slice_index keys i == key) (has slots s) (ne_eqb s i ne)
+        ∙ (h.are s l ∙ ap (λ b. not b && (has among s && slice_index keys s == key)) (sym (still_in i left next out s l ne)))
+  ]);
+}
+
+pub slots_all : (among left : SlotSet) (keys : List ℕ) (key : ℕ) (slots : SlotSet) → SlotsSoFar among left keys key slots → ((s : ℕ) → s < SLOTS → has left s ≡ false)
+    → (s : ℕ) → s < SLOTS → has slots s ≡ (has among s && slice_index keys s == key)
+slots_all among left keys key slots h none s l = h.are s l ∙ ap (λ b. not b && (has among s && slice_index keys s == key)) (none s l)
+
+-- ---- the winner
+
+-- a slot of these drives the request of its key and no other, and the other slots drive none
+pub record AreDriving (active : ℕ) (driving : SlotSet) (keys : List ℕ) (now : List (Option Device)) : Type 0 where
+  pub asked : (s : ℕ) → s < SLOTS → has driving s ≡ true → IsAsked (drives_in active now s) (slice_index keys s)
+  pub every : (s : ℕ) (q : Request) → drives_in active now s q ≡ true → (s < SLOTS) × (has driving s ≡ true)
+
+pub are_driving : (e : Enabled) (xs now : List (Option Device)) (active : ℕ) (keys : List ℕ) (driving : SlotSet) → seen e xs ≡ now → AreKeys keys xs → length now ≡ SLOTS
+    → ((s : ℕ) → s < SLOTS → has driving s ≡ (not (s == active) && in_slot asks_some (get_or now s None))) → AreDriving active driving keys now
+are_driving e xs now active keys driving is are long asking = record {
+  asked = λ s l t. key_driven e xs now active s (slice_index keys s) is (are.1 s l).0 (are.1 s l).1 (sym (asking s l) ∙ t);
+  every = λ s q d. let l = driven_below active now s q long d in (l, asking s l ∙ asks s q (get_or now s None) d);
+}
+  where
+    asks : (s : ℕ) (q : Request) (o : Option Device) → drives_at active s o q ≡ true → (not (s == active) && in_slot asks_some o) ≡ true
+    asks s q None d = d
+    asks s q (Some x) d = let p = and_parts (not (s == active)) _ d in and_join (not (s == active)) (asks_some x) p.0 (asked_of x q p.1)
+
+module _ (active : ℕ) (driving : SlotSet) (keys : List ℕ) (now : List (Option Device)) (requests : List Request) (h : AreDriving active driving keys now)
+    (complete : (s : ℕ) → s < SLOTS → has driving s ≡ true → Contains requests (request_of (slice_index keys s))) where
+  pub nobody_drives : requests ≡ [] → NobodyDrives active now
+  nobody_drives none s q =
+      false_from_ne_true (drives_in active now s q) (λ d.
+      let at = h.every s q d in
+      let held = complete s at.0 at.1 in
+      let past = held.1 in
+      let empty = ap length none in
+      omega (arith, past, empty))
+
+  pub all_lawful : All (IsDrivenIn driving keys) requests → All IsLawful requests
+  all_lawful sound = All-weaker (IsDrivenIn driving keys) IsLawful (λ r t. subst IsLawful (sym t.3) (h.asked t.0 t.1 t.2).lawful) requests sound
+
+  pub first_driven : All (IsDrivenIn driving keys) requests → (r : Request) (key : ℕ) (slots : SlotSet) → IsFirstOf requests r → key ≡ key_of_request r
+      → ((s : ℕ) → s < SLOTS → has slots s ≡ (has driving s && slice_index keys s == key)) → IsFirstDriven active now (r, slots)
+  first_driven sound r key slots first is have = record {
+    drivers = λ s l. have s l ∙ elim (cases_Bool (has driving s)) [
+      | inl drives ↦
+          ap (λ b. b && slice_index keys s == key) drives
+          ∙ elim (cases_eq (slice_index keys s) key) [
+            | inl same ↦ eq-eqb (slice_index keys s) key same ∙ sym (subst (λ q. drives_in active now s q ≡ true) (ap request_of (same ∙ own) ∙ sym t.3) (h.asked s l drives).asks_it)
+            | inr ne ↦ ne_eqb (slice_index keys s) key ne ∙ sym (false_from_ne_true (drives_in active now s r) (λ d. ne (sym (key_requested (slice_index keys s) (h.asked s l drives).lawful_key) ∙ (ap key_of_request (sym ((h.asked s l drives).alone r d)) ∙ sym is))))
+          ]
+      | inr out ↦ and_left (has driving s) (slice_index keys s == key) out ∙ sym (false_from_ne_true (drives_in active now s r) (λ d. both_ways _ out (h.every s r d).1))
+    ];
+    driven = (t.0, subst (λ q. drives_in active now t.0 q ≡ true) (sym t.3) (h.asked t.0 t.1 t.2).asks_it);
+    least = λ s q d.
+        let at = h.every s q d in
+        All-contains (λ q. rank r ≤ rank q) requests q first.1 (subst (Contains requests) (sym ((h.asked s at.0 at.1).alone q d)) (complete s at.0 at.1));
+  }
+    where
+      t : IsDrivenIn driving keys r
+      t = All-contains (IsDrivenIn driving keys) requests r sound first.0
+
+      own : key ≡ slice_index keys t.0
+      own = is ∙ (ap key_of_request t.3 ∙ key_requested (slice_index keys t.0) (h.asked t.0 t.1 t.2).lawful_key)

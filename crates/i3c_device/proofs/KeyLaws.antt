@@ -1,23 +1,18 @@
--- Keys of requests: what they say of a device, and the first request of the slots whose keys were compared so far.
+-- Keys of requests, and what they say of a device.
 use Rattle.std.proofs.Common.{◌≡◌, ℕ, ◌+◌, ◌*◌, ◌/◌, ◌%◌, ◌<◌, ◌≤◌, Bool, true, false, not, ◌&&◌, ◌||◌, ◌==◌, ◌⊎◌, if◌then◌else◌, List, get_or, slice_index, Option, Some, None, IfSome, MatchOption, option_map, is_none, is_some, inl, inr, refl, sym, ap, subst, ◌∙◌, arith}
 use Rattle.std.proofs.lemmas.Bool.{and_parts, both_ways, cases_eq, cond-true, cond-false, eq-eqb, eqb-true, ne_eqb}
-use Rattle.i3c_base.specs.declared.range.TheConstants.{SLOTS}
 use Rattle.i3c_base.specs.declared.requests.Request.{Request}
 use Rattle.i3c_base.specs.declared.requests.Request.TheVariants.{Interrupt, Join, Role}
-use Rattle.i3c_base.specs.Serve.{asks, is_empty, rank}
+use Rattle.i3c_base.specs.Serve.{asks, is_empty}
 use Rattle.i3c_base.specs.State.{Device, in_slot, is_the}
 use Rattle.i3c_header.specs.Keys.{IsLawful}
 use Rattle.i3c_device.specs.declared.enabled.Enabled.{Enabled}
-use Rattle.i3c_device.specs.declared.sets.SlotSet.{SlotSet}
 use Rattle.i3c_device.specs.Addressing.{IsDynamic, IsDynamicIn}
 use Rattle.i3c_device.specs.Enabling.{kinds_in, seen, seen_in, under}
-use Rattle.i3c_device.specs.First.{IsAlone, Precedes}
-use Rattle.i3c_device.specs.Marks.{AreKeys, key_in}
-use Rattle.i3c_device.specs.Sets.{has}
+use Rattle.i3c_device.specs.Marks.{key_in}
 use Rattle.i3c_device.specs.Walks.{drives_at}
 use Rattle.i3c_device.specs.Wishing.{asks_some, key_of, request_of}
-use Rattle.i3c_device.proofs.FindLaws.{TakesOut, not_taken, still_in}
-use Rattle.i3c_device.proofs.FirstLaws.{LeadsSoFar, leads_joined, IsAlone as IsAloneRequest, Precedes as PrecedesRequest}
+use Rattle.i3c_header.proofs.KeyLaws.{key_of as key_of_request}
 use Rattle.i3c_device.proofs.SeenWalks.{AreAsking, and_join, asked_of, now_at}
 
 -- a join's key, or one of an address from 08 on
@@ -41,23 +36,18 @@ interrupt_request a l =
     cond-false (2 * a + 1 == 4) Join (if (2 * a + 1) % 2 == 0 then Role ((2 * a + 1) / 2) else Interrupt ((2 * a + 1) / 2)) (ne_eqb (2 * a + 1) 4 other)
     ∙ (cond-false ((2 * a + 1) % 2 == 0) (Role ((2 * a + 1) / 2)) (Interrupt ((2 * a + 1) / 2)) (ne_eqb ((2 * a + 1) % 2) 0 odd) ∙ ap Interrupt half)
 
--- the order of keys is that of their requests
-rank_of_key : (k : ℕ) → 16 ≤ k → rank (request_of k) ≡ 1 + k
-rank_of_key k l = elim (cases_eq (k % 2) 0) [
+-- it drives its own key
+pub key_requested : (k : ℕ) → IsLawfulKey k → key_of_request (request_of k) ≡ k
+key_requested k (inl e) = ap (λ n. key_of_request (request_of n)) e ∙ sym e
+key_requested k (inr l) = elim (cases_eq (k % 2) 0) [
   | inl e ↦
       let twice : k ≡ 2 * (k / 2) = omega (arith, e) in
-      ap (λ n. rank (request_of n)) twice ∙ (ap rank (role_request (k / 2) (omega (arith, l))) ∙ sym (ap (λ n. 1 + n) twice))
+      let same : 2 * (k / 2) + 0 ≡ k = omega (arith, e) in
+      ap (λ n. key_of_request (request_of n)) twice ∙ (ap key_of_request (role_request (k / 2) (omega (arith, l))) ∙ same)
   | inr ne ↦
       let twice : k ≡ 2 * (k / 2) + 1 = omega (arith, ne) in
-      let sum : 2 + 2 * (k / 2) ≡ 1 + (2 * (k / 2) + 1) = omega arith in
-      ap (λ n. rank (request_of n)) twice ∙ (ap rank (interrupt_request (k / 2) (omega (arith, l))) ∙ (sum ∙ sym (ap (λ n. 1 + n) twice)))
+      ap (λ n. key_of_request (request_of n)) twice ∙ (ap key_of_request (interrupt_request (k / 2) (omega (arith, l))) ∙ sym twice)
 ]
-
-less_key : (k l : ℕ) → IsLawfulKey k → IsLawfulKey l → k < l → rank (request_of k) < rank (request_of l)
-less_key k l (inl e) (inl f) m = absurd (omega (arith, e, f, m))
-less_key k l (inl e) (inr f) m = let zero_rank : rank (request_of k) ≡ 0 = ap (λ n. rank (request_of n)) e in omega (arith, zero_rank, rank_of_key l f, f)
-less_key k l (inr e) (inl f) m = absurd (omega (arith, e, f, m))
-less_key k l (inr e) (inr f) m = omega (arith, rank_of_key k e, rank_of_key l f, m)
 
 -- what a key says: the device that asks drives its request and no other
 abbrev pub asks_by : Option ℕ → Bool → Bool → Bool → Bool → Bool → Bool → Request → Bool
@@ -149,46 +139,3 @@ key_driven e xs now active i key is keyed low asks_it =
           lawful = by.lawful;
           lawful_key = by.lawful_key;
         }
-
--- keys as their requests
-abbrev pub requested : ℕ × SlotSet → Request × SlotSet
-requested f = (request_of f.0, f.1)
-
-by_requests : (first : Option (ℕ × SlotSet)) (key i : ℕ) (more : ℕ × SlotSet) → IfSome first (λ f. IsLawfulKey f.0) → IsLawfulKey key → MatchOption first (IsAlone key i more) (λ f. Precedes f key i more)
-    → MatchOption (option_map requested first) (IsAloneRequest (request_of key) i (requested more)) (λ f. PrecedesRequest f (request_of key) i (requested more))
-by_requests None key i more lawful law h = record { request = ap request_of h.key_is; drivers = h.drivers }
-by_requests (Some f) key i more lawful law (inl h) = inl (ap request_of h.0, record { request = ap request_of h.1.key_is; drivers = h.1.drivers })
-by_requests (Some f) key i more lawful law (inr (inl h)) = inr (inl (less_key key f.0 law lawful h.0, record { request = ap request_of h.1.key_is; drivers = h.1.drivers }))
-by_requests (Some f) key i more lawful law (inr (inr h)) = inr (inr (less_key f.0 key lawful law h.0, ap requested h.1))
-
-lawful_more : (first : Option (ℕ × SlotSet)) (key i : ℕ) (more : ℕ × SlotSet) → IfSome first (λ f. IsLawfulKey f.0) → IsLawfulKey key → MatchOption first (IsAlone key i more) (λ f. Precedes f key i more) → IsLawfulKey more.0
-lawful_more None key i more lawful law h = subst IsLawfulKey (sym h.key_is) law
-lawful_more (Some f) key i more lawful law (inl h) = subst IsLawfulKey (sym h.1.key_is) lawful
-lawful_more (Some f) key i more lawful law (inr (inl h)) = subst IsLawfulKey (sym h.1.key_is) law
-lawful_more (Some f) key i more lawful law (inr (inr h)) = subst (λ m. IsLawfulKey m.0) (sym h.1) lawful
-
--- the first key of the slots so far, where those that are left ask
-pub record Asking (active : ℕ) (left : SlotSet) (now : List (Option Device)) (first : Option (ℕ × SlotSet)) : Type 0 where
-  pub leads : LeadsSoFar active left now (option_map requested first)
-  pub asking : AreAsking active left now
-  pub lawful : IfSome first (λ f. IsLawfulKey f.0)
-
-pub asking_none : (active : ℕ) (left : SlotSet) (now : List (Option Device)) → ((s : ℕ) → s < SLOTS → has left s ≡ (not (s == active) && in_slot asks_some (get_or now s None))) → Asking active left now None
-asking_none active left now is = record {
-  leads = λ s q l d. is s l ∙ driver_asks s q (get_or now s None) d;
-  asking = λ s l h. sym (is s l) ∙ h;
-  lawful = tt;
-}
-  where
-    driver_asks : (s : ℕ) (q : Request) (o : Option Device) → drives_at active s o q ≡ true → (not (s == active) && in_slot asks_some o) ≡ true
-    driver_asks s q None h = h
-    driver_asks s q (Some d) h = let p = and_parts (not (s == active)) (asks d q) h in and_join (not (s == active)) (asks_some d) p.0 (asked_of d q p.1)
-
-pub asking_more : (e : Enabled) (xs now : List (Option Device)) (active i key : ℕ) (keys : List ℕ) (left next : SlotSet) (first : Option (ℕ × SlotSet)) (more : ℕ × SlotSet) → seen e xs ≡ now → AreKeys keys xs → key ≡ slice_index keys i → Asking active left now first
-    → i < SLOTS → has left i ≡ true → TakesOut i left next → MatchOption first (IsAlone key i more) (λ f. Precedes f key i more) → Asking active next now (Some more)
-asking_more e xs now active i key keys left next first more is are at h low t out joined =
-    let d = key_driven e xs now active i key is (at ∙ (are.1 i low).0) (are.1 i low).1 (h.asking i low t) in record {
-      leads = leads_joined active left next now (option_map requested first) (request_of key) i (requested more) h.leads low t out d.asks_it d.alone d.lawful (by_requests first key i more h.lawful d.lawful_key joined);
-      asking = λ s l m. h.asking s l (sym (still_in i left next out s l (not_taken i left next out s l m)) ∙ m);
-      lawful = lawful_more first key i more h.lawful d.lawful_key joined;
-    }

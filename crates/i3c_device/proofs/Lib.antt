@@ -10,5 +10,4 @@ pub mod SeenWalks
 pub mod KeyLaws
 pub mod FindLaws
 pub mod FirstLaws
-pub mod IdentityLaws
 pub mod ReadLaws

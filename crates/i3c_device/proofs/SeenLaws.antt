@@ -6,11 +6,11 @@ use Rattle.std.proofs.lemmas.Option.{none-some, same_Some}
 use Rattle.i3c_base.specs.declared.range.TheConstants.{SLOTS}
 use Rattle.i3c_base.specs.Numbers.{KindSet}
 use Rattle.i3c_base.specs.Places.{changed, changed_from}
-use Rattle.i3c_base.specs.State.{Device, all_kinds, in_slot, no_devices}
+use Rattle.i3c_base.specs.State.{Device, in_slot, no_devices}
 use Rattle.i3c_base.proofs.Lookups.{changed_at, length-changed, no_devices_at}
 use Rattle.i3c_device.specs.declared.enabled.Enabled.{Enabled}
 use Rattle.i3c_device.specs.declared.sets.SlotSet.{SlotSet}
-use Rattle.i3c_device.specs.Enabling.{bare, kinds_in, seen, seen_in, under}
+use Rattle.i3c_device.specs.Enabling.{kinds_in, seen, seen_in, under}
 use Rattle.i3c_device.specs.Finding.{within}
 use Rattle.i3c_device.specs.Marks.{IsSetOf}
 use Rattle.i3c_device.specs.Sets.{has}
@@ -30,15 +30,6 @@ kinds_seen e xs s d h = go (get_or xs s None) (sym (seen_at e xs s) ∙ h)
     go : (o : Option Device) → seen_in e s o ≡ Some d → d.kinds ≡ kinds_in e s
     go None n = absurd (none-some d n)
     go (Some x) n = sym (ap (λ y. y.kinds) (same_Some (under (kinds_in e s) x) d n))
-
--- but for the kinds it is as it is
-pub bare_seen : (e : Enabled) (s : ℕ) (o : Option Device) → option_map bare (seen_in e s o) ≡ option_map bare o
-bare_seen e s None = refl
-bare_seen e s (Some d) = refl
-
-pub bare_there : (o : Option Device) (d : Device) → Some (bare d) ≡ option_map bare o → (x : Device) × (o ≡ Some x) × (bare d ≡ bare x)
-bare_there None d h = absurd (none-some (bare d) (sym h))
-bare_there (Some x) d h = (x, refl, same_Some (bare d) (bare x) h)
 
 -- each slot changed, and perhaps its kinds
 pub seen_turned : (e more : Enabled) (f : ℕ → Option Device → Option Device) (xs ys : List (Option Device)) → length xs ≡ SLOTS → length ys ≡ SLOTS
@@ -80,34 +71,34 @@ happened_seen e f xs ys now i blind is happened =
     ap (seen e) happened ∙ (seen_put e xs i (f i (get_or xs i None)) ∙ (ap (set (seen e xs) i) (blind (kinds_in e i) i (get_or xs i None) ∙ ap (f i) (sym (seen_at e xs i)))
     ∙ ap (λ zs. set zs i (f i (get_or zs i None))) is))
 
--- a device that enters a slot, in which all kinds are enabled from then on
-pub entered_seen : (e more : Enabled) (xs ys now : List (Option Device)) (i j : ℕ) (d : Device) → length xs ≡ SLOTS → i < SLOTS → j ≡ i
-    → ((s : ℕ) → s < SLOTS → kinds_in more s ≡ (if s == j then all_kinds else kinds_in e s)) → seen e xs ≡ now → ys ≡ set xs i (Some d) → seen more ys ≡ set now i (Some (bare d))
-entered_seen e more xs ys now i j d long low at anew is put =
+-- a device that enters a slot, in which these kinds are enabled from then on
+pub entered_seen : (e more : Enabled) (xs ys now : List (Option Device)) (i j : ℕ) (kinds : KindSet) (d : Device) → length xs ≡ SLOTS → i < SLOTS → j ≡ i
+    → ((s : ℕ) → s < SLOTS → kinds_in more s ≡ (if s == j then kinds else kinds_in e s)) → seen e xs ≡ now → ys ≡ set xs i (Some d) → seen more ys ≡ set now i (Some (under kinds d))
+entered_seen e more xs ys now i j kinds d long low at anew is put =
     ap (seen more) put ∙ (seen_put more xs i (Some d) ∙ ((λ t. set (seen more xs) i (Some (under (here t) d)))
-    ∙ (ext_get_or None (set (seen more xs) i (Some (bare d))) (set (seen e xs) i (Some (bare d))) lengths each ∙ ap (λ zs. set zs i (Some (bare d))) is)))
+    ∙ (ext_get_or None (set (seen more xs) i (Some (under kinds d))) (set (seen e xs) i (Some (under kinds d))) lengths each ∙ ap (λ zs. set zs i (Some (under kinds d))) is)))
   where
-    here : kinds_in more i ≡ all_kinds
-    here = anew i low ∙ cond-true (i == j) all_kinds (kinds_in e i) (eq-eqb i j (sym at))
+    here : kinds_in more i ≡ kinds
+    here = anew i low ∙ cond-true (i == j) kinds (kinds_in e i) (eq-eqb i j (sym at))
 
-    lengths : length (set (seen more xs) i (Some (bare d))) ≡ length (set (seen e xs) i (Some (bare d)))
-    lengths = length-set (seen more xs) i (Some (bare d)) ∙ (length_seen more xs ∙ sym (length-set (seen e xs) i (Some (bare d)) ∙ length_seen e xs))
+    lengths : length (set (seen more xs) i (Some (under kinds d))) ≡ length (set (seen e xs) i (Some (under kinds d)))
+    lengths = length-set (seen more xs) i (Some (under kinds d)) ∙ (length_seen more xs ∙ sym (length-set (seen e xs) i (Some (under kinds d)) ∙ length_seen e xs))
 
     other : (s : ℕ) → s < SLOTS → (s ≡ i → ⊥) → get_or (seen more xs) s None ≡ get_or (seen e xs) s None
     other s l ne =
         seen_at more xs s
-        ∙ (ap (λ kinds. option_map (under kinds) (get_or xs s None)) (anew s l ∙ cond-false (s == j) all_kinds (kinds_in e s) (ne_eqb s j (λ same. ne (same ∙ at))))
+        ∙ (ap (λ own. option_map (under own) (get_or xs s None)) (anew s l ∙ cond-false (s == j) kinds (kinds_in e s) (ne_eqb s j (λ same. ne (same ∙ at))))
         ∙ sym (seen_at e xs s))
 
-    each : (s : ℕ) → s < length (set (seen more xs) i (Some (bare d))) → get_or (set (seen more xs) i (Some (bare d))) s None ≡ get_or (set (seen e xs) i (Some (bare d))) s None
+    each : (s : ℕ) → s < length (set (seen more xs) i (Some (under kinds d))) → get_or (set (seen more xs) i (Some (under kinds d))) s None ≡ get_or (set (seen e xs) i (Some (under kinds d))) s None
     each s m = elim (cases_eq s i) [
       | inl e2 ↦
-          ap (λ k. get_or (set (seen more xs) i (Some (bare d))) k None) e2
-          ∙ (get_or-set_same (seen more xs) i (Some (bare d)) None (omega (arith, low, long, length_seen more xs))
-          ∙ sym (ap (λ k. get_or (set (seen e xs) i (Some (bare d))) k None) e2 ∙ get_or-set_same (seen e xs) i (Some (bare d)) None (omega (arith, low, long, length_seen e xs))))
+          ap (λ k. get_or (set (seen more xs) i (Some (under kinds d))) k None) e2
+          ∙ (get_or-set_same (seen more xs) i (Some (under kinds d)) None (omega (arith, low, long, length_seen more xs))
+          ∙ sym (ap (λ k. get_or (set (seen e xs) i (Some (under kinds d))) k None) e2 ∙ get_or-set_same (seen e xs) i (Some (under kinds d)) None (omega (arith, low, long, length_seen e xs))))
       | inr ne ↦
-          get_or-set_other (seen more xs) i s (Some (bare d)) None ne
-          ∙ (other s (omega (arith, m, long, length-set (seen more xs) i (Some (bare d)), length_seen more xs)) ne ∙ sym (get_or-set_other (seen e xs) i s (Some (bare d)) None ne))
+          get_or-set_other (seen more xs) i s (Some (under kinds d)) None ne
+          ∙ (other s (omega (arith, m, long, length-set (seen more xs) i (Some (under kinds d)), length_seen more xs)) ne ∙ sym (get_or-set_other (seen e xs) i s (Some (under kinds d)) None ne))
     ]
 
 -- a test that doesn't read the kinds

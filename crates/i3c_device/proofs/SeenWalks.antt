@@ -23,11 +23,12 @@ use Rattle.i3c_device.specs.declared.sets.SlotSet.{SlotSet}
 use Rattle.i3c_device.specs.Enabling.{kinds_in, seen, seen_in, under}
 use Rattle.i3c_device.specs.Finding.{IsLowestFound, IsNowhere, within}
 use Rattle.i3c_device.specs.Hearing.{named_kinds}
+use Rattle.i3c_device.specs.Holding.{address_in, byte_in, front_in, identity_in, waiting_in}
 use Rattle.i3c_device.specs.Marks.{AreMarks, IsSetOf}
 use Rattle.i3c_device.specs.Raising.{interrupting_if, next_fault}
 use Rattle.i3c_device.specs.Reading.{AreReadOf, PullsLow}
 use Rattle.i3c_device.specs.Sets.{SomeLeft, has}
-use Rattle.i3c_device.specs.Walks.{AreReached, AreWillingLost, IsFirstIdentity, IsLowestWilling, NobodyHears, SomeReached, hears_as, heard_at, reaches_at, willing_at}
+use Rattle.i3c_device.specs.Walks.{AreReached, AreWillingLost, IsLowestWilling, SomeReached, heard_at, reaches_at, willing_at}
 use Rattle.i3c_device.specs.Wishing.{asks_some, wishes_interrupt, wishes_join, wishes_role}
 use Rattle.i3c_device.proofs.EachLaws.{all_changed}
 use Rattle.i3c_device.proofs.SeenLaws.{kinds_seen, length_seen, seen_at, seen_turned}
@@ -47,6 +48,38 @@ slots_seen e xs now long is = sym (ap length is) ∙ (length_seen e xs ∙ long)
 
 pub now_at : (e : Enabled) (xs now : List (Option Device)) (s : ℕ) → seen e xs ≡ now → get_or now s None ≡ seen_in e s (get_or xs s None)
 now_at e xs now s is = ap (λ ys. get_or ys s None) (sym is) ∙ seen_at e xs s
+
+-- a slot's device with the kinds of the slot, and an empty slot
+pub single_seen : (e : Enabled) (xs now : List (Option Device)) (s i : ℕ) (place : Option Device) (d x : Device) (kinds : KindSet) → seen e xs ≡ now → place ≡ get_or xs s None → place ≡ Some d → x ≡ d → i ≡ s → kinds ≡ kinds_in e i
+    → Some (under kinds x) ≡ get_or now s None
+single_seen e xs now s i place d x kinds is at there same here own = (λ t. Some (under ((own ∙ ap (kinds_in e) here) t) (same t))) ∙ (ap (seen_in e s) (sym there ∙ at) ∙ sym (now_at e xs now s is))
+
+pub nobody_seen : (e : Enabled) (xs now : List (Option Device)) (s : ℕ) (place : Option Device) → seen e xs ≡ now → place ≡ get_or xs s None → place ≡ None → None ≡ get_or now s None
+nobody_seen e xs now s place is at none = ap (seen_in e s) (sym none ∙ at) ∙ sym (now_at e xs now s is)
+
+-- an answer that no kind changes
+pub asked_seen : {A : Type 0} (f : Option Device → A) (e : Enabled) (xs now : List (Option Device)) (s : ℕ) → seen e xs ≡ now → ((kinds : KindSet) (o : Option Device) → f (option_map (under kinds) o) ≡ f o) → f (get_or now s None) ≡ f (get_or xs s None)
+asked_seen f e xs now s is alike = ap f (now_at e xs now s is) ∙ alike (kinds_in e s) (get_or xs s None)
+
+pub identity_alike : (kinds : KindSet) (o : Option Device) → identity_in (option_map (under kinds) o) ≡ identity_in o
+identity_alike kinds None = refl
+identity_alike kinds (Some d) = refl
+
+pub address_alike : (kinds : KindSet) (o : Option Device) → address_in (option_map (under kinds) o) ≡ address_in o
+address_alike kinds None = refl
+address_alike kinds (Some d) = refl
+
+pub waiting_alike : (kinds : KindSet) (o : Option Device) → waiting_in (option_map (under kinds) o) ≡ waiting_in o
+waiting_alike kinds None = refl
+waiting_alike kinds (Some d) = refl
+
+pub front_alike : (kinds : KindSet) (o : Option Device) → front_in (option_map (under kinds) o) ≡ front_in o
+front_alike kinds None = refl
+front_alike kinds (Some d) = refl
+
+pub byte_alike : (kinds : KindSet) (o : Option Device) → byte_in (option_map (under kinds) o) ≡ byte_in o
+byte_alike kinds None = refl
+byte_alike kinds (Some d) = refl
 
 -- a device that is seen stands there
 unseen : (e : Enabled) (s : ℕ) (o : Option Device) (d : Device) → seen_in e s o ≡ Some d → (x : Device) × (o ≡ Some x) × (d ≡ under (kinds_in e s) x)
@@ -180,26 +213,6 @@ unheard active to now = all_changed (λ s place. option_map (λ d. if reaches_at
     go : (s : ℕ) (o : Option Device) → o ≡ option_map (λ d. if reaches_at active to s d then d else d) o
     go s None = refl
     go s (Some d) = ap Some (same (reaches_at active to s d) d)
-
--- who hears, and the first of them
-pub silent_seen : (e : Enabled) (xs now : List (Option Device)) → seen e xs ≡ now → NobodyHears xs → NobodyHears now
-silent_seen e xs now is none s = ap (in_slot (λ d. d.hearing)) (now_at e xs now s is) ∙ (test_seen e (λ d. d.hearing) s (get_or xs s None) (λ kinds d. refl) ∙ none s)
-
-pub first_seen : (e : Enabled) (xs now : List (Option Device)) (first : ℕ × SlotSet) → seen e xs ≡ now → IsFirstIdentity xs first → IsFirstIdentity now first
-first_seen e xs now first is h = record {
-  holders = λ s l. h.holders s l ∙ sym (ap (hears_as first.0) (now_at e xs now s is) ∙ test_seen e (λ d. d.hearing && number_of d.identity == first.0) s (get_or xs s None) (λ kinds d. refl));
-  held = h.held;
-  least = λ s d there hears.
-      let u = unseen e s (get_or xs s None) d (sym (now_at e xs now s is) ∙ there) in
-      subst (λ (x : Device). first.0 ≤ number_of x.identity) (sym u.2) (h.least s u.0 u.1 (sym (ap (λ (x : Device). x.hearing) u.2) ∙ hears));
-  ranged = λ s d there hears.
-      let u = unseen e s (get_or xs s None) d (sym (now_at e xs now s is) ∙ there) in
-      subst (λ (x : Device). IsInRange x.identity) (sym u.2) (h.ranged s u.0 u.1 (sym (ap (λ (x : Device). x.hearing) u.2) ∙ hears));
-}
-
-pub first_or_none : (e : Enabled) (xs now : List (Option Device)) (first : Option (ℕ × SlotSet)) → seen e xs ≡ now → MatchOption first (NobodyHears xs) (IsFirstIdentity xs) → MatchOption first (NobodyHears now) (IsFirstIdentity now)
-first_or_none e xs now None is h = silent_seen e xs now is h
-first_or_none e xs now (Some first) is h = first_seen e xs now first is h
 
 -- whoever drives a request asks for something
 there : (a : ℕ) (o : Option ℕ) → is_the a o ≡ true → is_some o ≡ true

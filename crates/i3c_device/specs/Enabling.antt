@@ -2,17 +2,18 @@
 use Rattle.std.specs.Prelude.{ℕ, List, Option, option_map}
 use Rattle.i3c_base.specs.Numbers.{KindSet}
 use Rattle.i3c_base.specs.Places.{changed}
-use Rattle.i3c_base.specs.State.{Device, all_kinds}
+use Rattle.i3c_base.specs.State.{Device}
 use Rattle.i3c_device.specs.declared.enabled.Enabled.{Enabled}
+use Rattle.i3c_device.specs.declared.own_kinds.OwnKinds.{OwnKinds}
 use Rattle.i3c_device.specs.Sets.{has}
 
 -- a device for which these kinds are enabled
 abbrev pub under : KindSet → Device → Device
 under kinds d = record d { kinds = kinds }
 
--- a device but for its kinds: all are enabled
-abbrev pub bare : Device → Device
-bare d = under all_kinds d
+-- the kinds of one device
+abbrev pub kinds_of : OwnKinds → KindSet
+kinds_of kinds = record { interrupt = kinds.interrupt; role = kinds.role; join = kinds.join }
 
 -- the kinds that are enabled in a slot
 abbrev pub kinds_in : Enabled → ℕ → KindSet

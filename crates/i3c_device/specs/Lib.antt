@@ -2,10 +2,11 @@ pub mod Hearing
 pub mod Raising
 pub mod Addressing
 pub mod Walks
-pub mod First
+pub mod Driven
 pub mod Wishing
 pub mod Enabling
 pub mod Sets
 pub mod Marks
 pub mod Finding
+pub mod Holding
 pub mod Reading

@@ -5,7 +5,7 @@ use Rattle.i3c_base.specs.declared.range.TheConstants.{SLOTS}
 use Rattle.i3c_base.specs.declared.requests.Request.{Request}
 use Rattle.i3c_base.specs.Cutting.{Lost}
 use Rattle.i3c_base.specs.Frames.{overwritten}
-use Rattle.i3c_base.specs.Numbers.{IsInRange, KindSet, number_of}
+use Rattle.i3c_base.specs.Numbers.{KindSet, number_of}
 use Rattle.i3c_base.specs.Round.{winner, wins}
 use Rattle.i3c_base.specs.Serve.{asks, rank, without}
 use Rattle.i3c_base.specs.State.{Device, has_address, in_slot}
@@ -96,20 +96,9 @@ IsLowestWilling active a lost devices s =
 abbrev pub AreHearers : SlotSet → List (Option Device) → Type 0
 AreHearers slots devices = (s : ℕ) → s < SLOTS → has slots s ≡ in_slot (λ d. d.hearing) (slice_index_or devices s None)
 
--- nobody hears the open session
-abbrev pub NobodyHears : List (Option Device) → Type 0
-NobodyHears devices = (s : ℕ) → in_slot (λ d. d.hearing) (slice_index_or devices s None) ≡ false
-
 -- it hears the open session, and this is the number of its identity
 abbrev pub hears_as : ℕ → Option Device → Bool
 hears_as number place = in_slot (λ d. d.hearing && number_of d.identity == number) place
-
--- the least number of the identities of those who hear, and the slots that have it
-pub record IsFirstIdentity (devices : List (Option Device)) (first : ℕ × SlotSet) : Type 0 where
-  pub holders : (s : ℕ) → s < SLOTS → has first.1 s ≡ hears_as first.0 (slice_index_or devices s None)
-  pub held : (s : ℕ) × (s < SLOTS) × (has first.1 s ≡ true)
-  pub least : (s : ℕ) (d : Device) → slice_index_or devices s None ≡ Some d → d.hearing ≡ true → first.0 ≤ number_of d.identity
-  pub ranged : (s : ℕ) (d : Device) → slice_index_or devices s None ≡ Some d → d.hearing ≡ true → IsInRange d.identity
 
 -- it after the devices in these slots won this address
 abbrev pub taken_at : SlotSet → ℕ → ℕ → Option Device → Option Device

@@ -3,10 +3,8 @@ use Rattle.std.specs.Prelude.{◌≡◌, ℕ, ◌+◌, ◌*◌, ◌/◌, ◌%◌
 use Rattle.i3c_base.specs.declared.requests.Request.{Request}
 use Rattle.i3c_base.specs.declared.requests.Request.TheVariants.{Interrupt, Join, Role}
 use Rattle.i3c_base.specs.Numbers.{KindSet}
-use Rattle.i3c_base.specs.Serve.{asks, is_empty}
+use Rattle.i3c_base.specs.Serve.{is_empty}
 use Rattle.i3c_base.specs.State.{Device}
-use Rattle.i3c_header.specs.Keys.{IsLawful}
-use Rattle.i3c_device.specs.Enabling.{under}
 
 -- to join, where it has no address
 abbrev pub wishes_join : Device → Bool
@@ -34,12 +32,14 @@ key_of (Some a) false = 2 * a + 1
 abbrev pub request_of : ℕ → Request
 request_of key = if key == 4 then Join else (if key % 2 == 0 then Role (key / 2) else Interrupt (key / 2))
 
--- the one request that a device can drive, where that kind is enabled
-pub record IsWish (d : Device) (r : Request) : Type 0 where
-  pub asked : (kinds : KindSet) → asks_some (under kinds d) ≡ true → asks (under kinds d) r ≡ true
-  pub alone : (kinds : KindSet) (q : Request) → asks (under kinds d) q ≡ true → q ≡ r
-  pub lawful : IsLawful r
+-- the request that a device with this address chooses, if it wishes for anything: a join without an address, else the role
+-- request before the interrupt
+abbrev pub choice_of : Option ℕ → Device → Option Request
+choice_of None d = if d.join_wish then Some Join else None
+choice_of (Some a) d = if d.role_wish then Some (Role a) else (if is_empty d.waiting then None else Some (Interrupt a))
 
--- whatever kinds are enabled, a device drives no request
-abbrev pub WishesNothing : Device → Type 0
-WishesNothing d = (kinds : KindSet) → asks_some (under kinds d) ≡ false
+-- the kind of a request is one of these
+abbrev pub has_kind : KindSet → Request → Bool
+has_kind kinds Join = kinds.join
+has_kind kinds (Role a) = kinds.role
+has_kind kinds (Interrupt a) = kinds.interrupt

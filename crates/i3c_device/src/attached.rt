@@ -1,11 +1,12 @@
+use crate::queues::copied;
 use arrayvec::ArrayVec;
 use i3c_base::{Addr7, Identity, REGISTERS, RaiseRefusal, Request, Setup, WAITING, Waiting};
 use i3c_header::key;
 use std::marker::Model;
 
-/// A device while it is attached, but for which kinds of its events are enabled: by itself it is seen with all of them.
+/// A device while it is attached, but for which kinds of its events are enabled: clauses see it with all of them.
 #[derive(Drop)]
-pub struct Device {
+pub(crate) struct Attached {
     identity: Identity,
     willing: bool,
     address: Option<Addr7>,
@@ -16,7 +17,7 @@ pub struct Device {
     registers: [u8; REGISTERS],
 }
 
-impl Model for Device {
+impl Model for Attached {
     ghost use Rattle.i3c_base.specs.State.{Device as DeviceState, all_kinds};
     ghost use Rattle.i3c_device.specs.Addressing.{IsDynamic};
 
@@ -37,7 +38,7 @@ impl Model for Device {
     ghost invariant = { λ d. IsDynamic d.address };
 }
 
-impl Device {
+impl Attached {
     ghost use Rattle.std.specs.Prelude.{◌≡◌, ◌≤◌, is_none, suc, length, slice_get, MatchOption, MatchResult, OnErr, OnOk, Some, None, true};
     ghost use Rattle.i3c_base.specs.declared.device.TheConstants.{REGISTERS as REGISTER_COUNT};
     ghost use Rattle.i3c_base.specs.Frames.{overwritten, unaddressed_device};
@@ -45,14 +46,14 @@ impl Device {
     ghost use Rattle.i3c_base.specs.Serve.{without_front, without_join, without_role};
     ghost use Rattle.i3c_base.specs.Round.{hears, unhearing, winner};
     ghost use Rattle.i3c_device.specs.Addressing.{IsDynamic};
-    ghost use Rattle.i3c_device.specs.Wishing.{IsWish, WishesNothing, key_of, wishes_interrupt, wishes_join, wishes_role};
+    ghost use Rattle.i3c_device.specs.Wishing.{choice_of, key_of, wishes_interrupt, wishes_join, wishes_role};
     ghost use Rattle.i3c_device.specs.Raising.{front_byte, interrupting_if, next_fault, raise_fault, with_raise};
 
     /// A device that was just attached: its registers are `00`.
-    pub fn new(setup: Setup) -> Device
+    pub fn new(setup: Setup) -> Attached
         ensures { result ≡ attached setup }
     {
-        Device {
+        Attached {
             identity: setup.identity,
             willing: setup.willing,
             address: None,
@@ -61,6 +62,22 @@ impl Device {
             role_wish: false,
             hearing: false,
             registers: [0; REGISTERS],
+        }
+    }
+
+    /// The same device once more.
+    pub fn copied(&self) -> Attached
+        ensures { result ≡ self.now }
+    {
+        Attached {
+            identity: self.identity,
+            willing: self.willing,
+            address: self.address,
+            waiting: copied(&self.waiting),
+            join_wish: self.join_wish,
+            role_wish: self.role_wish,
+            hearing: self.hearing,
+            registers: self.registers,
         }
     }
 
@@ -138,10 +155,10 @@ impl Device {
         self.hearing = false;
     }
 
-    /// The request that it drives into an arbitrable header where that kind is enabled: a join without an address, else
+    /// The request that it drives into an arbitrable header while that kind is enabled: a join without an address, else
     /// the role request before the interrupt (I3C Basic 5.1.6).
-    pub fn wish(&self) -> Option<Request>
-        ensures { MatchOption result (WishesNothing self.now) (IsWish self.now) }
+    pub fn choice(&self) -> Option<Request>
+        ensures { result ≡ choice_of self.now.address self.now }
     {
         let Some(address) = self.address else {
             return if self.join_wish {

@@ -2,11 +2,11 @@ ghost use Rattle.std.specs.Prelude.{◌≡◌, ℕ, ◌<◌, ◌==◌, if◌then
 ghost use Rattle.i3c_base.specs.declared.range.TheConstants.{SLOTS as SLOT_COUNT};
 ghost use Rattle.i3c_base.specs.Frames.{with_kinds, without_kinds};
 ghost use Rattle.i3c_base.specs.Numbers.{kind_set};
-ghost use Rattle.i3c_base.specs.State.{all_kinds};
-ghost use Rattle.i3c_device.specs.Enabling.{kinds_in};
+ghost use Rattle.i3c_device.specs.Enabling.{kinds_in, kinds_of};
 ghost use Rattle.i3c_device.specs.Sets.{has};
 
 use crate::kinds::{may_ask_role, may_interrupt, may_join};
+use crate::own_kinds::OwnKinds;
 use crate::sets::SlotSet;
 use i3c_base::Kinds;
 
@@ -28,15 +28,27 @@ impl Enabled {
         }
     }
 
-    /// All kinds in this slot, and in the others as they are.
-    pub fn renewed(self, index: usize) -> Enabled
+    /// The kinds in this slot.
+    pub fn at(self, index: usize) -> OwnKinds
         requires { index < SLOT_COUNT }
-        ensures { (s : ℕ) → s < SLOT_COUNT → kinds_in result s ≡ (if s == index then all_kinds else kinds_in self s) }
+        ensures { kinds_of result ≡ kinds_in self index }
+    {
+        OwnKinds {
+            interrupt: self.interrupts.has(index),
+            role: self.roles.has(index),
+            join: self.joins.has(index),
+        }
+    }
+
+    /// These kinds in this slot, and in the others as they are.
+    pub fn renewed(self, index: usize, kinds: OwnKinds) -> Enabled
+        requires { index < SLOT_COUNT }
+        ensures { (s : ℕ) → s < SLOT_COUNT → kinds_in result s ≡ (if s == index then kinds_of kinds else kinds_in self s) }
     {
         Enabled {
-            interrupts: self.interrupts.with(index, true),
-            roles: self.roles.with(index, true),
-            joins: self.joins.with(index, true),
+            interrupts: self.interrupts.with(index, kinds.interrupt),
+            roles: self.roles.with(index, kinds.role),
+            joins: self.joins.with(index, kinds.join),
         }
     }
 

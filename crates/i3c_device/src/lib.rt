@@ -3,16 +3,19 @@
 #![tactic(auto)]
 
 mod attached;
+mod driven;
 mod enabled;
-mod first;
 mod kinds;
 mod marks;
 mod occupants;
+mod own_kinds;
 mod places;
+mod queues;
 mod sets;
+mod single;
 mod slots;
 mod walks;
 
-pub use attached::Device;
 pub use sets::SlotSet;
+pub use single::Device;
 pub use slots::Devices;

@@ -5,7 +5,7 @@ ghost use Rattle.i3c_base.specs.declared.device.Waiting.{Waiting as WaitingValue
 ghost use Rattle.i3c_base.specs.State.{Device as DeviceState, no_devices};
 ghost use Rattle.i3c_device.specs.Marks.{AreMarks, requeued};
 
-use crate::attached::Device;
+use crate::attached::Attached;
 use crate::places::{hears, wishes_interrupt};
 use crate::sets::SlotSet;
 use i3c_base::SLOTS;
@@ -46,7 +46,7 @@ impl Marks {
     }
 
     /// The marks where this stands in a slot from now on.
-    pub(crate) fn noted(self, index: usize, place: &Option<Device>) -> Marks
+    pub(crate) fn noted(self, index: usize, place: &Option<Attached>) -> Marks
         requires { index < SLOT_COUNT }
         ensures { (places : List (Option DeviceState)) → length places ≡ SLOT_COUNT → AreMarks self places → AreMarks result (slice_set places index place.now) }
     {
@@ -57,7 +57,7 @@ impl Marks {
     }
 
     /// The marks where a session was opened for whatever stands in a slot now.
-    pub(crate) fn opened(self, index: usize, place: &Option<Device>) -> Marks
+    pub(crate) fn opened(self, index: usize, place: &Option<Attached>) -> Marks
         requires { index < SLOT_COUNT }
         ensures { (places : List (Option DeviceState)) → length places ≡ SLOT_COUNT → AreMarks self places → place.now ≡ option_map hears (slice_index_or places index None) → AreMarks result (slice_set places index place.now) }
     {
@@ -68,7 +68,7 @@ impl Marks {
     }
 
     /// The marks where a session ended for whatever stands in a slot now.
-    pub(crate) fn ended(self, index: usize, place: &Option<Device>) -> Marks
+    pub(crate) fn ended(self, index: usize, place: &Option<Attached>) -> Marks
         requires { index < SLOT_COUNT }
         ensures { (places : List (Option DeviceState)) → length places ≡ SLOT_COUNT → AreMarks self places → place.now ≡ option_map unhearing (slice_index_or places index None) → AreMarks result (slice_set places index place.now) }
     {
@@ -79,7 +79,7 @@ impl Marks {
     }
 
     /// The marks where other interrupts wait at whatever stands in a slot now.
-    pub(crate) fn queued(self, index: usize, place: &Option<Device>) -> Marks
+    pub(crate) fn queued(self, index: usize, place: &Option<Attached>) -> Marks
         requires { index < SLOT_COUNT }
         ensures { (places : List (Option DeviceState)) (queue : DeviceState → List WaitingValue) → length places ≡ SLOT_COUNT → AreMarks self places → place.now ≡ option_map (requeued queue) (slice_index_or places index None)
             → AreMarks result (slice_set places index place.now) }
@@ -91,7 +91,7 @@ impl Marks {
     }
 
     /// The marks where this device stands in a slot from now on.
-    fn taken(self, index: usize, device: &Device) -> Marks
+    fn taken(self, index: usize, device: &Attached) -> Marks
         requires { index < SLOT_COUNT }
         ensures { (places : List (Option DeviceState)) → length places ≡ SLOT_COUNT → AreMarks self places → AreMarks result (slice_set places index (Some device.now)) }
     {

@@ -1,4 +1,4 @@
-use crate::attached::Device;
+use crate::attached::Attached;
 use crate::marks::Marks;
 use crate::places::{raise, register_from};
 use crate::sets::SlotSet;
@@ -9,7 +9,7 @@ use std::marker::Model;
 /// The devices of a bus in their slots, each as if all kinds of its events were enabled.
 #[derive(Drop)]
 pub(crate) struct Occupants {
-    places: [Option<Device>; SLOTS],
+    places: [Option<Attached>; SLOTS],
     // so that no walk looks into a slot where there is nothing for it
     marks: Marks,
 }
@@ -30,14 +30,12 @@ impl Model for Occupants {
 impl Occupants {
     ghost use Rattle.i3c_base.specs.declared.device.TheConstants.{REGISTERS as REGISTER_COUNT};
     ghost use Rattle.i3c_base.specs.declared.range.TheConstants.{SLOTS as SLOT_COUNT};
-    ghost use Rattle.i3c_base.specs.Numbers.{IsInRange, number_of};
     ghost use Rattle.i3c_base.specs.Places.{changed};
     ghost use Rattle.i3c_base.specs.State.{Device as DeviceState, no_devices};
     ghost use Rattle.i3c_device.specs.Finding.{within, IsLowestFound, IsNowhere};
     ghost use Rattle.i3c_device.specs.Marks.{AreMarks};
     ghost use Rattle.i3c_device.specs.Raising.{interrupting_if, next_fault, with_raise};
     ghost use Rattle.i3c_device.specs.Reading.{AreAt, IsRegisterOf};
-    ghost use Rattle.i3c_device.specs.Walks.{IsFirstIdentity, NobodyHears};
     ghost use Rattle.std.specs.Prelude.{◌≡◌, ◌<◌, is_some, length, suc, true, Some, None, option_map, slice_index_or, slice_set, MatchOption, MatchResult, OnOk, OnErr};
 
     /// Empty slots.
@@ -50,12 +48,12 @@ impl Occupants {
         }
     }
 
-    /// The device in a slot.
-    pub fn get(&self, slot: Slot) -> Option<&Device>
-        ensures device { option_map (λ d. d.now) result ≡ slice_index_or self.now slot None }
+    /// Whatever stands in a slot.
+    pub fn at(&self, slot: Slot) -> &Option<Attached>
+        ensures place { result.now ≡ slice_index_or self.now slot None }
         ensures slots { length self.now ≡ SLOT_COUNT }
     {
-        self.places[slot.index()].as_ref()
+        &self.places[slot.index()]
     }
 
     /// In which slots a walk may find something.
@@ -67,7 +65,7 @@ impl Occupants {
     }
 
     /// This stands in a slot from now on.
-    pub fn put(&mut self, slot: Slot, place: Option<Device>)
+    pub fn put(&mut self, slot: Slot, place: Option<Attached>)
         ensures put { self.new ≡ slice_set self.old slot place }
         ensures slots { length self.old ≡ SLOT_COUNT }
     {
@@ -122,39 +120,6 @@ impl Occupants {
             byte &= register_from(&self.places[index], register, cut, at);
         }
         byte
-    }
-
-    /// The least of the identities of those who hear the open session, as a number, and the slots that have it.
-    pub fn first_identity(&self) -> Option<(u64, SlotSet)>
-        ensures first { MatchOption result (NobodyHears self.now) (IsFirstIdentity self.now) }
-        ensures slots { length self.now ≡ SLOT_COUNT }
-    {
-        let mut left = self.marks.hearing;
-        let lowest = left.take_lowest()?;
-        let mut least = self.number_at(lowest);
-        let mut slots = SlotSet::only(lowest);
-        while let Some(index) = left.take_lowest() {
-            let number = self.number_at(index);
-            if number < least {
-                least = number;
-                slots = SlotSet::only(index);
-            } else if number == least {
-                slots = slots.with(index, true);
-            }
-        }
-        Some((least, slots))
-    }
-
-    /// The number of the identity of the device in a slot.
-    fn number_at(&self, index: usize) -> u64
-        requires in_range { index < SLOT_COUNT }
-        requires held { is_some (slice_index_or self.now index None) ≡ true }
-        ensures { (d : DeviceState) → slice_index_or self.now index None ≡ Some d → (result ≡ number_of d.identity) × IsInRange d.identity }
-    {
-        let Some(device) = &self.places[index] else {
-            unreachable!()
-        };
-        device.identity().number()
     }
 
     /// The lowest of these slots in which what is sought is found.

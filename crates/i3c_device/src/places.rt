@@ -5,16 +5,67 @@ ghost use Rattle.i3c_base.specs.Frames.{unaddressed_device};
 ghost use Rattle.i3c_base.specs.Round.{hears, unhearing, winner};
 ghost use Rattle.i3c_base.specs.Serve.{without_front, without_role};
 ghost use Rattle.i3c_base.specs.State.{Device as DeviceState, in_slot};
+ghost use Rattle.i3c_device.specs.Holding.{address_in, byte_in, front_in, identity_in, waiting_in};
 ghost use Rattle.i3c_device.specs.Raising.{interrupting_if, next_fault, wishing_join, wishing_role, with_raise};
 ghost use Rattle.i3c_device.specs.Reading.{IsDrivenFrom, IsRegisterFrom};
 ghost use Rattle.i3c_device.specs.Walks.{reaches_at, taken_from, willing_at, written_at};
 ghost use Rattle.i3c_device.specs.Wishing.{wishes_interrupt};
 
-use crate::attached::Device;
-use i3c_base::{Addr7, RaiseRefusal, Request, Slot};
+use crate::attached::Attached;
+use i3c_base::{Addr7, Identity, RaiseRefusal, Request, Slot, Waiting};
+
+/// What the device here is, if there is one.
+pub(crate) fn identity_in(place: &Option<Attached>) -> Option<Identity>
+    ensures { result ≡ identity_in place.now }
+{
+    match place {
+        Some(device) => Some(device.identity()),
+        None => None,
+    }
+}
+
+/// The dynamic address of the device here, if there is one and it has one.
+pub(crate) fn address_in(place: &Option<Attached>) -> Option<Addr7>
+    ensures { result ≡ address_in place.now }
+{
+    match place {
+        Some(device) => device.address(),
+        None => None,
+    }
+}
+
+/// How many interrupts of the device here wait.
+pub(crate) fn waiting_in(place: &Option<Attached>) -> usize
+    ensures { result ≡ waiting_in place.now }
+{
+    match place {
+        Some(device) => device.waiting(),
+        None => 0,
+    }
+}
+
+/// The interrupt that waits at the front of the device here.
+pub(crate) fn front_in(place: &Option<Attached>) -> Option<Waiting>
+    ensures { result ≡ front_in place.now }
+{
+    match place {
+        Some(device) => device.front(),
+        None => None,
+    }
+}
+
+/// The mandatory byte that the device here answers with.
+pub(crate) fn byte_in(place: &Option<Attached>) -> Option<u8>
+    ensures { result ≡ byte_in place.now }
+{
+    match place {
+        Some(device) => device.answer_byte(),
+        None => None,
+    }
+}
 
 /// The device here, if there is one, wishes to join.
-pub(crate) fn wish_join(place: &mut Option<Device>)
+pub(crate) fn wish_join(place: &mut Option<Attached>)
     ensures { place.new ≡ option_map wishing_join place.old }
 {
     if let Some(device) = place {
@@ -23,7 +74,7 @@ pub(crate) fn wish_join(place: &mut Option<Device>)
 }
 
 /// The device here, if there is one, wishes for the controller role.
-pub(crate) fn wish_role(place: &mut Option<Device>)
+pub(crate) fn wish_role(place: &mut Option<Attached>)
     ensures { place.new ≡ option_map wishing_role place.old }
 {
     if let Some(device) = place {
@@ -32,7 +83,7 @@ pub(crate) fn wish_role(place: &mut Option<Device>)
 }
 
 /// The device here, if there is one, loses its wish for the role.
-pub(crate) fn lose_role_wish(place: &mut Option<Device>)
+pub(crate) fn lose_role_wish(place: &mut Option<Attached>)
     ensures { place.new ≡ option_map without_role place.old }
 {
     if let Some(device) = place {
@@ -41,7 +92,7 @@ pub(crate) fn lose_role_wish(place: &mut Option<Device>)
 }
 
 /// The device here, if there is one, loses the front of what waits.
-pub(crate) fn lose_front(place: &mut Option<Device>)
+pub(crate) fn lose_front(place: &mut Option<Attached>)
     ensures { place.new ≡ option_map without_front place.old }
 {
     if let Some(device) = place {
@@ -52,7 +103,7 @@ pub(crate) fn lose_front(place: &mut Option<Device>)
 /// The device here raises the interrupt after this many of its slot, and answers its number, if its interrupts are
 /// enabled. The first fault refuses it, and changes nothing.
 pub(crate) fn raise(
-    place: &mut Option<Device>,
+    place: &mut Option<Attached>,
     raised: u64,
     byte: Option<u8>,
     enabled: bool,
@@ -67,7 +118,7 @@ pub(crate) fn raise(
 }
 
 /// This request was accepted, which the device here drives: it loses the wish or the front.
-pub(crate) fn accept(place: &mut Option<Device>, request: &Request)
+pub(crate) fn accept(place: &mut Option<Attached>, request: &Request)
     ensures { place.new ≡ taken_from request.now place.old }
 {
     let Some(device) = place else {
@@ -82,7 +133,7 @@ pub(crate) fn accept(place: &mut Option<Device>, request: &Request)
 
 /// Whether a command reaches whatever stands in this slot.
 pub(crate) fn reaches(
-    place: &Option<Device>,
+    place: &Option<Attached>,
     index: usize,
     active: Slot,
     to: &Option<Addr7>,
@@ -103,7 +154,7 @@ pub(crate) fn reaches(
 
 /// Whatever stands in this slot takes a private write of these bytes, if it is at this address.
 pub(crate) fn write(
-    place: &mut Option<Device>,
+    place: &mut Option<Attached>,
     index: usize,
     active: Slot,
     address: Addr7,
@@ -139,7 +190,7 @@ fn driven_from(own: u8, cut: Option<u16>, at: u16) -> u8
 
 /// A register of whatever stands in this slot, as it is driven from this bit of a frame on: all ones by nobody.
 pub(crate) fn register_from(
-    place: &Option<Device>,
+    place: &Option<Attached>,
     register: usize,
     cut: Option<u16>,
     at: u16,
@@ -154,7 +205,12 @@ pub(crate) fn register_from(
 }
 
 /// Whether whatever stands in this slot would take the role that is offered to this address.
-pub(crate) fn is_willing(place: &Option<Device>, index: usize, active: Slot, address: Addr7) -> bool
+pub(crate) fn is_willing(
+    place: &Option<Attached>,
+    index: usize,
+    active: Slot,
+    address: Addr7,
+) -> bool
     ensures { result ≡ willing_at active address index place.now }
 {
     match place {
@@ -164,7 +220,7 @@ pub(crate) fn is_willing(place: &Option<Device>, index: usize, active: Slot, add
 }
 
 /// A session is opened: the device here hears it if it has no address.
-pub(crate) fn open(place: &mut Option<Device>)
+pub(crate) fn open(place: &mut Option<Attached>)
     ensures { place.new ≡ option_map hears place.old }
 {
     if let Some(device) = place {
@@ -173,7 +229,7 @@ pub(crate) fn open(place: &mut Option<Device>)
 }
 
 /// All addresses are reset: the device here has none any more.
-pub(crate) fn reset(place: &mut Option<Device>)
+pub(crate) fn reset(place: &mut Option<Attached>)
     ensures { place.new ≡ option_map unaddressed_device place.old }
 {
     if let Some(device) = place {
@@ -182,7 +238,7 @@ pub(crate) fn reset(place: &mut Option<Device>)
 }
 
 /// A session ends: the device here hears no more.
-pub(crate) fn silence(place: &mut Option<Device>)
+pub(crate) fn silence(place: &mut Option<Attached>)
     ensures { place.new ≡ option_map unhearing place.old }
 {
     if let Some(device) = place {
@@ -191,7 +247,7 @@ pub(crate) fn silence(place: &mut Option<Device>)
 }
 
 /// Whether a device that hears the open session stands in this slot.
-pub(crate) fn hears(place: &Option<Device>) -> bool
+pub(crate) fn hears(place: &Option<Attached>) -> bool
     ensures { result ≡ in_slot (λ d. d.hearing) place.now }
 {
     match place {
@@ -201,7 +257,7 @@ pub(crate) fn hears(place: &Option<Device>) -> bool
 }
 
 /// Whether a device that wishes to interrupt, and not for the role, and has an address, stands in this slot.
-pub(crate) fn wishes_interrupt(place: &Option<Device>) -> bool
+pub(crate) fn wishes_interrupt(place: &Option<Attached>) -> bool
     ensures { result ≡ in_slot wishes_interrupt place.now }
 {
     match place {
@@ -211,7 +267,7 @@ pub(crate) fn wishes_interrupt(place: &Option<Device>) -> bool
 }
 
 /// The device here, if there is one, has won this address.
-pub(crate) fn win(place: &mut Option<Device>, address: Addr7)
+pub(crate) fn win(place: &mut Option<Attached>, address: Addr7)
     requires { 8 ≤ address }
     ensures { place.new ≡ option_map (winner address) place.old }
 {

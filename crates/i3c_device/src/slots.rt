@@ -1,15 +1,19 @@
-use crate::attached::Device;
+use crate::driven::{requests_in, slots_with};
 use crate::enabled::Enabled;
-use crate::first::{joined, request_of};
 use crate::kinds::named;
 use crate::occupants::Occupants;
+use crate::places::{address_in, byte_in, front_in, identity_in, waiting_in};
 use crate::sets::{SlotSet, lost_slots};
+use crate::single::Device;
 use crate::walks::{
     Accepted, Ended, FrontLost, Happening, JoinWished, Lost, Opened, Reset, RoleLost, RoleWished,
     Willing, Won, Written,
 };
-use i3c_base::{Addr7, Change, Cuts, Kinds, REGISTERS, RaiseRefusal, Request, Slot};
+use i3c_base::{
+    Addr7, Change, Cuts, Identity, Kinds, REGISTERS, RaiseRefusal, Request, Slot, Waiting,
+};
 use i3c_ccc::Code;
+use i3c_header::arbitrate;
 use i3c_word::{WORD_BITS, Word};
 use std::marker::Model;
 
@@ -39,8 +43,8 @@ impl Devices {
     ghost use Rattle.i3c_base.specs.Cutting.{lost_by};
     ghost use Rattle.i3c_base.specs.Frames.{changed_kinds};
     ghost use Rattle.i3c_base.specs.Places.{changed};
-    ghost use Rattle.i3c_device.specs.Enabling.{bare};
-    ghost use Rattle.i3c_device.specs.Walks.{accepted_at, heard_at, left_at, taken_at, AreDrivers, AreHearers, AreReached, AreWillingLost, IsFirstDriven, IsFirstIdentity, IsLowestWilling, NobodyDrives, NobodyHears, SomeReached, rekinded_at, written_at};
+    ghost use Rattle.i3c_device.specs.Holding.{address_in, byte_in, front_in, identity_in, waiting_in};
+    ghost use Rattle.i3c_device.specs.Walks.{accepted_at, heard_at, left_at, taken_at, AreDrivers, AreHearers, AreReached, AreWillingLost, IsFirstDriven, IsLowestWilling, NobodyDrives, SomeReached, rekinded_at, written_at};
     ghost use Rattle.i3c_device.specs.Reading.{AreReadOf, IsRegisterOf};
     ghost use Rattle.i3c_device.specs.Sets.{has};
     ghost use Rattle.i3c_device.specs.Wishing.{asks_some};
@@ -60,12 +64,18 @@ impl Devices {
         }
     }
 
-    /// The device in a slot, but for which of its kinds are enabled.
-    pub fn get(&self, slot: Slot) -> Option<&Device>
-        ensures device { option_map (λ d. bare d.now) result ≡ option_map bare (slice_index_or self.now slot None) }
+    /// The device in a slot, as it is now. It is copied: what is done to the copy isn't done to the slot's device.
+    pub fn get(&self, slot: Slot) -> Option<Device>
+        ensures device { result ≡ slice_index_or self.now slot None }
         ensures slots { length self.now ≡ SLOT_COUNT }
     {
-        self.occupants.get(slot)
+        match self.occupants.at(slot) {
+            Some(attached) => Some(Device {
+                attached: attached.copied(),
+                kinds: self.enabled.at(slot.index()),
+            }),
+            None => None,
+        }
     }
 
     /// Whether a slot holds a device.
@@ -73,6 +83,41 @@ impl Devices {
         ensures { result ≡ is_some (slice_index_or self.now slot None) }
     {
         self.occupants.marks().present.has(slot.index())
+    }
+
+    /// What a slot's device is, if there is one.
+    pub fn identity(&self, slot: Slot) -> Option<Identity>
+        ensures { result ≡ identity_in (slice_index_or self.now slot None) }
+    {
+        identity_in(self.occupants.at(slot))
+    }
+
+    /// The dynamic address of a slot's device, if there is a device and it has one.
+    pub fn address(&self, slot: Slot) -> Option<Addr7>
+        ensures { result ≡ address_in (slice_index_or self.now slot None) }
+    {
+        address_in(self.occupants.at(slot))
+    }
+
+    /// How many interrupts of a slot's device wait.
+    pub fn waiting(&self, slot: Slot) -> usize
+        ensures { result ≡ waiting_in (slice_index_or self.now slot None) }
+    {
+        waiting_in(self.occupants.at(slot))
+    }
+
+    /// The interrupt that waits at the front of a slot's device.
+    pub fn front(&self, slot: Slot) -> Option<Waiting>
+        ensures { result ≡ front_in (slice_index_or self.now slot None) }
+    {
+        front_in(self.occupants.at(slot))
+    }
+
+    /// The mandatory byte that a slot's device answers with when its interrupt is accepted, if one is due.
+    pub fn answer_byte(&self, slot: Slot) -> Option<u8>
+        ensures { result ≡ byte_in (slice_index_or self.now slot None) }
+    {
+        byte_in(self.occupants.at(slot))
     }
 
     /// Whether interrupts of the slot's device are enabled.
@@ -96,12 +141,13 @@ impl Devices {
         self.enabled.roles.has(slot.index())
     }
 
-    /// A device enters a slot. All kinds of its events are enabled.
+    /// A device enters a slot.
     pub fn put(&mut self, slot: Slot, device: Device)
-        ensures { self.new ≡ slice_set self.old slot (Some (bare device)) }
+        ensures { self.new ≡ slice_set self.old slot (Some device) }
     {
-        self.occupants.put(slot, Some(device));
-        self.enabled = self.enabled.renewed(slot.index());
+        let Device { attached, kinds } = device;
+        self.occupants.put(slot, Some(attached));
+        self.enabled = self.enabled.renewed(slot.index(), kinds);
     }
 
     /// A slot's device is gone.
@@ -144,20 +190,18 @@ impl Devices {
         self.occupants.raise(slot, raised, byte, enabled)
     }
 
-    /// The first of the requests that the devices drive into one header, and the slots that drive it (I3C Basic 5.1.2.2.1).
-    /// The active controller drives none.
+    /// The request that wins the header into which the devices drive theirs at once, and the slots that drive it (I3C Basic
+    /// 5.1.2.2.1). The active controller drives none.
     pub fn first_request(&self, active: Slot) -> Option<(Request, SlotSet)>
         ensures first { MatchOption result (NobodyDrives active self.now) (IsFirstDriven active self.now) }
         ensures slots { length self.now ≡ SLOT_COUNT }
     {
+        let driving = self.driving(active);
         let keys = self.occupants.marks().keys;
-        let mut first: Option<(u8, SlotSet)> = None;
-        let mut left = self.driving(active);
-        while let Some(index) = left.take_lowest() {
-            first = Some(joined(first, keys[index], index));
-        }
-        let (key, drivers) = first?;
-        Some((request_of(key), drivers))
+        let requests = requests_in(driving, &keys);
+        let winner = arbitrate(&requests)?;
+        let drivers = slots_with(driving, &keys, &winner);
+        Some((winner, drivers))
     }
 
     /// The slots whose device drives a request. The active controller drives none.
@@ -306,15 +350,6 @@ impl Devices {
         ensures slots { length self.now ≡ SLOT_COUNT }
     {
         self.occupants.marks().hearing
-    }
-
-    /// The least of the identities of those who hear the open session, as a number, and the slots that have it
-    /// (I3C Basic 5.1.4.2).
-    pub fn first_identity(&self) -> Option<(u64, SlotSet)>
-        ensures first { MatchOption result (NobodyHears self.now) (IsFirstIdentity self.now) }
-        ensures slots { length self.now ≡ SLOT_COUNT }
-    {
-        self.occupants.first_identity()
     }
 
     /// The devices in these slots won a round: each takes the address (I3C Basic 5.1.4.2).

@@ -9,7 +9,7 @@ ghost use Rattle.i3c_device.specs.Marks.{AreMarks};
 ghost use Rattle.i3c_device.specs.Raising.{wishing_join, wishing_role};
 ghost use Rattle.i3c_device.specs.Walks.{taken_from, willing_at, written_at};
 
-use crate::attached::Device;
+use crate::attached::Attached;
 use crate::marks::Marks;
 use crate::places::{
     accept, is_willing, lose_front, lose_role_wish, open, reaches, reset, silence, win, wish_join,
@@ -23,16 +23,16 @@ pub(crate) trait Happening {
     ghost after: { Self → ℕ → Option DeviceState → Option DeviceState };
 
     /// Whether it may change what stands in this slot.
-    fn concerns(&self, place: &Option<Device>, index: usize) -> bool
+    fn concerns(&self, place: &Option<Attached>, index: usize) -> bool
         ensures { result ≡ false → after self.now index place.now ≡ place.now };
 
     /// It happens in this slot.
-    fn happen(&self, place: &mut Option<Device>, index: usize)
+    fn happen(&self, place: &mut Option<Attached>, index: usize)
         ensures { place.new ≡ after self.now index place.old };
 
     /// The marks after it happened in this slot, in which this stands then: all that is marked of the slot is marked
     /// anew, unless what happened changes less.
-    fn noted(&self, marks: Marks, index: usize, place: &Option<Device>) -> Marks
+    fn noted(&self, marks: Marks, index: usize, place: &Option<Attached>) -> Marks
         requires { index < SLOT_COUNT }
         ensures { (places : List (Option DeviceState)) → length places ≡ SLOT_COUNT → AreMarks marks places → place.now ≡ after self.now index (slice_index_or places index None) → AreMarks result (slice_set places index place.now) }
     {
@@ -45,7 +45,7 @@ pub(crate) trait Happening {
 pub(crate) fn happen_in<H: Happening>(
     happening: &H,
     index: usize,
-    place: &mut Option<Device>,
+    place: &mut Option<Attached>,
     marks: &mut Marks,
 )
     requires { index < SLOT_COUNT }
@@ -67,11 +67,11 @@ pub(crate) struct Accepted<'a> {
 impl Happening for Accepted<'_> {
     ghost after = { λ h s place. taken_from h.request.now place };
 
-    fn concerns(&self, _place: &Option<Device>, _index: usize) -> bool {
+    fn concerns(&self, _place: &Option<Attached>, _index: usize) -> bool {
         true
     }
 
-    fn happen(&self, place: &mut Option<Device>, _index: usize) {
+    fn happen(&self, place: &mut Option<Attached>, _index: usize) {
         accept(place, self.request);
     }
 }
@@ -83,15 +83,15 @@ pub(crate) struct FrontLost;
 impl Happening for FrontLost {
     ghost after = { λ h s place. option_map without_front place };
 
-    fn concerns(&self, _place: &Option<Device>, _index: usize) -> bool {
+    fn concerns(&self, _place: &Option<Attached>, _index: usize) -> bool {
         true
     }
 
-    fn happen(&self, place: &mut Option<Device>, _index: usize) {
+    fn happen(&self, place: &mut Option<Attached>, _index: usize) {
         lose_front(place);
     }
 
-    fn noted(&self, marks: Marks, index: usize, place: &Option<Device>) -> Marks {
+    fn noted(&self, marks: Marks, index: usize, place: &Option<Attached>) -> Marks {
         marks.queued(index, place)
     }
 }
@@ -103,11 +103,11 @@ pub(crate) struct JoinWished;
 impl Happening for JoinWished {
     ghost after = { λ h s place. option_map wishing_join place };
 
-    fn concerns(&self, _place: &Option<Device>, _index: usize) -> bool {
+    fn concerns(&self, _place: &Option<Attached>, _index: usize) -> bool {
         true
     }
 
-    fn happen(&self, place: &mut Option<Device>, _index: usize) {
+    fn happen(&self, place: &mut Option<Attached>, _index: usize) {
         wish_join(place);
     }
 }
@@ -119,11 +119,11 @@ pub(crate) struct RoleWished;
 impl Happening for RoleWished {
     ghost after = { λ h s place. option_map wishing_role place };
 
-    fn concerns(&self, _place: &Option<Device>, _index: usize) -> bool {
+    fn concerns(&self, _place: &Option<Attached>, _index: usize) -> bool {
         true
     }
 
-    fn happen(&self, place: &mut Option<Device>, _index: usize) {
+    fn happen(&self, place: &mut Option<Attached>, _index: usize) {
         wish_role(place);
     }
 }
@@ -135,11 +135,11 @@ pub(crate) struct RoleLost;
 impl Happening for RoleLost {
     ghost after = { λ h s place. option_map without_role place };
 
-    fn concerns(&self, _place: &Option<Device>, _index: usize) -> bool {
+    fn concerns(&self, _place: &Option<Attached>, _index: usize) -> bool {
         true
     }
 
-    fn happen(&self, place: &mut Option<Device>, _index: usize) {
+    fn happen(&self, place: &mut Option<Attached>, _index: usize) {
         lose_role_wish(place);
     }
 }
@@ -151,11 +151,11 @@ pub(crate) struct Reset;
 impl Happening for Reset {
     ghost after = { λ h s place. option_map unaddressed_device place };
 
-    fn concerns(&self, _place: &Option<Device>, _index: usize) -> bool {
+    fn concerns(&self, _place: &Option<Attached>, _index: usize) -> bool {
         true
     }
 
-    fn happen(&self, place: &mut Option<Device>, _index: usize) {
+    fn happen(&self, place: &mut Option<Attached>, _index: usize) {
         reset(place);
     }
 }
@@ -167,15 +167,15 @@ pub(crate) struct Opened;
 impl Happening for Opened {
     ghost after = { λ h s place. option_map hears place };
 
-    fn concerns(&self, _place: &Option<Device>, _index: usize) -> bool {
+    fn concerns(&self, _place: &Option<Attached>, _index: usize) -> bool {
         true
     }
 
-    fn happen(&self, place: &mut Option<Device>, _index: usize) {
+    fn happen(&self, place: &mut Option<Attached>, _index: usize) {
         open(place);
     }
 
-    fn noted(&self, marks: Marks, index: usize, place: &Option<Device>) -> Marks {
+    fn noted(&self, marks: Marks, index: usize, place: &Option<Attached>) -> Marks {
         marks.opened(index, place)
     }
 }
@@ -187,15 +187,15 @@ pub(crate) struct Ended;
 impl Happening for Ended {
     ghost after = { λ h s place. option_map unhearing place };
 
-    fn concerns(&self, _place: &Option<Device>, _index: usize) -> bool {
+    fn concerns(&self, _place: &Option<Attached>, _index: usize) -> bool {
         true
     }
 
-    fn happen(&self, place: &mut Option<Device>, _index: usize) {
+    fn happen(&self, place: &mut Option<Attached>, _index: usize) {
         silence(place);
     }
 
-    fn noted(&self, marks: Marks, index: usize, place: &Option<Device>) -> Marks {
+    fn noted(&self, marks: Marks, index: usize, place: &Option<Attached>) -> Marks {
         marks.ended(index, place)
     }
 }
@@ -210,11 +210,11 @@ pub(crate) struct Won {
 impl Happening for Won {
     ghost after = { λ h s place. option_map (winner h.address) place };
 
-    fn concerns(&self, _place: &Option<Device>, _index: usize) -> bool {
+    fn concerns(&self, _place: &Option<Attached>, _index: usize) -> bool {
         true
     }
 
-    fn happen(&self, place: &mut Option<Device>, _index: usize) {
+    fn happen(&self, place: &mut Option<Attached>, _index: usize) {
         win(place, self.address);
     }
 }
@@ -231,11 +231,11 @@ pub(crate) struct Written<'a> {
 impl Happening for Written<'_> {
     ghost after = { λ h s place. written_at h.active h.address h.bytes.now s place };
 
-    fn concerns(&self, place: &Option<Device>, index: usize) -> bool {
+    fn concerns(&self, place: &Option<Attached>, index: usize) -> bool {
         reaches(place, index, self.active, &Some(self.address))
     }
 
-    fn happen(&self, place: &mut Option<Device>, index: usize) {
+    fn happen(&self, place: &mut Option<Attached>, index: usize) {
         write(place, index, self.active, self.address, self.bytes);
     }
 }
@@ -247,11 +247,11 @@ pub(crate) struct Lost;
 impl Happening for Lost {
     ghost after = { λ h s place. None };
 
-    fn concerns(&self, _place: &Option<Device>, _index: usize) -> bool {
+    fn concerns(&self, _place: &Option<Attached>, _index: usize) -> bool {
         true
     }
 
-    fn happen(&self, place: &mut Option<Device>, _index: usize) {
+    fn happen(&self, place: &mut Option<Attached>, _index: usize) {
         *place = None;
     }
 }
@@ -262,7 +262,7 @@ pub(crate) trait Sought {
     ghost finds: { Self → ℕ → Option DeviceState → Bool };
 
     /// Whether it stands in this slot.
-    fn is_found(&self, place: &Option<Device>, index: usize) -> bool
+    fn is_found(&self, place: &Option<Attached>, index: usize) -> bool
         ensures { result ≡ finds self.now index place.now };
 }
 
@@ -276,7 +276,7 @@ pub(crate) struct Willing {
 impl Sought for Willing {
     ghost finds = { λ d s place. willing_at d.active d.address s place };
 
-    fn is_found(&self, place: &Option<Device>, index: usize) -> bool {
+    fn is_found(&self, place: &Option<Attached>, index: usize) -> bool {
         is_willing(place, index, self.active, self.address)
     }
 }

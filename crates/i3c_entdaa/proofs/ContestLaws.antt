@@ -1,30 +1,25 @@
 -- What the contest of a round says of the hearers: who wins, and why nobody does.
-use Rattle.std.proofs.Common.{◌≡◌, ℕ, ◌-◌, ◌<◌, ◌≤◌, ◌^◌, ◌==◌, length, option_map, Bool, true, false, not, ◌&&◌, ◌⊎◌, inl, inr, List, [], ◌∷◌, get_or, Option, None, Some, refl, ap, sym, subst, ◌∙◌, arith}
+use Rattle.std.proofs.Common.{◌≡◌, ℕ, ◌-◌, ◌<◌, ◌≤◌, ◌^◌, ◌==◌, Bool, true, false, not, ◌&&◌, ◌⊎◌, inl, inr, List, [], ◌∷◌, get_or, Option, None, Some, refl, ap, sym, subst, ◌∙◌, arith}
 use Rattle.std.specs.List.{All, Contains, list_all, list_any}
 use Rattle.std.proofs.lemmas.Bool.{and_from, and_parts, and_right, both_ways, cases_Bool, cases_eq, eq-eqb, eqb-true, not-true, not-false, true_from_ne_false}
-use Rattle.std.proofs.Math.ListN.{get_or-map}
-use Rattle.std.proofs.lemmas.List.{take_all}
-use Rattle.std.proofs.lemmas.List.Elements.{All-contains, All-weaker}
+use Rattle.std.proofs.lemmas.List.Elements.{All-contains}
 use Rattle.std.proofs.lemmas.Option.{same_Some}
 use Rattle.i3c_base.specs.declared.identity.Identity.{Identity}
 use Rattle.i3c_base.specs.declared.range.TheConstants.{SLOTS}
-use Rattle.i3c_base.specs.Cutting.{CutList, IsUncut, counted_from, is_by, lost_by}
+use Rattle.i3c_base.specs.Cutting.{CutList, counted_from, lost_by}
 use Rattle.i3c_base.specs.Numbers.{IsBelow, IsInRange, number_of}
 use Rattle.i3c_base.specs.Round.{AllHearersLost, IsBeatenByLost, IsHearer, IsWinner}
-use Rattle.i3c_base.specs.State.{Device, State, in_slot}
+use Rattle.i3c_base.specs.State.{Device, State}
 use Rattle.i3c_base.proofs.NumberLaws.{below_number, number_below}
 use Rattle.i3c_base.proofs.LostLaws.{left_before, lost_counted, lost_later}
 use Rattle.i3c_wires.specs.Contest.{AllLost, EachBit, LostIsBelow, holders, is_lost}
-use Rattle.i3c_wires.proofs.LeastLaws.{least_read}
-use Rattle.i3c_wires.proofs.Reading.{Reading, read_each, read_in_width}
 use Rattle.i3c_device.specs.declared.sets.SlotSet.{SlotSet}
 use Rattle.i3c_device.specs.Sets.{has}
-use Rattle.i3c_device.specs.Walks.{IsFirstIdentity, NobodyHears, hears_as}
-use Rattle.i3c_device.proofs.IdentityLaws.{as_whom, hears_so}
+use Rattle.i3c_device.specs.Walks.{hears_as}
 use Rattle.i3c_entdaa.specs.Hearers.{IsContenderKey, contenders_from}
 use Rattle.i3c_entdaa.specs.Parts.{AreTakers, HearersAreRanged, IsContest}
 use Rattle.i3c_entdaa.specs.Rounds.{IsTaken}
-use Rattle.i3c_entdaa.proofs.HearersLaws.{ContendersSoFar, contenders_complete, contenders_upto, key_fits}
+use Rattle.i3c_entdaa.proofs.HearersLaws.{as_whom, hears_so}
 use Rattle.i3c_entdaa.proofs.Picks.{some_fails, some_pick, unpicked}
 
 -- what a contest of these keys read
@@ -217,67 +212,3 @@ pub ranged_of : (devices : List (Option Device)) (keys : List (ℕ × ℕ)) → 
 ranged_of devices keys sound complete s d there hears =
     let k : IsContenderKey devices (s, number_of d.identity) = All-contains (IsContenderKey devices) keys (s, number_of d.identity) sound (complete s d there hears) in
     subst (λ (x : Device). IsInRange x.identity) (same_Some k.device d (sym k.there ∙ there)) k.in_range
-
--- ---- a contest without cuts
-
-not_lost : (cuts : CutList) (bit s : ℕ) → IsUncut cuts → lost_by cuts bit s ≡ false
-not_lost cuts bit s uncut = ap (is_by bit) (uncut s)
-
-uncut_counted : (cuts : CutList) → IsUncut cuts → IsUncut (counted_from 1 cuts)
-uncut_counted cuts uncut s = get_or-map (option_map (λ (bit : ℕ). bit - 1)) cuts s None ∙ ap (option_map (λ (bit : ℕ). bit - 1)) (uncut s)
-
--- nobody hears
-pub none_heard : (st : State) (devices : List (Option Device)) (cuts : CutList) → st.devices ≡ devices → NobodyHears devices → AllHearersLost st (lost_by cuts 0)
-none_heard st devices cuts same none s d hears =
-    absurd (both_ways (in_slot (λ x. x.hearing) (get_or devices s None)) (none s) (ap (in_slot (λ x. x.hearing)) (ap (λ ds. get_or ds s None) (sym same) ∙ hears.0) ∙ hears.1))
-
-pub uncut_takers : (devices : List (Option Device)) (cuts : CutList) (bits : ℕ) (takers : SlotSet) → IsUncut cuts → ((s : ℕ) → s < SLOTS → has takers s ≡ hears_as bits (get_or devices s None)) → AreTakers cuts devices bits takers
-uncut_takers devices cuts bits takers uncut of s l = of s l ∙ (sym (kept (hears_as bits (get_or devices s None))) ∙ ap (λ b. hears_as bits (get_or devices s None) && not b) (sym (not_lost cuts 73 s uncut)))
-  where
-    kept : (b : Bool) → (b && true) ≡ b
-    kept true = refl
-    kept false = refl
-
--- all read the least identity
-pub uncut_contest : (st : State) (devices : List (Option Device)) (cuts : CutList) (first : ℕ × SlotSet) → st.devices ≡ devices → IsUncut cuts → length devices ≡ SLOTS → IsFirstIdentity devices first → IsContest st cuts first.0 true
-uncut_contest st devices cuts first same uncut sized h = record {
-  heard = (w.0.identity, (h.held.0, w.0, (here.0, here.1), not_lost cuts 0 h.held.0 uncut, refl));
-  contested = (read_in_width (counted_from 1 cuts) keys 64 first.0 reading, subst (λ ks. EachBit (counted_from 1 cuts) ks 64 first.0) (ap (contenders_from 0) (sym same)) (read_each (counted_from 1 cuts) keys 64 first.0 reading));
-  won = λ _. winner_of st cuts keys first.0 (h.held.0, number_of w.0.identity) read (read.complete h.held.0 w.0 here) number (not_lost cuts 73 h.held.0 uncut);
-  lost = λ no. absurd (both_ways true no refl);
-}
-  where
-    keys : List (ℕ × ℕ)
-    keys = contenders_from 0 devices
-
-    so_far : ContendersSoFar devices SLOTS keys
-    so_far =
-        let all = contenders_upto devices SLOTS sized (omega arith) h.ranged in
-        subst (λ ds. ContendersSoFar devices SLOTS (contenders_from 0 ds)) (take_all SLOTS devices (omega (arith, sized))) all
-
-    w : (d : Device) × (get_or devices h.held.0 None ≡ Some d) × (d.hearing ≡ true) × (number_of d.identity ≡ first.0)
-    w = as_whom first.0 (get_or devices h.held.0 None) (sym (h.holders h.held.0 h.held.1) ∙ h.held.2)
-
-    number : number_of w.0.identity ≡ first.0
-    number = w.3
-
-    here : IsHearer st h.held.0 w.0
-    here = (ap (λ ds. get_or ds h.held.0 None) same ∙ w.1, w.2)
-
-    below : All (λ e. first.0 ≤ e.1) keys
-    below = All-weaker (IsContenderKey devices) (λ e. first.0 ≤ e.1) (λ e k. let l = h.least e.0 k.device k.there k.hearing in let is = k.number in omega (arith, l, is)) keys so_far.sound
-
-    complete : (s : ℕ) (d : Device) → get_or devices s None ≡ Some d → d.hearing ≡ true → Contains keys (s, number_of d.identity)
-    complete = contenders_complete devices keys sized so_far
-
-    read : Read st cuts keys first.0
-    read = record {
-      sound = subst (λ ds. All (IsContenderKey ds) keys) (sym same) so_far.sound;
-      complete = λ s d hears. complete s d (ap (λ ds. get_or ds s None) (sym same) ∙ hears.0) hears.1;
-      least = All-weaker (λ e. first.0 ≤ e.1) (λ e. is_lost (counted_from 1 cuts) 64 e ≡ false → first.0 ≤ e.1) (λ e l _. l) keys below;
-    }
-
-    reading : Reading (counted_from 1 cuts) keys 64 0 first.0
-    reading =
-        least_read (counted_from 1 cuts) keys 64 first.0 first.0 (h.held.0, number_of w.0.identity) (uncut_counted cuts uncut) (All-weaker (IsContenderKey devices) (λ e. e.1 < 2 ^ 64) (λ e k. key_fits devices e k) keys so_far.sound)
-        (complete h.held.0 w.0 w.1 w.2) number (record { held = inl refl; below = below; no_more = omega arith })

@@ -2,7 +2,7 @@
 use Rattle.std.proofs.Common.{◌≡◌, ℕ, Bool, zero, suc, ◌+◌, ◌-◌, ◌<◌, ◌≤◌, ◌^◌, ◌&&◌, ◌==◌, nat_le, if◌then◌else◌, true, false, List, [], ◌∷◌, ◌++◌, length, length-append, take, get_or, cond, Option, None, Some, inl, inr, refl, ap, sym, subst, ◌∙◌, arith, add-zero, zero-add, append-nil, append_assoc}
 use Rattle.std.specs.List.{All, Contains}
 use Rattle.std.proofs.lemmas.List.Elements.{All-append, All-nil, All-cons, Contains-append_left, Contains-push}
-use Rattle.std.proofs.lemmas.Bool.{and_parts, both_ways, cases_eq, cases_lt, cond-false, cond-true, eq-eqb, le-leb, lt-leb, ne_eqb}
+use Rattle.std.proofs.lemmas.Bool.{and_parts, both_ways, cases_eq, cases_lt, cond-false, cond-true, eq-eqb, eqb-true, le-leb, lt-leb, ne_eqb}
 use Rattle.std.proofs.lemmas.List.{get_or_past, length-take-le, take_all, take_more}
 use Rattle.std.proofs.lemmas.Option.{none-some}
 use Rattle.i3c_base.specs.declared.range.TheConstants.{SLOTS}
@@ -10,7 +10,7 @@ use Rattle.i3c_base.specs.State.{Device, in_slot}
 use Rattle.i3c_base.specs.Numbers.{IsInRange, number_of}
 use Rattle.i3c_device.specs.declared.sets.SlotSet.{SlotSet}
 use Rattle.i3c_device.specs.Sets.{has}
-use Rattle.i3c_device.specs.Walks.{AreHearers}
+use Rattle.i3c_device.specs.Walks.{AreHearers, hears_as}
 use Rattle.i3c_entdaa.specs.Hearers.{contender, contenders_from, IsContenderKey}
 
 -- the contenders among the first slots
@@ -108,14 +108,6 @@ contenders_complete devices keys sized h s d there hearing = elim (cases_lt s SL
   | inr l ↦ absurd (none-some d (sym (get_or_past devices s None (omega (arith, sized, l))) ∙ there))
 ]
 
--- a contender's key is a number of 64 bits
-pub key_fits : (devices : List (Option Device)) (key : ℕ × ℕ) → IsContenderKey devices key → key.1 < 2 ^ 64
-key_fits devices key h =
-    let a : h.device.identity.pid < 2 ^ 48 = h.in_range.0 in
-    let b : h.device.identity.bcr.0 < 2 ^ 8 = h.in_range.1 in
-    let c : h.device.identity.dcr.0 < 2 ^ 8 = h.in_range.2 in
-    let n : key.1 ≡ number_of h.device.identity = h.number in omega arith
-
 -- the hearers that are left are those from a slot on
 abbrev pub AreLeftFrom : List (Option Device) → ℕ → SlotSet → Type 0
 AreLeftFrom devices first left = (s : ℕ) → s < SLOTS → has left s ≡ (nat_le first s && in_slot (λ d. d.hearing) (get_or devices s None))
@@ -154,23 +146,10 @@ pub none_from : (devices : List (Option Device)) (first : ℕ) (left : SlotSet) 
     → in_slot (λ d. d.hearing) (get_or devices t None) ≡ false
 none_from devices first left are none t above l = sym (are t l ∙ ap (λ b. b && in_slot (λ d. d.hearing) (get_or devices t None)) (le-leb first t above)) ∙ none t l
 
--- all contenders of some places, as a list that nobody made
-at_most_one : (b : Bool) (key : ℕ × ℕ) → length (if b then key ∷ [] else []) ≤ 1
-at_most_one true key = omega arith
-at_most_one false key = omega arith
+-- whoever hears, as whom
+pub as_whom : (n : ℕ) (o : Option Device) → hears_as n o ≡ true → (d : Device) × (o ≡ Some d) × (d.hearing ≡ true) × (number_of d.identity ≡ n)
+as_whom n None h = absurd (both_ways _ refl h)
+as_whom n (Some d) h = let parts = and_parts d.hearing (number_of d.identity == n) h in (d, refl, parts.0, eqb-true (number_of d.identity) n parts.1)
 
-one_contender : (slot : ℕ) (place : Option Device) → length (contender slot place) ≤ 1
-one_contender slot None = omega arith
-one_contender slot (Some d) = at_most_one d.hearing (slot, number_of d.identity)
-
-pub contenders_upto : (devices : List (Option Device)) (n : ℕ) → length devices ≡ SLOTS → n ≤ SLOTS → ((s : ℕ) (d : Device) → get_or devices s None ≡ Some d → d.hearing ≡ true → IsInRange d.identity)
-    → ContendersSoFar devices n (contenders_from 0 (take n devices))
-unfolding contenders_from
-contenders_upto devices zero sized low ranged = contenders_none devices
-contenders_upto devices (suc n) sized low ranged =
-    let before = contenders_upto devices n sized (omega (arith, low)) ranged in
-    let place = get_or devices n None in
-    let more = contenders_more devices n place (contenders_from 0 (take n devices)) (contenders_from 0 (take n devices) ++ contender n place) sized (omega (arith, low)) before refl refl
-    (omega (arith, length-append (contenders_from 0 (take n devices)) (contender n place), before.short, one_contender n place)) (ranged n) in
-    let same : n + 1 ≡ suc n = omega arith in
-    subst (λ k. ContendersSoFar devices k (contenders_from 0 (take k devices))) same (subst (ContendersSoFar devices (n + 1)) more.exact more)
+pub hears_so : (n : ℕ) (o : Option Device) (d : Device) → o ≡ Some d → d.hearing ≡ true → number_of d.identity ≡ n → hears_as n o ≡ true
+hears_so n o d e h is = ap (hears_as n) e ∙ (ap (λ b. b && number_of d.identity == n) h ∙ eq-eqb (number_of d.identity) n is)

@@ -17,10 +17,10 @@ fn enter(keys: &mut ArrayVec<(Slot, u64), SLOTS>, devices: &Devices, slot: Slot)
     ensures short { length keys.new.items ≤ slot + 1 }
     ensures in_range { (d : DeviceState) → slice_index_or devices.now slot None ≡ Some d → d.hearing ≡ true → IsInRange d.identity }
 {
-    let Some(device) = devices.get(slot) else {
+    let Some(identity) = devices.identity(slot) else {
         unreachable!()
     };
-    keys.push((slot, device.identity().number()));
+    keys.push((slot, identity.number()));
 }
 
 /// Those who hear, each with the number of its identity.

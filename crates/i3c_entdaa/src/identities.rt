@@ -1,7 +1,7 @@
 ghost use Rattle.std.specs.Prelude.{◌≡◌, length, not, IfSome, MatchOption};
 ghost use Rattle.std.specs.List.{list_all, list_any};
 ghost use Rattle.i3c_base.specs.declared.range.TheConstants.{SLOTS as SLOT_COUNT};
-ghost use Rattle.i3c_base.specs.Cutting.{IsUncut, lost_by};
+ghost use Rattle.i3c_base.specs.Cutting.{lost_by};
 ghost use Rattle.i3c_base.specs.Round.{AllHearersLost};
 ghost use Rattle.i3c_base.specs.State.{State};
 ghost use Rattle.i3c_entdaa.specs.Parts.{AreTakers, HearersAreRanged, IsContest};
@@ -47,35 +47,6 @@ fn is_left(slots: &[Slot], cuts: &Cuts, last: u16) -> bool
 
 /// The contest of a round: all who hear drive their identities at once. `None` where nobody acknowledges the header.
 pub(crate) fn read_identity(devices: &Devices, cuts: &Cuts) -> Option<Contested>
-    ensures contest { (st : State) → st.devices ≡ devices.now → MatchOption result (AllHearersLost st (lost_by cuts.now 0)) (λ read. IsContest st cuts.now read.bits read.acknowledged) }
-    ensures takers { IfSome result (λ read. AreTakers cuts.now devices.now read.bits read.takers) }
-    ensures ranged { IfSome result (λ _. HearersAreRanged devices.now) }
-    ensures slots { length devices.now ≡ SLOT_COUNT }
-{
-    if cuts.is_empty() {
-        return read_uncut(devices, cuts);
-    }
-    read_cut(devices, cuts)
-}
-
-/// The contest where nobody is cut: all read the least identity.
-fn read_uncut(devices: &Devices, cuts: &Cuts) -> Option<Contested>
-    requires { IsUncut cuts.now }
-    ensures contest { (st : State) → st.devices ≡ devices.now → MatchOption result (AllHearersLost st (lost_by cuts.now 0)) (λ read. IsContest st cuts.now read.bits read.acknowledged) }
-    ensures takers { IfSome result (λ read. AreTakers cuts.now devices.now read.bits read.takers) }
-    ensures ranged { IfSome result (λ _. HearersAreRanged devices.now) }
-    ensures slots { length devices.now ≡ SLOT_COUNT }
-{
-    let (bits, takers) = devices.first_identity()?;
-    Some(Contested {
-        bits,
-        acknowledged: true,
-        takers,
-    })
-}
-
-/// The contest where somebody may be cut.
-fn read_cut(devices: &Devices, cuts: &Cuts) -> Option<Contested>
     ensures contest { (st : State) → st.devices ≡ devices.now → MatchOption result (AllHearersLost st (lost_by cuts.now 0)) (λ read. IsContest st cuts.now read.bits read.acknowledged) }
     ensures takers { IfSome result (λ read. AreTakers cuts.now devices.now read.bits read.takers) }
     ensures ranged { IfSome result (λ _. HearersAreRanged devices.now) }

@@ -12,16 +12,16 @@ pub fn ask(devices: &mut Devices, active: Slot, slot: Slot) -> Result<(), RoleRe
     ensures wishes { OnOk result (devices.new ≡ slice_set devices.old slot (option_map wishing_role (slice_index_or devices.old slot None))) }
     ensures unchanged { OnErr result (devices.new ≡ devices.old) }
 {
-    let Some(device) = devices.get(slot) else {
+    let Some(identity) = devices.identity(slot) else {
         return Err(RoleRefusal::NoDevice);
     };
     if slot == active {
         return Err(RoleRefusal::IsActive);
     }
-    if device.address().is_none() {
+    if devices.address(slot).is_none() {
         return Err(RoleRefusal::NoAddress);
     }
-    if !device.identity().bcr.capable() {
+    if !identity.bcr.capable() {
         return Err(RoleRefusal::NotCapable);
     }
     if !devices.may_ask_role(slot) {

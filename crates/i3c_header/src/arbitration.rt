@@ -1,6 +1,5 @@
-ghost use Rattle.std.specs.Prelude.{◌≡◌, ◌^◌, ◌<◌, ◌≤◌, ◌↔◌, [], length, All, IsTrue, MatchOption};
+ghost use Rattle.std.specs.Prelude.{◌≡◌, ◌^◌, ◌<◌, ◌≤◌, [], length, All, MatchOption};
 ghost use Rattle.i3c_base.specs.declared.range.TheConstants.{SLOTS as SLOT_COUNT};
-ghost use Rattle.i3c_base.specs.Serve.{rank};
 ghost use Rattle.i3c_header.specs.Keys.{IsFirstOf, IsLawful};
 ghost use Rattle.i3c_header.specs.Keyed.{keyed};
 
@@ -12,29 +11,16 @@ use i3c_wires::contest;
 /// The bits of a header that are contested: seven of the address, and RnW.
 const KEY_BITS: u32 = 8;
 
-/// Whether the first of two requests wins a header that both drive (I3C Basic 5.1.2.2.1). A line is low as soon as one
-/// pulls it low, and who reads another bit than its own gives up: so the lower key stays, and of equal keys neither wins.
-pub fn comes_before(one: &Request, other: &Request) -> bool
-    requires one { IsLawful one.now }
-    requires other { IsLawful other.now }
-    ensures { IsTrue result ↔ (rank one.now < rank other.now) }
-{
-    key(*one) < key(*other)
-}
-
 /// The request that wins the header which all of these drive at once (I3C Basic 5.1.2.2.1): a join before all else, then
-/// the lower address, then at one address the role request. One that is alone wins without a contest. `None` only where
-/// there is none.
+/// the lower address, then at one address the role request. Their keys contend on the lines, bit by bit. `None` only
+/// where there is none.
 pub fn arbitrate(requests: &[Request]) -> Option<Request>
     requires few { length requests.now ≤ SLOT_COUNT }
     requires lawful { All IsLawful requests.now }
     ensures { MatchOption result (requests.now ≡ []) (IsFirstOf requests.now) }
 {
-    let [first, others @ ..] = requests else {
+    if requests.is_empty() {
         return None;
-    };
-    if others.is_empty() {
-        return Some(*first);
     }
     let keys = contenders(requests);
     let outcome = contest(&keys, KEY_BITS, &Cuts::new());

@@ -4,6 +4,6 @@
 mod arbitration;
 mod keys;
 
-pub use arbitration::{arbitrate, comes_before};
+pub use arbitration::arbitrate;
 pub use i3c_base::Request;
 pub use keys::{header, key};

@@ -12,10 +12,10 @@ pub fn ask(devices: &mut Devices, slot: Slot) -> Result<(), JoinRefusal>
     ensures wishes { OnOk result (devices.new ≡ slice_set devices.old slot (option_map wishing_join (slice_index_or devices.old slot None))) }
     ensures unchanged { OnErr result (devices.new ≡ devices.old) }
 {
-    let Some(device) = devices.get(slot) else {
+    if !devices.holds(slot) {
         return Err(JoinRefusal::NoDevice);
-    };
-    if device.address().is_some() {
+    }
+    if devices.address(slot).is_some() {
         return Err(JoinRefusal::HasAddress);
     }
     if !devices.may_join(slot) {

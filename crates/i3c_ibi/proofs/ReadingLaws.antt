@@ -13,11 +13,12 @@ use Rattle.i3c_base.specs.declared.requests.Record.{Record}
 use Rattle.i3c_base.specs.Cutting.{CutList, cut_of, is_by, lost_by}
 use Rattle.i3c_base.specs.State.{Device, State, device_at, has_address}
 use Rattle.i3c_base.specs.Serve.{DrivesByte, IsLowestDriver, asks, drives, is_empty}
+use Rattle.i3c_device.specs.Holding.{front_in}
 use Rattle.i3c_device.specs.Raising.{front_byte}
 use Rattle.i3c_device.specs.declared.sets.SlotSet.{SlotSet}
 use Rattle.i3c_device.specs.Sets.{IsLowestOf, has}
 use Rattle.i3c_device.specs.Walks.{AreDrivers, drives_at}
-use Rattle.i3c_ibi.specs.Driving.{HaveBytes, IsFrontOf, IsReading, Together, byte_beside, driven, slot_byte}
+use Rattle.i3c_ibi.specs.Driving.{HaveBytes, IsByteRead, IsFrontOf, IsReading, Together, byte_beside, driven, slot_byte}
 use Rattle.i3c_ibi.proofs.Scans.{drives_in}
 
 and_join : (a b : Bool) → a ≡ true → b ≡ true → (a && b) ≡ true
@@ -80,35 +81,48 @@ beside_none cuts drivers slot s place h = go (not (s == slot) && has drivers s) 
 abbrev BytesRead : State → CutList → SlotSet → ℕ → ℕ → ℕ → Type 0
 BytesRead st cuts drivers slot own both = Together (λ s. byte_beside cuts drivers slot s (device_at st s)) (driven (cut_of cuts slot) own) SLOTS both
 
--- each of them isn't lost, and the AND of what they drive is that of their bytes
-reads_to : (st : State) (cuts : CutList) (at slot own both : ℕ) (front : Waiting) (drivers : SlotSet) → AreDrivers st.active (Interrupt at) st.devices drivers → length st.devices ≡ SLOTS
-    → IsFrontOf (device_at st slot) front → front.byte ≡ Some own → BytesRead st cuts drivers slot own both → ((t : ℕ) → drives st (Interrupt at) t ≡ true → lost_by cuts 9 t ≡ false)
-    → (bit : ℕ) → bit < 8 → bit_at both bit ≡ 1 → (s u : ℕ) → DrivesByte st (Interrupt at) s u → bit_at u bit ≡ 1
-reads_to st cuts at slot own both front drivers are long fronted e tog left bit l b s u d =
+-- whoever drives it, drives 1 where 1 is read
+drives_to : (st : State) (cuts : CutList) (at slot own both : ℕ) (front : Waiting) (drivers : SlotSet) → AreDrivers st.active (Interrupt at) st.devices drivers → length st.devices ≡ SLOTS
+    → IsFrontOf (device_at st slot) front → front.byte ≡ Some own → BytesRead st cuts drivers slot own both
+    → (bit : ℕ) → bit < 8 → bit_at both bit ≡ 1 → (s u : ℕ) → DrivesByte st (Interrupt at) s u → bit_at (driven (cut_of cuts s) u) bit ≡ 1
+drives_to st cuts at slot own both front drivers are long fronted e tog bit l b s u d =
     let k = (tog.bits bit l).0 b in
     let low : s < SLOTS = let inside = drives_in st (Interrupt at) s d.0 in omega (arith, inside, long) in
-    let whole : driven (cut_of cuts s) u ≡ u = driven_left (cut_of cuts s) u (left s d.0) in
     elim (cases_eq s slot) [
       | inl same ↦
           let f : IsFrontOf (device_at st slot) d.1.0 = subst (λ t. IsFrontOf (device_at st t) d.1.0) same d.1.1 in
           let one : d.1.0 ≡ front = one_front (device_at st slot) d.1.0 front f fronted in
           let byte : own ≡ u = same_Some own u (sym e ∙ (ap (λ (w : Waiting). w.byte) (sym one) ∙ d.1.2)) in
-          let drove : driven (cut_of cuts slot) own ≡ u = (λ t. driven (cut_of cuts (sym same t)) (byte t)) ∙ whole in
+          let drove : driven (cut_of cuts slot) own ≡ driven (cut_of cuts s) u = λ t. driven (cut_of cuts (sym same t)) (byte t) in
           subst (λ x. bit_at x bit ≡ 1) drove k.0
-      | inr ne ↦ subst (λ x. bit_at x bit ≡ 1) whole (k.1 s _ low (beside_of cuts drivers slot s u (device_at st s) d.1.0 ne (are s low ∙ d.0) d.1.1 d.1.2))
+      | inr ne ↦ k.1 s _ low (beside_of cuts drivers slot s u (device_at st s) d.1.0 ne (are s low ∙ d.0) d.1.1 d.1.2)
     ]
+
+-- and 1 is read where they all drive it
+drives_from : (st : State) (cuts : CutList) (at slot own both : ℕ) (front : Waiting) (drivers : SlotSet) → AreDrivers st.active (Interrupt at) st.devices drivers → drives st (Interrupt at) slot ≡ true
+    → IsFrontOf (device_at st slot) front → front.byte ≡ Some own → BytesRead st cuts drivers slot own both
+    → (bit : ℕ) → bit < 8 → ((s u : ℕ) → DrivesByte st (Interrupt at) s u → bit_at (driven (cut_of cuts s) u) bit ≡ 1) → bit_at both bit ≡ 1
+drives_from st cuts at slot own both front drivers are lowest fronted e tog bit l all =
+    (tog.bits bit l).1 (
+      all slot own (lowest, (front, fronted, e)),
+      λ s v m k.
+          let f = beside_from cuts drivers slot s v (device_at st s) k in
+          let d : drives st (Interrupt at) s ≡ true = sym (are s m) ∙ f.1 in
+          subst (λ x. bit_at x bit ≡ 1) f.3 (all s f.0 (d, slot_byte_from (device_at st s) f.0 f.2)),
+    )
+
+-- each of them isn't lost, and the AND of what they drive is that of their bytes
+reads_to : (st : State) (cuts : CutList) (at slot own both : ℕ) (front : Waiting) (drivers : SlotSet) → AreDrivers st.active (Interrupt at) st.devices drivers → length st.devices ≡ SLOTS
+    → IsFrontOf (device_at st slot) front → front.byte ≡ Some own → BytesRead st cuts drivers slot own both → ((t : ℕ) → drives st (Interrupt at) t ≡ true → lost_by cuts 9 t ≡ false)
+    → (bit : ℕ) → bit < 8 → bit_at both bit ≡ 1 → (s u : ℕ) → DrivesByte st (Interrupt at) s u → bit_at u bit ≡ 1
+reads_to st cuts at slot own both front drivers are long fronted e tog left bit l b s u d =
+    subst (λ x. bit_at x bit ≡ 1) (driven_left (cut_of cuts s) u (left s d.0)) (drives_to st cuts at slot own both front drivers are long fronted e tog bit l b s u d)
 
 reads_from : (st : State) (cuts : CutList) (at slot own both : ℕ) (front : Waiting) (drivers : SlotSet) → AreDrivers st.active (Interrupt at) st.devices drivers → drives st (Interrupt at) slot ≡ true
     → IsFrontOf (device_at st slot) front → front.byte ≡ Some own → BytesRead st cuts drivers slot own both → ((t : ℕ) → drives st (Interrupt at) t ≡ true → lost_by cuts 9 t ≡ false)
     → (bit : ℕ) → bit < 8 → ((s u : ℕ) → DrivesByte st (Interrupt at) s u → bit_at u bit ≡ 1) → bit_at both bit ≡ 1
 reads_from st cuts at slot own both front drivers are lowest fronted e tog left bit l all =
-    (tog.bits bit l).1 (
-      subst (λ x. bit_at x bit ≡ 1) (sym (driven_left (cut_of cuts slot) own (left slot lowest))) (all slot own (lowest, (front, fronted, e))),
-      λ s v m k.
-          let f = beside_from cuts drivers slot s v (device_at st s) k in
-          let d : drives st (Interrupt at) s ≡ true = sym (are s m) ∙ f.1 in
-          subst (λ x. bit_at x bit ≡ 1) (sym (driven_left (cut_of cuts s) f.0 (left s d)) ∙ f.3) (all s f.0 (d, slot_byte_from (device_at st s) f.0 f.2)),
-    )
+    drives_from st cuts at slot own both front drivers are lowest fronted e tog bit l (λ s u d. subst (λ x. bit_at x bit ≡ 1) (sym (driven_left (cut_of cuts s) u (left s d.0))) (all s u d))
 
 -- the lowest of the drivers
 lowest_driver : (st : State) (r : Request) (drivers : SlotSet) (slot : ℕ) → AreDrivers st.active r st.devices drivers → IsLowestOf drivers slot → IsLowestDriver st r slot
@@ -136,6 +150,7 @@ reading_at st cuts at slot front byte drivers are long found read small =
       number = refl;
       address = refl;
       present = ap is_some (none ∙ sym e);
+      byte = subst (λ o. IfSome o (IsByteRead st cuts at)) (sym none) tt;
       alone = λ h l. none ∙ sym e;
       together = λ h v k. absurd (none-some v (sym none ∙ k));
     }
@@ -147,6 +162,13 @@ reading_at st cuts at slot front byte drivers are long found read small =
       number = refl;
       address = refl;
       present = ap is_some (sym e);
+      byte = record {
+        small = small;
+        bits = λ bit l. (
+          λ b s u d. drives_to st cuts at slot own both front drivers are long found.1 e tog bit l b s u d,
+          λ all. drives_from st cuts at slot own both front drivers are lowest.0 found.1 e tog bit l all,
+        );
+      };
       alone = λ h l. ap Some (tog.alone (λ s m. beside_none cuts drivers slot s (device_at st s) (one s m h)) ∙ driven_left (cut_of cuts slot) own l) ∙ sym e;
       together = λ h v k.
           let is : both ≡ v = same_Some both v k in (
@@ -197,6 +219,10 @@ front_at place d w there first = go d.waiting refl first
     go : (ws : List Waiting) → d.waiting ≡ ws → slice_get ws 0 ≡ Some w → IsFrontOf place w
     go [] e k = absurd (none-some w k)
     go (v ∷ ws) e k = (d, ws, sym there, e ∙ ap (λ x. x ∷ ws) (same_Some v w k))
+
+pub front_held : (place : Option Device) (w : Waiting) → front_in place ≡ Some w → IsFrontOf place w
+front_held None w first = absurd (none-some w first)
+front_held (Some d) w first = front_at (Some d) d w refl first
 
 -- where the lowest of the drivers has no front, there is none
 pub no_driver : (active at : ℕ) (devices : List (Option Device)) (drivers : SlotSet) (slot : ℕ) → AreDrivers active (Interrupt at) devices drivers → IsLowestOf drivers slot

@@ -1,4 +1,5 @@
 -- What serving a first request does to a bus.
+use Rattle.std.specs.Prelude.{IfSome}
 use Rattle.std.proofs.Common.{◌≡◌, ℕ, ◌+◌, ◌<◌, Bool, true, false, List, length, Option, Some, None, option_map, is_some, if◌then◌else◌, inl, inr, sym, refl, ap, subst, ◌∙◌, arith}
 use Rattle.std.proofs.lemmas.Bool.{both_ways}
 use Rattle.std.proofs.lemmas.Bool.Decides.{nat_tests}
@@ -21,7 +22,7 @@ use Rattle.i3c_device.specs.Sets.{SomeLeft}
 use Rattle.i3c_device.specs.Walks.{AreDrivers, accepted_at, drives_at}
 use Rattle.i3c_ibi.specs.declared.serving.Reading.{Reading}
 use Rattle.i3c_ibi.specs.declared.serving.Reading.TheVariants.{Quiet, Refused, Joined, WantsRole, Due, Torn}
-use Rattle.i3c_ibi.specs.Driving.{HaveBytes, IsReading, SomeDrives}
+use Rattle.i3c_ibi.specs.Driving.{HaveBytes, IsByteRead, IsReading, SomeDrives}
 use Rattle.i3c_ibi.proofs.ReadingLaws.{no_byte}
 use Rattle.i3c_ibi.proofs.Scans.{drives_in}
 use Rattle.i3c_ibi.specs.Policies.{Decides, is_known, verdict_in}
@@ -61,12 +62,12 @@ known_accept b e = ap (λ x. if x then Accept else Refuse) e
 
 -- an accepted join, and an accepted role request
 pub join_served : (st : State) (cuts : CutList) (old new : List (Option Device)) (active : ℕ) → HasDevices st old active → IsFirst st Join → new ≡ changed (accepted_at active Join) old → IsServing st cuts Joined new
-join_served st cuts old new active has first e = record { serves = λ rest. (first, refl, left_by st Join old new active has e); word = refl; first = first; ended = tt }
+join_served st cuts old new active has first e = record { serves = λ rest. (first, refl, left_by st Join old new active has e); word = refl; first = first; ended = tt; read = tt }
 
 pub role_served : (st : State) (cuts : CutList) (a : ℕ) (old new : List (Option Device)) (active : ℕ) → HasDevices st old active → IsFirst st (Role a) → is_known st.given (Role a) ≡ true
     → new ≡ changed (accepted_at active (Role a)) old → IsServing st cuts (WantsRole a) new
 role_served st cuts a old new active has first known e =
-    record { serves = λ rest. (first, known_accept _ known, left_by st (Role a) old new active has e); word = refl; first = first; ended = tt }
+    record { serves = λ rest. (first, known_accept _ known, left_by st (Role a) old new active has e); word = refl; first = first; ended = tt; read = tt }
 
 -- what was read where there is no byte, and where some driver ended it
 read_none : (st : State) (cuts : CutList) (at : ℕ) (r : Record) (h : IsReading st cuts at r) (lost : Lost) → is_some r.byte ≡ false → IsRead st lost (Interrupt at) r.slot h.front r.byte
@@ -113,6 +114,7 @@ due_served st cuts at r old new active has fits first known h ended e = record {
   word = (at, first, ap (λ b. if b then 9 else 0) (h.present ∙ fits at r.slot h.front h.lowest.0 h.fronted));
   first = subst (λ a. IsFirst st (Interrupt a)) (sym h.address) first;
   ended = λ b. let some = ended b in (some.0, subst (λ a. drives st (Interrupt a) some.0 ≡ true) (sym h.address) some.1, some.2);
+  read = subst (λ a. IfSome r.byte (IsByteRead st cuts a)) (sym h.address) h.byte;
 }
 
 -- an accepted interrupt whose byte nobody ended
@@ -130,6 +132,7 @@ torn_served st cuts at byte r old new active has fits first known h b none e = r
   word = refl;
   first = first;
   ended = tt;
+  read = subst (λ o. IfSome o (IsByteRead st cuts at)) b h.byte;
 }
   where
     gone : (s : ℕ) → drives st (Interrupt at) s ≡ true → (b : Bool) → lost_by cuts 9 s ≡ b → lost_by cuts 9 s ≡ true
@@ -151,12 +154,12 @@ have_bytes st old active at given has same fits =
 
 -- nobody asks
 pub quiet_served : (st : State) (cuts : CutList) (old : List (Option Device)) (active : ℕ) → HasDevices st old active → NoneAsks st → IsServing st cuts Quiet old
-quiet_served st cuts old active has none = record { serves = λ rest. (none, unchanged st old active has); word = refl; first = none; ended = tt }
+quiet_served st cuts old active has none = record { serves = λ rest. (none, unchanged st old active has); word = refl; first = none; ended = tt; read = tt }
 
 -- the first request is turned down
 pub refused_served : (st : State) (cuts : CutList) (r : Request) (old : List (Option Device)) (active : ℕ) → HasDevices st old active → IsFirst st r → IsServing st cuts (Refused r) old
 refused_served st cuts r old active has first =
-    record { serves = λ rest. ((r, first, refuses st r), unchanged st old active has); word = refl; first = first; ended = tt }
+    record { serves = λ rest. ((r, first, refuses st r), unchanged st old active has); word = refl; first = first; ended = tt; read = tt }
 
 -- the verdicts that were given
 refuses_in : (r : Request) → verdict_in refuse_all r ≡ Refuse

@@ -1,5 +1,5 @@
 -- Who drives an interrupt, and what is read behind it. `active` is the active controller's slot.
-use Rattle.std.specs.Prelude.{◌≡◌, ℕ, ◌-◌, ◌/◌, ◌^◌, ◌<◌, ◌↔◌, Bool, true, false, not, ◌&&◌, ◌==◌, nat_le, if◌then◌else◌, List, ◌∷◌, Option, Some, None, option_and_then, option_map, slice_index_or, is_some, length}
+use Rattle.std.specs.Prelude.{◌≡◌, ℕ, ◌-◌, ◌/◌, ◌^◌, ◌<◌, ◌↔◌, Bool, true, false, not, ◌&&◌, ◌==◌, nat_le, if◌then◌else◌, List, ◌∷◌, Option, Some, None, option_and_then, option_map, slice_index_or, is_some, length, IfSome}
 use Rattle.std.specs.Int.{bit_at}
 use Rattle.std.specs.Int.RustNames.{bit_or}
 use Rattle.i3c_base.specs.declared.range.TheConstants.{SLOTS}
@@ -54,6 +54,12 @@ pub record Together (bytes : ℕ → Option ℕ) (own n both : ℕ) : Type 0 whe
   pub bits : (bit : ℕ) → bit < 8 → ((bit_at both bit ≡ 1) ↔ ((bit_at own bit ≡ 1) × ((s v : ℕ) → s < n → bytes s ≡ Some v → bit_at v bit ≡ 1)))
   pub alone : ((s : ℕ) → s < n → bytes s ≡ None) → both ≡ own
 
+-- the byte that is read behind the interrupt at this address: each bit is the AND of what its drivers drive there, which
+-- is their own byte's bit, and 1 from the bit of a cut on
+pub record IsByteRead (st : State) (cuts : CutList) (at byte : ℕ) : Type 0 where
+  pub small : byte < 256
+  pub bits : (bit : ℕ) → bit < 8 → ((bit_at byte bit ≡ 1) ↔ ((s own : ℕ) → DrivesByte st (Interrupt at) s own → bit_at (driven (cut_of cuts s) own) bit ≡ 1))
+
 -- what was read of an accepted interrupt at the address `at`: the raise at the lowest driver's front, and of the byte what
 -- those who end it drove
 pub record IsReading (st : State) (cuts : CutList) (at : ℕ) (r : Record) : Type 0 where
@@ -63,5 +69,6 @@ pub record IsReading (st : State) (cuts : CutList) (at : ℕ) (r : Record) : Typ
   pub number : r.number ≡ front.number
   pub address : r.at ≡ at
   pub present : is_some r.byte ≡ is_some front.byte
+  pub byte : IfSome r.byte (IsByteRead st cuts at)
   pub alone : ((t : ℕ) → drives st (Interrupt at) t ≡ true → t ≡ r.slot) → lost_by cuts 9 r.slot ≡ false → r.byte ≡ front.byte
   pub together : ((t : ℕ) → drives st (Interrupt at) t ≡ true → lost_by cuts 9 t ≡ false) → (v : ℕ) → r.byte ≡ Some v → IsAnd v (DrivesByte st (Interrupt at))

@@ -1,11 +1,12 @@
 -- Serving the first request of a frame, as the controller sees it on the wire.
-use Rattle.std.specs.Prelude.{◌≡◌, ℕ, suc, ◌+◌, true, false, length, List, Option, is_some, if◌then◌else◌, ⊤}
+use Rattle.std.specs.Prelude.{◌≡◌, ℕ, suc, ◌+◌, true, false, length, List, Option, is_some, if◌then◌else◌, IfSome, ⊤}
 use Rattle.i3c_base.specs.declared.device.Waiting.{Waiting}
 use Rattle.i3c_base.specs.declared.requests.Request.TheVariants.{Interrupt, Join, Role}
 use Rattle.i3c_base.specs.declared.requests.Served.{Served}
 use Rattle.i3c_base.specs.Cutting.{CutList, lost_by}
 use Rattle.i3c_base.specs.State.{Device, State, entry_at}
 use Rattle.i3c_base.specs.Serve.{IsFirst, IsFront, IsWordBits, NoneAsks, Serves, byte_due, drives, given_for, recorded}
+use Rattle.i3c_ibi.specs.Driving.{IsByteRead}
 use Rattle.i3c_ibi.specs.declared.serving.Reading.{Reading}
 use Rattle.i3c_ibi.specs.declared.serving.Reading.TheVariants.{Quiet, Refused, Joined, WantsRole, Due, Torn}
 
@@ -54,9 +55,16 @@ abbrev pub IsEnded : State → CutList → Reading → Type 0
 IsEnded st cuts (Due r) = is_some r.byte ≡ true → (s : ℕ) × (drives st (Interrupt r.at) s ≡ true) × (lost_by cuts 9 s ≡ false)
 IsEnded st cuts _ = ⊤
 
--- serving, whatever bits of the frame follow, with the word that was read for it, its request, and T as it was read
+-- the mandatory byte, recorded or torn, is the one that the drivers put on the lines
+abbrev pub ReadsByte : State → CutList → Reading → Type 0
+ReadsByte st cuts (Due r) = IfSome r.byte (IsByteRead st cuts r.at)
+ReadsByte st cuts (Torn a byte) = IsByteRead st cuts a byte
+ReadsByte st cuts _ = ⊤
+
+-- serving, whatever bits of the frame follow, with the word that was read for it, its request, its byte, and T as it was read
 pub record IsServing (st : State) (cuts : CutList) (reading : Reading) (devices : List (Option Device)) : Type 0 where
   pub serves : (rest : ℕ) → Serves st (given_for (served_as (length st.records) reading)) (lost_by cuts (word_bits reading + rest)) (served_as (length st.records) reading) (kept reading (record st { devices = devices }))
   pub word : IsWordBits st (served_as (length st.records) reading) (word_bits reading)
   pub first : IsRequestOf st reading
   pub ended : IsEnded st cuts reading
+  pub read : ReadsByte st cuts reading

@@ -21,7 +21,7 @@ fn lowest_front(devices: &Devices, drivers: SlotSet) -> Option<(Slot, Waiting)>
         (λ f. IsLowestOf drivers f.0 × IsFrontOf (slice_index_or devices.now f.0 None) f.1) }
 {
     let slot = drivers.lowest()?;
-    let front = devices.get(slot)?.front()?;
+    let front = devices.front(slot)?;
     Some((slot, front))
 }
 
@@ -69,7 +69,7 @@ fn byte_read(devices: &Devices, drivers: SlotSet, lowest: Slot, cuts: &Cuts) -> 
 fn byte_of(devices: &Devices, slot: Slot) -> Option<u8>
     ensures { result ≡ slot_byte (slice_index_or devices.now slot None) }
 {
-    devices.get(slot)?.answer_byte()
+    devices.answer_byte(slot)
 }
 
 /// What these slots, the drivers of the interrupt at this address, have at their fronts, as they drive it.

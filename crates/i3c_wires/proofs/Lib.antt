@@ -3,4 +3,3 @@ pub mod PlaneLaws
 pub mod Reading
 pub mod Uncut
 pub mod TurnLaws
-pub mod LeastLaws

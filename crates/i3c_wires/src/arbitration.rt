@@ -2,7 +2,6 @@ ghost use Rattle.std.specs.Prelude.{◌≡◌, ◌⊎◌, ◌-◌, ◌/◌, ◌^
 ghost use Rattle.std.specs.List.{All};
 ghost use Rattle.i3c_wires.specs.Contest.{AllLost, EachBit, LostIsBelow, holders, is_lost, is_one};
 
-use crate::least::uncut_contest;
 use crate::masks::{cut_at, first_places, planes_of, slots_at};
 use crate::outcome::Contest;
 use crate::turns::turns_of;
@@ -42,9 +41,6 @@ pub fn contest(keys: &ArrayVec<(Slot, u64), SLOTS>, width: u32, cuts: &Cuts) -> 
             bits: u64::MAX >> (64 - width),
         };
     };
-    if cuts.is_empty() {
-        return uncut_contest(keys, first.1);
-    }
     let mut bits = first.1;
     let mut still = first_places(keys.len());
     let mut turns = turns_of(keys, bits, width, cuts);

@@ -6,7 +6,6 @@
 #![tactic(auto)]
 
 mod arbitration;
-mod least;
 mod lines;
 mod masks;
 mod outcome;

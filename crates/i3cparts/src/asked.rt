@@ -4,7 +4,7 @@ use crate::setting::Setting;
 use crate::slots::slots_of;
 use crate::told::{Answer, told, told_hex, told_slots, told_text};
 use crate::words::Words;
-use i3c_base::{Request, Slot};
+use i3c_base::Slot;
 use i3c_device::{Devices, SlotSet};
 use std::alloc::Global;
 
@@ -31,7 +31,6 @@ fn together(setting: &mut Setting, call: &str, words: &mut Words<'_>) -> Answer 
         "is-heard" => is_heard(setting, words),
         "lowest-willing" => lowest_willing(setting, words),
         "hearers" => told_set(alloc, setting.devices.hearers()),
-        "first-identity" => first_identity(setting),
         "read-from" => read_from(setting, words),
         _ => hand::call(setting, call, words),
     }
@@ -44,7 +43,7 @@ fn raise(setting: &mut Setting, words: &mut Words<'_>) -> Answer {
     let raised = words.count()?;
     let byte = words.maybe_byte()?;
     match place {
-        None => told(alloc, &in_hand(setting)?.raise(raised, byte, true)),
+        None => told(alloc, &in_hand(setting)?.raise(raised, byte)),
         Some(slot) => raise_in(alloc, &mut setting.devices, slot, raised, byte),
     }
 }
@@ -57,33 +56,22 @@ fn raise_in(
     raised: u64,
     byte: Option<u8>,
 ) -> Answer {
-    if devices.get(slot).is_none() {
+    if !devices.holds(slot) {
         return Err(Fault::Unknown);
     }
     told(alloc, &devices.raise(slot, raised, byte))
 }
 
-/// The request that a device drives: its wish, if that kind is enabled.
+/// The request that a device drives now.
 fn wants(setting: &mut Setting, place: Option<Slot>) -> Answer {
     let alloc = setting.alloc;
     match place {
-        None => told_hex(alloc, &in_hand(setting)?.wish()),
+        None => told_hex(alloc, &in_hand(setting)?.wants()),
         Some(slot) => match setting.devices.get(slot) {
-            Some(device) => told_hex(alloc, &enabled(&setting.devices, slot, device.wish())),
+            Some(device) => told_hex(alloc, &device.wants()),
             None => told_text(alloc, "nobody"),
         },
     }
-}
-
-/// The request of a slot's device, if its kind is enabled.
-fn enabled(devices: &Devices, slot: Slot, wish: Option<Request>) -> Option<Request> {
-    let request = wish?;
-    let is_enabled = match &request {
-        Request::Join => devices.may_join(slot),
-        Request::Role(_) => devices.may_ask_role(slot),
-        Request::Interrupt(_) => devices.may_interrupt(slot),
-    };
-    if is_enabled { Some(request) } else { None }
 }
 
 /// The first request.
@@ -131,17 +119,6 @@ fn lowest_willing(setting: &Setting, words: &mut Words<'_>) -> Answer {
         .devices
         .lowest_willing(setting.active, address, &setting.cuts, last);
     told_slots(setting.alloc, &lowest)
-}
-
-/// The least identity of those who hear, and their slots.
-fn first_identity(setting: &Setting) -> Answer {
-    let alloc = setting.alloc;
-    let Some((number, slots)) = setting.devices.first_identity() else {
-        return told_text(alloc, "None");
-    };
-    let number = told_hex(alloc, &number)?;
-    let slots = told_set(alloc, slots)?;
-    format!(in alloc; "{number} in {slots}").or(Err(Fault::Memory))
 }
 
 /// What the lines give of the registers at an address.

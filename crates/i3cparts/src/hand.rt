@@ -1,10 +1,10 @@
 use crate::events;
 use crate::faults::Fault;
 use crate::setting::Setting;
+use crate::slots::written;
 use crate::told::{Answer, nothing, told, told_hex, told_text};
 use crate::words::Words;
-use i3c_base::{REGISTERS, Setup, Slot};
-use i3c_ccc::Code;
+use i3c_base::{REGISTERS, Setup};
 use i3c_device::Device;
 use std::alloc::Global;
 
@@ -19,7 +19,7 @@ const CHANGES: [&str; 6] = [
 ];
 
 /// What any device is asked.
-const QUESTIONS: [&str; 10] = [
+const QUESTIONS: [&str; 9] = [
     "identity",
     "address",
     "is-hearing",
@@ -29,7 +29,6 @@ const QUESTIONS: [&str; 10] = [
     "front",
     "answer-byte",
     "may-raise",
-    "may-raise-masked",
 ];
 
 /// The calls on the device in hand, and what any device is asked.
@@ -75,13 +74,11 @@ fn change(alloc: Global, device: &mut Device, call: &str, words: &mut Words<'_>)
     nothing(alloc)
 }
 
-/// A device by itself hears a session's opening, or a reset.
+/// A device by itself hears a command.
 fn hear(alloc: Global, device: &mut Device, words: &mut Words<'_>) -> Answer {
-    match words.code()? {
-        Code::Entdaa => device.hear_opening(),
-        Code::Rstdaa => device.lose_address(),
-        _ => return Err(Fault::Unknown),
-    }
+    let code = words.code()?;
+    let carried = written(alloc, words)?;
+    device.hear(code, &carried);
     nothing(alloc)
 }
 
@@ -95,21 +92,24 @@ fn fill(alloc: Global, device: &mut Device, words: &mut Words<'_>) -> Answer {
     nothing(alloc)
 }
 
-/// The device in hand, or in a slot.
-fn found(setting: &Setting, place: Option<Slot>) -> Option<&Device> {
-    match place {
-        None => setting.hand.as_ref(),
-        Some(slot) => setting.devices.get(slot),
-    }
-}
-
-/// Asks a device.
+/// Asks the device in hand, or in a slot.
 fn ask(setting: &Setting, call: &str, words: &mut Words<'_>) -> Answer {
     let place = words.place()?;
     let byte = words.maybe_byte()?;
-    match found(setting, place) {
-        Some(device) => answer(setting.alloc, device, call, byte),
-        None => told_text(setting.alloc, "nobody"),
+    match place {
+        None => ask_of(setting.alloc, setting.hand.as_ref(), call, byte),
+        Some(slot) => {
+            let device = setting.devices.get(slot);
+            ask_of(setting.alloc, device.as_ref(), call, byte)
+        }
+    }
+}
+
+/// Asks a device, if there is one.
+fn ask_of(alloc: Global, device: Option<&Device>, call: &str, byte: Option<u8>) -> Answer {
+    match device {
+        Some(device) => answer(alloc, device, call, byte),
+        None => told_text(alloc, "nobody"),
     }
 }
 
@@ -124,6 +124,6 @@ fn answer(alloc: Global, device: &Device, call: &str, byte: Option<u8>) -> Answe
         "waiting" => told(alloc, &device.waiting()),
         "front" => told_hex(alloc, &device.front()),
         "answer-byte" => told_hex(alloc, &device.answer_byte()),
-        _ => told(alloc, &device.may_raise(byte, call == "may-raise")),
+        _ => told(alloc, &device.may_raise(byte)),
     }
 }

@@ -3,10 +3,10 @@ ghost use Rattle.i3c_header.specs.Keys.{IsLawful};
 
 use crate::faults::Fault;
 use crate::setting::Setting;
-use crate::told::{Answer, told, told_hex};
+use crate::told::{Answer, told_hex};
 use crate::wires;
 use crate::words::Words;
-use i3c_header::{Request, arbitrate, comes_before, header, key};
+use i3c_header::{Request, arbitrate, header, key};
 use std::alloc::Global;
 
 /// The calls on requests.
@@ -15,16 +15,12 @@ pub(crate) fn call(setting: &mut Setting, call: &str, words: &mut Words<'_>) -> 
     match call {
         "key" => told_hex(alloc, &key(words.request()?)),
         "header" => told_hex(alloc, &header(words.request()?)),
-        "comes_before" => {
-            let one = lawful(words)?;
-            told(alloc, &comes_before(&one, &lawful(words)?))
-        }
         "arbitrate" => first_of(alloc, words),
         _ => wires::call(setting, call, words),
     }
 }
 
-/// The winner of no request, of one, or of the three that follow.
+/// The winner of no request, or of the one, two or three that follow.
 fn first_of(alloc: Global, words: &mut Words<'_>) -> Answer {
     if words.is_done() {
         return told_hex(alloc, &arbitrate(&[]));
@@ -34,6 +30,9 @@ fn first_of(alloc: Global, words: &mut Words<'_>) -> Answer {
         return told_hex(alloc, &arbitrate(&[one]));
     }
     let other = lawful(words)?;
+    if words.is_done() {
+        return told_hex(alloc, &arbitrate(&[one, other]));
+    }
     let last = lawful(words)?;
     told_hex(alloc, &arbitrate(&[one, other, last]))
 }

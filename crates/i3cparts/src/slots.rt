@@ -107,7 +107,7 @@ fn command(setting: &mut Setting, words: &mut Words<'_>) -> Answer {
 }
 
 /// The words of the bytes up to the end of the line.
-fn written(alloc: Global, words: &mut Words<'_>) -> Result<Vec<Word>, Fault> {
+pub(crate) fn written(alloc: Global, words: &mut Words<'_>) -> Result<Vec<Word>, Fault> {
     let mut written = Vec::new(alloc);
     for byte in &words.bytes(alloc)? {
         written.push(write_word(*byte))?;
@@ -129,8 +129,8 @@ fn assign(setting: &mut Setting, words: &mut Words<'_>) -> Answer {
 fn hearers_of(setting: &Setting, identity: &Identity) -> Result<SlotSet, Fault> {
     let mut hearers = Vec::new(setting.alloc);
     for slot in &slots_of(setting.alloc, setting.devices.hearers())? {
-        match setting.devices.get(*slot) {
-            Some(device) if device.identity() == *identity => hearers.push(*slot)?,
+        match setting.devices.identity(*slot) {
+            Some(own) if own == *identity => hearers.push(*slot)?,
             _ => {}
         }
     }

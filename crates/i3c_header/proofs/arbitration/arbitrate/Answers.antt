@@ -1,16 +1,19 @@
 -- The first winner's place holds the request whose key was read.
-use Rattle.std.proofs.Common.{◌<◌, ap, arith, length, ◌∙◌}
-use Rattle.std.proofs.lemmas.Bool.{ne_eqb}
+use Rattle.std.proofs.Common.{◌≡◌, ◌<◌, ◌==◌, false, ap, arith, length, sym, ◌∙◌}
 use Rattle.i3c_wires.proofs.Uncut.{uncut_holders, uncut_least}
 use Rattle.i3c_header.proofs.KeyLaws.{Stands, length-keyed, least_is_first, someone_wins, winner_stands}
 use Rattle.i3c_header.proofs.arbitration.arbitrate.Goals as goal
 use Rattle.i3c_header.proofs.arbitration.arbitrate.Goals.{After-deref, After-index}
 
+-- there is a request
+some_request : (c : After-deref) → (length c.args.requests.now == 0) ≡ false
+some_request c = sym c.is_empty.ensures ∙ c.if-is_empty.false
+
 -- there is one
 some_winner : (c : After-deref) → 0 < length c.deref.result.now
 some_winner c =
     someone_wins c.new.result c.contenders-keys.result.items 8 c.contest-outcome.result.winners.items c.deref.result.now
-    c.new.ensures.uncut (ne_eqb (length c.contenders-keys.result.items) 0 (λ e. absurd (omega (arith, c.in-len1-up.len_at_least, ap length c.contenders-keys.ensures.keys, length-keyed 0 c.args.requests.now)))) c.contest-outcome.ensures.none c.deref.ensures.0
+    c.new.ensures.uncut (ap (λ n. n == 0) (ap length c.contenders-keys.ensures.keys ∙ length-keyed 0 c.args.requests.now) ∙ some_request c) c.contest-outcome.ensures.none c.deref.ensures.0
 
 -- its place holds a request whose key was read
 first_winner : (c : After-index) → Stands c.args.requests.now 0 c.contest-outcome.result.bits c.index.result

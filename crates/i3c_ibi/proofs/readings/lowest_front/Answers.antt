@@ -3,8 +3,7 @@ use Rattle.std.proofs.Common.{ap, slice_get, sym, ◌∙◌}
 use Rattle.std.proofs.lemmas.Bool.{both_ways}
 use Rattle.i3c_base.specs.declared.requests.Request.TheVariants.{Interrupt}
 use Rattle.i3c_device.proofs.FirstLaws.{driven_below}
-use Rattle.i3c_device.proofs.SeenLaws.{bare_there}
-use Rattle.i3c_ibi.proofs.ReadingLaws.{front_at}
+use Rattle.i3c_ibi.proofs.ReadingLaws.{front_held}
 use Rattle.i3c_ibi.proofs.readings.lowest_front.Goals as goal
 
 pub returns-in_err-slot : goal.returns-in_err-slot
@@ -13,6 +12,4 @@ returns-in_err-slot c = rw c.from_residual.ensures (λ at d.
     both_ways _ (c.in_err-slot.ensures d.driven.0 low) (d.are d.driven.0 low ∙ d.driven.1))
 
 pub returns : goal.returns
-returns c =
-    let there = bare_there _ c.in_ok-get.field-0.now c.in_ok-get.ensures.device in
-    (c.in_ok-slot.ensures, front_at _ there.0 c.in_ok-front.front (sym there.1) (ap (λ d. slice_get d.waiting 0) (sym there.2) ∙ sym c.in_ok-front.ensures))
+returns c = (c.in_ok-slot.ensures, front_held _ c.in_ok-front.front (sym c.in_ok-front.ensures))

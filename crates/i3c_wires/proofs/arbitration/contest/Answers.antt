@@ -2,9 +2,7 @@
 use Rattle.std.proofs.Common.{◌≡◌, ◌≤◌, ◌-◌, ℕ, List, suc, length, sym, ◌∙◌, ap, arith, refl, ◌^◌}
 use Rattle.i3c_base.specs.Cutting.{CutList, cut_of}
 use Rattle.i3c_wires.specs.Masks.{is_at, mask_of}
-use Rattle.i3c_wires.proofs.LeastLaws.{least_read}
-use Rattle.i3c_wires.proofs.Uncut.{uncut_holders}
-use Rattle.i3c_wires.proofs.Reading.{Reading, read_each, read_idle, read_in_width, read_least, read_none}
+use Rattle.i3c_wires.proofs.Reading.{read_each, read_idle, read_in_width, read_least, read_none}
 use Rattle.i3c_wires.proofs.TurnLaws.{IsTop, first_of, none_contend, none_of, turn_less, turning_first, turning_last, turning_one, turning_unheard, turning_within, turning_zero}
 use Rattle.i3c_wires.proofs.arbitration.contest.Goals as goal
 use Rattle.i3c_wires.proofs.arbitration.contest.Goals.{then-low-eq0, else-low-eq0}
@@ -92,23 +90,4 @@ returns c =
       each_bit = read_each cuts keys c.args.width c.loop-turns.bits last.1;
       idle = read_idle cuts keys c.args.width c.loop-turns.bits last.1;
       in_width = read_in_width cuts keys c.args.width c.loop-turns.bits last.1;
-    }
-
--- nobody is cut
-pub returns-then-is_empty : goal.returns-then-is_empty
-returns-then-is_empty c =
-    let cuts = c.args.cuts.now in
-    let keys = c.args.keys.now.items in
-    let bits = c.uncut_contest.result.bits in
-    let first = first_of _ keys c.in-Some.first.now c.deref.ensures.0 c.in-Some.ensures.value in
-    let uncut = c.is_empty.ensures.uncut.0 c.if-is_empty.true in
-    let read : Reading cuts keys c.args.width 0 bits = least_read cuts keys c.args.width c.in-Some.first.now.1 bits c.in-Some.first.now uncut c.requires.fit (0, first.0, sym first.1) refl c.uncut_contest.ensures.read in
-    let won = c.uncut_contest.ensures.won ∙ sym (uncut_holders cuts keys c.args.width bits uncut) in
-    record {
-      winners = won;
-      least = read_least cuts keys c.args.width bits read;
-      none = λ none. read_none cuts keys c.args.width bits read (sym won ∙ none);
-      each_bit = read_each cuts keys c.args.width bits read;
-      idle = read_idle cuts keys c.args.width bits read;
-      in_width = read_in_width cuts keys c.args.width bits read;
     }

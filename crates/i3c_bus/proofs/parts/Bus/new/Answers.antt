@@ -6,7 +6,6 @@ use Rattle.i3c_base.specs.declared.device.LegacyTarget.{LegacyTarget}
 use Rattle.i3c_base.specs.declared.range.TheConstants.{SLOTS}
 use Rattle.i3c_base.specs.Round.{winner}
 use Rattle.i3c_base.specs.State.{entry_of, legacy_targets_of, IsPickIn, IsPickableIn, IsStart, no_entries}
-use Rattle.i3c_device.specs.Enabling.{bare}
 use Rattle.i3c_bus.specs.Parts.{state_of}
 use Rattle.i3c_step.proofs.Soundness.{sound_start}
 use Rattle.i3c_bus.proofs.Starting.{lvrs_kept, some_free, start_seen, zeros}
@@ -21,9 +20,9 @@ started : (c : goal.After-new-2)
     (state_of c.put-2.new.self (replicate SLOTS 0) c.new-active.result.0 c.put.new.self c.new-legacy.result false c.new-2.result.items)
 started c =
     let pick : IsPickIn no_entries c.args.legacies c.in-Some.address = subst (λ (t : Table). IsPickIn t.given t.legacy c.in-Some.address) c.new-table.ensures c.in-Some.ensures in
-    start_seen c.args.main c.args.legacies c.in-Some.address c.new-devices.result c.put-2.new.self (replicate SLOTS 0) c.new-active.result.0 c.default-holder.result (bare c.take_address.new.self) c.put.new.self c.new-legacy.result
+    start_seen c.args.main c.args.legacies c.in-Some.address c.new-devices.result c.put-2.new.self (replicate SLOTS 0) c.new-active.result.0 c.default-holder.result c.take_address.new.self c.put.new.self c.new-legacy.result
     c.new-2.result.items pick c.new-devices.ensures (sym c.default-holder.ensures.1 ∙ c.default-holder.ensures.2)
-    (ap bare (c.take_address.ensures ∙ ap (winner c.in-Some.address) c.new-controller.ensures)) c.put-2.ensures zeros c.new-active.ensures.kept
+    (c.take_address.ensures ∙ ap (winner c.in-Some.address) c.new-controller.ensures) c.put-2.ensures zeros c.new-active.ensures.kept
     (c.put.ensures ∙ ap (λ (t : Table). record t { given = set t.given c.in-Some.address (Some (entry_of c.args.main.identity)); listed = false }) c.new-table.ensures)
     c.new-legacy.ensures c.new-2.ensures.items
 

@@ -1,19 +1,18 @@
-use Rattle.std.proofs.Common.{◌≡◌, ◌∙◌, ap, refl, Bor, None, Some, Option, option_map, get_or, sym}
-use Rattle.i3c_base.specs.State.{Device as DeviceState}
-use Rattle.i3c_device.specs.declared.attached.Device.{Device}
-use Rattle.i3c_device.specs.Enabling.{bare}
-use Rattle.i3c_device.proofs.SeenLaws.{bare_seen}
-use Rattle.i3c_device.proofs.SeenWalks.{now_at, slots_seen}
+-- The slot's device, with the kinds of the slot.
+use Rattle.i3c_device.specs.Enabling.{kinds_of}
+use Rattle.i3c_device.proofs.SeenWalks.{nobody_seen, single_seen, slots_seen}
 use Rattle.i3c_device.proofs.slots.Devices.get.Goals as goal
 
-twice : (o : Option (Bor Device)) → option_map {T = Bor Device} {U = DeviceState} (λ d. bare d.now) o ≡ option_map bare (option_map {T = Bor Device} {U = DeviceState} (λ d. d.now) o)
-twice None = refl
-twice (Some d) = refl
+pub returns-in-Some-clause-device : goal.returns-in-Some-clause-device
+returns-in-Some-clause-device c =
+    single_seen c.self.inside.enabled c.self.inside.occupants c.args.self.now c.args.slot c.index.result c.at.result.now c.in-Some.attached c.copied.result (kinds_of c.at-in-Some.result) c.self.view_is c.at.ensures.place
+    c.in-Some.is c.copied.ensures c.index.ensures.same c.at-in-Some.ensures
 
-pub returns-clause-device : goal.returns-clause-device
-returns-clause-device c =
-    twice c.get.result ∙ (ap (option_map bare) c.get.ensures.device
-    ∙ sym (ap (option_map bare) (now_at c.self.inside.enabled c.self.inside.occupants c.args.self.now c.args.slot c.self.view_is) ∙ bare_seen c.self.inside.enabled c.args.slot (get_or c.self.inside.occupants c.args.slot None)))
+pub returns-in-Some-clause-slots : goal.returns-in-Some-clause-slots
+returns-in-Some-clause-slots c = slots_seen c.self.inside.enabled c.self.inside.occupants c.args.self.now c.at.ensures.slots c.self.view_is
 
-pub returns-clause-slots : goal.returns-clause-slots
-returns-clause-slots c = slots_seen c.self.inside.enabled c.self.inside.occupants c.args.self.now c.get.ensures.slots c.self.view_is
+pub returns-in-None-clause-device : goal.returns-in-None-clause-device
+returns-in-None-clause-device c = nobody_seen c.self.inside.enabled c.self.inside.occupants c.args.self.now c.args.slot c.at.result.now c.self.view_is c.at.ensures.place c.in-None.is
+
+pub returns-in-None-clause-slots : goal.returns-in-None-clause-slots
+returns-in-None-clause-slots c = slots_seen c.self.inside.enabled c.self.inside.occupants c.args.self.now c.at.ensures.slots c.self.view_is

@@ -1,0 +1,56 @@
+ghost use Rattle.std.specs.Prelude.{◌≡◌, ◌<◌, ◌≤◌, ◌&&◌, ◌==◌, ◌+◌, ◌*◌, ℕ, true, length, slice_index};
+ghost use Rattle.std.specs.List.{All, Contains};
+ghost use Rattle.i3c_base.specs.declared.range.TheConstants.{SLOTS as SLOT_COUNT};
+ghost use Rattle.i3c_header.specs.Keys.{address_of, rnw_of};
+ghost use Rattle.i3c_device.specs.Driven.{IsDrivenIn};
+ghost use Rattle.i3c_device.specs.Sets.{has};
+ghost use Rattle.i3c_device.specs.Wishing.{request_of};
+
+use crate::sets::SlotSet;
+use arrayvec::ArrayVec;
+use i3c_base::{Addr7, Request, SLOTS};
+use i3c_header::key;
+
+/// The requests of these slots' keys, in the order of the slots.
+pub(crate) fn requests_in(among: SlotSet, keys: &[u8; SLOTS]) -> ArrayVec<Request, SLOTS>
+    ensures sound { All (IsDrivenIn among keys.now) result.items }
+    ensures complete { (s : ℕ) → s < SLOT_COUNT → has among s ≡ true → Contains result.items (request_of (slice_index keys.now s)) }
+    ensures short { length result.items ≤ SLOT_COUNT }
+{
+    let mut requests: ArrayVec<Request, SLOTS> = ArrayVec::new();
+    let mut first = 0;
+    let mut left = among;
+    while let Some(index) = left.take_lowest() {
+        requests.push(request_of(keys[index]));
+        first = index + 1;
+    }
+    requests
+}
+
+/// Those of these slots whose key is this request's.
+pub(crate) fn slots_with(among: SlotSet, keys: &[u8; SLOTS], request: &Request) -> SlotSet
+    ensures { (s : ℕ) → s < SLOT_COUNT → has result s ≡ (has among s && slice_index keys.now s == 2 * address_of request.now + rnw_of request.now) }
+{
+    let driven = key(*request);
+    let mut slots = SlotSet::none();
+    let mut left = among;
+    while let Some(index) = left.take_lowest() {
+        slots = slots.with(index, keys[index] == driven);
+    }
+    slots
+}
+
+/// The request with a key.
+pub(crate) fn request_of(of: u8) -> Request
+    ensures { result ≡ request_of of }
+{
+    if of == key(Request::Join) {
+        return Request::Join;
+    }
+    let address = Addr7::new(of / 2).unwrap();
+    if of % 2 == 0 {
+        Request::Role(address)
+    } else {
+        Request::Interrupt(address)
+    }
+}
