@@ -18,33 +18,10 @@ const ENEC: &[u8] = b"nec ";
 /// `disec` and a space, behind the first letter.
 const DISEC: &[u8] = b"isec ";
 
-/// A line that is one event of the bus and no frame under the role, with the names as they stand there.
-#[derive(Drop)]
-pub enum Wish {
-    /// `attach NAME PID BCR DCR [decline]`: a device enters the lowest free slot.
-    Attach { name: Name, setup: Setup },
-    /// `drop NAME`: a device loses power, and is gone.
-    DropOff { name: Name },
-    /// `raise NAME [BYTE]`: a device raises an interrupt, with its mandatory byte where one is due.
-    Raise { name: Name, byte: Option<u8> },
-    /// `ask-join NAME`: a device wishes to join.
-    AskJoin { name: Name },
-    /// `ask-role NAME`: a device wishes for the controller role.
-    AskRole { name: Name },
-    /// `handover ADDR`: the role is offered to the device at an address.
-    HandOver { to: Addr7 },
-    /// `open`: a session of dynamic address assignment is opened, and stays open.
-    Open,
-    /// `round`: one round of the open session.
-    Round,
-    /// `end`: the open session ends.
-    End,
-}
-
-/// What a line asks for.
+/// What a line asks for, with the names as they stand there.
 #[derive(Drop)]
 pub enum Command {
-    /// `legacy NAME ADDR LVR`: a legacy target stands at a static address.
+    /// `legacy NAME ADDR LVR`: a legacy target is declared at a static address.
     Legacy {
         name: Name,
         address: Addr7,
@@ -55,11 +32,43 @@ pub enum Command {
         name: Name,
         setup: Setup,
     },
+    /// `attach NAME PID BCR DCR [decline]`: a device enters the lowest free slot.
+    Attach {
+        name: Name,
+        setup: Setup,
+    },
+    /// `drop NAME`: a device loses power, and is gone.
+    DropOff {
+        name: Name,
+    },
+    /// `raise NAME [BYTE]`: a device raises an interrupt, with its mandatory byte where one is due.
+    Raise {
+        name: Name,
+        byte: Option<u8>,
+    },
+    /// `ask-join NAME`: a device wishes to join.
+    AskJoin {
+        name: Name,
+    },
+    /// `ask-role NAME`: a device wishes for the controller role.
+    AskRole {
+        name: Name,
+    },
     /// A line that sends a frame under the role: `serve`, `enec BYTE [ADDR]`, `disec BYTE [ADDR]`, `reset`, `list`,
     /// `read ADDR` or `write ADDR [BYTES]`. Of more bytes than may be written one more is kept.
     Frame(Frame),
-    /// A line that is any other event.
-    Event(Wish),
+    /// `handover ADDR`: the role is offered to the device at an address.
+    HandOver {
+        to: Addr7,
+    },
+    /// `open`: a session of dynamic address assignment is opened, and stays open.
+    Open,
+    /// `round`: one round of the open session.
+    Round,
+    /// `end`: the open session ends.
+    End,
+    /// `daa`: a whole session of dynamic address assignment.
+    Daa,
     /// `policy all|none|joins|roles|interrupts`: which requests the frames from now on accept.
     Policy(Fixed),
     /// `cut NAME BIT`: a device loses power at a bit of the next frame.
@@ -67,8 +76,6 @@ pub enum Command {
         name: Name,
         bit: u16,
     },
-    /// `daa`: a whole session of dynamic address assignment.
-    Daa,
     /// `show`: the bus as it is.
     Show,
     /// `symbols`: the last symbols of the wire.
@@ -113,7 +120,7 @@ impl Command {
         match tail {
             [b'e', b'a', b'd', b' ', word @ ..] => self.read_read(word),
             b"eset" => self.set(Command::Frame(Frame::Reset)),
-            b"ound" => self.set(Command::Event(Wish::Round)),
+            b"ound" => self.set(Command::Round),
             _ => None,
         }
     }
@@ -136,7 +143,7 @@ impl Command {
             return self.read_enec(&tail[ENEC.len()..]);
         }
         match tail {
-            b"nd" => self.set(Command::Event(Wish::End)),
+            b"nd" => self.set(Command::End),
             _ => None,
         }
     }
@@ -163,7 +170,7 @@ impl Command {
     /// Becomes the command whose first letter is an `o`, by the line behind that.
     fn read_o(&mut self, tail: &[u8]) -> Option<()> {
         match tail {
-            b"pen" => self.set(Command::Event(Wish::Open)),
+            b"pen" => self.set(Command::Open),
             _ => None,
         }
     }
@@ -184,7 +191,7 @@ impl Command {
             [b' ', word @ ..] => Some(words::byte(word)?),
             _ => return None,
         };
-        *self = Command::Event(Wish::Raise { name, byte });
+        *self = Command::Raise { name, byte };
         Some(())
     }
 
@@ -268,7 +275,7 @@ fn parse_main(words: &mut Words<'_>) -> Option<Command> {
 /// The words of `attach`.
 fn parse_attach(words: &mut Words<'_>) -> Option<Command> {
     let (name, setup) = parse_device(words)?;
-    Some(Command::Event(Wish::Attach { name, setup }))
+    Some(Command::Attach { name, setup })
 }
 
 /// The words of a device: its name and its identity, and `decline` if it doesn't take the controller role.
@@ -319,26 +326,26 @@ fn parse_byte(words: &mut Words<'_>) -> Option<u8> {
 /// The word of `drop`: a name.
 fn parse_drop(words: &mut Words<'_>) -> Option<Command> {
     let name = parse_last_name(words)?;
-    Some(Command::Event(Wish::DropOff { name }))
+    Some(Command::DropOff { name })
 }
 
 /// The word of `ask-join`: a name.
 fn parse_ask_join(words: &mut Words<'_>) -> Option<Command> {
     let name = parse_last_name(words)?;
-    Some(Command::Event(Wish::AskJoin { name }))
+    Some(Command::AskJoin { name })
 }
 
 /// The word of `ask-role`: a name.
 fn parse_ask_role(words: &mut Words<'_>) -> Option<Command> {
     let name = parse_last_name(words)?;
-    Some(Command::Event(Wish::AskRole { name }))
+    Some(Command::AskRole { name })
 }
 
 /// The word of `handover`: an address.
 fn parse_handover(words: &mut Words<'_>) -> Option<Command> {
     let to = words::address(words.next()?)?;
     words.end()?;
-    Some(Command::Event(Wish::HandOver { to }))
+    Some(Command::HandOver { to })
 }
 
 /// The word of `policy`.

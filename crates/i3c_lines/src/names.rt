@@ -4,6 +4,7 @@ ghost use Rattle.i3c_lines.specs.declared.names.TheConstants.{NAME_LENGTH};
 
 use crate::refusals::Refusal;
 use i3c_base::{ADDRESSES, Addr7, SLOTS, Slot};
+use i3c_step::Refusal as BusRefusal;
 use indexmap::IndexMap;
 use std::alloc::{AllocError, Global};
 use std::hash::{Hash, Hasher};
@@ -189,7 +190,7 @@ impl Names {
         };
         match place {
             Place::Slot(slot) => Ok(slot),
-            Place::Legacy(_) | Place::Gone => Err(Refusal::NoDevice),
+            Place::Legacy(_) | Place::Gone => Err(Refusal::Bus(BusRefusal::NoDevice)),
         }
     }
 
