@@ -1,5 +1,6 @@
 -- What the lines of a script put out, piece by piece of its bytes.
 use Rattle.std.proofs.Common.{◌≡◌, ◌≢◌, ◌⊎◌, ◌<◌, ◌≤◌, ◌∙◌, ℕ, zero, suc, ◌+◌, ◌-◌, List, [], ◌∷◌, ◌++◌, length, take, drop, min, arith, slice_get, Option, Some, None, Result, Ok, Err, MatchResult, ap, inl, inr, append_assoc, append-nil, refl, subst, sym}
+use Rattle.std.proofs.lemmas.Bool.{cases_lt}
 use Rattle.std.proofs.lemmas.List.{length-drop, take_all}
 use Rattle.std.proofs.lemmas.List.Elements.{All-append}
 use Rattle.i3c_lines.specs.declared.refusals.Refusal.{Refusal}
@@ -34,6 +35,10 @@ its_refusals (Ok done) = refl
 its_refusals (Err Stop.Memory) = refl
 its_refusals (Err (Stop.Refused why)) = refl
 
+-- whoever passes isn't short of memory
+pub passes : (result : Result (Unit {0}) ScriptFault) (done : Unit {0}) → result ≡ Ok done → result ≡ Err ScriptFault.Memory → ⊥
+passes result done one two = subst (λ r. MatchResult r (λ _. ⊥) (λ _. Unit {0})) (sym two ∙ one) tt
+
 -- what a line did that isn't short of memory
 pub does_in : (old : ScriptState) (line : List ℕ) (before after : List ℕ) (outcome : Result (Unit {0}) Stop) (new : ScriptState) → Reads old line before after outcome new → before ≡ [] → outcome ≢ Err Stop.Memory
     → LineDoes old line after (refusal_in outcome) new
@@ -58,15 +63,15 @@ long_line line long = inl (omega (arith, long, length_taken 257 line))
 
 -- whatever has no form by its first bytes has none
 no_form_whole : (line : List ℕ) → HasNoForm (take 257 line) → HasNoForm line
-no_form_whole line none = if_short (le_or_lt (length (take 257 line)) 256) where
-    if_short : (length (take 257 line) ≤ 256) ⊎ (256 < length (take 257 line)) → HasNoForm line
-    if_short (inl short) = subst HasNoForm (taken_whole line short) none
-    if_short (inr long) = long_line line long
+no_form_whole line none = if_short (cases_lt 256 (length (take 257 line))) where
+    if_short : (256 < length (take 257 line)) ⊎ (length (take 257 line) ≤ 256) → HasNoForm line
+    if_short (inl long) = long_line line long
+    if_short (inr short) = subst HasNoForm (taken_whole line short) none
 
 -- a line does what it does by its first bytes
 pub does_whole : (old : ScriptState) (line said : List ℕ) (refused : Option Refusal) (new : ScriptState) → LineDoes old (take 257 line) said refused new → LineDoes old line said refused new
-does_whole old line said refused new (inl (form, does)) = inl (no_form_whole line form, does)
-does_whole old line said refused new (inr (inl (skipped, does))) = inr (inl (subst IsSkipped (taken_whole line (skipped.0)) skipped, does))
+does_whole old line said refused new (inl (form, none, why, same)) = inl (no_form_whole line form, none, why, same)
+does_whole old line said refused new (inr (inl (skipped, none, why, same))) = inr (inl (subst IsSkipped (taken_whole line skipped.0) skipped, none, why, same))
 does_whole old line said refused new (inr (inr (command, is, does))) = inr (inr (command, subst (λ l. IsCommand l command) (taken_whole line (is.0)) is, does))
 
 -- what begins a line, in pieces

@@ -5,7 +5,7 @@ use Rattle.i3c_lines.specs.declared.refusals.Refusal.{Refusal}
 use Rattle.i3c_script.specs.declared.faults.ScriptFault.{ScriptFault}
 use Rattle.i3c_script.specs.declared.faults.Stop.{Stop}
 use Rattle.i3c_script.specs.declared.script.Script.{Script}
-use Rattle.i3c_script.specs.Obeying.{ScriptState}
+use Rattle.i3c_script.specs.Obeying.{Prints, ScriptState, script}
 use Rattle.i3c_script.specs.Outcomes.{HasNoFeed, Output, Puts, PutsSome, written}
 use Rattle.i3c_script.specs.Scripts.{Lead, LineDoes, LineRun, OutBefore, lines_bytes, lines_out, lines_refused, refusals_of, refused_text}
 
@@ -15,16 +15,14 @@ pub record Progress : Type 0 where
   pub refused : ℕ
 
 abbrev pub state : Script → ScriptState
-state script = record { stage = script.stage; names = script.names }
+state running = script running.stage running.names
 
 abbrev pub progress : Script → Progress
-progress script = record { state = state script; refused = script.refused }
+progress running = record { state = state running; refused = running.refused }
 
 -- what a line comes to, with what is printed before and after it; nothing is said of a line that memory is short for
 abbrev pub Reads : ScriptState → List ℕ → List ℕ → List ℕ → Result (Unit {0}) Stop → ScriptState → Type 0
-Reads old line before after (Ok done) new = (said : List ℕ) × (after ≡ before ++ said) × LineDoes old line said None new
-Reads old line before after (Err (Stop.Refused why)) new = (said : List ℕ) × (after ≡ before ++ said) × LineDoes old line said (Some why) new
-Reads old line before after (Err Stop.Memory) new = Unit {0}
+Reads old line before after result new = Prints (λ said refused. LineDoes old line said refused new) before after result
 
 -- a line was run, and what it puts out was put behind and counted
 pub record LineDone (line : List ℕ) (old new : Output) (from to : Progress) : Type 0 where
