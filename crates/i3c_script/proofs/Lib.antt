@@ -1,4 +1,3 @@
-pub mod Carrying
 pub mod Presence
 pub mod Written
 pub mod TraceWritten

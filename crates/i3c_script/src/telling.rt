@@ -1,10 +1,9 @@
-ghost use Rattle.std.specs.Prelude.{◌≡◌, ◌⊎◌, [], ◌∷◌, ◌++◌, None, Some, MatchResult, OnOk};
+ghost use Rattle.std.specs.Prelude.{◌≡◌, [], ◌∷◌, ◌++◌, OnOk};
 ghost use Rattle.std.specs.Fmt.{decimal};
 ghost use Rattle.i3c_script.specs.Printed.{assigned_text, attached_text, field_text, framed_text, handed_text, identity_text, opened_text, raised_text, reply_text, request_text, round_text, served_text, subject_of};
-ghost use Rattle.i3c_script.specs.Stops.{reply_stop};
-ghost use Rattle.i3c_script.specs.declared.faults.Stop.TheVariants.{Memory};
+ghost use Rattle.i3c_script.specs.Telling.{IsTold, Prints};
 
-use crate::faults::Stop;
+use crate::faults::{Stop, outcome_of};
 use i3c_base::{Addr7, Answer, Identity, RoundReply, Served, Slot};
 use i3c_bus::{Event, Framed, Reply};
 use i3c_lines::{Names, Text};
@@ -39,13 +38,11 @@ pub(crate) fn tell(
     reply: &Reply,
     text: &mut Text,
 ) -> Result<(), Stop>
-    ensures stop { MatchResult result (λ _. reply_stop reply.now ≡ None) (λ stop. (stop ≡ Stop.Memory) ⊎ (reply_stop reply.now ≡ Some stop)) }
-    ensures told { OnOk result (text.new ≡ text.old ++ reply_text names.now subject reply.now) }
+    ensures { Prints (IsTold names.now subject reply.now) text.old text.new result }
 {
-    show_reply(names, subject, reply, text)?;
-    match Stop::of_reply(reply) {
-        Some(stop) => Err(stop),
-        None => Ok(()),
+    match show_reply(names, subject, reply, text) {
+        Ok(()) => outcome_of(reply),
+        Err(_) => Err(Stop::Memory),
     }
 }
 
