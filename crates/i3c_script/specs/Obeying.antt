@@ -142,12 +142,14 @@ abbrev pub ObeysOn : Ran → Names → Command → List ℕ → Option Refusal �
 ObeysOn old names (Command.Attach name setup) said refused new named = Enters old names name setup said refused new named
 ObeysOn old names command said refused new named = (named ≡ names) × Does old names command said refused new
 
+-- the same by where the script is
+abbrev pub ObeysAt : Stage → Names → Command → List ℕ → Option Refusal → ScriptState → Type 0
+ObeysAt (Stage.Before legacies) names command said refused new = ObeysBefore legacies names command said refused new
+ObeysAt (Stage.Running old) names command said refused new = (ran : Ran) × (new.stage ≡ Stage.Running ran) × ObeysOn old names command said refused ran new.names
+
 -- what a command does, what it prints before its refusal, and why it is refused, if it is. A command that is short of memory ends the run, so it is none of these
 abbrev pub Obeys : ScriptState → Command → List ℕ → Option Refusal → ScriptState → Type 0
-Obeys old command said refused new = ObeysAt old.stage old.names command said refused new where
-  abbrev ObeysAt : Stage → Names → Command → List ℕ → Option Refusal → ScriptState → Type 0
-  ObeysAt (Stage.Before legacies) names command said refused new = ObeysBefore legacies names command said refused new
-  ObeysAt (Stage.Running ran) names command said refused new = (after : Ran) × (new.stage ≡ Stage.Running after) × ObeysOn ran names command said refused after new.names
+Obeys old command said refused new = ObeysAt old.stage old.names command said refused new
 
 -- a command is obeyed, unless memory is short
 abbrev pub IsObeyed : ScriptState → Command → List ℕ → List ℕ → Result (Unit {0}) Stop → ScriptState → Type 0
