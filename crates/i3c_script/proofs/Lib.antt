@@ -8,3 +8,4 @@ pub mod Gathered
 pub mod ScriptRuns
 pub mod ScriptRead
 pub mod AsciiLaws
+pub mod Moving

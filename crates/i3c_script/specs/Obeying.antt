@@ -1,6 +1,7 @@
 -- What a line's command does, what it prints, and why it is refused.
 use Rattle.std.specs.Prelude.{◌≡◌, ◌≢◌, ℕ, List, [], ◌∷◌, ◌++◌, Option, Some, None, Result, Ok, Err, MatchOption, MatchResult, if◌then◌else◌, is_some, option_map, slice_index_or, slice_set}
 use Rattle.i3c_base.specs.declared.device.Setup.{Setup}
+use Rattle.i3c_base.specs.declared.identity.Bcr.{Bcr}
 use Rattle.i3c_base.specs.declared.identity.Lvr.{Lvr}
 use Rattle.i3c_base.specs.declared.requests.Verdict.{Verdict}
 use Rattle.i3c_base.specs.Cutting.{CutList, cut_of, earlier, no_cuts}
@@ -67,10 +68,10 @@ legacy_refusal legacies names name address =
     if is_some (place_named names name) then Some Refusal.NameTaken else option_map Refusal.Legacy (first_fault legacies address)
 
 -- and `main`
-abbrev pub main_refusal : Names → Name → Setup → Option Refusal
-main_refusal names name setup =
+abbrev pub main_refusal : Names → Name → Bcr → Option Refusal
+main_refusal names name bcr =
     if is_some (place_named names name) then Some Refusal.NameTaken else
-    (if is_capable setup.identity.bcr then None else Some (Refusal.Bus BusRefusal.NotCapable))
+    (if is_capable bcr then None else Some (Refusal.Bus BusRefusal.NotCapable))
 
 -- a legacy target is declared
 pub record Declares (legacies : List (Option Lvr)) (names : Names) (name : Name) (address : ℕ) (lvr : Lvr) (new : ScriptState) : Type 0 where
@@ -91,7 +92,7 @@ abbrev pub ObeysBefore : List (Option Lvr) → Names → Command → List ℕ �
 ObeysBefore legacies names (Command.Legacy name address lvr) said refused new = MatchOption (legacy_refusal legacies names name address)
     (Declares legacies names name address lvr new × IsDone (declared_text name address) said refused)
     (λ why. (new ≡ script (Stage.Before legacies) names) × IsRefused why said refused)
-ObeysBefore legacies names (Command.Main name setup) said refused new = MatchOption (main_refusal names name setup)
+ObeysBefore legacies names (Command.Main name setup) said refused new = MatchOption (main_refusal names name setup.identity.bcr)
     ((ran : Ran) × Starts legacies names name setup ran new × IsDone (main_text name ran.state) said refused)
     (λ why. (new ≡ script (Stage.Before legacies) names) × IsRefused why said refused)
 ObeysBefore legacies names _ said refused new = (new ≡ script (Stage.Before legacies) names) × IsRefused Refusal.NoBus said refused

@@ -7,7 +7,7 @@ use crate::faults::Stop;
 use crate::running::Running;
 use crate::show::{show_declared, show_main};
 use crate::wires::Wires;
-use i3c_base::{Addr7, Lvr, Setup, Slot};
+use i3c_base::{Addr7, Bcr, Lvr, Setup, Slot};
 use i3c_bus::Refusal as BusRefusal;
 use i3c_legacy::Legacies;
 use i3c_lines::{Command, Name, Names, Refusal, Text};
@@ -72,7 +72,7 @@ impl Stage {
         let Stage::Before(legacies) = self else {
             return Err(Refusal::BusMade.into());
         };
-        if let Some(why) = main_refusal(names, name, setup) {
+        if let Some(why) = main_refusal(names, name, setup.identity.bcr) {
             return Err(Stop::Refused(why));
         }
         let wires = Wires::new(alloc)?;
@@ -117,13 +117,13 @@ fn declare(
 }
 
 /// Why a device isn't made the main controller, if it isn't.
-fn main_refusal(names: &Names, name: &Name, setup: Setup) -> Option<Refusal>
-    ensures { result ≡ main_refusal names.now name.now setup }
+fn main_refusal(names: &Names, name: &Name, bcr: Bcr) -> Option<Refusal>
+    ensures { result ≡ main_refusal names.now name.now bcr }
 {
     if names.place_of(name).is_some() {
         return Some(Refusal::NameTaken);
     }
-    if !setup.identity.bcr.capable() {
+    if !bcr.capable() {
         return Some(Refusal::Bus(BusRefusal::NotCapable));
     }
     None
