@@ -9,3 +9,5 @@ pub mod ScriptRuns
 pub mod ScriptRead
 pub mod AsciiLaws
 pub mod Moving
+pub mod Showing
+pub mod Assigned

@@ -2,24 +2,31 @@
 use Rattle.std.proofs.Common.{◌≡◌, ◌∙◌, ℕ, ◌+◌, ◌-◌, ◌≤◌, Bool, true, cond, List, [], ◌∷◌, ◌++◌, length, drop, Option, Some, None, Result, Ok, Err, ap, refl, sym, subst, arith, append_assoc, length-append, length-drop, drop-drop}
 use Rattle.std.proofs.lemmas.List.{append-nil, drop-append-le}
 use Rattle.std.specs.Option.{is_some}
+use Rattle.std.specs.Prelude.{MatchResult}
 use Rattle.circular_buffer.specs.Buffer.{keep_last}
 use Rattle.i3c_base.specs.declared.requests.Fixed.{Fixed}
 use Rattle.i3c_base.specs.Cutting.{CutList, no_cuts}
 use Rattle.i3c_base.specs.State.{State}
 use Rattle.i3c_frame.specs.declared.symbols.Symbol.{Symbol}
 use Rattle.i3c_frame.specs.Taps.{NotesAll, Tells}
+use Rattle.i3c_step.specs.declared.events.Command.{Command as Frame}
 use Rattle.i3c_step.specs.declared.events.Event.{Event}
 use Rattle.i3c_step.specs.declared.replies.Reply.{Reply}
+use Rattle.i3c_step.specs.Commands.{event_of}
 use Rattle.i3c_step.specs.Step.{Step, cuts_in}
 use Rattle.i3c_bus.specs.Wire.{IsWire}
+use Rattle.i3c_lines.specs.declared.names.Name.{Name}
 use Rattle.i3c_lines.specs.declared.names.Names.{Names}
 use Rattle.i3c_lines.specs.declared.refusals.Refusal.{Refusal}
 use Rattle.i3c_script.specs.declared.faults.Stop.{Stop}
+use Rattle.i3c_script.specs.declared.telling.Subject.{Subject}
 use Rattle.i3c_script.specs.declared.wires.TheConstants.{SYMBOLS}
+use Rattle.i3c_script.specs.Asking.{slot_meant}
+use Rattle.i3c_script.specs.Printed.{subject_of}
 use Rattle.i3c_script.specs.Assigning.{Moves, cuts_left}
-use Rattle.i3c_script.specs.Obeying.{Answers}
+use Rattle.i3c_script.specs.Obeying.{Answers, AnswersIn}
 use Rattle.i3c_script.specs.Ran.{Ran, ran_of}
-use Rattle.i3c_script.specs.Telling.{Prints}
+use Rattle.i3c_script.specs.Telling.{IsTold, Prints}
 
 module _ {X : Type 0} where
   -- to keep the last ones twice is to keep them once
@@ -78,3 +85,44 @@ pub answers_framed : (old mid new : Ran) (names : Names) (event : Event) (before
 answers_framed old mid new names event before after result frame same h =
     prints_by (λ said refused. Answers mid names event said refused new) (λ said refused. Answers old names event said refused new)
     (λ said refused a. (a.0, framed old new event a.0 frame (subst (λ r. Moves r event a.0 new) same a.1), a.2)) before after result h
+
+-- a step whose reply is told
+pub answered : (old new : Ran) (names : Names) (event : Event) (reply : Reply) (before after : List ℕ) (result : Result (Unit {0}) Stop) → Moves old event reply new
+    → Prints (IsTold names (subject_of event) reply) before after result → Prints (λ said refused. Answers old names event said refused new) before after result
+answered old new names event reply before after result move told =
+    prints_by (IsTold names (subject_of event) reply) (λ said refused. Answers old names event said refused new) (λ said refused one. (reply, move, one)) before after result told
+
+-- a line whose name means this slot
+pub in_slot : (old new : Ran) (names : Names) (name : Name) (event : ℕ → Event) (slot : ℕ) (before after : List ℕ) (result : Result (Unit {0}) Stop) → Ok slot ≡ slot_meant names name
+    → Prints (λ said refused. Answers old names (event slot) said refused new) before after result → Prints (λ said refused. AnswersIn old names name event said refused new) before after result
+in_slot old new names name event slot before after result is told =
+    subst (λ r. Prints (λ said refused. MatchResult r (λ s. Answers old names (event s) said refused new) (λ why. (new ≡ old) × (said ≡ []) × (refused ≡ Some why))) before after result) is told
+
+-- each frame under the role carries cuts, and its text has nothing of the event
+carries_cuts : (frame : Frame) (policy : Fixed) (cuts : CutList) → is_some (cuts_in (event_of frame policy cuts)) ≡ true
+carries_cuts Frame.Serve policy cuts = refl
+carries_cuts Frame.Reset policy cuts = refl
+carries_cuts Frame.SendList policy cuts = refl
+carries_cuts (Frame.Enec to kinds) policy cuts = refl
+carries_cuts (Frame.Disec to kinds) policy cuts = refl
+carries_cuts (Frame.ReadFrom a) policy cuts = refl
+carries_cuts (Frame.WriteTo a bytes) policy cuts = refl
+
+no_subject : (frame : Frame) (policy : Fixed) (cuts : CutList) → Subject.Nothing ≡ subject_of (event_of frame policy cuts)
+no_subject Frame.Serve policy cuts = refl
+no_subject Frame.Reset policy cuts = refl
+no_subject Frame.SendList policy cuts = refl
+no_subject (Frame.Enec to kinds) policy cuts = refl
+no_subject (Frame.Disec to kinds) policy cuts = refl
+no_subject (Frame.ReadFrom a) policy cuts = refl
+no_subject (Frame.WriteTo a bytes) policy cuts = refl
+
+-- a frame under the role
+pub sent : (old new : State) (policy : Fixed) (cuts : CutList) (symbols later : List Symbol) (names : Names) (frame : Frame) (reply : Reply) (before after : List ℕ) (result : Result (Unit {0}) Stop)
+    → Step old (event_of frame policy cuts) reply new → Tells note symbols later (IsWire old (event_of frame policy cuts) reply new) → Prints (IsTold names Subject.Nothing reply) before after result
+    → Prints (λ said refused. Answers (ran_of old policy cuts symbols) names (event_of frame policy cuts) said refused (ran_of new policy no_cuts later)) before after result
+sent old new policy cuts symbols later names frame reply before after result step wire told =
+    answered (ran_of old policy cuts symbols) (ran_of new policy no_cuts later) names (event_of frame policy cuts) reply before after result
+    (subst (λ left. Moves (ran_of old policy cuts symbols) (event_of frame policy cuts) reply (ran_of new policy left later)) (all_taken (event_of frame policy cuts) cuts (carries_cuts frame policy cuts))
+      (moved old new policy cuts symbols later (event_of frame policy cuts) reply step wire))
+    (subst (λ subject. Prints (IsTold names subject reply) before after result) (no_subject frame policy cuts) told)

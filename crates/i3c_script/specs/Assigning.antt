@@ -1,5 +1,5 @@
 -- `daa`: a whole session of dynamic address assignment.
-use Rattle.std.specs.Prelude.{◌≡◌, ◌⊎◌, ℕ, Bool, true, false, List, [], ◌∷◌, ◌++◌, length, All, Option, Some, None, is_some, if◌then◌else◌}
+use Rattle.std.specs.Prelude.{◌≡◌, ◌⊎◌, ℕ, Bool, true, false, List, [], ◌∷◌, ◌++◌, length, Option, Some, None, is_some, if◌then◌else◌, ⊤}
 use Rattle.circular_buffer.specs.Buffer.{keep_last}
 use Rattle.i3c_base.specs.declared.answers.RoundReply.{RoundReply}
 use Rattle.i3c_base.specs.declared.range.TheConstants.{SLOTS}
@@ -40,10 +40,15 @@ abbrev pub Rounds : Ran → List RoundReply → Ran → Type 0
 Rounds old [] new = new ≡ old
 Rounds old (answer ∷ earlier) new = (mid : Ran) × Rounds old earlier mid × Moves mid (Event.Round mid.cuts) (Reply.Round answer) new
 
+-- another round follows each of these
+abbrev pub GoOn : List RoundReply → Type 0
+GoOn [] = ⊤
+GoOn (answer ∷ earlier) = (goes_on answer ≡ true) × GoOn earlier
+
 -- another round follows each but the newest; the newest is the last, or there were as many as slots
 abbrev pub AreAll : List RoundReply → Type 0
 AreAll [] = ⊥
-AreAll (answer ∷ earlier) = All (λ one. goes_on one ≡ true) earlier × ((goes_on answer ≡ false) ⊎ (length (answer ∷ earlier) ≡ SLOTS))
+AreAll (answer ∷ earlier) = GoOn earlier × ((goes_on answer ≡ false) ⊎ (length (answer ∷ earlier) ≡ SLOTS))
 
 -- what rounds print
 abbrev pub rounds_text : List RoundReply → List ℕ

@@ -178,9 +178,13 @@ unfoldable pub legacies_text : Names → ℕ → List ℕ
 legacies_text names zero = []
 legacies_text names (suc a) = legacies_text names a ++ legacy_text (slice_index_or (legacy_names names) a None) a
 
+-- the address at which an interrupt was recorded, and its mandatory byte
+abbrev pub recorded_text : ℕ → Option ℕ → List ℕ
+recorded_text a byte = codes " at " ++ (byte_text a ++ (codes " byte " ++ (byte_or_none byte ++ 10 ∷ [])))
+
 -- a record, after its number
 abbrev pub record_text : Record → List ℕ
-record_text r = codes " slot " ++ (decimal r.slot ++ (codes " raise " ++ (decimal r.number ++ (codes " at " ++ (byte_text r.at ++ (codes " byte " ++ (byte_or_none r.byte ++ 10 ∷ [])))))))
+record_text r = codes " slot " ++ (decimal r.slot ++ (codes " raise " ++ (decimal r.number ++ recorded_text r.at r.byte)))
 
 -- records, counted from this number on
 abbrev pub numbered_text : ℕ → List Record → List ℕ
@@ -199,3 +203,9 @@ show_text st names =
 -- `symbols`: these, with a space between each two
 abbrev pub symbols_text : List Symbol → List ℕ
 symbols_text wire = join_with_byte 32 (map text_of wire) ++ 10 ∷ []
+
+-- one of some symbols: all but the first stand behind a space
+abbrev pub nth_text : ℕ → Option Symbol → List ℕ
+nth_text n None = []
+nth_text zero (Some symbol) = text_of symbol
+nth_text (suc n) (Some symbol) = 32 ∷ text_of symbol

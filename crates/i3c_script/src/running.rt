@@ -5,7 +5,7 @@ use crate::asking::{entrance, slot_of_device};
 use crate::assigning;
 use crate::faults::Stop;
 use crate::show::show;
-use crate::telling::{Subject, show_raised, subject_of, tell};
+use crate::telling::{Subject, subject_of, tell, tell_raised};
 use crate::wires::Wires;
 use i3c_base::{Addr7, Cuts, Fixed, Setup};
 use i3c_bus::{Bus, Command as Frame, Event, Hand, Reply};
@@ -49,7 +49,7 @@ impl Running {
     ghost use Rattle.i3c_step.specs.Commands.{event_of};
     ghost use Rattle.i3c_step.specs.declared.events.Event.{Event as EventValue};
     ghost use Rattle.i3c_script.specs.Asking.{slot_of_device};
-    ghost use Rattle.i3c_script.specs.Assigning.{Assigns, Moves};
+    ghost use Rattle.i3c_script.specs.Assigning.{Assigns, Moves, cuts_left};
     ghost use Rattle.i3c_script.specs.Obeying.{Answers, AnswersIn, Enters, IsDone, ObeysOn, cut_at};
     ghost use Rattle.i3c_script.specs.Printed.{show_text, symbols_text};
     ghost use Rattle.i3c_script.specs.Telling.{Prints};
@@ -125,16 +125,12 @@ impl Running {
     ) -> Result<(), Stop>
         ensures { Prints (λ said refused. AnswersIn self.old names.now name.now (λ slot. EventValue.Raise slot byte) said refused self.new) text.old text.new result }
     {
-        let slot = match names.slot_of(name) {
-            Ok(slot) => slot,
-            Err(why) => return Err(Stop::Refused(why)),
-        };
-        match self.bus.raise(slot, byte) {
-            Ok(number) => match show_raised(number, text) {
-                Ok(()) => Ok(()),
-                Err(_) => Err(Stop::Memory),
-            },
-            Err(why) => Err(Stop::Refused(Refusal::Bus(why.into()))),
+        match names.slot_of(name) {
+            Ok(slot) => {
+                let raised = self.bus.raise(slot, byte);
+                tell_raised(raised, text)
+            }
+            Err(why) => Err(Stop::Refused(why)),
         }
     }
 
@@ -246,6 +242,8 @@ impl Running {
 
     /// The bus answers an event, and its reply is printed.
     fn answer(&mut self, names: &Names, event: &Event, text: &mut Text) -> Result<(), Stop>
+        // a frame's cuts are taken before
+        requires { cuts_left event.now self.old.cuts ≡ self.old.cuts }
         ensures { Prints (λ said refused. Answers self.old names.now event.now said refused self.new) text.old text.new result }
     {
         let reply = self.step(event);
@@ -254,6 +252,7 @@ impl Running {
 
     /// One event: the bus takes the role or session in hand, and gives one back.
     fn step(&mut self, event: &Event) -> Reply
+        requires { cuts_left event.now self.old.cuts ≡ self.old.cuts }
         ensures { Moves self.old event.now result self.new }
     {
         let hand = take(&mut self.hand);

@@ -4,7 +4,7 @@ ghost use Rattle.i3c_base.specs.declared.range.TheConstants.{ADDRESSES, SLOTS};
 ghost use Rattle.i3c_bus.specs.Readings.{address_of};
 ghost use Rattle.i3c_base.specs.State.{IsPresent, device_at};
 ghost use Rattle.i3c_lines.specs.Naming.{legacy_names, letters, slot_names};
-ghost use Rattle.i3c_script.specs.Printed.{byte_or_none, declared_text, device_text, devices_text, legacies_text, legacy_text, record_text, records_text, show_text};
+ghost use Rattle.i3c_script.specs.Printed.{byte_or_none, declared_text, device_text, devices_text, legacies_text, legacy_text, record_text, recorded_text, records_text, show_text};
 
 use i3c_base::{ADDRESSES, Addr7, Record, SLOTS, Slot};
 use i3c_bus::Bus;
@@ -161,9 +161,16 @@ fn show_record(record: &Record, text: &mut Text) -> Result<(), AllocError>
 {
     show_number(b" slot ", record.slot.index() as u64, text)?;
     show_number(b" raise ", record.number, text)?;
+    show_recorded(record.at, record.byte, text)
+}
+
+/// Prints at which address an interrupt was recorded, and its mandatory byte.
+fn show_recorded(at: Addr7, byte: Option<u8>, text: &mut Text) -> Result<(), AllocError>
+    ensures { OnOk result (text.new ≡ text.old ++ recorded_text at byte) }
+{
     text.push(b" at ")?;
-    text.push_byte(record.at.get())?;
+    text.push_byte(at.get())?;
     text.push(b" byte ")?;
-    show_byte(record.byte, text)?;
+    show_byte(byte, text)?;
     text.end()
 }

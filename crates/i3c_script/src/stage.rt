@@ -72,8 +72,9 @@ impl Stage {
         let Stage::Before(legacies) = self else {
             return Err(Refusal::BusMade.into());
         };
-        if let Some(why) = main_refusal(names, name, setup.identity.bcr) {
-            return Err(Stop::Refused(why));
+        match main_refusal(names, name, setup.identity.bcr) {
+            Some(why) => return Err(Stop::Refused(why)),
+            None => {}
         }
         let wires = Wires::new(alloc)?;
         names.give_slot(name, Slot::default())?;

@@ -1,0 +1,11 @@
+-- The policy that an event carries is asked as itself.
+use Rattle.i3c_bus.proofs.Agreeing.{carried_asked}
+use Rattle.i3c_script.proofs.Moving.{sent}
+use Rattle.i3c_script.proofs.running.Running.send.Goals as goal
+
+pub returns : goal.returns
+returns c =
+    let at = c.self.inside in
+    let reply = c.command-reply.result in
+    let carried = carried_asked c.args.frame.now at.bus c.command-reply.new.self at.policy c.command-reply.new.policy at.cuts reply c.in-Some.hand _ c.command-reply.ensures.asks c.command-reply.ensures.carried in
+    rw (← c.self.view_is) (sent at.bus.state c.command-reply.new.self.state at.policy at.cuts at.wires c.command-reply.new.tap c.args.names.now c.args.frame.now reply c.args.text.now c.tell.new.text c.tell.result carried.step carried.told c.tell.ensures)
