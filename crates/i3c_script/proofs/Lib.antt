@@ -11,3 +11,4 @@ pub mod AsciiLaws
 pub mod Moving
 pub mod Showing
 pub mod Assigned
+pub mod Starting

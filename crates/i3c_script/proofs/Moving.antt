@@ -12,7 +12,9 @@ use Rattle.i3c_frame.specs.Taps.{NotesAll, Tells}
 use Rattle.i3c_step.specs.declared.events.Command.{Command as Frame}
 use Rattle.i3c_step.specs.declared.events.Event.{Event}
 use Rattle.i3c_step.specs.declared.replies.Reply.{Reply}
+use Rattle.i3c_base.specs.declared.refusals.RaiseRefusal.{RaiseRefusal}
 use Rattle.i3c_step.specs.Commands.{event_of}
+use Rattle.i3c_step.specs.Replies.{raised_reply}
 use Rattle.i3c_step.specs.Step.{Step, cuts_in}
 use Rattle.i3c_bus.specs.Wire.{IsWire}
 use Rattle.i3c_lines.specs.declared.names.Name.{Name}
@@ -24,7 +26,7 @@ use Rattle.i3c_script.specs.declared.wires.TheConstants.{SYMBOLS}
 use Rattle.i3c_script.specs.Asking.{slot_meant}
 use Rattle.i3c_script.specs.Printed.{subject_of}
 use Rattle.i3c_script.specs.Assigning.{Moves, cuts_left}
-use Rattle.i3c_script.specs.Obeying.{Answers, AnswersIn}
+use Rattle.i3c_script.specs.Obeying.{Answers, AnswersIn, IsRefused}
 use Rattle.i3c_script.specs.Ran.{Ran, ran_of}
 use Rattle.i3c_script.specs.Telling.{IsTold, Prints}
 
@@ -96,7 +98,7 @@ answered old new names event reply before after result move told =
 pub in_slot : (old new : Ran) (names : Names) (name : Name) (event : ℕ → Event) (slot : ℕ) (before after : List ℕ) (result : Result (Unit {0}) Stop) → Ok slot ≡ slot_meant names name
     → Prints (λ said refused. Answers old names (event slot) said refused new) before after result → Prints (λ said refused. AnswersIn old names name event said refused new) before after result
 in_slot old new names name event slot before after result is told =
-    subst (λ r. Prints (λ said refused. MatchResult r (λ s. Answers old names (event s) said refused new) (λ why. (new ≡ old) × (said ≡ []) × (refused ≡ Some why))) before after result) is told
+    subst (λ r. Prints (λ said refused. MatchResult r (λ s. Answers old names (event s) said refused new) (λ why. (new ≡ old) × IsRefused why said refused)) before after result) is told
 
 -- each frame under the role carries cuts, and its text has nothing of the event
 carries_cuts : (frame : Frame) (policy : Fixed) (cuts : CutList) → is_some (cuts_in (event_of frame policy cuts)) ≡ true
@@ -118,11 +120,16 @@ no_subject (Frame.ReadFrom a) policy cuts = refl
 no_subject (Frame.WriteTo a bytes) policy cuts = refl
 
 -- a frame under the role
-pub sent : (old new : State) (policy : Fixed) (cuts : CutList) (symbols later : List Symbol) (names : Names) (frame : Frame) (reply : Reply) (before after : List ℕ) (result : Result (Unit {0}) Stop)
-    → Step old (event_of frame policy cuts) reply new → Tells note symbols later (IsWire old (event_of frame policy cuts) reply new) → Prints (IsTold names Subject.Nothing reply) before after result
-    → Prints (λ said refused. Answers (ran_of old policy cuts symbols) names (event_of frame policy cuts) said refused (ran_of new policy no_cuts later)) before after result
-sent old new policy cuts symbols later names frame reply before after result step wire told =
-    answered (ran_of old policy cuts symbols) (ran_of new policy no_cuts later) names (event_of frame policy cuts) reply before after result
-    (subst (λ left. Moves (ran_of old policy cuts symbols) (event_of frame policy cuts) reply (ran_of new policy left later)) (all_taken (event_of frame policy cuts) cuts (carries_cuts frame policy cuts))
+pub sent : (old new : State) (policy : Fixed) (cuts left : CutList) (symbols later : List Symbol) (names : Names) (frame : Frame) (reply : Reply) (before after : List ℕ) (result : Result (Unit {0}) Stop)
+    → left ≡ no_cuts → Step old (event_of frame policy cuts) reply new → Tells note symbols later (IsWire old (event_of frame policy cuts) reply new) → Prints (IsTold names Subject.Nothing reply) before after result
+    → Prints (λ said refused. Answers (ran_of old policy cuts symbols) names (event_of frame policy cuts) said refused (ran_of new policy left later)) before after result
+sent old new policy cuts left symbols later names frame reply before after result none step wire told =
+    answered (ran_of old policy cuts symbols) (ran_of new policy left later) names (event_of frame policy cuts) reply before after result
+    (subst (λ rest. Moves (ran_of old policy cuts symbols) (event_of frame policy cuts) reply (ran_of new policy rest later)) (all_taken (event_of frame policy cuts) cuts (carries_cuts frame policy cuts) ∙ sym none)
       (moved old new policy cuts symbols later (event_of frame policy cuts) reply step wire))
     (subst (λ subject. Prints (IsTold names subject reply) before after result) (no_subject frame policy cuts) told)
+
+-- a raise sends nothing
+pub raised_still : (old new : State) (event : Event) (raised : Result ℕ RaiseRefusal) → IsWire old event (raised_reply raised) new []
+raised_still old new event (Ok number) = refl
+raised_still old new event (Err why) = refl
