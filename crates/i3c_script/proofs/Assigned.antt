@@ -111,3 +111,12 @@ opened_on old opened new served before text next (Ok done) move told (said, prin
 opened_on old opened new served before text next (Err (Stop.Refused why)) move told (said, printed, session) =
     (request_text served ++ said, longer before text next (request_text served) said told printed, (opened, Reply.Opened served, move, (said, session, refl)))
 opened_on old opened new served before text next (Err Stop.Memory) move told h = tt
+
+-- the cuts that wait are taken before a session
+pub taken_before : (old : Ran) (st new : State) (policy : Fixed) (taken left : CutList) (symbols later : List Symbol) (before after : List ℕ) (result : Result (Unit {0}) Stop) → taken ≡ old.cuts
+    → ran_of st policy left symbols ≡ record old { cuts = no_cuts } → Prints (λ said refused. Assigns (ran_of st policy taken symbols) said refused (ran_of new policy no_cuts later)) before after result
+    → Prints (λ said refused. Assigns old said refused (ran_of new policy left later)) before after result
+taken_before old st new policy taken left symbols later before after result same rest assigns =
+    subst (λ ran. Prints (λ said refused. Assigns ran said refused (ran_of new policy left later)) before after result) (ap (λ (ran : Ran). record ran { cuts = old.cuts }) rest)
+    (subst (λ cuts. Prints (λ said refused. Assigns (ran_of st policy old.cuts symbols) said refused (ran_of new policy cuts later)) before after result) (sym (ap (λ (ran : Ran). ran.cuts) rest))
+      (subst (λ cuts. Prints (λ said refused. Assigns (ran_of st policy cuts symbols) said refused (ran_of new policy no_cuts later)) before after result) same assigns))

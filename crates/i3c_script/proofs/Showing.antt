@@ -1,7 +1,7 @@
 -- What `show` and `symbols` print, line by line and symbol by symbol.
 use Rattle.std.proofs.Common.{◌≡◌, ◌∙◌, ℕ, zero, suc, ◌+◌, ◌<◌, List, [], ◌∷◌, ◌++◌, codes, drop, get_or, length, map, Option, Some, None, ap, refl, sym, subst, arith, append_assoc}
 use Rattle.std.proofs.lemmas.List.{append-nil, at_drop_more, at_drop_all}
-use Rattle.std.specs.Prelude.{slice_get, slice_index_or}
+use Rattle.std.specs.Prelude.{Result, Ok, Err, OnOk, slice_get, slice_index_or}
 use Rattle.std.specs.Fmt.{decimal}
 use Rattle.std.specs.List.{join_with_byte}
 use Rattle.i3c_base.specs.declared.requests.Record.{Record}
@@ -87,3 +87,8 @@ nothing_left (suc n) = refl
 
 pub left_none : (n : ℕ) (symbols : List Symbol) → length symbols ≡ n → left_text n (drop n symbols) ≡ []
 left_none n symbols all = at_drop_all (left_text n) symbols n (omega (arith, all)) ∙ nothing_left n
+
+-- two parts are printed, and then what is told of the rest holds of the whole
+pub told_behind : {E : Type 0} (r : Result (Unit {0}) E) (before one two new a b rest : List ℕ) → one ≡ before ++ a → two ≡ one ++ b → OnOk r (new ≡ two ++ rest) → OnOk r (new ≡ before ++ (a ++ (b ++ rest)))
+told_behind (Ok done) before one two new a b rest e f g = printed_more before one new a (b ++ rest) e (printed_more one two new b rest f g)
+told_behind (Err fault) before one two new a b rest e f g = g

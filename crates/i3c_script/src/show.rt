@@ -170,7 +170,14 @@ fn show_recorded(at: Addr7, byte: Option<u8>, text: &mut Text) -> Result<(), All
 {
     text.push(b" at ")?;
     text.push_byte(at.get())?;
-    text.push(b" byte ")?;
+    show_last_byte(b" byte ", byte, text)
+}
+
+/// Prints some words and a byte, and ends the line.
+fn show_last_byte(words: &[u8], byte: Option<u8>, text: &mut Text) -> Result<(), AllocError>
+    ensures { OnOk result (text.new ≡ text.old ++ (words.now ++ (byte_or_none byte ++ 10 ∷ []))) }
+{
+    text.push(words)?;
     show_byte(byte, text)?;
     text.end()
 }

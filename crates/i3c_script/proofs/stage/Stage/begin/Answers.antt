@@ -24,8 +24,8 @@ returns c =
       policy = c.new-running.ensures.policy;
       cuts = c.new-running.ensures.cuts;
       wire = c.new-running.ensures.wire;
-      named = subst (λ slot. NamesSlot names named name slot) c.default.ensures given;
+      named = subst (λ slot. NamesSlot names named name slot) (sym c.default.ensures.1 ∙ c.default.ensures.2) given;
     } in
-    let at : c.address-address.result ≡ address_of (device_at ran.state 0) = c.address-address.ensures ∙ (λ i. address_of (device_at (c.bus.ensures i) (c.default-2.ensures i))) in
+    let at : c.address-address.result ≡ address_of (device_at ran.state 0) = c.address-address.ensures ∙ (λ i. address_of (device_at (c.bus.ensures i) ((sym c.default-2.ensures.1 ∙ c.default-2.ensures.2) i))) in
     began c.args.self.now c.in-Before.legacies names named name setup c.replace.new.dest ran c.args.text.now c.show_main.new.text c.in-Before.is unrefused starts
     (c.in_ok-show_main.ensures ∙ ap (λ a. c.args.text.now ++ (letters name ++ (codes " slot 0 at " ++ (byte_or_none a ++ 10 ∷ [])))) at)
