@@ -160,12 +160,16 @@ pub struct Names {
 }
 
 impl Names {
-    ghost use Rattle.std.specs.Prelude.{OnOk, Some, option_copied, slice_index_or, slice_set};
+    ghost use Rattle.std.specs.Prelude.{None, OnOk, Some, option_copied, slice_index_or, slice_set};
     ghost use Rattle.i3c_lines.specs.Naming.{Empties, GivesAlone, GivesSlot, legacy_names, place_named, slot_named, slot_names};
     ghost use Rattle.i3c_lines.specs.declared.names.Name.{Name};
 
     /// No names.
-    pub fn new(alloc: Global) -> Names {
+    pub fn new(alloc: Global) -> Names
+        ensures places { (name : Name) → place_named result name ≡ None }
+        ensures slots { slot_names result ≡ replicate SLOTS None }
+        ensures legacies { legacy_names result ≡ replicate ADDRESSES None }
+    {
         Names {
             places: IndexMap::new(alloc),
             slots: [None; SLOTS],
