@@ -5,3 +5,4 @@ pub mod Hex
 pub mod Refusing
 pub mod Gathering
 pub mod Forms
+pub mod Parsing
