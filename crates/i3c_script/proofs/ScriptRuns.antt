@@ -64,9 +64,9 @@ long_line line long = inl (omega (arith, long, length_taken 257 line))
 -- whatever has no form by its first bytes has none
 no_form_whole : (line : List ℕ) → HasNoForm (take 257 line) → HasNoForm line
 no_form_whole line none = if_short (cases_lt 256 (length (take 257 line))) where
-    if_short : (256 < length (take 257 line)) ⊎ (length (take 257 line) ≤ 256) → HasNoForm line
-    if_short (inl long) = long_line line long
-    if_short (inr short) = subst HasNoForm (taken_whole line short) none
+  if_short : (256 < length (take 257 line)) ⊎ (length (take 257 line) ≤ 256) → HasNoForm line
+  if_short (inl long) = long_line line long
+  if_short (inr short) = subst HasNoForm (taken_whole line short) none
 
 -- a line does what it does by its first bytes
 pub does_whole : (old : ScriptState) (line said : List ℕ) (refused : Option Refusal) (new : ScriptState) → LineDoes old (take 257 line) said refused new → LineDoes old line said refused new

@@ -1,8 +1,9 @@
 -- What a line's command does, what it prints, and why it is refused.
-use Rattle.std.specs.Prelude.{◌≡◌, ◌≢◌, ℕ, List, [], ◌∷◌, ◌++◌, Option, Some, None, Result, Ok, Err, MatchOption, MatchResult, if◌then◌else◌, is_some, option_map, slice_index_or, slice_set}
+use Rattle.std.specs.Prelude.{◌≡◌, ◌≢◌, ℕ, List, [], ◌∷◌, ◌++◌, Option, Some, None, Result, Ok, Err, MatchOption, MatchResult, if◌then◌else◌, is_some, option_map, slice_set, replicate}
 use Rattle.i3c_base.specs.declared.device.Setup.{Setup}
 use Rattle.i3c_base.specs.declared.identity.Bcr.{Bcr}
 use Rattle.i3c_base.specs.declared.identity.Lvr.{Lvr}
+use Rattle.i3c_base.specs.declared.range.TheConstants.{ADDRESSES, SLOTS}
 use Rattle.i3c_base.specs.declared.requests.Verdict.{Verdict}
 use Rattle.i3c_base.specs.Cutting.{CutList, cut_of, earlier, no_cuts}
 use Rattle.i3c_base.specs.Numbers.{is_capable}
@@ -39,8 +40,8 @@ script stage names = record { stage = stage; names = names }
 pub record IsBegun (state : ScriptState) : Type 0 where
   pub stage : state.stage ≡ Stage.Before no_lvrs
   pub unnamed : (name : Name) → place_named state.names name ≡ None
-  pub slots : (slot : ℕ) → slice_index_or (slot_names state.names) slot None ≡ None
-  pub legacies : (address : ℕ) → slice_index_or (legacy_names state.names) address None ≡ None
+  pub slots : slot_names state.names ≡ replicate SLOTS None
+  pub legacies : legacy_names state.names ≡ replicate ADDRESSES None
 
 -- the legacy target at a static address gets this name
 pub record NamesLegacy (old new : Names) (name : Name) (address : ℕ) : Type 0 where
@@ -110,7 +111,7 @@ AnswersIn old names name event said refused new = MatchResult (slot_meant names 
 abbrev pub Enters : Ran → Names → Name → Setup → List ℕ → Option Refusal → Ran → Names → Type 0
 Enters old names name setup said refused new named = (entrance : Result ℕ Refusal) × IsEntrance old.state (place_named names name) entrance
     × MatchResult entrance (λ slot. NamesSlot names named name slot × Answers old named (Event.Attach slot setup) said refused new)
-      (λ why. (named ≡ names) × (new ≡ old) × IsRefused why said refused)
+    (λ why. (named ≡ names) × (new ≡ old) × IsRefused why said refused)
 
 -- a device is cut at this bit of the next frame, if that is earlier than its cut until now
 abbrev pub cut_at : CutList → ℕ → ℕ → CutList

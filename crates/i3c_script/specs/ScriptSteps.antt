@@ -5,7 +5,8 @@ use Rattle.i3c_lines.specs.declared.refusals.Refusal.{Refusal}
 use Rattle.i3c_script.specs.declared.faults.ScriptFault.{ScriptFault}
 use Rattle.i3c_script.specs.declared.faults.Stop.{Stop}
 use Rattle.i3c_script.specs.declared.script.Script.{Script}
-use Rattle.i3c_script.specs.Obeying.{Prints, ScriptState, script}
+use Rattle.i3c_script.specs.Obeying.{ScriptState, script}
+use Rattle.i3c_script.specs.Telling.{Prints}
 use Rattle.i3c_script.specs.Outcomes.{HasNoFeed, Output, Puts, PutsSome, written}
 use Rattle.i3c_script.specs.Scripts.{Lead, LineDoes, LineRun, OutBefore, lines_bytes, lines_out, lines_refused, refusals_of, refused_text}
 
