@@ -4,3 +4,5 @@ pub mod Policies
 pub mod Hex
 pub mod Refusing
 pub mod Gathering
+pub mod Forms
+pub mod Parsing

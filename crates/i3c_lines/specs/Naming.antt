@@ -2,6 +2,7 @@
 use Rattle.std.specs.Prelude.{◌≡◌, ◌≢◌, ℕ, Bool, ◌-◌, List, ◌++◌, Option, Some, None, Result, Ok, Err, if◌then◌else◌, length, nat_eq, replicate, slice_index_or, take, MatchOption}
 use Rattle.std.specs.Cmp.Lexicographic.{pointwise}
 use Rattle.indexmap.specs.IndexMap.{get_by}
+use Rattle.i3c_step.specs.declared.replies.Refusal.{Refusal as BusRefusal}
 use Rattle.i3c_lines.specs.declared.refusals.Refusal.{Refusal}
 use Rattle.i3c_lines.specs.declared.names.Name.{Name}
 use Rattle.i3c_lines.specs.declared.names.Names.{Names}
@@ -36,8 +37,8 @@ place_named names name = get_by (λ (other : Name). is_same name other) names.pl
 abbrev pub slot_named : Option Place → Result ℕ Refusal
 slot_named None = Err Refusal.NoName
 slot_named (Some (Place.Slot slot)) = Ok slot
-slot_named (Some (Place.Legacy address)) = Err Refusal.NoDevice
-slot_named (Some Place.Gone) = Err Refusal.NoDevice
+slot_named (Some (Place.Legacy address)) = Err (Refusal.Bus BusRefusal.NoDevice)
+slot_named (Some Place.Gone) = Err (Refusal.Bus BusRefusal.NoDevice)
 
 -- each name stands for what it did
 abbrev pub KeepsPlaces : Names → Names → Type 0

@@ -1,14 +1,33 @@
 -- Refusals as they are printed.
 use Rattle.std.specs.Prelude.{ℕ, List, [], ◌++◌, codes}
+use Rattle.i3c_step.specs.declared.replies.Refusal.{Refusal as BusRefusal}
 use Rattle.i3c_legacy.specs.declared.faults.LegacyFault.{LegacyFault}
 use Rattle.i3c_lines.specs.declared.refusals.Refusal.{Refusal}
 use Rattle.i3c_lines.specs.Hex.{byte_text}
 
--- why a legacy target isn't declared, among all refusals
-abbrev pub legacy_refusal : LegacyFault → Refusal
-legacy_refusal LegacyFault.LegacyAddress = Refusal.LegacyAddress
-legacy_refusal LegacyFault.LegacyTwice = Refusal.LegacyTwice
-legacy_refusal LegacyFault.TooManyLegacy = Refusal.TooManyLegacy
+-- the name of a refused declaration of a legacy target
+abbrev pub legacy_word : LegacyFault → List ℕ
+legacy_word LegacyFault.LegacyAddress = codes "LegacyAddress"
+legacy_word LegacyFault.LegacyTwice = codes "LegacyTwice"
+legacy_word LegacyFault.TooManyLegacy = codes "TooManyLegacy"
+
+-- the name of a refusal of the bus
+abbrev pub bus_word : BusRefusal → List ℕ
+bus_word BusRefusal.SessionOpen = codes "SessionOpen"
+bus_word BusRefusal.NoSession = codes "NoSession"
+bus_word BusRefusal.ActiveStays = codes "ActiveStays"
+bus_word BusRefusal.SlotTaken = codes "SlotTaken"
+bus_word BusRefusal.NoDevice = codes "NoDevice"
+bus_word BusRefusal.IsActive = codes "IsActive"
+bus_word BusRefusal.NoAddress = codes "NoAddress"
+bus_word BusRefusal.HasAddress = codes "HasAddress"
+bus_word BusRefusal.NotCapable = codes "NotCapable"
+bus_word BusRefusal.ByteMismatch = codes "ByteMismatch"
+bus_word BusRefusal.Masked = codes "Masked"
+bus_word BusRefusal.Full = codes "Full"
+bus_word BusRefusal.ListStale = codes "ListStale"
+bus_word (BusRefusal.NoAnswer a) = codes "NoAnswer"
+bus_word BusRefusal.TooLong = codes "TooLong"
 
 -- the name of a refusal
 abbrev pub refusal_word : Refusal → List ℕ
@@ -16,52 +35,38 @@ refusal_word Refusal.BadLine = codes "BadLine"
 refusal_word Refusal.NoBus = codes "NoBus"
 refusal_word Refusal.BusMade = codes "BusMade"
 refusal_word Refusal.NameTaken = codes "NameTaken"
-refusal_word Refusal.LegacyAddress = codes "LegacyAddress"
-refusal_word Refusal.LegacyTwice = codes "LegacyTwice"
-refusal_word Refusal.TooManyLegacy = codes "TooManyLegacy"
-refusal_word Refusal.NotCapable = codes "NotCapable"
-refusal_word Refusal.SlotTaken = codes "SlotTaken"
-refusal_word Refusal.SessionOpen = codes "SessionOpen"
-refusal_word Refusal.NoSession = codes "NoSession"
-refusal_word Refusal.ActiveStays = codes "ActiveStays"
 refusal_word Refusal.NoName = codes "NoName"
-refusal_word Refusal.NoDevice = codes "NoDevice"
-refusal_word Refusal.IsActive = codes "IsActive"
-refusal_word Refusal.NoAddress = codes "NoAddress"
-refusal_word Refusal.HasAddress = codes "HasAddress"
-refusal_word Refusal.ByteMismatch = codes "ByteMismatch"
-refusal_word Refusal.Masked = codes "Masked"
-refusal_word Refusal.Full = codes "Full"
-refusal_word Refusal.ListStale = codes "ListStale"
-refusal_word Refusal.TooLong = codes "TooLong"
-refusal_word (Refusal.NoAnswer a) = codes "NoAnswer"
+refusal_word (Refusal.Legacy fault) = legacy_word fault
+refusal_word (Refusal.Bus why) = bus_word why
 refusal_word Refusal.NoEnd = codes "NoEnd"
+
+-- the address that a refusal of the bus is about
+abbrev pub bus_tail : BusRefusal → List ℕ
+bus_tail (BusRefusal.NoAnswer a) = codes " " ++ byte_text a
+bus_tail BusRefusal.SessionOpen = []
+bus_tail BusRefusal.NoSession = []
+bus_tail BusRefusal.ActiveStays = []
+bus_tail BusRefusal.SlotTaken = []
+bus_tail BusRefusal.NoDevice = []
+bus_tail BusRefusal.IsActive = []
+bus_tail BusRefusal.NoAddress = []
+bus_tail BusRefusal.HasAddress = []
+bus_tail BusRefusal.NotCapable = []
+bus_tail BusRefusal.ByteMismatch = []
+bus_tail BusRefusal.Masked = []
+bus_tail BusRefusal.Full = []
+bus_tail BusRefusal.ListStale = []
+bus_tail BusRefusal.TooLong = []
 
 -- the address that a refusal is about
 abbrev pub refusal_tail : Refusal → List ℕ
-refusal_tail (Refusal.NoAnswer a) = codes " " ++ byte_text a
+refusal_tail (Refusal.Bus why) = bus_tail why
 refusal_tail Refusal.BadLine = []
 refusal_tail Refusal.NoBus = []
 refusal_tail Refusal.BusMade = []
 refusal_tail Refusal.NameTaken = []
-refusal_tail Refusal.LegacyAddress = []
-refusal_tail Refusal.LegacyTwice = []
-refusal_tail Refusal.TooManyLegacy = []
-refusal_tail Refusal.NotCapable = []
-refusal_tail Refusal.SlotTaken = []
-refusal_tail Refusal.SessionOpen = []
-refusal_tail Refusal.NoSession = []
-refusal_tail Refusal.ActiveStays = []
 refusal_tail Refusal.NoName = []
-refusal_tail Refusal.NoDevice = []
-refusal_tail Refusal.IsActive = []
-refusal_tail Refusal.NoAddress = []
-refusal_tail Refusal.HasAddress = []
-refusal_tail Refusal.ByteMismatch = []
-refusal_tail Refusal.Masked = []
-refusal_tail Refusal.Full = []
-refusal_tail Refusal.ListStale = []
-refusal_tail Refusal.TooLong = []
+refusal_tail (Refusal.Legacy fault) = []
 refusal_tail Refusal.NoEnd = []
 
 -- a refusal as it is printed

@@ -14,7 +14,7 @@ mod refusals;
 mod text;
 mod words;
 
-pub use command::{Command, Wish};
+pub use command::Command;
 pub use line::{Line, is_skipped, read_line};
 pub use names::{Name, Names, Place};
 pub use policies::ACCEPT_ALL;

@@ -1,12 +1,13 @@
 ghost use Rattle.std.specs.Prelude.{◌≡◌, ◌++◌, OnOk};
+ghost use Rattle.i3c_lines.specs.Refusing.{bus_word, legacy_word};
 
 use crate::text::Text;
-use i3c_base::Addr7;
 use i3c_legacy::LegacyFault;
+use i3c_step::Refusal as BusRefusal;
 use std::alloc::AllocError;
 
 /// Why a line was refused. A refused line changes nothing but the cuts that wait, which a frame's line takes. It is
-/// printed by this name.
+/// printed by this name, and one of the bus or of a legacy target by its own.
 #[derive(Clone, Copy, Debug, PartialEq, Eq, Drop)]
 pub enum Refusal {
     /// The line has no form.
@@ -17,44 +18,13 @@ pub enum Refusal {
     BusMade,
     /// A present device or a legacy target has this name.
     NameTaken,
-    /// A legacy target's static address is `08` to `77`.
-    LegacyAddress,
-    /// A legacy target stands at this address.
-    LegacyTwice,
-    /// No more legacy targets may be declared.
-    TooManyLegacy,
-    /// The device can't do this by its BCR, or none that is known to can has the address that the role is offered to.
-    NotCapable,
-    /// Each slot holds a device.
-    SlotTaken,
-    /// A session of dynamic address assignment is open.
-    SessionOpen,
-    /// No session of dynamic address assignment is open.
-    NoSession,
-    /// The active controller can't be cut or leave.
-    ActiveStays,
     /// No name like this was given.
     NoName,
-    /// The name is a legacy target's, or its device is gone.
-    NoDevice,
-    /// The device is the active controller.
-    IsActive,
-    /// No address is left to give, or the device has none.
-    NoAddress,
-    /// The device has an address.
-    HasAddress,
-    /// A mandatory byte is due by the device's BCR and is missing, or is given and isn't due.
-    ByteMismatch,
-    /// The device's events of this kind are disabled.
-    Masked,
-    /// No more interrupts of the device may wait or be counted.
-    Full,
-    /// The devices haven't got the list of the addresses as they are now.
-    ListStale,
-    /// More bytes than a device has registers.
-    TooLong,
-    /// No device answers to this address.
-    NoAnswer(Addr7),
+    /// The legacy target can't be declared.
+    Legacy(LegacyFault),
+    /// The bus refuses it. A name that has no device, since it is a legacy target's or its device is gone, is refused as
+    /// a slot without a device.
+    Bus(BusRefusal),
     /// The data that was read did not end.
     NoEnd,
 }
@@ -71,25 +41,9 @@ impl Refusal {
             Refusal::NoBus => "NoBus",
             Refusal::BusMade => "BusMade",
             Refusal::NameTaken => "NameTaken",
-            Refusal::LegacyAddress => "LegacyAddress",
-            Refusal::LegacyTwice => "LegacyTwice",
-            Refusal::TooManyLegacy => "TooManyLegacy",
-            Refusal::NotCapable => "NotCapable",
-            Refusal::SlotTaken => "SlotTaken",
-            Refusal::SessionOpen => "SessionOpen",
-            Refusal::NoSession => "NoSession",
-            Refusal::ActiveStays => "ActiveStays",
             Refusal::NoName => "NoName",
-            Refusal::NoDevice => "NoDevice",
-            Refusal::IsActive => "IsActive",
-            Refusal::NoAddress => "NoAddress",
-            Refusal::HasAddress => "HasAddress",
-            Refusal::ByteMismatch => "ByteMismatch",
-            Refusal::Masked => "Masked",
-            Refusal::Full => "Full",
-            Refusal::ListStale => "ListStale",
-            Refusal::TooLong => "TooLong",
-            Refusal::NoAnswer(_) => "NoAnswer",
+            Refusal::Legacy(fault) => legacy_word(fault),
+            Refusal::Bus(why) => bus_word(why),
             Refusal::NoEnd => "NoEnd",
         }
     }
@@ -100,7 +54,7 @@ impl Refusal {
     {
         text.push(self.word().as_bytes())?;
         match self {
-            Refusal::NoAnswer(address) => {
+            Refusal::Bus(BusRefusal::NoAnswer(address)) => {
                 text.push(b" ")?;
                 text.push_byte(address.get())
             }
@@ -109,17 +63,58 @@ impl Refusal {
     }
 }
 
+/// The name of a refused declaration.
+fn legacy_word(fault: &LegacyFault) -> &'static str
+    ensures { result.now ≡ legacy_word fault.now }
+{
+    match fault {
+        LegacyFault::LegacyAddress => "LegacyAddress",
+        LegacyFault::LegacyTwice => "LegacyTwice",
+        LegacyFault::TooManyLegacy => "TooManyLegacy",
+    }
+}
+
+/// The name of a refusal of the bus.
+fn bus_word(why: &BusRefusal) -> &'static str
+    ensures { result.now ≡ bus_word why.now }
+{
+    match why {
+        BusRefusal::SessionOpen => "SessionOpen",
+        BusRefusal::NoSession => "NoSession",
+        BusRefusal::ActiveStays => "ActiveStays",
+        BusRefusal::SlotTaken => "SlotTaken",
+        BusRefusal::NoDevice => "NoDevice",
+        BusRefusal::IsActive => "IsActive",
+        BusRefusal::NoAddress => "NoAddress",
+        BusRefusal::HasAddress => "HasAddress",
+        BusRefusal::NotCapable => "NotCapable",
+        BusRefusal::ByteMismatch => "ByteMismatch",
+        BusRefusal::Masked => "Masked",
+        BusRefusal::Full => "Full",
+        BusRefusal::ListStale => "ListStale",
+        BusRefusal::NoAnswer(_) => "NoAnswer",
+        BusRefusal::TooLong => "TooLong",
+    }
+}
+
 impl From<LegacyFault> for Refusal {
     ghost use Rattle.std.specs.Prelude.{◌≡◌};
-    ghost use Rattle.i3c_lines.specs.Refusing.{legacy_refusal};
+    ghost use Rattle.i3c_lines.specs.declared.refusals.Refusal.{Refusal};
 
-    ghost from_gives = { λ fault refusal. refusal ≡ legacy_refusal fault };
+    ghost from_gives = { λ fault refusal. refusal ≡ Refusal.Legacy fault };
 
     fn from(fault: LegacyFault) -> Refusal {
-        match fault {
-            LegacyFault::LegacyAddress => Refusal::LegacyAddress,
-            LegacyFault::LegacyTwice => Refusal::LegacyTwice,
-            LegacyFault::TooManyLegacy => Refusal::TooManyLegacy,
-        }
+        Refusal::Legacy(fault)
+    }
+}
+
+impl From<BusRefusal> for Refusal {
+    ghost use Rattle.std.specs.Prelude.{◌≡◌};
+    ghost use Rattle.i3c_lines.specs.declared.refusals.Refusal.{Refusal};
+
+    ghost from_gives = { λ why refusal. refusal ≡ Refusal.Bus why };
+
+    fn from(why: BusRefusal) -> Refusal {
+        Refusal::Bus(why)
     }
 }

@@ -110,6 +110,10 @@ impl Text {
 
 // Its one error is want of memory.
 impl fmt::Write for Text {
+    ghost use Rattle.std.specs.Prelude.{◌≡◌, ◌++◌};
+
+    ghost write_str_gives = { λ text bytes new. new ≡ text ++ bytes };
+
     fn write_str(&mut self, s: &str) -> fmt::Result {
         match self.push(s.as_bytes()) {
             Ok(()) => Ok(()),

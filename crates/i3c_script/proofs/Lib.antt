@@ -1,4 +1,3 @@
-pub mod Carrying
 pub mod Presence
 pub mod Written
 pub mod TraceWritten
@@ -9,3 +8,7 @@ pub mod Gathered
 pub mod ScriptRuns
 pub mod ScriptRead
 pub mod AsciiLaws
+pub mod Moving
+pub mod Showing
+pub mod Assigned
+pub mod Starting

@@ -1,8 +1,12 @@
 pub mod Reading
 pub mod Slots
 pub mod Stops
+pub mod Ran
 pub mod Asking
 pub mod Printed
+pub mod Telling
+pub mod Assigning
+pub mod Obeying
 pub mod Outcomes
 pub mod Traces
 pub mod Scripts

@@ -1,17 +1,24 @@
 -- What lines print.
-use Rattle.std.specs.Prelude.{ℕ, List, [], ◌∷◌, ◌++◌, codes, Option, Some, None, Result, Ok, Err, slice_index_or}
+use Rattle.std.specs.Prelude.{ℕ, zero, suc, List, [], ◌∷◌, ◌++◌, codes, length, map, Option, Some, None, Result, Ok, Err, slice_index_or}
 use Rattle.std.specs.Fmt.{decimal}
+use Rattle.std.specs.List.{join_with_byte}
 use Rattle.i3c_base.specs.declared.answers.Answer.{Answer}
 use Rattle.i3c_base.specs.declared.answers.RoundReply.{RoundReply}
 use Rattle.i3c_base.specs.declared.identity.Identity.{Identity}
+use Rattle.i3c_base.specs.declared.range.TheConstants.{ADDRESSES, SLOTS}
+use Rattle.i3c_base.specs.declared.requests.Record.{Record}
 use Rattle.i3c_base.specs.declared.requests.Served.{Served}
+use Rattle.i3c_base.specs.State.{Device, State, device_at}
+use Rattle.i3c_frame.specs.declared.symbols.Symbol.{Symbol}
+use Rattle.i3c_frame.specs.Texts.{text_of}
 use Rattle.i3c_step.specs.declared.events.Event.{Event}
 use Rattle.i3c_step.specs.declared.replies.Framed.{Framed}
 use Rattle.i3c_step.specs.declared.replies.Reply.{Reply}
+use Rattle.i3c_bus.specs.Readings.{address_of}
 use Rattle.i3c_lines.specs.declared.names.Name.{Name}
 use Rattle.i3c_lines.specs.declared.names.Names.{Names}
 use Rattle.i3c_lines.specs.Hex.{byte_text, bytes_text, hex_text}
-use Rattle.i3c_lines.specs.Naming.{letters, slot_names}
+use Rattle.i3c_lines.specs.Naming.{legacy_names, letters, slot_names}
 use Rattle.i3c_lines.specs.Refusing.{refusal_text}
 use Rattle.i3c_script.specs.declared.faults.Stop.{Stop}
 use Rattle.i3c_script.specs.declared.telling.Subject.{Subject}
@@ -136,3 +143,69 @@ reply_text names subject (Reply.Opened served) = opened_text served
 reply_text names subject (Reply.Handed served) = handed_text subject served
 reply_text names subject (Reply.Round answer) = round_text answer
 reply_text names subject Reply.Ended = codes "ended" ++ 10 ∷ []
+
+-- an address or a byte, or that there is none
+abbrev pub byte_or_none : Option ℕ → List ℕ
+byte_or_none None = codes "--"
+byte_or_none (Some byte) = byte_text byte
+
+-- `legacy`: a target that was declared
+abbrev pub declared_text : Name → ℕ → List ℕ
+declared_text name a = letters name ++ (codes " legacy at " ++ (byte_text a ++ 10 ∷ []))
+
+-- `main`: the main controller, with the address that it has
+abbrev pub main_text : Name → State → List ℕ
+main_text name st = letters name ++ (codes " slot 0 at " ++ (byte_or_none (address_of (device_at st 0)) ++ 10 ∷ []))
+
+-- a present device: its name, its address, and how many of its interrupts wait
+abbrev pub device_text : Option Name → Option Device → List ℕ
+device_text (Some name) (Some d) = letters name ++ (codes " " ++ (byte_or_none d.address ++ number_text (codes " waiting ") (length d.waiting)))
+device_text None device = []
+device_text (Some name) None = []
+
+-- the present devices of so many slots, the lowest slot first
+unfoldable pub devices_text : State → Names → ℕ → List ℕ
+devices_text st names zero = []
+devices_text st names (suc slot) = devices_text st names slot ++ device_text (slice_index_or (slot_names names) slot None) (device_at st slot)
+
+-- a legacy target
+abbrev pub legacy_text : Option Name → ℕ → List ℕ
+legacy_text None a = []
+legacy_text (Some name) a = letters name ++ (codes " " ++ (byte_text a ++ (codes " legacy" ++ 10 ∷ [])))
+
+-- the legacy targets of so many static addresses, the lowest address first
+unfoldable pub legacies_text : Names → ℕ → List ℕ
+legacies_text names zero = []
+legacies_text names (suc a) = legacies_text names a ++ legacy_text (slice_index_or (legacy_names names) a None) a
+
+-- the address at which an interrupt was recorded, and its mandatory byte
+abbrev pub recorded_text : ℕ → Option ℕ → List ℕ
+recorded_text a byte = codes " at " ++ (byte_text a ++ (codes " byte " ++ (byte_or_none byte ++ 10 ∷ [])))
+
+-- a record, after its number
+abbrev pub record_text : Record → List ℕ
+record_text r = codes " slot " ++ (decimal r.slot ++ (codes " raise " ++ (decimal r.number ++ recorded_text r.at r.byte)))
+
+-- records, counted from this number on
+abbrev pub numbered_text : ℕ → List Record → List ℕ
+numbered_text number [] = []
+numbered_text number (r ∷ rest) = codes "record " ++ (decimal number ++ (record_text r ++ numbered_text (suc number) rest))
+
+-- how many interrupts were recorded, and each, the oldest first
+abbrev pub records_text : List Record → List ℕ
+records_text records = number_text (codes "records ") (length records) ++ numbered_text 1 records
+
+-- `show`: the active controller's address, the present devices, the legacy targets and the records
+abbrev pub show_text : State → Names → List ℕ
+show_text st names =
+    codes "active " ++ (byte_or_none (address_of (device_at st st.active)) ++ (10 ∷ (devices_text st names SLOTS ++ (legacies_text names ADDRESSES ++ records_text st.records))))
+
+-- `symbols`: these, with a space between each two
+abbrev pub symbols_text : List Symbol → List ℕ
+symbols_text wire = join_with_byte 32 (map text_of wire) ++ 10 ∷ []
+
+-- one of some symbols: all but the first stand behind a space
+abbrev pub nth_text : ℕ → Option Symbol → List ℕ
+nth_text n None = []
+nth_text zero (Some symbol) = text_of symbol
+nth_text (suc n) (Some symbol) = 32 ∷ text_of symbol

@@ -1,10 +1,13 @@
 -- What goes out of a script: its lines, and what each of them puts out.
-use Rattle.std.specs.Prelude.{◌≡◌, ℕ, ◌+◌, ◌<◌, ◌≤◌, List, [], ◌∷◌, ◌++◌, codes, length, min, slice_get, take, Option, Some, None, IfSome, Result, MatchResult}
+use Rattle.std.specs.Prelude.{◌≡◌, ◌⊎◌, ℕ, ◌+◌, List, [], ◌∷◌, ◌++◌, codes, min, take, Option, Some, None, IfSome, Result, MatchResult}
 use Rattle.std.specs.Io.KnownBytes.{Appends, Consumes}
+use Rattle.i3c_lines.specs.declared.command.Command.{Command}
 use Rattle.i3c_lines.specs.declared.refusals.Refusal.{Refusal}
+use Rattle.i3c_lines.specs.Forms.{HasNoForm, IsCommand, IsSkipped}
 use Rattle.i3c_lines.specs.Refusing.{refusal_text}
 use Rattle.i3c_script.specs.declared.faults.ScriptFault.{ScriptFault}
 use Rattle.i3c_script.specs.declared.script.Tally.{Tally}
+use Rattle.i3c_script.specs.Obeying.{IsBegun, Obeys, ScriptState}
 use Rattle.i3c_script.specs.Outcomes.{AppendsSome, HasNoFeed}
 
 -- a line that was run: its bytes without the line feed, what it printed, and why it was refused, if it was
@@ -22,21 +25,29 @@ refused_text (Some why) = codes "refused " ++ (refusal_text why ++ 10 ∷ [])
 abbrev pub run_text : LineRun → List ℕ
 run_text run = run.said ++ refused_text run.refused
 
--- what the bytes of a line come to by themselves: a line that is too long has no form, and an empty one and a comment do nothing
-pub record IsRead (line said : List ℕ) (refused : Option Refusal) : Type 0 where
-  pub long : 256 < length line → (refused ≡ Some Refusal.BadLine) × (said ≡ [])
-  pub empty : line ≡ [] → (refused ≡ None) × (said ≡ [])
-  pub comment : length line ≤ 256 → slice_get line 0 ≡ Some 35 → (refused ≡ None) × (said ≡ [])
+-- what one line prints, why it is refused, if it is, and where the script is after it. A line without a form is refused; an
+-- empty line and a comment do nothing; any other line does what its command does
+abbrev pub LineDoes : ScriptState → List ℕ → List ℕ → Option Refusal → ScriptState → Type 0
+LineDoes old line said refused new = (HasNoForm line × (said ≡ []) × (refused ≡ Some Refusal.BadLine) × (new ≡ old))
+    ⊎ (IsSkipped line × (said ≡ []) × (refused ≡ None) × (new ≡ old))
+    ⊎ ((command : Command) × IsCommand line command × Obeys old command said refused new)
 
--- one line was run so
-pub record IsRun (run : LineRun) : Type 0 where
+-- one line was run, and the script went from one state to another
+pub record IsRun (old : ScriptState) (run : LineRun) (new : ScriptState) : Type 0 where
   pub one : HasNoFeed run.line
-  pub read : IsRead run.line run.said run.refused
+  pub does : LineDoes old run.line run.said run.refused new
 
--- each line was
-abbrev pub AreRun : List LineRun → Type 0
-AreRun [] = Unit {0}
-AreRun (run ∷ rest) = IsRun run × AreRun rest
+-- lines, run one after another, lead from one state to another
+abbrev pub Lead : ScriptState → List LineRun → ScriptState → Type 0
+Lead old [] new = new ≡ old
+Lead old (run ∷ rest) new = (mid : ScriptState) × IsRun old run mid × Lead mid rest new
+
+-- lines were run from a script's start
+pub record AreRun (lines : List LineRun) : Type 0 where
+  pub start : ScriptState
+  pub end : ScriptState
+  pub begun : IsBegun start
+  pub lead : Lead start lines end
 
 -- the bytes of lines, each with its line feed
 abbrev pub lines_bytes : List LineRun → List ℕ

@@ -1,5 +1,5 @@
--- What stops a line, and what the run's end says of it.
-use Rattle.std.specs.Prelude.{◌≡◌, ◌⊎◌, ℕ, Option, Some, None, Result, Ok, Err}
+-- Why a line is refused, and what the run's end says of it.
+use Rattle.std.specs.Prelude.{◌≡◌, ◌≢◌, ◌⊎◌, ℕ, Option, Some, None, Result, Ok, Err, ⊤}
 use Rattle.i3c_base.specs.declared.answers.Answer.{Answer}
 use Rattle.i3c_base.specs.declared.answers.RoundReply.{RoundReply}
 use Rattle.i3c_step.specs.declared.replies.Refusal.{Refusal as BusRefusal}
@@ -8,52 +8,40 @@ use Rattle.i3c_lines.specs.declared.refusals.Refusal.{Refusal}
 use Rattle.i3c_script.specs.declared.faults.ScriptFault.{ScriptFault}
 use Rattle.i3c_script.specs.declared.faults.Stop.{Stop}
 
--- the bus's refusal, as it is printed
-abbrev pub bus_refusal : BusRefusal → Refusal
-bus_refusal BusRefusal.SessionOpen = Refusal.SessionOpen
-bus_refusal BusRefusal.NoSession = Refusal.NoSession
-bus_refusal BusRefusal.ActiveStays = Refusal.ActiveStays
-bus_refusal BusRefusal.SlotTaken = Refusal.SlotTaken
-bus_refusal BusRefusal.NoDevice = Refusal.NoDevice
-bus_refusal BusRefusal.IsActive = Refusal.IsActive
-bus_refusal BusRefusal.NoAddress = Refusal.NoAddress
-bus_refusal BusRefusal.HasAddress = Refusal.HasAddress
-bus_refusal BusRefusal.NotCapable = Refusal.NotCapable
-bus_refusal BusRefusal.ByteMismatch = Refusal.ByteMismatch
-bus_refusal BusRefusal.Masked = Refusal.Masked
-bus_refusal BusRefusal.Full = Refusal.Full
-bus_refusal BusRefusal.ListStale = Refusal.ListStale
-bus_refusal BusRefusal.TooLong = Refusal.TooLong
-bus_refusal (BusRefusal.NoAnswer a) = Refusal.NoAnswer a
+-- the answer to a frame's own part as a refusal
+abbrev pub answer_refusal : Answer → Option Refusal
+answer_refusal Answer.Done = None
+answer_refusal (Answer.Bytes bytes) = None
+answer_refusal (Answer.NoAnswer a) = Some (Refusal.Bus (BusRefusal.NoAnswer a))
+answer_refusal Answer.NoEnd = Some Refusal.NoEnd
 
--- an answer to a frame's own part that is printed as a refusal
-abbrev pub answer_stop : Answer → Option Stop
-answer_stop Answer.Done = None
-answer_stop (Answer.Bytes bytes) = None
-answer_stop (Answer.NoAnswer a) = Some (Stop.Refused (Refusal.NoAnswer a))
-answer_stop Answer.NoEnd = Some (Stop.Refused Refusal.NoEnd)
+-- a round's answer as a refusal
+abbrev pub round_refusal : RoundReply → Option Refusal
+round_refusal (RoundReply.Assigned a identity) = None
+round_refusal RoundReply.Nobody = None
+round_refusal RoundReply.Done = None
+round_refusal RoundReply.NoAddress = Some (Refusal.Bus BusRefusal.NoAddress)
 
--- a round's answer that is printed as a refusal
-abbrev pub round_stop : RoundReply → Option Stop
-round_stop (RoundReply.Assigned a identity) = None
-round_stop RoundReply.Nobody = None
-round_stop RoundReply.Done = None
-round_stop RoundReply.NoAddress = Some (Stop.Refused Refusal.NoAddress)
+-- the bus's reply as a refusal
+abbrev pub reply_refusal : Reply → Option Refusal
+reply_refusal (Reply.Refused why) = Some (Refusal.Bus why)
+reply_refusal Reply.OutOfMemory = None
+reply_refusal Reply.Attached = None
+reply_refusal Reply.Dropped = None
+reply_refusal (Reply.Raised number) = None
+reply_refusal Reply.Asked = None
+reply_refusal (Reply.Served served) = None
+reply_refusal (Reply.Framed framed) = answer_refusal framed.answer
+reply_refusal (Reply.Opened served) = None
+reply_refusal (Reply.Handed served) = None
+reply_refusal (Reply.Round answer) = round_refusal answer
+reply_refusal Reply.Ended = None
 
--- what stops a line at the bus's reply
-abbrev pub reply_stop : Reply → Option Stop
-reply_stop (Reply.Refused why) = Some (Stop.Refused (bus_refusal why))
-reply_stop Reply.OutOfMemory = Some Stop.Memory
-reply_stop Reply.Attached = None
-reply_stop Reply.Dropped = None
-reply_stop (Reply.Raised number) = None
-reply_stop Reply.Asked = None
-reply_stop (Reply.Served served) = None
-reply_stop (Reply.Framed framed) = answer_stop framed.answer
-reply_stop (Reply.Opened served) = None
-reply_stop (Reply.Handed served) = None
-reply_stop (Reply.Round answer) = round_stop answer
-reply_stop Reply.Ended = None
+-- what holds of a line's refusal, or of its having none; of a line that is short of memory nothing is said
+abbrev pub Ends : (Option Refusal → Type 0) → Result (Unit {0}) Stop → Type 0
+Ends Is (Ok done) = Is None
+Ends Is (Err (Stop.Refused why)) = Is (Some why)
+Ends Is (Err Stop.Memory) = ⊤
 
 -- a fault that a line may end the run with
 abbrev pub IsLineFault : ScriptFault → Type 0

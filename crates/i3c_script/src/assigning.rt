@@ -1,17 +1,22 @@
-ghost use Rattle.std.specs.Prelude.{◌≡◌, MatchResult, Some, None};
+ghost use Rattle.std.specs.Prelude.{◌≡◌, ◌++◌, IfOk};
+ghost use Rattle.i3c_base.specs.declared.requests.Fixed.{Fixed as FixedValue};
+ghost use Rattle.i3c_base.specs.Cutting.{no_cuts};
 ghost use Rattle.i3c_bus.specs.Hands.{HandFits};
 ghost use Rattle.i3c_bus.specs.declared.tokens.Hand.{Hand as HandValue};
 ghost use Rattle.i3c_step.specs.declared.events.Event.{Event as EventValue};
 ghost use Rattle.i3c_step.specs.declared.replies.Reply.{Reply as ReplyValue};
-ghost use Rattle.i3c_script.specs.Asking.{Assigns, ComesOf, RoundsAndEnd, RoundsUp, goes_on};
-ghost use Rattle.i3c_script.specs.Stops.{round_stop};
+ghost use Rattle.i3c_script.specs.Assigning.{Assigns, HasRounds, HasSession, Moves, goes_on};
+ghost use Rattle.i3c_script.specs.Printed.{round_text};
+ghost use Rattle.i3c_script.specs.Ran.{ran_of};
+ghost use Rattle.i3c_script.specs.Telling.{Prints};
 
-use crate::faults::Stop;
+use crate::faults::{Stop, outcome_of_round};
 use crate::telling::{show_request, show_round};
 use crate::wires::Wires;
 use i3c_base::{Cuts, RoundReply, SLOTS};
-use i3c_bus::{ActiveStays, Bus, Hand, Session};
+use i3c_bus::{ActiveStays, Bus, Hand, Refusal as BusRefusal, Session};
 use i3c_lines::{Refusal, Text};
+use std::alloc::AllocError;
 
 /// `daa`: opens a session, in which these are cut, runs its rounds and ends it. Whoever asks while it is opened is turned
 /// down. It answers the role or session in hand afterwards, and what the line comes to.
@@ -23,7 +28,7 @@ pub(crate) fn assign(
     text: &mut Text,
 ) -> (Hand, Result<(), Stop>)
     requires fits { HandFits hand bus.old.state }
-    ensures assigns { Assigns bus.old.state cuts.now result.1 bus.new.state }
+    ensures assigns { (policy : FixedValue) → Prints (λ said refused. Assigns (ran_of bus.old.state policy cuts.now wires.old) said refused (ran_of bus.new.state policy no_cuts wires.new)) text.old text.new result.1 }
     ensures fits { HandFits result.0 bus.new.state }
 {
     let role = match hand {
@@ -31,7 +36,7 @@ pub(crate) fn assign(
         Hand::Session(session) => {
             return (
                 Hand::Session(session),
-                Err(Stop::Refused(Refusal::SessionOpen)),
+                Err(Stop::Refused(Refusal::Bus(BusRefusal::SessionOpen))),
             );
         }
     };
@@ -40,7 +45,10 @@ pub(crate) fn assign(
             Ok(()) => finish(session, bus, wires, text),
             Err(_) => (Hand::Session(session), Err(Stop::Memory)),
         },
-        Err((role, ActiveStays)) => (Hand::Role(role), Err(Stop::Refused(Refusal::ActiveStays))),
+        Err((role, ActiveStays)) => (
+            Hand::Role(role),
+            Err(Stop::Refused(Refusal::Bus(BusRefusal::ActiveStays))),
+        ),
     }
 }
 
@@ -52,7 +60,7 @@ fn finish(
     text: &mut Text,
 ) -> (Hand, Result<(), Stop>)
     requires fits { HandFits (HandValue.Session session) bus.old.state }
-    ensures session { RoundsAndEnd result.1 bus.old.state bus.new.state }
+    ensures session { (policy : FixedValue) → Prints (λ said refused. HasSession (ran_of bus.old.state policy no_cuts wires.old) said refused (ran_of bus.new.state policy no_cuts wires.new)) text.old text.new result.1 }
     ensures fits { HandFits result.0 bus.new.state }
 {
     let outcome = run_rounds(&session, bus, wires, text);
@@ -69,51 +77,52 @@ fn run_rounds(
     text: &mut Text,
 ) -> Result<(), Stop>
     requires fits { HandFits (HandValue.Session session.now) bus.old.state }
-    ensures rounds { RoundsUp result bus.old.state bus.new.state }
+    ensures rounds { (policy : FixedValue) → Prints (λ said refused. HasRounds (ran_of bus.old.state policy no_cuts wires.old) said refused (ran_of bus.new.state policy no_cuts wires.new)) text.old text.new result }
     ensures fits { HandFits (HandValue.Session session.now) bus.new.state }
 {
     let cuts = Cuts::new();
     // of so many rounds one is the last, by the law `sessions_end` of the bus
     for _ in 0..SLOTS {
-        match run_round(session, bus, wires, &cuts, text) {
-            Ok(true) => {}
-            Ok(false) => break,
-            Err(stop) => return Err(stop),
+        let Ok(answer) = run_round(session, bus, wires, &cuts, text) else {
+            return Err(Stop::Memory);
+        };
+        if !goes_on(&answer) {
+            return outcome_of_round(&answer);
         }
     }
     Ok(())
 }
 
-/// Runs a round of a session, and prints it. It answers whether there is another round after it.
+/// Runs a round of a session, and prints it.
 fn run_round(
     session: &Session,
     bus: &mut Bus,
     wires: &mut Wires,
     cuts: &Cuts,
     text: &mut Text,
-) -> Result<bool, Stop>
+) -> Result<RoundReply, AllocError>
     requires fits { HandFits (HandValue.Session session.now) bus.old.state }
-    ensures answered { ComesOf bus.old.state (EventValue.Round cuts.now) result bus.new.state }
+    requires uncut { cuts.now ≡ no_cuts }
+    ensures moved { IfOk result (λ answer. (policy : FixedValue) → Moves (ran_of bus.old.state policy no_cuts wires.old) (EventValue.Round no_cuts) (ReplyValue.Round answer) (ran_of bus.new.state policy no_cuts wires.new)) }
+    ensures told { IfOk result (λ answer. text.new ≡ text.old ++ round_text answer) }
     ensures fits { HandFits (HandValue.Session session.now) bus.new.state }
 {
+    // the active controller isn't cut
     let Ok(answer) = session.round(bus, wires, cuts) else {
-        return Err(Stop::Refused(Refusal::ActiveStays));
+        unreachable!()
     };
     match show_round(&answer, text) {
-        Ok(()) => goes_on(&answer),
-        Err(_) => Err(Stop::Memory),
+        Ok(()) => Ok(answer),
+        Err(_) => Err(AllocError),
     }
 }
 
-/// Whether there is another round after one with this answer: an address was given, or its acknowledgment was missing.
-/// Or what stops the line.
-fn goes_on(answer: &RoundReply) -> Result<bool, Stop>
-    ensures { MatchResult result (λ more. (round_stop answer.now ≡ None) × (more ≡ goes_on (ReplyValue.Round answer.now)))
-        (λ stop. round_stop answer.now ≡ Some stop) }
+/// Whether another round follows one with this answer: an address was given, or its acknowledgment was missing.
+fn goes_on(answer: &RoundReply) -> bool
+    ensures { result ≡ goes_on answer.now }
 {
     match answer {
-        RoundReply::Assigned(..) | RoundReply::Nobody => Ok(true),
-        RoundReply::Done => Ok(false),
-        RoundReply::NoAddress => Err(Stop::Refused(Refusal::NoAddress)),
+        RoundReply::Assigned(..) | RoundReply::Nobody => true,
+        RoundReply::Done | RoundReply::NoAddress => false,
     }
 }

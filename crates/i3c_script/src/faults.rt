@@ -1,9 +1,10 @@
-ghost use Rattle.std.specs.Prelude.{◌≡◌};
-ghost use Rattle.i3c_script.specs.Stops.{bus_refusal};
+ghost use Rattle.std.specs.Prelude.{◌≡◌, ◌≢◌};
+ghost use Rattle.i3c_step.specs.declared.replies.Reply.{Reply as ReplyValue};
+ghost use Rattle.i3c_script.specs.Stops.{Ends, answer_refusal, reply_refusal, round_refusal};
 ghost use Rattle.i3c_script.specs.declared.faults.Stop.TheVariants.{Refused, Memory};
 
 use i3c_base::{Answer, RoundReply};
-use i3c_bus::Reply;
+use i3c_bus::{Refusal as BusRefusal, Reply};
 use i3c_lines::Refusal;
 use std::alloc::AllocError;
 use std::fmt;
@@ -60,61 +61,47 @@ impl From<fmt::Error> for Stop {
     }
 }
 
-/// The bus's refusal, as it is printed.
-pub(crate) fn line_refusal(why: i3c_bus::Refusal) -> Refusal
-    ensures { result ≡ bus_refusal why }
+/// What a line comes to by the bus's reply: the one place for refusals and for want of memory.
+pub(crate) fn outcome_of(reply: &Reply) -> Result<(), Stop>
+    ensures { Ends (λ refused. (reply.now ≢ ReplyValue.OutOfMemory) × (refused ≡ reply_refusal reply.now)) result }
 {
-    match why {
-        i3c_bus::Refusal::SessionOpen => Refusal::SessionOpen,
-        i3c_bus::Refusal::NoSession => Refusal::NoSession,
-        i3c_bus::Refusal::ActiveStays => Refusal::ActiveStays,
-        i3c_bus::Refusal::SlotTaken => Refusal::SlotTaken,
-        i3c_bus::Refusal::NoDevice => Refusal::NoDevice,
-        i3c_bus::Refusal::IsActive => Refusal::IsActive,
-        i3c_bus::Refusal::NoAddress => Refusal::NoAddress,
-        i3c_bus::Refusal::HasAddress => Refusal::HasAddress,
-        i3c_bus::Refusal::NotCapable => Refusal::NotCapable,
-        i3c_bus::Refusal::ByteMismatch => Refusal::ByteMismatch,
-        i3c_bus::Refusal::Masked => Refusal::Masked,
-        i3c_bus::Refusal::Full => Refusal::Full,
-        i3c_bus::Refusal::ListStale => Refusal::ListStale,
-        i3c_bus::Refusal::TooLong => Refusal::TooLong,
-        i3c_bus::Refusal::NoAnswer(address) => Refusal::NoAnswer(address),
+    match reply {
+        Reply::Refused(why) => Err(Stop::Refused(Refusal::Bus(*why))),
+        Reply::OutOfMemory => Err(Stop::Memory),
+        Reply::Framed(framed) => outcome_of_answer(&framed.answer),
+        Reply::Round(answer) => outcome_of_round(answer),
+        Reply::Attached
+        | Reply::Dropped
+        | Reply::Raised(_)
+        | Reply::Asked
+        | Reply::Served(_)
+        | Reply::Opened(_)
+        | Reply::Handed(_)
+        | Reply::Ended => Ok(()),
     }
 }
 
-impl Stop {
-    ghost use Rattle.i3c_script.specs.Stops.{answer_stop, reply_stop};
-
-    /// What stops a line at the bus's reply, if anything does: the one place for refusals and for want of memory.
-    pub fn of_reply(reply: &Reply) -> Option<Stop>
-        ensures { result ≡ reply_stop reply.now }
-    {
-        match reply {
-            Reply::Refused(why) => Some(Stop::Refused(line_refusal(*why))),
-            Reply::OutOfMemory => Some(Stop::Memory),
-            Reply::Framed(framed) => Stop::of_answer(&framed.answer),
-            Reply::Round(RoundReply::NoAddress) => Some(Stop::Refused(Refusal::NoAddress)),
-            Reply::Round(_)
-            | Reply::Attached
-            | Reply::Dropped
-            | Reply::Raised(_)
-            | Reply::Asked
-            | Reply::Served(_)
-            | Reply::Opened(_)
-            | Reply::Handed(_)
-            | Reply::Ended => None,
-        }
+/// What a line comes to by the answer to a frame's own part.
+fn outcome_of_answer(answer: &Answer) -> Result<(), Stop>
+    ensures refused { Ends (λ refused. refused ≡ answer_refusal answer.now) result }
+    ensures fed { result ≢ Err Stop.Memory }
+{
+    match answer {
+        Answer::Done | Answer::Bytes(_) => Ok(()),
+        Answer::NoAnswer(address) => Err(Stop::Refused(Refusal::Bus(BusRefusal::NoAnswer(
+            *address,
+        )))),
+        Answer::NoEnd => Err(Stop::Refused(Refusal::NoEnd)),
     }
+}
 
-    /// What stops a line at the answer to a frame's own part, if anything does.
-    fn of_answer(answer: &Answer) -> Option<Stop>
-        ensures { result ≡ answer_stop answer.now }
-    {
-        match answer {
-            Answer::Done | Answer::Bytes(_) => None,
-            Answer::NoAnswer(address) => Some(Stop::Refused(Refusal::NoAnswer(*address))),
-            Answer::NoEnd => Some(Stop::Refused(Refusal::NoEnd)),
-        }
+/// What a line comes to by a round's answer.
+pub(crate) fn outcome_of_round(answer: &RoundReply) -> Result<(), Stop>
+    ensures refused { Ends (λ refused. refused ≡ round_refusal answer.now) result }
+    ensures fed { result ≢ Err Stop.Memory }
+{
+    match answer {
+        RoundReply::Assigned(..) | RoundReply::Nobody | RoundReply::Done => Ok(()),
+        RoundReply::NoAddress => Err(Stop::Refused(Refusal::Bus(BusRefusal::NoAddress))),
     }
 }

@@ -1,16 +1,16 @@
 ghost use Rattle.std.specs.Prelude.{◌≡◌, Some, None};
 ghost use Rattle.i3c_bus.specs.declared.tokens.Hand.{Hand as HandValue};
 
-use crate::asking::{event_of, slot_of_device};
+use crate::asking::{entrance, slot_of_device};
 use crate::assigning;
-use crate::faults::{Stop, line_refusal};
+use crate::faults::Stop;
 use crate::show::show;
-use crate::telling::{Subject, show_raised, subject_of, tell};
+use crate::telling::{Subject, subject_of, tell, tell_raised};
 use crate::wires::Wires;
-use i3c_base::{Cuts, Fixed, Setup};
+use i3c_base::{Addr7, Cuts, Fixed, Setup};
 use i3c_bus::{Bus, Command as Frame, Event, Hand, Reply};
 use i3c_legacy::Legacies;
-use i3c_lines::{ACCEPT_ALL, Command, Name, Names, Refusal, Text, Wish};
+use i3c_lines::{ACCEPT_ALL, Command, Name, Names, Refusal, Text};
 use std::alloc::Global;
 use std::marker::Model;
 use std::mem;
@@ -31,32 +31,38 @@ impl Model for Running {
     ghost use Rattle.std.specs.Prelude.{◌≡◌, Some};
     ghost use Rattle.i3c_bus.specs.Hands.{HandFits};
     ghost use Rattle.i3c_bus.specs.declared.tokens.Hand.{Hand as HandValue};
-    ghost use Rattle.i3c_script.specs.Asking.{Ran};
+    ghost use Rattle.i3c_script.specs.Ran.{Ran, ran_of};
 
     ghost Value = { Ran };
 
-    ghost view = { λ r. record { state = r.bus.state; policy = r.policy; cuts = r.cuts } };
+    ghost view = { λ r. ran_of r.bus.state r.policy r.cuts r.wires };
 
     ghost invariant = { λ r. (hand : HandValue) × (r.hand ≡ Some hand) × HandFits hand r.bus.state };
 }
 
 impl Running {
-    ghost use Rattle.std.specs.Prelude.{◌≡◌, true, Ok, MatchResult};
+    ghost use Rattle.std.specs.Prelude.{◌≡◌, [], true, Ok, Err, MatchResult};
     ghost use Rattle.i3c_base.specs.Numbers.{is_capable};
     ghost use Rattle.i3c_base.specs.Cutting.{no_cuts};
     ghost use Rattle.i3c_base.specs.State.{IsStart, legacy_targets_of};
     ghost use Rattle.i3c_base.specs.declared.requests.Verdict.TheVariants.{Accept};
-    ghost use Rattle.i3c_step.specs.Step.{Step};
-    ghost use Rattle.i3c_script.specs.Asking.{AsksForNone, Asked, Assigns, Does, Moves, Sends, comes_to, cut_named, cuts_after, cuts_left, device_named};
-    ghost use Rattle.i3c_lines.specs.Naming.{place_named};
+    ghost use Rattle.i3c_step.specs.Commands.{event_of};
+    ghost use Rattle.i3c_step.specs.declared.events.Event.{Event as EventValue};
+    ghost use Rattle.i3c_script.specs.Asking.{slot_of_device};
+    ghost use Rattle.i3c_script.specs.Assigning.{Assigns, Moves, cuts_left};
+    ghost use Rattle.i3c_script.specs.Obeying.{Answers, AnswersIn, Enters, IsDone, ObeysOn, cut_at};
+    ghost use Rattle.i3c_script.specs.Printed.{show_text, symbols_text};
+    ghost use Rattle.i3c_script.specs.Telling.{Prints};
     ghost use Rattle.i3c_lines.specs.Policies.{each_kind};
 
     /// A bus with this main controller, whose frames accept each request.
     pub fn new(alloc: Global, main: Setup, legacies: Legacies, wires: Wires) -> Running
-        requires { is_capable main.identity.bcr ≡ true }
+        requires capable { is_capable main.identity.bcr ≡ true }
+        requires unused { wires ≡ [] }
         ensures start { IsStart main (legacy_targets_of legacies) result.state }
         ensures policy { result.policy ≡ each_kind Accept }
         ensures cuts { result.cuts ≡ no_cuts }
+        ensures wire { result.wire ≡ [] }
     {
         let Ok((bus, role)) = Bus::new(alloc, main, legacies) else {
             unreachable!();
@@ -84,47 +90,28 @@ impl Running {
         command: &Command,
         text: &mut Text,
     ) -> Result<(), Stop>
-        ensures moves { Moves self.old names.old command.now result self.new.state }
-        // refused or not
-        ensures cuts { self.new.cuts ≡ cuts_after self.old names.old command.now }
+        ensures { Prints (λ said refused. ObeysOn self.old names.old command.now said refused self.new names.new) text.old text.new result }
     {
         match command {
-            Command::Legacy { .. } | Command::Main { .. } => Err(Refusal::BusMade.into()),
+            Command::Raise { name, byte } => self.raise(names, name, *byte, text),
             Command::Frame(frame) => self.send(names, frame, text),
-            Command::Event(wish) => self.carry_out(names, wish, text),
+            Command::Attach { name, setup } => self.attach(names, name, *setup, text),
+            Command::DropOff { name } => self.drop_off(names, name, text),
+            Command::AskJoin { name } => self.ask_join(names, name, text),
+            Command::AskRole { name } => self.ask_role(names, name, text),
+            Command::HandOver { to } => self.hand_over(names, *to, text),
+            Command::Open => self.open(names, text),
+            Command::Round => self.round(names, text),
+            Command::End => self.end(names, text),
+            Command::Daa => self.assign(text),
             Command::Policy(named) => {
                 self.policy = *named;
                 Ok(())
             }
             Command::Cut { name, bit } => self.cut(names, name, *bit),
-            Command::Daa => self.assign(text),
-            Command::Show => show(&self.bus, names, text).map_err(Stop::from),
-            Command::Symbols => self.wires.show(text).map_err(Stop::from),
-        }
-    }
-
-    /// `cut`: whatever device is in the slot by then loses power at a bit of the next frame.
-    #[inline(never)]
-    fn cut(&mut self, names: &Names, name: &Name, bit: u16) -> Result<(), Stop>
-        ensures refused { result ≡ comes_to (device_named self.old.state (place_named names.now name.now)) }
-        ensures state { self.new.state ≡ self.old.state }
-        ensures policy { self.new.policy ≡ self.old.policy }
-        ensures cuts { self.new.cuts ≡ cut_named (device_named self.old.state (place_named names.now name.now)) bit self.old.cuts }
-    {
-        let slot = slot_of_device(&self.bus, names, name)?;
-        self.cuts.add(slot, bit);
-        Ok(())
-    }
-
-    /// A line that is any other event.
-    fn carry_out(&mut self, names: &mut Names, wish: &Wish, text: &mut Text) -> Result<(), Stop>
-        ensures policy { self.new.policy ≡ self.old.policy }
-        ensures cuts { self.new.cuts ≡ cuts_left wish.now self.old.cuts }
-        ensures carried { Does self.old names.old wish.now result self.new.state }
-    {
-        match wish {
-            Wish::Raise { name, byte } => self.raise(names, name, *byte, text),
-            _ => self.carry_event(names, wish, text),
+            Command::Show => self.show(names, text),
+            Command::Symbols => self.show_symbols(text),
+            Command::Legacy { .. } | Command::Main { .. } => Err(Refusal::BusMade.into()),
         }
     }
 
@@ -136,28 +123,20 @@ impl Running {
         byte: Option<u8>,
         text: &mut Text,
     ) -> Result<(), Stop>
-        ensures policy { self.new.policy ≡ self.old.policy }
-        ensures cuts { self.new.cuts ≡ self.old.cuts }
-        ensures carried { Does self.old names.now (Wish.Raise name.now byte) result self.new.state }
+        ensures { Prints (λ said refused. AnswersIn self.old names.now name.now (λ slot. EventValue.Raise slot byte) said refused self.new) text.old text.new result }
     {
-        let slot = match names.slot_of(name) {
-            Ok(slot) => slot,
-            Err(why) => return Err(Stop::Refused(why)),
-        };
-        match self.bus.raise(slot, byte) {
-            Ok(number) => match show_raised(number, text) {
-                Ok(()) => Ok(()),
-                Err(_) => Err(Stop::Memory),
-            },
-            Err(why) => Err(Stop::Refused(line_refusal(why.into()))),
+        match names.slot_of(name) {
+            Ok(slot) => {
+                let raised = self.bus.raise(slot, byte);
+                tell_raised(raised, text)
+            }
+            Err(why) => Err(Stop::Refused(why)),
         }
     }
 
     /// A line that sends a frame under the role. The frame takes the cuts that wait.
     fn send(&mut self, names: &Names, frame: &Frame, text: &mut Text) -> Result<(), Stop>
-        ensures policy { self.new.policy ≡ self.old.policy }
-        ensures cuts { self.new.cuts ≡ no_cuts }
-        ensures carried { Sends self.old frame.now result self.new.state }
+        ensures { Prints (λ said refused. Answers self.old names.now (event_of frame.now self.old.policy self.old.cuts) said refused self.new) text.old text.new result }
     {
         let Some(hand) = &self.hand else {
             unreachable!()
@@ -170,44 +149,111 @@ impl Running {
         tell(names, Subject::Nothing, &reply, text)
     }
 
-    /// An event that is a line: the wish is read to the event, the bus answers, and the reply is printed.
-    // kept apart, so that raises and the frames under the role don't pay for the room that an event takes on the stack
+    // The lines below are kept apart, so that raises and the frames under the role don't pay for the room that an event
+    // takes on the stack.
+
+    /// `attach`: a device enters the lowest free slot, and gets its name.
     #[inline(never)]
-    fn carry_event(&mut self, names: &mut Names, wish: &Wish, text: &mut Text) -> Result<(), Stop>
-        ensures policy { self.new.policy ≡ self.old.policy }
-        ensures cuts { self.new.cuts ≡ cuts_left wish.now self.old.cuts }
-        ensures carried { Does self.old names.old wish.now result self.new.state }
+    fn attach(
+        &mut self,
+        names: &mut Names,
+        name: &Name,
+        setup: Setup,
+        text: &mut Text,
+    ) -> Result<(), Stop>
+        ensures { Prints (λ said refused. Enters self.old names.old name.now setup said refused self.new names.new) text.old text.new result }
     {
-        let event = self.asked(names, wish)?;
-        let reply = self.step(&event);
-        tell(names, subject_of(&event), &reply, text)
+        match entrance(&self.bus, names, name) {
+            Ok(slot) => match names.give_slot(name, slot) {
+                Ok(()) => self.answer(names, &Event::Attach(slot, setup), text),
+                Err(_) => Err(Stop::Memory),
+            },
+            Err(why) => Err(Stop::Refused(why)),
+        }
     }
 
-    /// The event that a line asks for, with the cuts that wait if it sends a frame. A device that is attached gets its
-    /// name.
-    fn asked(&mut self, names: &mut Names, wish: &Wish) -> Result<Event, Stop>
-        ensures state { self.new.state ≡ self.old.state }
-        ensures policy { self.new.policy ≡ self.old.policy }
-        ensures cuts { self.new.cuts ≡ cuts_left wish.now self.old.cuts }
-        ensures asked { MatchResult result
-            (λ event. Asked self.old.state names.old self.old.cuts wish.now (Ok event))
-            (λ stop. AsksForNone self.old names.old wish.now stop) }
+    /// `drop`: a device loses power.
+    #[inline(never)]
+    fn drop_off(&mut self, names: &Names, name: &Name, text: &mut Text) -> Result<(), Stop>
+        ensures { Prints (λ said refused. AnswersIn self.old names.now name.now EventValue.DropOff said refused self.new) text.old text.new result }
     {
-        let event = match event_of(&self.bus, names, &mut self.cuts, wish) {
-            Ok(event) => event,
-            Err(why) => return Err(Stop::Refused(why)),
-        };
-        if let (Wish::Attach { name, .. }, Event::Attach(slot, _)) = (wish, &event) {
-            names.give_slot(name, *slot)?;
+        match names.slot_of(name) {
+            Ok(slot) => self.answer(names, &Event::DropOff(slot), text),
+            Err(why) => Err(Stop::Refused(why)),
         }
-        Ok(event)
+    }
+
+    /// `ask-join`: a device wishes to join.
+    #[inline(never)]
+    fn ask_join(&mut self, names: &Names, name: &Name, text: &mut Text) -> Result<(), Stop>
+        ensures { Prints (λ said refused. AnswersIn self.old names.now name.now EventValue.AskJoin said refused self.new) text.old text.new result }
+    {
+        match names.slot_of(name) {
+            Ok(slot) => self.answer(names, &Event::AskJoin(slot), text),
+            Err(why) => Err(Stop::Refused(why)),
+        }
+    }
+
+    /// `ask-role`: a device wishes for the controller role.
+    #[inline(never)]
+    fn ask_role(&mut self, names: &Names, name: &Name, text: &mut Text) -> Result<(), Stop>
+        ensures { Prints (λ said refused. AnswersIn self.old names.now name.now EventValue.AskRole said refused self.new) text.old text.new result }
+    {
+        match names.slot_of(name) {
+            Ok(slot) => self.answer(names, &Event::AskRole(slot), text),
+            Err(why) => Err(Stop::Refused(why)),
+        }
+    }
+
+    /// `handover`: the role is offered to the device at an address.
+    #[inline(never)]
+    fn hand_over(&mut self, names: &Names, to: Addr7, text: &mut Text) -> Result<(), Stop>
+        ensures { Prints (λ said refused. Answers self.old names.now (EventValue.HandOver to self.old.cuts) said refused self.new) text.old text.new result }
+    {
+        let cuts = self.take_cuts();
+        self.answer(names, &Event::HandOver(to, cuts), text)
+    }
+
+    /// `open`: a session is opened, and stays open.
+    #[inline(never)]
+    fn open(&mut self, names: &Names, text: &mut Text) -> Result<(), Stop>
+        ensures { Prints (λ said refused. Answers self.old names.now (EventValue.OpenDaa self.old.cuts) said refused self.new) text.old text.new result }
+    {
+        let cuts = self.take_cuts();
+        self.answer(names, &Event::OpenDaa(cuts), text)
+    }
+
+    /// `round`: one round of the open session.
+    #[inline(never)]
+    fn round(&mut self, names: &Names, text: &mut Text) -> Result<(), Stop>
+        ensures { Prints (λ said refused. Answers self.old names.now (EventValue.Round self.old.cuts) said refused self.new) text.old text.new result }
+    {
+        let cuts = self.take_cuts();
+        self.answer(names, &Event::Round(cuts), text)
+    }
+
+    /// `end`: the open session ends.
+    #[inline(never)]
+    fn end(&mut self, names: &Names, text: &mut Text) -> Result<(), Stop>
+        ensures { Prints (λ said refused. Answers self.old names.now EventValue.EndDaa said refused self.new) text.old text.new result }
+    {
+        self.answer(names, &Event::EndDaa, text)
+    }
+
+    /// The bus answers an event, and its reply is printed.
+    fn answer(&mut self, names: &Names, event: &Event, text: &mut Text) -> Result<(), Stop>
+        // a frame's cuts are taken before
+        requires { cuts_left event.now self.old.cuts ≡ self.old.cuts }
+        ensures { Prints (λ said refused. Answers self.old names.now event.now said refused self.new) text.old text.new result }
+    {
+        let reply = self.step(event);
+        tell(names, subject_of(event), &reply, text)
     }
 
     /// One event: the bus takes the role or session in hand, and gives one back.
     fn step(&mut self, event: &Event) -> Reply
-        ensures policy { self.new.policy ≡ self.old.policy }
-        ensures cuts { self.new.cuts ≡ self.old.cuts }
-        ensures step { Step self.old.state event.now result self.new.state }
+        requires { cuts_left event.now self.old.cuts ≡ self.old.cuts }
+        ensures { Moves self.old event.now result self.new }
     {
         let hand = take(&mut self.hand);
         let (hand, reply) = self.bus.step(hand, event, &mut self.wires);
@@ -215,18 +261,63 @@ impl Running {
         reply
     }
 
+    /// The cuts that wait, of which none is left.
+    fn take_cuts(&mut self) -> Cuts
+        ensures taken { result ≡ self.old.cuts }
+        ensures left { self.new ≡ record self.old { cuts = no_cuts } }
+    {
+        mem::replace(&mut self.cuts, Cuts::new())
+    }
+
     /// `daa`: a whole session. The cuts that wait are its opening's.
     #[inline(never)]
     fn assign(&mut self, text: &mut Text) -> Result<(), Stop>
-        ensures assigns { Assigns self.old.state self.old.cuts result self.new.state }
-        ensures policy { self.new.policy ≡ self.old.policy }
-        ensures cuts { self.new.cuts ≡ no_cuts }
+        ensures { Prints (λ said refused. Assigns self.old said refused self.new) text.old text.new result }
     {
-        let cuts = mem::replace(&mut self.cuts, Cuts::new());
+        let cuts = self.take_cuts();
         let hand = take(&mut self.hand);
         let (hand, outcome) = assigning::assign(hand, &mut self.bus, &mut self.wires, &cuts, text);
         give(&mut self.hand, hand);
         outcome
+    }
+
+    /// `cut`: whatever device is in the slot by then loses power at a bit of the next frame.
+    #[inline(never)]
+    fn cut(&mut self, names: &Names, name: &Name, bit: u16) -> Result<(), Stop>
+        ensures { MatchResult (slot_of_device self.old.state names.now name.now)
+            (λ slot. (result ≡ Ok tt) × (self.new ≡ record self.old { cuts = cut_at self.old.cuts slot bit }))
+            (λ why. (result ≡ Err (Stop.Refused why)) × (self.new ≡ self.old)) }
+    {
+        match slot_of_device(&self.bus, names, name) {
+            Ok(slot) => {
+                self.cuts.add(slot, bit);
+                Ok(())
+            }
+            Err(why) => Err(Stop::Refused(why)),
+        }
+    }
+
+    /// `show`: the bus as it is.
+    #[inline(never)]
+    fn show(&self, names: &Names, text: &mut Text) -> Result<(), Stop>
+        ensures { Prints (IsDone (show_text self.now.state names.now)) text.old text.new result }
+    {
+        match show(&self.bus, names, text) {
+            Ok(()) => Ok(()),
+            Err(_) => Err(Stop::Memory),
+        }
+    }
+
+    /// `symbols`: the last symbols of the wire.
+    #[inline(never)]
+    fn show_symbols(&mut self, text: &mut Text) -> Result<(), Stop>
+        ensures same { self.new ≡ self.old }
+        ensures told { Prints (IsDone (symbols_text self.old.wire)) text.old text.new result }
+    {
+        match self.wires.show(text) {
+            Ok(()) => Ok(()),
+            Err(_) => Err(Stop::Memory),
+        }
     }
 
     /// Takes the bus apart. A session that is open ends so.

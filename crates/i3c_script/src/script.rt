@@ -4,7 +4,8 @@ ghost use Rattle.i3c_lines.specs.Gathering.{gathered};
 ghost use Rattle.i3c_script.specs.Outcomes.{HasNoFeed, output, written};
 ghost use Rattle.i3c_script.specs.Printed.{end_text};
 ghost use Rattle.i3c_script.specs.Scripts.{LinesGoOut};
-ghost use Rattle.i3c_script.specs.ScriptSteps.{LineEnds, Obeys, ReadsAll, Runs, RunsTo, RunStops, Takes};
+ghost use Rattle.i3c_script.specs.Obeying.{IsBegun};
+ghost use Rattle.i3c_script.specs.ScriptSteps.{LineEnds, Reads, ReadsAll, Runs, Takes, progress, state};
 ghost use Rattle.i3c_script.specs.Stops.{IsLineFault, refusals};
 
 use crate::faults::{ScriptFault, Stop};
@@ -37,13 +38,15 @@ pub fn run_script<R: Read, W: Write>(
     ensures whole { OnOk result (IsAtEnd (R.remaining reader.new)) }
     ensures fits { OnOk result (IfSome (R.remaining reader.old) (λ bytes. length bytes ≤ MOST_BYTES)) }
     ensures large { result ≡ Err ScriptFault.TooLarge → IfSome (R.remaining reader.old) (λ bytes. MOST_BYTES < length bytes) }
-    // what goes out is what the lines put out: all of it with `Ok`, and of its beginning what each fault says
+    // the lines that were read are run one after another, from a script's start, each by what its command asks of the
+    // bus; and what goes out is what they print: all of it with `Ok`, and of its beginning what each fault says
     ensures lines { LinesGoOut (R.remaining reader.old) (R.remaining reader.new) (W.contents writer.old) (W.contents writer.new) result }
 {
+    let mut script = Script::new(alloc);
     let Ok(mut chunk) = vec![in alloc; 0u8; CHUNK] else {
+        let _none = script.retire();
         return Err(ScriptFault::Memory);
     };
-    let mut script = Script::new(alloc);
     let outcome = script.read_all(reader, &mut chunk, writer);
     let refused = script.retire();
     match outcome {
@@ -70,6 +73,7 @@ impl Script {
     fn new(alloc: Global) -> Script
         ensures held { gathered result.line ≡ [] }
         ensures refused { result.refused ≡ 0 }
+        ensures begun { IsBegun (state result) }
     {
         Script {
             alloc,
@@ -94,7 +98,7 @@ impl Script {
         ensures whole { OnOk result (IsAtEnd (R.remaining reader.new)) }
         ensures fits { OnOk result (IfSome (R.remaining reader.old) (λ bytes. length bytes ≤ MOST_BYTES)) }
         ensures large { result ≡ Err ScriptFault.TooLarge → IfSome (R.remaining reader.old) (λ bytes. MOST_BYTES < length bytes) }
-        ensures runs { gathered self.old.line ≡ [] → ReadsAll (R.remaining reader.old) (R.remaining reader.new) (W.contents out.old) (W.contents out.new) self.old.refused self.new.refused result }
+        ensures runs { gathered self.old.line ≡ [] → ReadsAll (R.remaining reader.old) (R.remaining reader.new) (W.contents out.old) (W.contents out.new) (progress self.old) (progress self.new) result }
     {
         let mut left = MOST_BYTES;
         for _ in 0..u64::MAX {
@@ -123,7 +127,7 @@ impl Script {
     fn take<W: Write>(&mut self, bytes: &[u8], out: &mut W) -> Result<(), ScriptFault>
         ensures fault { IfErr result IsLineFault }
         ensures runs { (begun : List ℕ) → gathered self.old.line ≡ take 257 begun → HasNoFeed begun →
-            Takes (begun ++ bytes.now) (gathered self.new.line) (written (W.contents out.old)) (written (W.contents out.new)) self.old.refused self.new.refused result }
+            Takes (begun ++ bytes.now) (gathered self.new.line) (written (W.contents out.old)) (written (W.contents out.new)) (progress self.old) (progress self.new) result }
     {
         self.gathered.clear();
         let outcome = self.take_lines(bytes, out);
@@ -134,7 +138,7 @@ impl Script {
     fn end<W: Write>(&mut self, out: &mut W) -> Result<(), ScriptFault>
         ensures fault { IfErr result IsLineFault }
         ensures runs { (begun : List ℕ) → gathered self.old.line ≡ take 257 begun → HasNoFeed begun →
-            Runs (begun ++ 10 ∷ []) [] (written (W.contents out.old)) (written (W.contents out.new)) self.old.refused self.new.refused result }
+            Runs (begun ++ 10 ∷ []) [] (written (W.contents out.old)) (written (W.contents out.new)) (progress self.old) (progress self.new) result }
     {
         self.gathered.clear();
         let outcome = self.end_held_line(&[], out);
@@ -145,7 +149,7 @@ impl Script {
     fn take_lines<W: Write>(&mut self, bytes: &[u8], out: &mut W) -> Result<(), ScriptFault>
         ensures fault { IfErr result IsLineFault }
         ensures runs { (begun : List ℕ) → gathered self.old.line ≡ take 257 begun → HasNoFeed begun →
-            Takes (begun ++ bytes.now) (gathered self.new.line) (output (W.contents out.old) self.old.gathered) (output (W.contents out.new) self.new.gathered) self.old.refused self.new.refused result }
+            Takes (begun ++ bytes.now) (gathered self.new.line) (output (W.contents out.old) self.old.gathered) (output (W.contents out.new) self.new.gathered) (progress self.old) (progress self.new) result }
     {
         match position_of_feed(bytes) {
             None => {
@@ -166,7 +170,7 @@ impl Script {
         ensures fault { IfErr result IsLineFault }
         ensures held { gathered self.new.line ≡ [] }
         ensures runs { (begun : List ℕ) → gathered self.old.line ≡ take 257 begun → HasNoFeed begun → HasNoFeed bytes.now →
-            Runs (begun ++ (bytes.now ++ 10 ∷ [])) [] (output (W.contents out.old) self.old.gathered) (output (W.contents out.new) self.new.gathered) self.old.refused self.new.refused result }
+            Runs (begun ++ (bytes.now ++ 10 ∷ [])) [] (output (W.contents out.old) self.old.gathered) (output (W.contents out.new) self.new.gathered) (progress self.old) (progress self.new) result }
     {
         let mut line = mem::replace(&mut self.line, Line::new());
         line.extend(bytes);
@@ -177,7 +181,7 @@ impl Script {
     fn run_lines<W: Write>(&mut self, bytes: &[u8], out: &mut W) -> Result<(), ScriptFault>
         ensures fault { IfErr result IsLineFault }
         ensures runs { gathered self.old.line ≡ [] →
-            Takes bytes.now (gathered self.new.line) (output (W.contents out.old) self.old.gathered) (output (W.contents out.new) self.new.gathered) self.old.refused self.new.refused result }
+            Takes bytes.now (gathered self.new.line) (output (W.contents out.old) self.old.gathered) (output (W.contents out.new) self.new.gathered) (progress self.old) (progress self.new) result }
     {
         let mut rest = bytes;
         while let Some(end) = position_of_feed(rest) {
@@ -197,7 +201,7 @@ impl Script {
     fn run_line<W: Write>(&mut self, line: &[u8], out: &mut W) -> Result<(), ScriptFault>
         ensures fault { IfErr result IsLineFault }
         ensures held { self.new.line ≡ self.old.line }
-        ensures ends { LineEnds line.now (output (W.contents out.old) self.old.gathered) (output (W.contents out.new) self.new.gathered) self.old.refused self.new.refused result }
+        ensures ends { LineEnds line.now (output (W.contents out.old) self.old.gathered) (output (W.contents out.new) self.new.gathered) (progress self.old) (progress self.new) result }
     {
         self.text.clear();
         let outcome = self.obey(line);
@@ -210,7 +214,7 @@ impl Script {
         ensures held { self.new.line ≡ self.old.line }
         ensures gathered { self.new.gathered ≡ self.old.gathered }
         ensures refused { self.new.refused ≡ self.old.refused }
-        ensures obeys { Obeys line.now result self.old.text self.new.text }
+        ensures reads { Reads (state self.old) line.now self.old.text self.new.text result (state self.new) }
     {
         match is_skipped(line) {
             Ok(true) => return Ok(()),
@@ -234,6 +238,7 @@ impl Script {
         ensures counted { self.new.refused ≡ min (self.old.refused + refusals outcome) u64.MAX }
         ensures held { self.new.line ≡ self.old.line }
         ensures gathered { self.new.gathered ≡ self.old.gathered }
+        ensures state { state self.new ≡ state self.old }
     {
         let refused = self.refused;
         match outcome {

@@ -1,76 +1,141 @@
+ghost use Rattle.std.specs.Prelude.{◌≡◌, [], ◌∷◌, ◌++◌, OnOk, codes, slice_index_or};
+ghost use Rattle.std.specs.Fmt.{decimal};
+ghost use Rattle.i3c_base.specs.declared.range.TheConstants.{ADDRESSES, SLOTS};
+ghost use Rattle.i3c_bus.specs.Readings.{address_of};
+ghost use Rattle.i3c_base.specs.State.{IsPresent, device_at};
+ghost use Rattle.i3c_lines.specs.Naming.{legacy_names, letters, slot_names};
+ghost use Rattle.i3c_script.specs.Printed.{byte_or_none, declared_text, device_text, devices_text, legacies_text, legacy_text, record_text, recorded_text, records_text, show_text};
+
 use i3c_base::{ADDRESSES, Addr7, Record, SLOTS, Slot};
 use i3c_bus::Bus;
-use i3c_lines::{Names, Text};
+use i3c_lines::{Name, Names, Text};
 use std::alloc::AllocError;
 
 /// What is printed for an address or a byte that isn't there.
 const NONE: &[u8] = b"--";
 
 /// Prints an address: two hex digits, or `--` for none.
-pub(crate) fn show_address(address: Option<Addr7>, text: &mut Text) -> Result<(), AllocError> {
-    show_byte(address.map(Addr7::get), text)
+fn show_address(address: Option<Addr7>, text: &mut Text) -> Result<(), AllocError>
+    ensures { OnOk result (text.new ≡ text.old ++ byte_or_none address) }
+{
+    match address {
+        Some(address) => text.push_byte(address.get()),
+        None => text.push(NONE),
+    }
 }
 
 /// Prints a byte: two hex digits, or `--` for none.
-fn show_byte(byte: Option<u8>, text: &mut Text) -> Result<(), AllocError> {
+fn show_byte(byte: Option<u8>, text: &mut Text) -> Result<(), AllocError>
+    ensures { OnOk result (text.new ≡ text.old ++ byte_or_none byte) }
+{
     match byte {
         Some(byte) => text.push_byte(byte),
         None => text.push(NONE),
     }
 }
 
-/// Prints some words and a number.
-fn show_number(words: &[u8], number: u64, text: &mut Text) -> Result<(), AllocError> {
+/// Prints some words and an address, and ends the line.
+fn show_place(words: &[u8], address: Option<Addr7>, text: &mut Text) -> Result<(), AllocError>
+    ensures { OnOk result (text.new ≡ text.old ++ (words.now ++ (byte_or_none address ++ 10 ∷ []))) }
+{
     text.push(words)?;
-    text.push_decimal(number)
+    show_address(address, text)?;
+    text.end()
+}
+
+/// Prints a legacy target that was declared.
+pub(crate) fn show_declared(name: &Name, address: Addr7, text: &mut Text) -> Result<(), AllocError>
+    ensures { OnOk result (text.new ≡ text.old ++ declared_text name.now address) }
+{
+    text.push(name.as_bytes())?;
+    show_place(b" legacy at ", Some(address), text)
+}
+
+/// Prints the main controller, with its address.
+pub(crate) fn show_main(
+    name: &Name,
+    address: Option<Addr7>,
+    text: &mut Text,
+) -> Result<(), AllocError>
+    ensures { OnOk result (text.new ≡ text.old ++ (letters name.now ++ (codes " slot 0 at " ++ (byte_or_none address ++ 10 ∷ [])))) }
+{
+    text.push(name.as_bytes())?;
+    show_place(b" slot 0 at ", address, text)
 }
 
 /// Prints the bus: who is active, the present devices by slot, the legacy targets by address, and the records.
-pub(crate) fn show(bus: &Bus, names: &Names, text: &mut Text) -> Result<(), AllocError> {
-    text.push(b"active ")?;
-    show_address(bus.address(bus.active()), text)?;
-    text.end()?;
+pub(crate) fn show(bus: &Bus, names: &Names, text: &mut Text) -> Result<(), AllocError>
+    ensures { OnOk result (text.new ≡ text.old ++ show_text bus.now.state names.now) }
+{
+    show_place(b"active ", bus.address(bus.active()), text)?;
     show_devices(bus, names, text)?;
     show_legacies(names, text)?;
     show_records(bus.records(), text)
 }
 
 /// Prints each present device, by slot.
-fn show_devices(bus: &Bus, names: &Names, text: &mut Text) -> Result<(), AllocError> {
+fn show_devices(bus: &Bus, names: &Names, text: &mut Text) -> Result<(), AllocError>
+    ensures { OnOk result (text.new ≡ text.old ++ devices_text bus.now.state names.now SLOTS) }
+{
     for number in 0..SLOTS as u8 {
         let slot = Slot::new(number).unwrap();
-        if !bus.present(slot) {
-            continue;
-        }
-        if let Some(name) = names.in_slot(slot) {
-            text.push(name.as_bytes())?;
-            text.push(b" ")?;
-            show_address(bus.address(slot), text)?;
-            show_number(b" waiting ", bus.waiting(slot) as u64, text)?;
-            text.end()?;
-        }
+        show_slot(bus, names, slot, text)?;
     }
     Ok(())
+}
+
+/// Prints the device of a slot, if there is one.
+fn show_slot(bus: &Bus, names: &Names, slot: Slot, text: &mut Text) -> Result<(), AllocError>
+    ensures { OnOk result (text.new ≡ text.old ++ device_text (slice_index_or (slot_names names.now) slot None) (device_at bus.now.state slot)) }
+{
+    match names.in_slot(slot) {
+        Some(name) if bus.present(slot) => show_device(bus, name, slot, text),
+        _ => Ok(()),
+    }
+}
+
+/// Prints the present device of a slot.
+fn show_device(bus: &Bus, name: &Name, slot: Slot, text: &mut Text) -> Result<(), AllocError>
+    requires { IsPresent bus.now.state slot }
+    ensures { OnOk result (text.new ≡ text.old ++ device_text (Some name.now) (device_at bus.now.state slot)) }
+{
+    text.push(name.as_bytes())?;
+    text.push(b" ")?;
+    show_address(bus.address(slot), text)?;
+    text.push_numbered(b" waiting ", bus.waiting(slot) as u64)
 }
 
 /// Prints each legacy target, by address.
-fn show_legacies(names: &Names, text: &mut Text) -> Result<(), AllocError> {
+fn show_legacies(names: &Names, text: &mut Text) -> Result<(), AllocError>
+    ensures { OnOk result (text.new ≡ text.old ++ legacies_text names.now ADDRESSES) }
+{
     for number in 0..ADDRESSES as u8 {
         let address = Addr7::new(number).unwrap();
-        if let Some(name) = names.at_address(address) {
-            text.push(name.as_bytes())?;
-            text.push(b" ")?;
-            text.push_byte(number)?;
-            text.push(b" legacy\n")?;
-        }
+        show_legacy(names, address, text)?;
     }
     Ok(())
 }
 
+/// Prints the legacy target at a static address, if there is one.
+fn show_legacy(names: &Names, address: Addr7, text: &mut Text) -> Result<(), AllocError>
+    ensures { OnOk result (text.new ≡ text.old ++ legacy_text (slice_index_or (legacy_names names.now) address None) address) }
+{
+    match names.at_address(address) {
+        Some(name) => {
+            text.push(name.as_bytes())?;
+            text.push(b" ")?;
+            text.push_byte(address.get())?;
+            text.push(b" legacy\n")
+        }
+        None => Ok(()),
+    }
+}
+
 /// Prints how many interrupts were recorded, and each, the oldest first.
-fn show_records(records: &[Record], text: &mut Text) -> Result<(), AllocError> {
-    show_number(b"records ", records.len() as u64, text)?;
-    text.end()?;
+fn show_records(records: &[Record], text: &mut Text) -> Result<(), AllocError>
+    ensures { OnOk result (text.new ≡ text.old ++ records_text records.now) }
+{
+    text.push_numbered(b"records ", records.len() as u64)?;
     for (index, record) in records.iter().enumerate() {
         show_number(b"record ", index as u64 + 1, text)?;
         show_record(record, text)?;
@@ -78,13 +143,37 @@ fn show_records(records: &[Record], text: &mut Text) -> Result<(), AllocError> {
     Ok(())
 }
 
+/// Prints some words and a number.
+fn show_number(words: &[u8], number: u64, text: &mut Text) -> Result<(), AllocError>
+    ensures { OnOk result (text.new ≡ text.old ++ (words.now ++ decimal number)) }
+{
+    text.push(words)?;
+    text.push_decimal(number)
+}
+
 /// Prints a record, after its number.
-fn show_record(record: &Record, text: &mut Text) -> Result<(), AllocError> {
+fn show_record(record: &Record, text: &mut Text) -> Result<(), AllocError>
+    ensures { OnOk result (text.new ≡ text.old ++ record_text record.now) }
+{
     show_number(b" slot ", record.slot.index() as u64, text)?;
     show_number(b" raise ", record.number, text)?;
+    show_recorded(record.at, record.byte, text)
+}
+
+/// Prints at which address an interrupt was recorded, and its mandatory byte.
+fn show_recorded(at: Addr7, byte: Option<u8>, text: &mut Text) -> Result<(), AllocError>
+    ensures { OnOk result (text.new ≡ text.old ++ recorded_text at byte) }
+{
     text.push(b" at ")?;
-    text.push_byte(record.at.get())?;
-    text.push(b" byte ")?;
-    show_byte(record.byte, text)?;
+    text.push_byte(at.get())?;
+    show_last_byte(b" byte ", byte, text)
+}
+
+/// Prints some words and a byte, and ends the line.
+fn show_last_byte(words: &[u8], byte: Option<u8>, text: &mut Text) -> Result<(), AllocError>
+    ensures { OnOk result (text.new ≡ text.old ++ (words.now ++ (byte_or_none byte ++ 10 ∷ []))) }
+{
+    text.push(words)?;
+    show_byte(byte, text)?;
     text.end()
 }

@@ -1,11 +1,14 @@
-ghost use Rattle.std.specs.Prelude.{◌≡◌, true, OnOk};
-ghost use Rattle.i3c_base.specs.Numbers.{is_capable};
+ghost use Rattle.std.specs.Prelude.{◌≡◌};
+ghost use Rattle.i3c_lines.specs.declared.command.Command.{Command as CommandValue};
+ghost use Rattle.i3c_script.specs.Obeying.{IsObeyed, ObeysBefore, main_refusal, script};
+ghost use Rattle.i3c_script.specs.Telling.{Prints};
 
 use crate::faults::Stop;
 use crate::running::Running;
-use crate::show::show_address;
+use crate::show::{show_declared, show_main};
 use crate::wires::Wires;
 use i3c_base::{Addr7, Bcr, Lvr, Setup, Slot};
+use i3c_bus::Refusal as BusRefusal;
 use i3c_legacy::Legacies;
 use i3c_lines::{Command, Name, Names, Refusal, Text};
 use std::alloc::Global;
@@ -21,8 +24,12 @@ pub(crate) enum Stage {
 }
 
 impl Stage {
+    ghost use Rattle.i3c_base.specs.State.{no_lvrs};
+
     /// A script's start: no bus, and no legacy target.
-    pub fn new() -> Stage {
+    pub fn new() -> Stage
+        ensures { result ≡ Stage.Before no_lvrs }
+    {
         Stage::Before(Legacies::new())
     }
 
@@ -33,7 +40,9 @@ impl Stage {
         names: &mut Names,
         command: &Command,
         text: &mut Text,
-    ) -> Result<(), Stop> {
+    ) -> Result<(), Stop>
+        ensures obeys { IsObeyed (script self.old names.old) command.now text.old text.new result (script self.new names.new) }
+    {
         match self {
             Stage::Running(running) => running.obey(names, command, text),
             Stage::Before(legacies) => match command {
@@ -41,13 +50,7 @@ impl Stage {
                     declare(legacies, names, name, *address, *lvr, text)
                 }
                 Command::Main { name, setup } => self.begin(alloc, names, name, *setup, text),
-                Command::Frame(_)
-                | Command::Event(_)
-                | Command::Policy(_)
-                | Command::Cut { .. }
-                | Command::Daa
-                | Command::Show
-                | Command::Symbols => Err(Refusal::NoBus.into()),
+                _ => Err(Refusal::NoBus.into()),
             },
         }
     }
@@ -63,20 +66,23 @@ impl Stage {
         name: &Name,
         setup: Setup,
         text: &mut Text,
-    ) -> Result<(), Stop> {
+    ) -> Result<(), Stop>
+        ensures { IsObeyed (script self.old names.old) (CommandValue.Main name.now setup) text.old text.new result (script self.new names.new) }
+    {
         let Stage::Before(legacies) = self else {
             return Err(Refusal::BusMade.into());
         };
-        let running = start(alloc, legacies, names, name, setup)?;
-        let slot = running.bus().active();
-        let address = running.bus().address(slot);
+        match main_refusal(names, name, setup.identity.bcr) {
+            Some(why) => return Err(Stop::Refused(why)),
+            None => {}
+        }
+        let wires = Wires::new(alloc)?;
+        names.give_slot(name, Slot::default())?;
+        let declared = mem::replace(legacies, Legacies::new());
+        let running = Running::new(alloc, setup, declared, wires);
+        let address = running.bus().address(Slot::default());
         mem::replace(self, Stage::Running(running)).retire();
-        text.push(name.as_bytes())?;
-        text.push(b" slot ")?;
-        text.push_decimal(slot.index() as u64)?;
-        text.push(b" at ")?;
-        show_address(address, text)?;
-        text.end()?;
+        show_main(name, address, text)?;
         Ok(())
     }
 
@@ -97,43 +103,29 @@ fn declare(
     address: Addr7,
     lvr: Lvr,
     text: &mut Text,
-) -> Result<(), Stop> {
-    if names.place_of(name).is_some() {
-        return Err(Refusal::NameTaken.into());
-    }
-    legacies.add(address, lvr).map_err(Refusal::from)?;
-    names.give_address(name, address)?;
-    text.push(name.as_bytes())?;
-    text.push(b" legacy at ")?;
-    text.push_byte(address.get())?;
-    text.end()?;
-    Ok(())
-}
-
-/// Gives the main device its name, if it can be the main controller.
-fn admit(names: &mut Names, name: &Name, bcr: Bcr) -> Result<(), Stop>
-    ensures { OnOk result (is_capable bcr ≡ true) }
+) -> Result<(), Stop>
+    ensures { Prints (λ said refused. ObeysBefore legacies.old names.old (CommandValue.Legacy name.now address lvr) said refused (script (Stage.Before legacies.new) names.new)) text.old text.new result }
 {
     if names.place_of(name).is_some() {
         return Err(Refusal::NameTaken.into());
     }
-    if !bcr.capable() {
-        return Err(Refusal::NotCapable.into());
+    if let Err(fault) = legacies.add(address, lvr) {
+        return Err(Stop::Refused(Refusal::Legacy(fault)));
     }
-    names.give_slot(name, Slot::default())?;
+    names.give_address(name, address)?;
+    show_declared(name, address, text)?;
     Ok(())
 }
 
-/// Makes the bus, with this device as its main controller. What is refused leaves the legacy targets as they were.
-fn start(
-    alloc: Global,
-    legacies: &mut Legacies,
-    names: &mut Names,
-    name: &Name,
-    setup: Setup,
-) -> Result<Running, Stop> {
-    let wires = Wires::new(alloc)?;
-    admit(names, name, setup.identity.bcr)?;
-    let declared = mem::replace(legacies, Legacies::new());
-    Ok(Running::new(alloc, setup, declared, wires))
+/// Why a device isn't made the main controller, if it isn't.
+fn main_refusal(names: &Names, name: &Name, bcr: Bcr) -> Option<Refusal>
+    ensures { result ≡ main_refusal names.now name.now bcr }
+{
+    if names.place_of(name).is_some() {
+        return Some(Refusal::NameTaken);
+    }
+    if !bcr.capable() {
+        return Some(Refusal::Bus(BusRefusal::NotCapable));
+    }
+    None
 }

@@ -1,13 +1,15 @@
-ghost use Rattle.std.specs.Prelude.{◌≡◌, ◌⊎◌, [], ◌∷◌, ◌++◌, None, Some, MatchResult, OnOk};
+ghost use Rattle.std.specs.Prelude.{◌≡◌, [], ◌∷◌, ◌++◌, OnOk};
 ghost use Rattle.std.specs.Fmt.{decimal};
 ghost use Rattle.i3c_script.specs.Printed.{assigned_text, attached_text, field_text, framed_text, handed_text, identity_text, opened_text, raised_text, reply_text, request_text, round_text, served_text, subject_of};
-ghost use Rattle.i3c_script.specs.Stops.{reply_stop};
-ghost use Rattle.i3c_script.specs.declared.faults.Stop.TheVariants.{Memory};
+ghost use Rattle.i3c_step.specs.Replies.{raised_reply};
+ghost use Rattle.i3c_lines.specs.declared.names.Names.{Names as NamesValue};
+ghost use Rattle.i3c_script.specs.declared.telling.Subject.{Subject as SubjectValue};
+ghost use Rattle.i3c_script.specs.Telling.{IsTold, Prints};
 
-use crate::faults::Stop;
-use i3c_base::{Addr7, Answer, Identity, RoundReply, Served, Slot};
+use crate::faults::{Stop, outcome_of};
+use i3c_base::{Addr7, Answer, Identity, RaiseRefusal, RoundReply, Served, Slot};
 use i3c_bus::{Event, Framed, Reply};
-use i3c_lines::{Names, Text};
+use i3c_lines::{Names, Refusal, Text};
 use std::alloc::AllocError;
 
 /// What of its event a reply's text has in it.
@@ -39,13 +41,25 @@ pub(crate) fn tell(
     reply: &Reply,
     text: &mut Text,
 ) -> Result<(), Stop>
-    ensures stop { MatchResult result (λ _. reply_stop reply.now ≡ None) (λ stop. (stop ≡ Stop.Memory) ⊎ (reply_stop reply.now ≡ Some stop)) }
-    ensures told { OnOk result (text.new ≡ text.old ++ reply_text names.now subject reply.now) }
+    ensures { Prints (IsTold names.now subject reply.now) text.old text.new result }
 {
-    show_reply(names, subject, reply, text)?;
-    match Stop::of_reply(reply) {
-        Some(stop) => Err(stop),
-        None => Ok(()),
+    match show_reply(names, subject, reply, text) {
+        Ok(()) => outcome_of(reply),
+        Err(_) => Err(Stop::Memory),
+    }
+}
+
+/// Prints what a raise came to, as `tell` does for a reply.
+#[inline(always)]
+pub(crate) fn tell_raised(raised: Result<u64, RaiseRefusal>, text: &mut Text) -> Result<(), Stop>
+    ensures { (names : NamesValue) → Prints (IsTold names SubjectValue.Nothing (raised_reply raised)) text.old text.new result }
+{
+    match raised {
+        Ok(number) => match show_raised(number, text) {
+            Ok(()) => Ok(()),
+            Err(_) => Err(Stop::Memory),
+        },
+        Err(why) => Err(Stop::Refused(Refusal::Bus(why.into()))),
     }
 }
 
@@ -74,7 +88,7 @@ fn show_reply(
 }
 
 /// Prints the number of a raise.
-pub(crate) fn show_raised(number: u64, text: &mut Text) -> Result<(), AllocError>
+fn show_raised(number: u64, text: &mut Text) -> Result<(), AllocError>
     ensures { OnOk result (text.new ≡ text.old ++ raised_text number) }
 {
     show_number(b"raised ", number, text)

@@ -1,5 +1,6 @@
 use crate::checks::{holds, same};
 use i3c_base::{Addr7, Pid, Slot};
+use i3c_bus::Refusal as BusRefusal;
 use i3c_lines::{Name, Names, Refusal, Text};
 use std::process::Abort;
 
@@ -69,7 +70,12 @@ impl Two {
         give(rt, names, &self.first, self.one);
         stands(rt, names, &self.first, Ok(self.one));
         give(rt, names, &self.second, self.one);
-        stands(rt, names, &self.first, Err(Refusal::NoDevice));
+        stands(
+            rt,
+            names,
+            &self.first,
+            Err(Refusal::Bus(BusRefusal::NoDevice)),
+        );
         stands(rt, names, &self.second, Ok(self.one));
         is_called(rt, names, self.one, &self.second);
     }
@@ -98,7 +104,7 @@ fn words_of_refusals(rt: HostRuntime) {
     let broadcast = Addr7::new(0x7E).expect(&rt, "an address");
     let cases = [
         (Refusal::NoEnd, "NoEnd"),
-        (Refusal::NoAnswer(broadcast), "NoAnswer 7E"),
+        (Refusal::Bus(BusRefusal::NoAnswer(broadcast)), "NoAnswer 7E"),
     ];
     for (refusal, wanted) in cases {
         let mut text = Text::new(rt.alloc());

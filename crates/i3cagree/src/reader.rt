@@ -3,7 +3,7 @@ use crate::script::{KNOWN, Script, legacies_of};
 use i3c_base::{Addr7, Cuts, Fixed, Lvr, RoundReply, SLOTS, Setup, Slot};
 use i3c_bus::{Command as Frame, Event, Reply, copy_of};
 use i3c_legacy::Legacies;
-use i3c_lines::{ACCEPT_ALL, Command, Name, Names, Place, Wish, read_line};
+use i3c_lines::{ACCEPT_ALL, Command, Name, Names, Place, read_line};
 use i3c_model::{Choice, Plain};
 use std::alloc::Global;
 use std::{mem, str};
@@ -172,15 +172,6 @@ impl Running {
                 let _ = self.happen(event)?;
                 Ok(())
             }
-            Command::Event(wish) => {
-                if let Some(event) = self.event_of(names, wish) {
-                    if let (Wish::Attach { name, .. }, Event::Attach(slot, _)) = (wish, &event) {
-                        names.give_slot(name, *slot)?;
-                    }
-                    let _ = self.happen(event)?;
-                }
-                Ok(())
-            }
             Command::Policy(policy) => {
                 self.policy = *policy;
                 Ok(())
@@ -192,8 +183,19 @@ impl Running {
                 Ok(())
             }
             Command::Daa => self.assign(),
-            _ => Ok(()),
+            _ => self.obey_alone(names, command),
         }
+    }
+
+    // A line that is one event and no frame under the role, or that asks for nothing.
+    fn obey_alone(&mut self, names: &mut Names, command: &Command) -> Result<(), Fault> {
+        if let Some(event) = self.event_of(names, command) {
+            if let (Command::Attach { name, .. }, Event::Attach(slot, _)) = (command, &event) {
+                names.give_slot(name, *slot)?;
+            }
+            let _ = self.happen(event)?;
+        }
+        Ok(())
     }
 
     // An event, with the choice that was said for it, if one was.
@@ -290,17 +292,18 @@ impl Running {
     }
 
     // The event that a line asks for, if it asks for one.
-    fn event_of(&mut self, names: &Names, wish: &Wish) -> Option<Event> {
-        match wish {
-            Wish::Attach { name, setup } => Some(Event::Attach(self.seat(names, name)?, *setup)),
-            Wish::DropOff { name }
-            | Wish::Raise { name, .. }
-            | Wish::AskJoin { name }
-            | Wish::AskRole { name } => event_at(names.slot_of(name).ok()?, wish),
-            Wish::HandOver { to } => Some(Event::HandOver(*to, self.take())),
-            Wish::Open => Some(Event::OpenDaa(self.take())),
-            Wish::Round => Some(Event::Round(self.take())),
-            Wish::End => Some(Event::EndDaa),
+    fn event_of(&mut self, names: &Names, command: &Command) -> Option<Event> {
+        match command {
+            Command::Attach { name, setup } => Some(Event::Attach(self.seat(names, name)?, *setup)),
+            Command::DropOff { name }
+            | Command::Raise { name, .. }
+            | Command::AskJoin { name }
+            | Command::AskRole { name } => event_at(names.slot_of(name).ok()?, command),
+            Command::HandOver { to } => Some(Event::HandOver(*to, self.take())),
+            Command::Open => Some(Event::OpenDaa(self.take())),
+            Command::Round => Some(Event::Round(self.take())),
+            Command::End => Some(Event::EndDaa),
+            _ => None,
         }
     }
 
@@ -350,12 +353,12 @@ impl Running {
 }
 
 /// What a line asks of the device in a slot, if it asks something of one.
-fn event_at(slot: Slot, wish: &Wish) -> Option<Event> {
-    match wish {
-        Wish::DropOff { .. } => Some(Event::DropOff(slot)),
-        Wish::Raise { byte, .. } => Some(Event::Raise(slot, *byte)),
-        Wish::AskJoin { .. } => Some(Event::AskJoin(slot)),
-        Wish::AskRole { .. } => Some(Event::AskRole(slot)),
+fn event_at(slot: Slot, command: &Command) -> Option<Event> {
+    match command {
+        Command::DropOff { .. } => Some(Event::DropOff(slot)),
+        Command::Raise { byte, .. } => Some(Event::Raise(slot, *byte)),
+        Command::AskJoin { .. } => Some(Event::AskJoin(slot)),
+        Command::AskRole { .. } => Some(Event::AskRole(slot)),
         _ => None,
     }
 }

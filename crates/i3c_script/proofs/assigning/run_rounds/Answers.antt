@@ -1,29 +1,26 @@
-use Rattle.std.proofs.Common.{◌≡◌, Ok, true, false, arith, subst, sym}
-use Rattle.i3c_base.specs.State.{Held}
-use Rattle.i3c_script.specs.Asking.{RoundsUp, goes_on}
-use Rattle.i3c_script.proofs.Carrying.{all_rounds, last, no_more, one_more}
+use Rattle.std.proofs.Common.{◌≡◌, false, true, arith, refl}
+use Rattle.i3c_base.specs.Cutting.{no_cuts}
+use Rattle.i3c_script.specs.Assigning.{goes_on}
+use Rattle.i3c_script.specs.Ran.{ran_of}
+use Rattle.i3c_script.proofs.Assigned.{all_rounds, last, one_more}
 use Rattle.i3c_script.proofs.assigning.run_rounds.Goals as goal
-use Rattle.i3c_script.proofs.assigning.run_rounds.Goals.{else-loop-test, then-loop-test+in-Ok-false}
 
-pub returns-in-Err-clause-rounds : goal.returns-in-Err-clause-rounds
-returns-in-Err-clause-rounds c =
-    no_more c.args.bus.now.state c.loop.bus.state c.run_round.new.bus.state c.new-cuts.result c.loop.counter c.in-Err.stop c.new-cuts.ensures.none c.loop.invariant.1 c.in-Err.ensures.answered
+pub returns-then-not-goes_on-clause-rounds : goal.returns-then-not-goes_on-clause-rounds
+returns-then-not-goes_on-clause-rounds c = λ policy.
+    let over : goes_on c.in-Ok.answer ≡ false = cc in
+    last (ran_of c.args.bus.now.state policy no_cuts c.args.wires.now) (ran_of c.loop.bus.state policy no_cuts c.loop.wires) (ran_of c.run_round.new.bus.state policy no_cuts c.run_round.new.wires)
+    c.args.text.now c.loop.text c.run_round.new.text c.loop.counter c.in-Ok.answer c.outcome_of_round.result (c.loop.invariant.1 policy) refl (c.in-Ok.ensures.moved policy) c.in-Ok.ensures.told over c.outcome_of_round.ensures.refused
 
 pub loop-preserved : goal.loop-preserved
 loop-preserved c =
-    let (reply, step, none, same) = c.in-Ok-true.ensures.answered in
-    let more : goes_on reply ≡ true = cc in (
+    let more : goes_on c.in-Ok.answer ≡ true = cc in (
       c.run_round.ensures.fits,
-      one_more c.args.bus.now.state c.loop.bus.state c.run_round.new.bus.state c.new-cuts.result c.loop.counter reply c.new-cuts.ensures.none c.loop.invariant.1 step more,
+      λ policy.
+          one_more (ran_of c.args.bus.now.state policy no_cuts c.args.wires.now) (ran_of c.loop.bus.state policy no_cuts c.loop.wires) (ran_of c.run_round.new.bus.state policy no_cuts c.run_round.new.wires)
+          c.args.text.now c.loop.text c.run_round.new.text c.loop.counter c.in-Ok.answer (c.loop.invariant.1 policy) refl (c.in-Ok.ensures.moved policy) c.in-Ok.ensures.told more,
     )
 
 pub returns-clause-rounds : goal.returns-clause-rounds
-returns-clause-rounds c =
-    let Led : Held → Type 0 = λ (bus : Held). RoundsUp (Ok tt) c.args.bus.now.state bus.state in
-    elim c.loop-test.branch [
-      | else-loop-test w ↦ subst Led (sym w.bus-is) (all_rounds c.args.bus.now.state c.loop.bus.state c.loop.counter c.loop.invariant.1 (omega (arith, c.loop.auto.counter-end, w.loop-test.false)))
-      | then-loop-test+in-Ok-false w ↦
-          let (reply, step, none, same) = w.in-Ok-false.ensures.answered in
-          let over : goes_on reply ≡ false = cc in
-          subst Led (sym w.bus-is) (last c.args.bus.now.state c.loop.bus.state w.run_round.new.bus.state c.new-cuts.result c.loop.counter reply c.new-cuts.ensures.none c.loop.invariant.1 step over)
-    ]
+returns-clause-rounds c = λ policy.
+    all_rounds (ran_of c.args.bus.now.state policy no_cuts c.args.wires.now) (ran_of c.loop.bus.state policy no_cuts c.loop.wires) c.args.text.now c.loop.text c.loop.counter (c.loop.invariant.1 policy)
+    (omega (arith, c.loop.auto.counter-end, c.loop-test.false))

@@ -1,11 +1,12 @@
-use Rattle.std.proofs.Common.{◌≤◌, arith, subst, sym}
+use Rattle.std.proofs.Common.{◌≤◌, arith, Ok, subst, sym}
 use Rattle.std.proofs.lemmas.Grind.{common_steps}
-use Rattle.i3c_script.specs.ScriptSteps.{ReadWhole}
-use Rattle.i3c_script.proofs.ScriptRead.{none_run, whole_run}
+use Rattle.i3c_script.specs.Scripts.{LinesGoOut}
+use Rattle.i3c_script.specs.ScriptSteps.{progress, state}
+use Rattle.i3c_script.proofs.ScriptRead.{none_run, part_run, whole_run}
 use Rattle.i3c_script.proofs.script.run_script.Goals as goal
 
 pub returns-in_default-clause-lines : goal.returns-in_default-clause-lines
-returns-in_default-clause-lines g c = none_run (g.R.Read.remaining c.args.reader.now) (g.W.Write.contents c.args.writer.now)
+returns-in_default-clause-lines g c = none_run (g.R.Read.remaining c.args.reader.now) (g.W.Write.contents c.args.writer.now) (state c.new-script.result) c.new-script.ensures.begun
 
 pub returns-in-Ok-outcome-clause-lines : goal.returns-in-Ok-outcome-clause-lines
 returns-in-Ok-outcome-clause-lines g c =
@@ -13,12 +14,14 @@ returns-in-Ok-outcome-clause-lines g c =
     let left = g.R.Read.remaining c.read_all-outcome.new.reader in
     let old = g.W.Write.contents c.args.writer.now in
     let new = g.W.Write.contents c.read_all-outcome.new.out in
-    let refused = c.retire-refused.result in
-    let small : refused ≤ 18446744073709551615 = grind (arith, common_steps) in
+    let from = progress c.new-script.result in
+    let to = progress c.read_all-outcome.new.self in
+    let small : c.read_all-outcome.new.self.refused ≤ 18446744073709551615 = grind (arith, common_steps) in
     let read = c.in-Ok-outcome.ensures.runs c.new-script.ensures.held in
-    let told = subst (λ n. ReadWhole known left old new c.new-script.result.refused n) (sym c.retire-refused.ensures) read in
-    let whole = subst (λ n. ReadWhole known left old new n refused) c.new-script.ensures.refused told in
-    whole_run known left old new refused whole c.in-Ok-outcome.ensures.whole small
+    subst (λ n. LinesGoOut known left old new (Ok (record { refused = n }))) (sym c.retire-refused.ensures)
+    (whole_run known left old new from to c.new-script.ensures.begun c.new-script.ensures.refused read c.in-Ok-outcome.ensures.whole small)
 
 pub returns-clause-lines : goal.returns-clause-lines
-returns-clause-lines g c = c.in-Err.ensures.runs c.new-script.ensures.held
+returns-clause-lines g c =
+    part_run (g.R.Read.remaining c.args.reader.now) (g.R.Read.remaining c.read_all-outcome.new.reader) (g.W.Write.contents c.args.writer.now) (g.W.Write.contents c.read_all-outcome.new.out)
+    (progress c.new-script.result) c.in-Err.fault c.new-script.ensures.begun (c.in-Err.ensures.runs c.new-script.ensures.held)

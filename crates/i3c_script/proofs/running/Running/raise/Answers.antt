@@ -1,26 +1,20 @@
-use Rattle.std.proofs.Common.{◌∙◌, Some, Result, ap, inl, inr, refl, subst, sym}
-use Rattle.i3c_lines.specs.declared.command.Wish.{Wish}
+-- A raise sends nothing.
 use Rattle.i3c_step.specs.declared.events.Event.{Event}
 use Rattle.i3c_step.specs.Replies.{raised_reply}
-use Rattle.i3c_step.specs.Step.{Step}
-use Rattle.i3c_script.specs.declared.faults.Stop.{Stop}
-use Rattle.i3c_script.specs.Asking.{Carries, Does}
-use Rattle.i3c_script.specs.Stops.{bus_refusal}
-use Rattle.i3c_script.proofs.Carrying.{raised_by}
+use Rattle.i3c_script.specs.Ran.{ran_of}
+use Rattle.i3c_script.proofs.Moving.{answered, in_slot, raised_still, unsent}
 use Rattle.i3c_script.proofs.running.Running.raise.Goals as goal
-use Rattle.i3c_script.proofs.running.Running.raise.Goals.{in-Ok-raise+in-Ok-show_raised, in-Ok-raise+in-Err-show_raised, in-Err-raise}
 
-pub returns-clause-carried : goal.returns-clause-carried
-returns-clause-carried c =
-    let ran = c.args.self.now in
+pub returns-in-Ok : goal.returns-in-Ok
+returns-in-Ok c =
+    let at = c.self.inside in
     let names = c.args.names.now in
-    let wish = Wish.Raise c.args.name.now c.args.byte in
-    let new = c.raise.new.self.state in
-    let step : Step ran.state (Event.Raise c.in-Ok.slot c.args.byte) (raised_reply c.raise.result) new = rw (← c.self.view_is) c.raise.ensures.step in
-    let carried : Carries ran names wish (raised_reply c.raise.result) new = raised_by ran names c.args.name.now c.args.byte c.in-Ok.slot (raised_reply c.raise.result) new c.in-Ok.ensures step in
-    let Done : Result (Unit {0}) Stop → Type 0 = λ result. Does ran names wish result new in
-    elim c.match-raise.branch [
-      | in-Ok-raise+in-Ok-show_raised w ↦ subst Done (sym w.result-is) (_, subst (λ r. Carries ran names wish (raised_reply r) new) w.in-Ok-raise.is carried, refl)
-      | in-Ok-raise+in-Err-show_raised w ↦ subst Done (sym w.result-is) (inr (_, subst (λ r. Carries ran names wish (raised_reply r) new) w.in-Ok-raise.is carried, inl refl))
-      | in-Err-raise w ↦ subst Done (sym w.result-is) (inr (_, subst (λ r. Carries ran names wish (raised_reply r) new) w.in-Err-raise.is carried, inr (ap (λ r. Some (Stop.Refused r)) (sym (w.line_refusal.ensures ∙ ap (λ r. bus_refusal r) w.into.ensures)))))
-    ]
+    let event = Event.Raise c.in-Ok.slot c.args.byte in
+    let reply = raised_reply c.raise-raised.result in
+    let old = at.bus.state in
+    let new = c.raise-raised.new.self.state in
+    let before = ran_of old at.policy at.cuts at.wires in
+    let after = ran_of new at.policy at.cuts at.wires in
+    rw (← c.self.view_is) (in_slot before after names c.args.name.now (λ slot. Event.Raise slot c.args.byte) c.in-Ok.slot c.args.text.now c.tell_raised.new.text c.tell_raised.result c.in-Ok.ensures
+    (answered before after names event reply c.args.text.now c.tell_raised.new.text c.tell_raised.result
+    (unsent old new at.policy at.cuts at.wires event reply c.raise-raised.ensures.step (raised_still old new event c.raise-raised.result)) (c.tell_raised.ensures names)))

@@ -1,6 +1,6 @@
 use Rattle.std.proofs.Common.{[], ◌∷◌, ◌++◌, subst}
 use Rattle.i3c_script.specs.Outcomes.{GoesLast, output, written}
-use Rattle.i3c_script.specs.ScriptSteps.{Runs}
+use Rattle.i3c_script.specs.ScriptSteps.{Runs, progress}
 use Rattle.i3c_script.proofs.ScriptRuns.{no_feed_in_none, runs_flushed_last}
 use Rattle.i3c_script.proofs.script.Script.end.Goals as goal
 
@@ -11,7 +11,7 @@ returns-clause-runs g c begun held one =
     let new = g.W.Write.contents c.write_last.new.out in
     let waits = c.end_held_line-outcome.new.self.gathered in
     let outcome = c.end_held_line-outcome.result in
-    let now = c.end_held_line-outcome.new.self.refused in
-    runs_flushed_last (begun ++ 10 ∷ []) [] (written old) (output mid waits) new c.args.self.now.refused now outcome c.write_last.result
-    (subst (λ w. Runs (begun ++ 10 ∷ []) [] (output old w) (output mid waits) c.args.self.now.refused now outcome) c.clear.ensures (c.end_held_line-outcome.ensures.runs begun held one no_feed_in_none))
+    let now = progress c.end_held_line-outcome.new.self in
+    runs_flushed_last (begun ++ 10 ∷ []) [] (written old) (output mid waits) new (progress c.args.self.now) now outcome c.write_last.result
+    (subst (λ w. Runs (begun ++ 10 ∷ []) [] (output old w) (output mid waits) (progress c.args.self.now) now outcome) c.clear.ensures (c.end_held_line-outcome.ensures.runs begun held one no_feed_in_none))
     (subst (λ w. GoesLast mid new w outcome c.write_last.result) c.as_bytes.ensures c.write_last.ensures)

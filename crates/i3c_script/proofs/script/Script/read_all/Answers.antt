@@ -2,8 +2,7 @@ use Rattle.std.proofs.Common.{◌≤◌, ◌++◌, arith, subst, sym, take}
 use Rattle.i3c_lines.specs.Gathering.{gathered}
 use Rattle.i3c_script.specs.Outcomes.{written}
 use Rattle.i3c_script.specs.Reading.{IsPiece}
-use Rattle.i3c_script.specs.Scripts.{IsPart}
-use Rattle.i3c_script.specs.ScriptSteps.{RunsTo}
+use Rattle.i3c_script.specs.ScriptSteps.{ReadPart, RunsTo, progress}
 use Rattle.i3c_script.specs.declared.reading.TheConstants.{MOST_BYTES}
 use Rattle.i3c_script.proofs.ScriptRead.{all_so_far, large_part, leaves_all, leaves_more, more_so_far, none_so_far, stopped_in, unread_part}
 use Rattle.i3c_script.proofs.script.Script.read_all.Goals as goal
@@ -11,7 +10,7 @@ use Rattle.i3c_script.proofs.script.Script.read_all.Goals as goal
 pub loop-init : goal.loop-init
 loop-init g c =
     let known = g.R.Read.remaining c.args.reader.now in
-    (omega arith, leaves_all known MOST_BYTES, λ none. none_so_far known (g.W.Write.contents c.args.out.now) (gathered c.args.self.now.line) c.args.self.now.refused none)
+    (omega arith, leaves_all known MOST_BYTES, λ none. none_so_far known (g.W.Write.contents c.args.out.now) (gathered c.args.self.now.line) (progress c.args.self.now) none)
 
 pub returns-in-Err-clause-runs : goal.returns-in-Err-clause-runs
 returns-in-Err-clause-runs g c none =
@@ -21,8 +20,8 @@ returns-in-Err-clause-runs g c none =
     let old = g.W.Write.contents c.args.out.now in
     let mid = g.W.Write.contents c.loop.out in
     let so_far = c.loop.invariant.2 none in
-    subst (IsPart known next old mid) (sym c.in-Err.ensures.0)
-    (unread_part known now next old mid (gathered c.loop.self.line) c.args.self.now.refused c.loop.self.refused c.loop.left so_far c.in-Err.ensures.1)
+    subst (ReadPart known next old mid (progress c.args.self.now)) (sym c.in-Err.ensures.0)
+    (unread_part known now next old mid (gathered c.loop.self.line) (progress c.args.self.now) (progress c.loop.self) c.loop.left so_far c.in-Err.ensures.1)
 
 pub returns-in-End-clause-runs : goal.returns-in-End-clause-runs
 returns-in-End-clause-runs g c none =
@@ -34,7 +33,7 @@ returns-in-End-clause-runs g c none =
     let new = g.W.Write.contents c.end.new.out in
     let so_far = c.loop.invariant.2 none in
     let piece = subst (IsPiece now next c.loop.left c.read_piece.new.chunk) c.in-End.is c.in-Ok.ensures in
-    all_so_far known now next old mid new (gathered c.loop.self.line) c.args.self.now.refused c.loop.self.refused c.end.new.self.refused c.loop.left c.end.result so_far piece.1 piece.2
+    all_so_far known now next old mid new (gathered c.loop.self.line) (progress c.args.self.now) (progress c.loop.self) (progress c.end.new.self) c.loop.left c.end.result so_far piece.1 piece.2
     (c.end.ensures.runs so_far.rest so_far.begun so_far.runs.one)
 
 pub returns-in-Err-take-clause-runs : goal.returns-in-Err-take-clause-runs
@@ -50,7 +49,7 @@ returns-in-Err-take-clause-runs g c none =
     let count = c.in-Within.count in
     let piece = subst (IsPiece now next c.loop.left chunk) c.in-Within.is c.in-Ok.ensures in
     let same : count ≤ count = omega arith in
-    stopped_in known now next old mid new (gathered c.loop.self.line) chunk c.args.self.now.refused c.loop.self.refused c.loop.left count count c.in-Err-take.fault so_far same piece.3
+    stopped_in known now next old mid new (gathered c.loop.self.line) chunk (progress c.args.self.now) (progress c.loop.self) c.loop.left count count c.in-Err-take.fault so_far same piece.3
     (c.in-Err-take.ensures.runs so_far.rest so_far.begun so_far.runs.one)
 
 pub returns-in-Err-take-2-clause-runs : goal.returns-in-Err-take-2-clause-runs
@@ -67,7 +66,7 @@ returns-in-Err-take-2-clause-runs g c none =
     let piece = subst (IsPiece now next c.loop.left chunk) c.in-Beyond.is c.in-Ok.ensures in
     let (more, larger, room, consumed) = piece.3 in
     let within : count ≤ more = omega (arith, piece.0, larger) in
-    stopped_in known now next old mid new (gathered c.loop.self.line) chunk c.args.self.now.refused c.loop.self.refused c.loop.left count more c.in-Err-take-2.fault so_far within consumed
+    stopped_in known now next old mid new (gathered c.loop.self.line) chunk (progress c.args.self.now) (progress c.loop.self) c.loop.left count more c.in-Err-take-2.fault so_far within consumed
     (c.in-Err-take-2.ensures.runs so_far.rest so_far.begun so_far.runs.one)
 
 pub returns-in-Ok-take-2-clause-runs : goal.returns-in-Ok-take-2-clause-runs
@@ -80,12 +79,12 @@ returns-in-Ok-take-2-clause-runs g c none =
     let new = g.W.Write.contents c.take-in-Beyond.new.out in
     let so_far = c.loop.invariant.2 none in
     let chunk = c.read_piece.new.chunk in
-    let c1 = c.loop.self.refused in
-    let c2 = c.take-in-Beyond.new.self.refused in
+    let c1 = progress c.loop.self in
+    let c2 = progress c.take-in-Beyond.new.self in
     let piece = subst (IsPiece now next c.loop.left chunk) c.in-Beyond.is c.in-Ok.ensures in
     let (more, larger, room, consumed) = piece.3 in
     let (rest, runs, begins) = c.in-Ok-take-2.ensures.runs so_far.rest so_far.begun so_far.runs.one in
-    large_part known now next old mid new (gathered c.loop.self.line) chunk c.args.self.now.refused c1 c2 c.loop.left more so_far larger room consumed rest
+    large_part known now next old mid new (gathered c.loop.self.line) chunk (progress c.args.self.now) c1 c2 c.loop.left more so_far larger room consumed rest
     (subst (λ n. RunsTo (so_far.rest ++ take n chunk) rest (written mid) (written new) c1 c2) piece.0 runs)
 
 pub loop-preserved : goal.loop-preserved
@@ -104,5 +103,5 @@ loop-preserved g c =
       λ none.
           let so_far = c.loop.invariant.2 none in
           let (rest, runs, begins) = c.in-Ok-take.ensures.runs so_far.rest so_far.begun so_far.runs.one in
-          more_so_far known now next old mid new (gathered c.loop.self.line) (gathered c.take.new.self.line) chunk c.args.self.now.refused c.loop.self.refused c.take.new.self.refused c.loop.left count so_far piece.1 piece.2 piece.3 rest runs begins,
+          more_so_far known now next old mid new (gathered c.loop.self.line) (gathered c.take.new.self.line) chunk (progress c.args.self.now) (progress c.loop.self) (progress c.take.new.self) c.loop.left count so_far piece.1 piece.2 piece.3 rest runs begins,
     )

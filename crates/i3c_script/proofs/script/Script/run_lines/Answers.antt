@@ -1,7 +1,7 @@
 use Rattle.std.proofs.Common.{◌≡◌, ◌∙◌, ◌-◌, [], ◌∷◌, ◌++◌, length, take, drop, ap, append_assoc, rules, subst, sym}
 use Rattle.i3c_lines.specs.Gathering.{gathered}
 use Rattle.i3c_script.specs.Outcomes.{HasNoFeed, output}
-use Rattle.i3c_script.specs.ScriptSteps.{RunStops}
+use Rattle.i3c_script.specs.ScriptSteps.{RunStops, progress}
 use Rattle.i3c_script.proofs.ScriptRuns.{line_done, line_stops, next_line, runs_both, runs_stop, stops_before}
 use Rattle.i3c_script.proofs.script.Script.run_lines.Goals as goal
 
@@ -22,7 +22,7 @@ loop-end-preserved g c =
       (
         before ++ (line ++ 10 ∷ []),
         all ∙ ap (λ bytes. before ++ bytes) rest ∙ sym (append_assoc before (line ++ 10 ∷ []) (take (length after - 1) (drop 1 after))),
-        runs_both before [] (line ++ 10 ∷ []) [] old mid new c.args.self.now.refused c.loop-end.self.refused c.run_line.new.self.refused runs (line_done line mid new c.loop-end.self.refused c.run_line.new.self.refused one c.in-Ok.ensures.ends),
+        runs_both before [] (line ++ 10 ∷ []) [] old mid new (progress c.args.self.now) (progress c.loop-end.self) (progress c.run_line.new.self) runs (line_done line mid new (progress c.loop-end.self) (progress c.run_line.new.self) one c.in-Ok.ensures.ends),
       ),
     )
 
@@ -42,6 +42,6 @@ returns-in-Err-clause-runs g c none =
     let one = subst HasNoFeed (sym first) found.2 in
     let behind_it = take (length after - 1) (drop 1 after) in
     let split = all ∙ ap (λ bytes. before ++ bytes) rest ∙ sym (append_assoc before (line ++ 10 ∷ []) behind_it) in
-    subst (λ b. RunStops b old new fault) (sym split)
-    (stops_before (before ++ (line ++ 10 ∷ [])) behind_it old new fault
-    (runs_stop before [] (line ++ 10 ∷ []) old mid new c.args.self.now.refused c.loop-end.self.refused fault runs (line_stops fault line mid new one c.in-Err.ensures.ends)))
+    subst (λ b. RunStops b old new (progress c.args.self.now) fault) (sym split)
+    (stops_before (before ++ (line ++ 10 ∷ [])) behind_it old new (progress c.args.self.now) fault
+    (runs_stop before [] (line ++ 10 ∷ []) old mid new (progress c.args.self.now) (progress c.loop-end.self) fault runs (line_stops fault line mid new (progress c.loop-end.self) one c.in-Err.ensures.ends)))

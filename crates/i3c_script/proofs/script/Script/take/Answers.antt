@@ -1,7 +1,7 @@
 use Rattle.std.proofs.Common.{◌++◌, subst}
 use Rattle.i3c_lines.specs.Gathering.{gathered}
 use Rattle.i3c_script.specs.Outcomes.{GoesLast, output, written}
-use Rattle.i3c_script.specs.ScriptSteps.{Takes}
+use Rattle.i3c_script.specs.ScriptSteps.{Takes, progress}
 use Rattle.i3c_script.proofs.ScriptRuns.{takes_flushed}
 use Rattle.i3c_script.proofs.script.Script.take.Goals as goal
 
@@ -13,7 +13,7 @@ returns-clause-runs g c begun held one =
     let waits = c.take_lines-outcome.new.self.gathered in
     let outcome = c.take_lines-outcome.result in
     let line = gathered c.take_lines-outcome.new.self.line in
-    let now = c.take_lines-outcome.new.self.refused in
-    takes_flushed (begun ++ c.args.bytes.now) line (written old) (output mid waits) new c.args.self.now.refused now outcome c.write_last.result
-    (subst (λ w. Takes (begun ++ c.args.bytes.now) line (output old w) (output mid waits) c.args.self.now.refused now outcome) c.clear.ensures (c.take_lines-outcome.ensures.runs begun held one))
+    let now = progress c.take_lines-outcome.new.self in
+    takes_flushed (begun ++ c.args.bytes.now) line (written old) (output mid waits) new (progress c.args.self.now) now outcome c.write_last.result
+    (subst (λ w. Takes (begun ++ c.args.bytes.now) line (output old w) (output mid waits) (progress c.args.self.now) now outcome) c.clear.ensures (c.take_lines-outcome.ensures.runs begun held one))
     (subst (λ w. GoesLast mid new w outcome c.write_last.result) c.as_bytes.ensures c.write_last.ensures)

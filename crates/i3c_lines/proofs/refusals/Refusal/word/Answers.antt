@@ -1,5 +1,0 @@
-use Rattle.std.proofs.Common.{rules}
-use Rattle.i3c_lines.proofs.refusals.Refusal.word.Goals as goal
-
-pub returns-in-ListStale : goal.returns-in-ListStale
-returns-in-ListStale c = search rules

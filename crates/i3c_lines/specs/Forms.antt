@@ -1,0 +1,129 @@
+-- Which bytes are which command.
+use Rattle.std.specs.Prelude.{◌≡◌, ◌⊎◌, ℕ, ◌<◌, ◌≤◌, ◌==◌, Bool, true, false, List, [], ◌∷◌, Option, Some, None, bit_and, codes, if◌then◌else◌, length, slice_get, take}
+use Rattle.std.specs.Str.Parse.{digits_value}
+use Rattle.i3c_base.specs.declared.device.Setup.{Setup}
+use Rattle.i3c_base.specs.declared.identity.Identity.{Identity}
+use Rattle.i3c_base.specs.declared.kinds.Kinds.{Kinds}
+use Rattle.i3c_base.specs.declared.requests.Fixed.{Fixed}
+use Rattle.i3c_base.specs.declared.requests.Verdict.TheVariants.{Accept, Refuse}
+use Rattle.i3c_step.specs.declared.events.TheConstants.{WRITE_KEPT}
+use Rattle.i3c_step.specs.declared.events.Command.{Command as Frame}
+use Rattle.i3c_lines.specs.declared.command.Command.{Command}
+use Rattle.i3c_lines.specs.declared.line.TheConstants.{COMMENT, LINE_LENGTH}
+use Rattle.i3c_lines.specs.declared.names.Name.{Name}
+use Rattle.i3c_lines.specs.declared.names.TheConstants.{NAME_LENGTH}
+use Rattle.i3c_lines.specs.declared.words.TheConstants.{KNOWN_KINDS, SPACE}
+use Rattle.i3c_lines.specs.Naming.{letters}
+use Rattle.i3c_lines.specs.Policies.{each_kind, interrupts_alone, joins_alone, roles_alone}
+use Rattle.i3c_lines.specs.Words.{AreBytes, IsDecimal, IsHex, IsName, pair_values}
+
+-- a byte in front of the first word
+abbrev pub with_first : ℕ → List (List ℕ) → List (List ℕ)
+with_first byte [] = (byte ∷ []) ∷ []
+with_first byte (word ∷ words) = (byte ∷ word) ∷ words
+
+-- the words of a line: the bytes between its spaces
+abbrev pub tokens : List ℕ → List (List ℕ)
+tokens [] = [] ∷ []
+tokens (byte ∷ line) = if byte == SPACE then [] ∷ tokens line else with_first byte (tokens line)
+
+-- a word is this name's letters
+abbrev pub IsNamed : List ℕ → Name → Type 0
+IsNamed word name = IsName NAME_LENGTH word × (letters name ≡ word)
+
+-- so many hex digits, and the number that they write
+abbrev pub Writes : ℕ → List ℕ → ℕ → Type 0
+Writes digits word number = IsHex digits word × (number ≡ digits_value 16 word)
+
+-- a 7-bit address: two hex digits, at most `7F`
+abbrev pub WritesAddress : List ℕ → ℕ → Type 0
+WritesAddress word address = Writes 2 word address × (address < 128)
+
+-- two hex digits, of which bits 0, 1 and 3 are kept
+abbrev pub WritesKinds : List ℕ → Kinds → Type 0
+WritesKinds word kinds = IsHex 2 word × (kinds.0 ≡ bit_and (digits_value 16 word) KNOWN_KINDS)
+
+-- decimal digits, at most 65535
+abbrev pub WritesBit : List ℕ → ℕ → Type 0
+WritesBit word bit = IsDecimal word × (bit ≡ digits_value 10 word) × (bit < 65536)
+
+-- three words that are an identity
+abbrev pub WritesIdentity : List ℕ → List ℕ → List ℕ → Identity → Type 0
+WritesIdentity pid bcr dcr identity = Writes 12 pid identity.pid × Writes 2 bcr identity.bcr.0 × Writes 2 dcr identity.dcr.0
+
+-- behind its identity: nothing for a device that takes the controller role, or `decline`
+abbrev pub willing_words : Bool → List (List ℕ)
+willing_words true = []
+willing_words false = codes "decline" ∷ []
+
+-- `NAME PID BCR DCR [decline]`
+abbrev pub AreDevice : List (List ℕ) → Name → Setup → Type 0
+AreDevice words name setup =
+    (word pid bcr dcr : List ℕ) × (words ≡ word ∷ pid ∷ bcr ∷ dcr ∷ willing_words setup.willing) × IsNamed word name × WritesIdentity pid bcr dcr setup.identity
+
+-- `[BYTE]`
+abbrev pub AreByte : List (List ℕ) → Option ℕ → Type 0
+AreByte words None = words ≡ []
+AreByte words (Some byte) = (word : List ℕ) × (words ≡ word ∷ []) × Writes 2 word byte
+
+-- `[ADDR]`
+abbrev pub AreAddress : List (List ℕ) → Option ℕ → Type 0
+AreAddress words None = words ≡ []
+AreAddress words (Some address) = (word : List ℕ) × (words ≡ word ∷ []) × WritesAddress word address
+
+-- `BYTE [ADDR]`
+abbrev pub AreKinds : List (List ℕ) → Option ℕ → Kinds → Type 0
+AreKinds words to kinds = (word : List ℕ) × (rest : List (List ℕ)) × (words ≡ word ∷ rest) × WritesKinds word kinds × AreAddress rest to
+
+-- `[BYTES]`: of more than seventeen bytes the first ones are kept
+abbrev pub AreWritten : List (List ℕ) → List ℕ → Type 0
+AreWritten words bytes = ((words ≡ []) × (bytes ≡ []))
+    ⊎ ((word : List ℕ) × (words ≡ word ∷ []) × (0 < length word) × AreBytes word × (bytes ≡ take WRITE_KEPT (pair_values word)))
+
+-- a word that names this policy
+abbrev pub IsPolicy : List ℕ → Fixed → Type 0
+IsPolicy word policy = ((word ≡ codes "all") × (policy ≡ each_kind Accept)) ⊎ ((word ≡ codes "none") × (policy ≡ each_kind Refuse))
+    ⊎ ((word ≡ codes "joins") × (policy ≡ joins_alone)) ⊎ ((word ≡ codes "roles") × (policy ≡ roles_alone)) ⊎ ((word ≡ codes "interrupts") × (policy ≡ interrupts_alone))
+
+-- these words are a frame's line
+abbrev pub IsFrameForm : List (List ℕ) → Frame → Type 0
+IsFrameForm words Frame.Serve = words ≡ codes "serve" ∷ []
+IsFrameForm words (Frame.Enec to kinds) = (rest : List (List ℕ)) × (words ≡ codes "enec" ∷ rest) × AreKinds rest to kinds
+IsFrameForm words (Frame.Disec to kinds) = (rest : List (List ℕ)) × (words ≡ codes "disec" ∷ rest) × AreKinds rest to kinds
+IsFrameForm words Frame.Reset = words ≡ codes "reset" ∷ []
+IsFrameForm words Frame.SendList = words ≡ codes "list" ∷ []
+IsFrameForm words (Frame.ReadFrom at) = (word : List ℕ) × (words ≡ codes "read" ∷ word ∷ []) × WritesAddress word at
+IsFrameForm words (Frame.WriteTo at bytes) = (word : List ℕ) × (rest : List (List ℕ)) × (words ≡ codes "write" ∷ word ∷ rest) × WritesAddress word at × AreWritten rest bytes.items
+
+-- these words are this command's line
+abbrev pub IsForm : List (List ℕ) → Command → Type 0
+IsForm words (Command.Legacy name address lvr) =
+    (word at byte : List ℕ) × (words ≡ codes "legacy" ∷ word ∷ at ∷ byte ∷ []) × IsNamed word name × WritesAddress at address × Writes 2 byte lvr.0
+IsForm words (Command.Main name setup) = (rest : List (List ℕ)) × (words ≡ codes "main" ∷ rest) × AreDevice rest name setup
+IsForm words (Command.Attach name setup) = (rest : List (List ℕ)) × (words ≡ codes "attach" ∷ rest) × AreDevice rest name setup
+IsForm words (Command.DropOff name) = (word : List ℕ) × (words ≡ codes "drop" ∷ word ∷ []) × IsNamed word name
+IsForm words (Command.Raise name byte) = (word : List ℕ) × (rest : List (List ℕ)) × (words ≡ codes "raise" ∷ word ∷ rest) × IsNamed word name × AreByte rest byte
+IsForm words (Command.AskJoin name) = (word : List ℕ) × (words ≡ codes "ask-join" ∷ word ∷ []) × IsNamed word name
+IsForm words (Command.AskRole name) = (word : List ℕ) × (words ≡ codes "ask-role" ∷ word ∷ []) × IsNamed word name
+IsForm words (Command.Frame frame) = IsFrameForm words frame
+IsForm words (Command.HandOver to) = (word : List ℕ) × (words ≡ codes "handover" ∷ word ∷ []) × WritesAddress word to
+IsForm words Command.Open = words ≡ codes "open" ∷ []
+IsForm words Command.Round = words ≡ codes "round" ∷ []
+IsForm words Command.End = words ≡ codes "end" ∷ []
+IsForm words Command.Daa = words ≡ codes "daa" ∷ []
+IsForm words (Command.Policy policy) = (word : List ℕ) × (words ≡ codes "policy" ∷ word ∷ []) × IsPolicy word policy
+IsForm words (Command.Cut name bit) = (word digits : List ℕ) × (words ≡ codes "cut" ∷ word ∷ digits ∷ []) × IsNamed word name × WritesBit digits bit
+IsForm words Command.Show = words ≡ codes "show" ∷ []
+IsForm words Command.Symbols = words ≡ codes "symbols" ∷ []
+
+-- a line that is passed over: it is empty, or a comment
+abbrev pub IsSkipped : List ℕ → Type 0
+IsSkipped line = (length line ≤ LINE_LENGTH) × ((line ≡ []) ⊎ (slice_get line 0 ≡ Some COMMENT))
+
+-- a line that asks for this command
+abbrev pub IsCommand : List ℕ → Command → Type 0
+IsCommand line command = (length line ≤ LINE_LENGTH) × IsForm (tokens line) command
+
+-- a line that is too long, or neither passed over nor any command's
+abbrev pub HasNoForm : List ℕ → Type 0
+HasNoForm line = (LINE_LENGTH < length line) ⊎ ((IsSkipped line → ⊥) × ((command : Command) → IsCommand line command → ⊥))

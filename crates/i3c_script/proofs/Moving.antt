@@ -1,0 +1,135 @@
+-- The symbols that are kept, and steps of a script with a bus.
+use Rattle.std.proofs.Common.{◌≡◌, ◌∙◌, ℕ, ◌+◌, ◌-◌, ◌≤◌, Bool, true, cond, List, [], ◌∷◌, ◌++◌, length, drop, Option, Some, None, Result, Ok, Err, ap, refl, sym, subst, arith, append_assoc, length-append, length-drop, drop-drop}
+use Rattle.std.proofs.lemmas.List.{append-nil, drop-append-le}
+use Rattle.std.specs.Option.{is_some}
+use Rattle.std.specs.Prelude.{MatchResult}
+use Rattle.circular_buffer.specs.Buffer.{keep_last}
+use Rattle.i3c_base.specs.declared.requests.Fixed.{Fixed}
+use Rattle.i3c_base.specs.Cutting.{CutList, no_cuts}
+use Rattle.i3c_base.specs.State.{State}
+use Rattle.i3c_frame.specs.declared.symbols.Symbol.{Symbol}
+use Rattle.i3c_frame.specs.Taps.{NotesAll, Tells}
+use Rattle.i3c_step.specs.declared.events.Command.{Command as Frame}
+use Rattle.i3c_step.specs.declared.events.Event.{Event}
+use Rattle.i3c_step.specs.declared.replies.Reply.{Reply}
+use Rattle.i3c_base.specs.declared.refusals.RaiseRefusal.{RaiseRefusal}
+use Rattle.i3c_step.specs.Commands.{event_of}
+use Rattle.i3c_step.specs.Replies.{raised_reply}
+use Rattle.i3c_step.specs.Step.{Step, cuts_in}
+use Rattle.i3c_bus.specs.Wire.{IsWire}
+use Rattle.i3c_lines.specs.declared.names.Name.{Name}
+use Rattle.i3c_lines.specs.declared.names.Names.{Names}
+use Rattle.i3c_lines.specs.declared.refusals.Refusal.{Refusal}
+use Rattle.i3c_script.specs.declared.faults.Stop.{Stop}
+use Rattle.i3c_script.specs.declared.telling.Subject.{Subject}
+use Rattle.i3c_script.specs.declared.wires.TheConstants.{SYMBOLS}
+use Rattle.i3c_script.specs.Asking.{slot_meant}
+use Rattle.i3c_script.specs.Printed.{subject_of}
+use Rattle.i3c_script.specs.Assigning.{Moves, cuts_left}
+use Rattle.i3c_script.specs.Obeying.{Answers, AnswersIn, IsRefused}
+use Rattle.i3c_script.specs.Ran.{Ran, ran_of}
+use Rattle.i3c_script.specs.Telling.{IsTold, Prints}
+
+module _ {X : Type 0} where
+  -- to keep the last ones twice is to keep them once
+  pub keep_twice : (n : ℕ) (a b : List X) → keep_last n (keep_last n a ++ b) ≡ keep_last n (a ++ b)
+  keep_twice n a b =
+      let k = length a - n in
+      let joined : drop k a ++ b ≡ drop k (a ++ b) = sym (drop-append-le k a b (omega arith)) in
+      let long = length-append a b in
+      let left : length (drop k (a ++ b)) ≡ length (a ++ b) - k = length-drop k (a ++ b) in
+      let at : k + (length (drop k (a ++ b)) - n) ≡ length (a ++ b) - n = omega (arith, long, left) in
+      ap (λ l. keep_last n l) joined ∙ drop-drop (length (drop k (a ++ b)) - n) k (a ++ b) ∙ ap (λ m. drop m (a ++ b)) at
+
+  -- and nothing more is kept of nothing
+  pub keep_still : (n : ℕ) (a : List X) → keep_last n a ≡ keep_last n (keep_last n a ++ [])
+  keep_still n a = sym (keep_twice n a [] ∙ ap (λ l. keep_last n l) (append-nil a))
+
+-- what is kept of one more symbol
+abbrev pub note : List Symbol → Symbol → List Symbol → Type 0
+note old symbol new = new ≡ keep_last SYMBOLS (old ++ symbol ∷ [])
+
+-- symbols that are noted one after another come behind those that were kept
+pub kept_by : (old wire new : List Symbol) → NotesAll note old wire new → keep_last SYMBOLS new ≡ keep_last SYMBOLS (keep_last SYMBOLS old ++ wire)
+kept_by old [] new e = sym (ap (λ l. keep_last SYMBOLS l) e) ∙ keep_still SYMBOLS old
+kept_by old (symbol ∷ wire) new (mid, noted, rest) =
+    kept_by mid wire new rest ∙ keep_twice SYMBOLS mid wire ∙ ap (λ l. keep_last SYMBOLS (l ++ wire)) noted ∙ keep_twice SYMBOLS (old ++ symbol ∷ []) wire
+    ∙ ap (λ l. keep_last SYMBOLS l) (append_assoc old (symbol ∷ []) wire) ∙ sym (keep_twice SYMBOLS old (symbol ∷ wire))
+
+-- a step of the bus, whose wire the symbols were told
+pub moved : (old new : State) (policy : Fixed) (cuts : CutList) (before after : List Symbol) (event : Event) (reply : Reply) → Step old event reply new → Tells note before after (IsWire old event reply new)
+    → Moves (ran_of old policy cuts before) event reply (ran_of new policy (cuts_left event cuts) after)
+moved old new policy cuts before after event reply step (wire, notes, is) = record { wire = wire; step = step; sent = is; kept = kept_by before wire after notes; policy = refl; cuts = refl }
+
+-- a step that sends nothing
+pub unsent : (old new : State) (policy : Fixed) (cuts : CutList) (symbols : List Symbol) (event : Event) (reply : Reply) → Step old event reply new → IsWire old event reply new []
+    → Moves (ran_of old policy cuts symbols) event reply (ran_of new policy (cuts_left event cuts) symbols)
+unsent old new policy cuts symbols event reply step is = record { wire = []; step = step; sent = is; kept = keep_still SYMBOLS symbols; policy = refl; cuts = refl }
+
+-- a frame takes all cuts that wait
+pub all_taken : (event : Event) (cuts : CutList) → is_some (cuts_in event) ≡ true → cuts_left event cuts ≡ no_cuts
+all_taken event cuts frame = ap (λ b. cond b no_cuts cuts) frame
+
+-- so its cuts may be taken before
+pub framed : (old new : Ran) (event : Event) (reply : Reply) → is_some (cuts_in event) ≡ true → Moves (record old { cuts = no_cuts }) event reply new → Moves old event reply new
+framed old new event reply frame m = record { wire = m.wire; step = m.step; sent = m.sent; kept = m.kept; policy = m.policy; cuts = m.cuts ∙ all_taken event no_cuts frame ∙ sym (all_taken event old.cuts frame) }
+
+-- what is printed is such, where it is something more exact
+pub prints_by : (Is Of : List ℕ → Option Refusal → Type 0) → ((said : List ℕ) (refused : Option Refusal) → Is said refused → Of said refused)
+    → (before after : List ℕ) (result : Result (Unit {0}) Stop) → Prints Is before after result → Prints Of before after result
+prints_by Is Of of before after (Ok done) (said, text, is) = (said, text, of said None is)
+prints_by Is Of of before after (Err (Stop.Refused why)) (said, text, is) = (said, text, of said (Some why) is)
+prints_by Is Of of before after (Err Stop.Memory) h = h
+
+-- a frame whose cuts are taken before
+pub answers_framed : (old mid new : Ran) (names : Names) (event : Event) (before after : List ℕ) (result : Result (Unit {0}) Stop) → is_some (cuts_in event) ≡ true → mid ≡ record old { cuts = no_cuts }
+    → Prints (λ said refused. Answers mid names event said refused new) before after result → Prints (λ said refused. Answers old names event said refused new) before after result
+answers_framed old mid new names event before after result frame same h =
+    prints_by (λ said refused. Answers mid names event said refused new) (λ said refused. Answers old names event said refused new)
+    (λ said refused a. (a.0, framed old new event a.0 frame (subst (λ r. Moves r event a.0 new) same a.1), a.2)) before after result h
+
+-- a step whose reply is told
+pub answered : (old new : Ran) (names : Names) (event : Event) (reply : Reply) (before after : List ℕ) (result : Result (Unit {0}) Stop) → Moves old event reply new
+    → Prints (IsTold names (subject_of event) reply) before after result → Prints (λ said refused. Answers old names event said refused new) before after result
+answered old new names event reply before after result move told =
+    prints_by (IsTold names (subject_of event) reply) (λ said refused. Answers old names event said refused new) (λ said refused one. (reply, move, one)) before after result told
+
+-- a line whose name means this slot
+pub in_slot : (old new : Ran) (names : Names) (name : Name) (event : ℕ → Event) (slot : ℕ) (before after : List ℕ) (result : Result (Unit {0}) Stop) → Ok slot ≡ slot_meant names name
+    → Prints (λ said refused. Answers old names (event slot) said refused new) before after result → Prints (λ said refused. AnswersIn old names name event said refused new) before after result
+in_slot old new names name event slot before after result is told =
+    subst (λ r. Prints (λ said refused. MatchResult r (λ s. Answers old names (event s) said refused new) (λ why. (new ≡ old) × IsRefused why said refused)) before after result) is told
+
+-- each frame under the role carries cuts, and its text has nothing of the event
+carries_cuts : (frame : Frame) (policy : Fixed) (cuts : CutList) → is_some (cuts_in (event_of frame policy cuts)) ≡ true
+carries_cuts Frame.Serve policy cuts = refl
+carries_cuts Frame.Reset policy cuts = refl
+carries_cuts Frame.SendList policy cuts = refl
+carries_cuts (Frame.Enec to kinds) policy cuts = refl
+carries_cuts (Frame.Disec to kinds) policy cuts = refl
+carries_cuts (Frame.ReadFrom a) policy cuts = refl
+carries_cuts (Frame.WriteTo a bytes) policy cuts = refl
+
+no_subject : (frame : Frame) (policy : Fixed) (cuts : CutList) → Subject.Nothing ≡ subject_of (event_of frame policy cuts)
+no_subject Frame.Serve policy cuts = refl
+no_subject Frame.Reset policy cuts = refl
+no_subject Frame.SendList policy cuts = refl
+no_subject (Frame.Enec to kinds) policy cuts = refl
+no_subject (Frame.Disec to kinds) policy cuts = refl
+no_subject (Frame.ReadFrom a) policy cuts = refl
+no_subject (Frame.WriteTo a bytes) policy cuts = refl
+
+-- a frame under the role
+pub sent : (old new : State) (policy : Fixed) (cuts left : CutList) (symbols later : List Symbol) (names : Names) (frame : Frame) (reply : Reply) (before after : List ℕ) (result : Result (Unit {0}) Stop)
+    → left ≡ no_cuts → Step old (event_of frame policy cuts) reply new → Tells note symbols later (IsWire old (event_of frame policy cuts) reply new) → Prints (IsTold names Subject.Nothing reply) before after result
+    → Prints (λ said refused. Answers (ran_of old policy cuts symbols) names (event_of frame policy cuts) said refused (ran_of new policy left later)) before after result
+sent old new policy cuts left symbols later names frame reply before after result none step wire told =
+    answered (ran_of old policy cuts symbols) (ran_of new policy left later) names (event_of frame policy cuts) reply before after result
+    (subst (λ rest. Moves (ran_of old policy cuts symbols) (event_of frame policy cuts) reply (ran_of new policy rest later)) (all_taken (event_of frame policy cuts) cuts (carries_cuts frame policy cuts) ∙ sym none)
+    (moved old new policy cuts symbols later (event_of frame policy cuts) reply step wire))
+    (subst (λ subject. Prints (IsTold names subject reply) before after result) (no_subject frame policy cuts) told)
+
+-- a raise sends nothing
+pub raised_still : (old new : State) (event : Event) (raised : Result ℕ RaiseRefusal) → IsWire old event (raised_reply raised) new []
+raised_still old new event (Ok number) = refl
+raised_still old new event (Err why) = refl

@@ -1,0 +1,23 @@
+-- Lines before the bus.
+use Rattle.std.proofs.Common.{◌≡◌, ◌∙◌, ℕ, List, ◌++◌, Option, None, Some, MatchOption, refl, subst, sym}
+use Rattle.i3c_base.specs.declared.device.Setup.{Setup}
+use Rattle.i3c_base.specs.declared.identity.Lvr.{Lvr}
+use Rattle.i3c_lines.specs.declared.command.Command.{Command}
+use Rattle.i3c_lines.specs.declared.names.Name.{Name}
+use Rattle.i3c_lines.specs.declared.names.Names.{Names}
+use Rattle.i3c_script.specs.declared.stage.Stage.{Stage}
+use Rattle.i3c_script.specs.Obeying.{IsDone, IsRefused, Obeys, ObeysAt, Starts, main_refusal, script}
+use Rattle.i3c_script.specs.Printed.{main_text}
+use Rattle.i3c_script.specs.Ran.{Ran}
+
+-- a bus is made, and its main controller is told
+pub began : (stage : Stage) (legacies : List (Option Lvr)) (names named : Names) (name : Name) (setup : Setup) (new : Stage) (ran : Ran) (before after : List ℕ) → stage ≡ Stage.Before legacies → main_refusal names name setup.identity.bcr ≡ None
+    → Starts legacies names name setup ran (script new named) → after ≡ before ++ main_text name ran.state
+    → (said : List ℕ) × (after ≡ before ++ said) × Obeys (script stage names) (Command.Main name setup) said None (script new named)
+began stage legacies names named name setup new ran before after is unrefused starts printed = (
+  main_text name ran.state,
+  printed,
+  subst (λ at. ObeysAt at names (Command.Main name setup) (main_text name ran.state) None (script new named)) (sym is)
+      (subst (λ why. MatchOption why ((r : Ran) × Starts legacies names name setup r (script new named) × IsDone (main_text name r.state) (main_text name ran.state) None)
+      (λ one. (script new named ≡ script (Stage.Before legacies) names) × IsRefused one (main_text name ran.state) None)) (sym unrefused) (ran, starts, (refl, refl))),
+)

@@ -1,0 +1,31 @@
+-- The bus starts with its main controller in slot 0.
+use Rattle.std.proofs.Common.{◌≡◌, ◌++◌, ◌∷◌, [], ◌∙◌, None, ap, codes, subst, sym}
+use Rattle.i3c_base.specs.State.{IsStart, device_at, legacy_targets_of}
+use Rattle.i3c_bus.specs.Readings.{address_of}
+use Rattle.i3c_lines.specs.Naming.{letters}
+use Rattle.i3c_script.specs.Obeying.{NamesSlot, Starts, main_refusal, script}
+use Rattle.i3c_script.specs.Printed.{byte_or_none}
+use Rattle.i3c_script.proofs.Starting.{began}
+use Rattle.i3c_script.proofs.stage.Stage.begin.Goals as goal
+
+pub returns : goal.returns
+returns c =
+    let names = c.args.names.now in
+    let named = c.give_slot.new.self in
+    let name = c.args.name.now in
+    let setup = c.args.setup in
+    let ran = c.new-running.result in
+    let unrefused : main_refusal names name setup.identity.bcr ≡ None = sym c.main_refusal.ensures ∙ c.in-None.is in
+    let given : NamesSlot names named name c.default.result = record { given = c.in_ok-give_slot.ensures.given; slots = c.in_ok-give_slot.ensures.told; legacies = c.give_slot.ensures.legacies } in
+    let start : IsStart setup (legacy_targets_of c.in-Before.legacies) ran.state = subst (λ l. IsStart setup (legacy_targets_of l) ran.state) c.replace-declared.ensures.value c.new-running.ensures.start in
+    let starts : Starts c.in-Before.legacies names name setup ran (script c.replace.new.dest named) = record {
+      stage = c.replace.ensures.after;
+      start = start;
+      policy = c.new-running.ensures.policy;
+      cuts = c.new-running.ensures.cuts;
+      wire = c.new-running.ensures.wire;
+      named = subst (λ slot. NamesSlot names named name slot) (sym c.default.ensures.1 ∙ c.default.ensures.2) given;
+    } in
+    let at : c.address-address.result ≡ address_of (device_at ran.state 0) = c.address-address.ensures ∙ (λ i. address_of (device_at (c.bus.ensures i) ((sym c.default-2.ensures.1 ∙ c.default-2.ensures.2) i))) in
+    began c.args.self.now c.in-Before.legacies names named name setup c.replace.new.dest ran c.args.text.now c.show_main.new.text c.in-Before.is unrefused starts
+    (c.in_ok-show_main.ensures ∙ ap (λ a. c.args.text.now ++ (letters name ++ (codes " slot 0 at " ++ (byte_or_none a ++ 10 ∷ [])))) at)
