@@ -1,5 +1,22 @@
-//! What a user runs: scripts and traces, told in lines, and devices on threads of their own.
+//! What a user runs: a script, whose lines are read, run in order, and print what came of them; a trace, told in lines; and
+//! devices that post from threads of their own.
+//!
+//! `script` parts the bytes of a script into lines and counts the refusals, `trace` tells what a trace says. Both read by
+//! `reading` and write by `output`. `party` sets a bus with its devices up and closes it, `stressing` lets them post, and
+//! `report` counts the closed bus's run.
 #![tactic(auto)]
 
-pub use i3c_script::{ScriptFault, Tally, run_script, run_trace};
-pub use i3c_stress::{Gate, MOST_DEVICES, MOST_POSTS, StressFault, StressReport, stress};
+mod faults;
+mod output;
+mod party;
+mod reading;
+mod report;
+mod script;
+mod stressing;
+mod trace;
+
+pub use faults::ScriptFault;
+pub use report::{StressFault, StressReport};
+pub use script::{Tally, run_script};
+pub use stressing::{Gate, MOST_DEVICES, MOST_POSTS, Watch, stress, stress_watched};
+pub use trace::run_trace;

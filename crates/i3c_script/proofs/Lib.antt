@@ -1,13 +1,4 @@
 pub mod Presence
-pub mod Written
-pub mod TraceWritten
-pub mod TraceRead
-pub mod TraceOut
-pub mod Feeds
-pub mod Gathered
-pub mod ScriptRuns
-pub mod ScriptRead
-pub mod AsciiLaws
 pub mod Moving
 pub mod Showing
 pub mod Assigned

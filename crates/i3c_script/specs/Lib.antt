@@ -1,4 +1,3 @@
-pub mod Reading
 pub mod Slots
 pub mod Stops
 pub mod Ran
@@ -7,7 +6,3 @@ pub mod Printed
 pub mod Telling
 pub mod Assigning
 pub mod Obeying
-pub mod Outcomes
-pub mod Traces
-pub mod Scripts
-pub mod ScriptSteps

@@ -1,11 +1,10 @@
--- Why a line is refused, and what the run's end says of it.
+-- Why a line is refused.
 use Rattle.std.specs.Prelude.{◌≡◌, ◌≢◌, ◌⊎◌, ℕ, Option, Some, None, Result, Ok, Err, ⊤}
 use Rattle.i3c_base.specs.declared.answers.Answer.{Answer}
 use Rattle.i3c_base.specs.declared.answers.RoundReply.{RoundReply}
 use Rattle.i3c_step.specs.declared.replies.Refusal.{Refusal as BusRefusal}
 use Rattle.i3c_step.specs.declared.replies.Reply.{Reply}
 use Rattle.i3c_lines.specs.declared.refusals.Refusal.{Refusal}
-use Rattle.i3c_script.specs.declared.faults.ScriptFault.{ScriptFault}
 use Rattle.i3c_script.specs.declared.faults.Stop.{Stop}
 
 -- the answer to a frame's own part as a refusal
@@ -42,10 +41,6 @@ abbrev pub Ends : (Option Refusal → Type 0) → Result (Unit {0}) Stop → Typ
 Ends Is (Ok done) = Is None
 Ends Is (Err (Stop.Refused why)) = Is (Some why)
 Ends Is (Err Stop.Memory) = ⊤
-
--- a fault that a line may end the run with
-abbrev pub IsLineFault : ScriptFault → Type 0
-IsLineFault fault = (fault ≡ ScriptFault.Memory) ⊎ (fault ≡ ScriptFault.Write)
 
 -- how many refusals a line came to
 abbrev pub refusals : Result (Unit {0}) Stop → ℕ

@@ -8,28 +8,10 @@ use i3c_bus::{Refusal as BusRefusal, Reply};
 use i3c_lines::Refusal;
 use std::alloc::AllocError;
 use std::fmt;
-use thiserror::Error;
-
-/// Why a script's run ended early. The lines before it were run, and what they print was written.
-#[derive(Clone, Copy, Debug, PartialEq, Eq, Drop, Error)]
-pub enum ScriptFault {
-    /// There was no memory for a line, which printed nothing.
-    #[error("out of memory")]
-    Memory,
-    /// The reader failed.
-    #[error("the script can't be read")]
-    Read,
-    /// The writer failed, or took nothing.
-    #[error("the output can't be written")]
-    Write,
-    /// The script is longer than a script may be.
-    #[error("the script is too large")]
-    TooLarge,
-}
 
 /// Why a line did not come to its end.
 #[derive(Clone, Copy, Drop)]
-pub(crate) enum Stop {
+pub enum Stop {
     /// It was refused, and the next line is run.
     Refused(Refusal),
     /// There was no memory for it, and the run ends.

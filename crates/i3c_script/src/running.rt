@@ -19,7 +19,7 @@ use std::mem;
 /// the next frame.
 ///
 /// Its role stands in an `Option`, so that an event can take it from a stage that is lent, and give one back.
-pub(crate) struct Running {
+pub struct Running {
     bus: Bus,
     hand: Option<Hand>,
     wires: Wires,
@@ -56,7 +56,7 @@ impl Running {
     ghost use Rattle.i3c_lines.specs.Policies.{each_kind};
 
     /// A bus with this main controller, whose frames accept each request.
-    pub fn new(alloc: Global, main: Setup, legacies: Legacies, wires: Wires) -> Running
+    pub(crate) fn new(alloc: Global, main: Setup, legacies: Legacies, wires: Wires) -> Running
         requires capable { is_capable main.identity.bcr ≡ true }
         requires unused { wires ≡ [] }
         ensures start { IsStart main (legacy_targets_of legacies) result.state }
@@ -77,14 +77,14 @@ impl Running {
     }
 
     /// The bus.
-    pub fn bus(&self) -> &Bus
+    pub(crate) fn bus(&self) -> &Bus
         ensures { result.now.state ≡ self.now.state }
     {
         &self.bus
     }
 
     /// Obeys a line, and prints what came of it.
-    pub fn obey(
+    pub(crate) fn obey(
         &mut self,
         names: &mut Names,
         command: &Command,
@@ -321,7 +321,7 @@ impl Running {
     }
 
     /// Takes the bus apart. A session that is open ends so.
-    pub fn retire(self) {
+    pub(crate) fn retire(self) {
         let Running {
             bus,
             hand,

@@ -16,7 +16,7 @@ use std::mem;
 
 /// Where a script stands. It holds the bus, so lines are run on a stage that is lent, and it is retired at the
 /// script's end.
-pub(crate) enum Stage {
+pub enum Stage {
     /// Before the bus is made, legacy targets are declared.
     Before(Legacies),
     /// The bus runs.

@@ -1,6 +1,6 @@
 use crate::checks::{holds, same, same_in};
 use i3c_frame::read_trace;
-use i3c_script::{ScriptFault, Tally, run_script};
+use i3c_scenario::{ScriptFault, Tally, run_script};
 use std::alloc::Global;
 use std::io::{ErrorKind, Read, Write};
 use std::process::Abort;

@@ -3,7 +3,7 @@ use super::setting::{NONE, entry, reached};
 use i3c_base::{Cuts, Served, Slot};
 use i3c_shared::{Closed, Entry};
 use i3c_step::{Event, Refusal, Reply};
-use i3c_stress::{StressFault, StressReport, Watch, stress_watched};
+use i3c_scenario::{StressFault, StressReport, Watch, stress_watched};
 use std::alloc::Global;
 use std::sync::Wait;
 use std::sync::atomic::{AtomicU64, Ordering};

@@ -1,8 +1,8 @@
 -- What a run of the program came to, and its exit status.
 use Rattle.std.specs.Prelude.{ℕ, ◌==◌, Bool, true, false, Result, Ok, Err, if◌then◌else◌}
-use Rattle.i3c_script.specs.declared.faults.ScriptFault.{ScriptFault}
-use Rattle.i3c_script.specs.declared.script.Tally.{Tally}
-use Rattle.i3c_stress.specs.declared.report.StressFault.{StressFault}
+use Rattle.i3c_scenario.specs.declared.faults.ScriptFault.{ScriptFault}
+use Rattle.i3c_scenario.specs.declared.script.Tally.{Tally}
+use Rattle.i3c_scenario.specs.declared.report.StressFault.{StressFault}
 use Rattle.i3cbus.specs.declared.fault.Fault.{Fault}
 
 -- a script's fault, as standard error is told

@@ -2,7 +2,7 @@
 
 use super::{FailingReader, Flaky};
 use crate::checks::{holds, same, same_in};
-use i3c_script::{ScriptFault, Tally, run_script};
+use i3c_scenario::{ScriptFault, Tally, run_script};
 use std::alloc::Global;
 use std::io::ErrorKind;
 use std::process::Abort;

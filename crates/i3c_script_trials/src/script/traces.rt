@@ -1,6 +1,6 @@
 use super::{FailingReader, Flaky, FullWriter};
 use crate::checks::{holds, same, same_in};
-use i3c_script::{ScriptFault, Tally, run_trace};
+use i3c_scenario::{ScriptFault, Tally, run_trace};
 use std::alloc::Global;
 use std::io::ErrorKind;
 use std::process::Abort;

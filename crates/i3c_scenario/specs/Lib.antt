@@ -1,0 +1,9 @@
+pub mod Reading
+pub mod Outcomes
+pub mod Faults
+pub mod Traces
+pub mod Scripts
+pub mod ScriptSteps
+pub mod Counting
+pub mod Agreeing
+pub mod Reporting

@@ -1,0 +1,114 @@
+-- How a script is run, piece by piece of its bytes.
+use Rattle.std.specs.Prelude.{◌≡◌, ℕ, ◌+◌, List, [], ◌∷◌, ◌++◌, length, min, take, Option, Some, None, IfSome, Result, Ok, Err, MatchResult}
+use Rattle.std.specs.Io.KnownBytes.{Consumes}
+use Rattle.i3c_lines.specs.declared.refusals.Refusal.{Refusal}
+use Rattle.i3c_scenario.specs.declared.faults.ScriptFault.{ScriptFault}
+use Rattle.i3c_script.specs.declared.faults.Stop.{Stop}
+use Rattle.i3c_scenario.specs.declared.script.Script.{Script}
+use Rattle.i3c_script.specs.Obeying.{ScriptState, script}
+use Rattle.i3c_script.specs.Telling.{Prints}
+use Rattle.i3c_scenario.specs.Outcomes.{HasNoFeed, Output, Puts, PutsSome, written}
+use Rattle.i3c_scenario.specs.Scripts.{Lead, LineDoes, LineRun, OutBefore, lines_bytes, lines_out, lines_refused, refusals_of, refused_text}
+
+-- where a running script is: its state, and how many of its lines were refused so far
+pub record Progress : Type 0 where
+  pub state : ScriptState
+  pub refused : ℕ
+
+abbrev pub state : Script → ScriptState
+state running = script running.stage running.names
+
+abbrev pub progress : Script → Progress
+progress running = record { state = state running; refused = running.refused }
+
+-- what a line comes to, with what is printed before and after it; nothing is said of a line that memory is short for
+abbrev pub Reads : ScriptState → List ℕ → List ℕ → List ℕ → Result (Unit {0}) Stop → ScriptState → Type 0
+Reads old line before after result new = Prints (λ said refused. LineDoes old line said refused new) before after result
+
+-- a line was run, and what it puts out was put behind and counted
+pub record LineDone (line : List ℕ) (old new : Output) (from to : Progress) : Type 0 where
+  pub said : List ℕ
+  pub refused : Option Refusal
+  pub does : LineDoes from.state line said refused to.state
+  pub out : Puts old new (said ++ refused_text refused)
+  pub count : to.refused ≡ min (from.refused + refusals_of refused) 18446744073709551615
+
+-- a line was run, and of what was gathered and what it puts out a beginning went out
+pub record LineLost (line : List ℕ) (old new : Output) (from : Progress) : Type 0 where
+  pub said : List ℕ
+  pub refused : Option Refusal
+  pub to : ScriptState
+  pub does : LineDoes from.state line said refused to
+  pub out : PutsSome old new (said ++ refused_text refused)
+
+-- a fault ends the run at a line: for want of memory nothing of it is put behind
+abbrev pub LineStops : ScriptFault → List ℕ → Output → Output → Progress → Type 0
+LineStops ScriptFault.Memory line old new from = Puts old new []
+LineStops ScriptFault.Write line old new from = LineLost line old new from
+LineStops ScriptFault.Read line old new from = ⊥
+LineStops ScriptFault.TooLarge line old new from = ⊥
+
+-- what a line comes to
+abbrev pub LineEnds : List ℕ → Output → Output → Progress → Progress → Result (Unit {0}) ScriptFault → Type 0
+LineEnds line old new from to result = MatchResult result (λ _. LineDone line old new from to) (λ fault. LineStops fault line old new from)
+
+-- the lines that these bytes end were run, and the rest of the bytes begins the next one
+pub record RunsTo (bytes rest : List ℕ) (old new : Output) (from to : Progress) : Type 0 where
+  pub lines : List LineRun
+  pub run : Lead from.state lines to.state
+  pub same : bytes ≡ lines_bytes lines ++ rest
+  pub one : HasNoFeed rest
+  pub out : Puts old new (lines_out lines)
+  pub count : min to.refused 18446744073709551615 ≡ min (from.refused + lines_refused lines) 18446744073709551615
+
+-- what went out of these lines before a fault at one of them
+abbrev pub OutOf : ScriptFault → List LineRun → Output → Output → Type 0
+OutOf ScriptFault.Memory lines old new = Puts old new (lines_out lines)
+OutOf ScriptFault.Write lines old new = PutsSome old new (lines_out lines)
+OutOf ScriptFault.Read lines old new = ⊥
+OutOf ScriptFault.TooLarge lines old new = ⊥
+
+-- a fault ended the run at one of the lines that these bytes end
+pub record RunStops (bytes : List ℕ) (old new : Output) (from : Progress) (fault : ScriptFault) : Type 0 where
+  pub lines : List LineRun
+  pub rest : List ℕ
+  pub to : ScriptState
+  pub run : Lead from.state lines to
+  pub same : bytes ≡ lines_bytes lines ++ rest
+  pub out : OutOf fault lines old new
+
+-- what these bytes come to, where so much of a line was held after them
+abbrev pub Takes : List ℕ → List ℕ → Output → Output → Progress → Progress → Result (Unit {0}) ScriptFault → Type 0
+Takes bytes held old new from to result = MatchResult result (λ _. (rest : List ℕ) × RunsTo bytes rest old new from to × (held ≡ take 257 rest)) (RunStops bytes old new from)
+
+-- what these bytes come to
+abbrev pub Runs : List ℕ → List ℕ → Output → Output → Progress → Progress → Result (Unit {0}) ScriptFault → Type 0
+Runs bytes rest old new from to result = MatchResult result (λ _. RunsTo bytes rest old new from to) (RunStops bytes old new from)
+
+-- what was read of a script so far, and what it came to, where so much of a line is held and so many bytes may still come
+pub record ReadSoFar (known now old new : Option (List ℕ)) (held : List ℕ) (from to : Progress) (left : ℕ) : Type 0 where
+  pub read : List ℕ
+  pub rest : List ℕ
+  pub consumed : Consumes known now read
+  pub few : length read + left ≡ 1048576
+  pub runs : RunsTo read rest (written old) (written new) from to
+  pub begun : held ≡ take 257 rest
+
+-- a script was read to its end, and each of its lines was run
+pub record ReadWhole (known left old new : Option (List ℕ)) (from to : Progress) : Type 0 where
+  pub read : List ℕ
+  pub consumed : Consumes known left read
+  pub runs : RunsTo (read ++ 10 ∷ []) [] (written old) (written new) from to
+
+-- a fault ended the reading of a script, some of whose lines were run
+pub record ReadPart (known left old new : Option (List ℕ)) (from : Progress) (fault : ScriptFault) : Type 0 where
+  pub lines : List LineRun
+  pub rest : List ℕ
+  pub to : ScriptState
+  pub run : Lead from.state lines to
+  pub first : IfSome known (λ script. lines_bytes lines ++ rest ≡ script ++ 10 ∷ [])
+  pub out : OutBefore fault known left old new lines
+
+-- what the reading of a script comes to
+abbrev pub ReadsAll : Option (List ℕ) → Option (List ℕ) → Option (List ℕ) → Option (List ℕ) → Progress → Progress → Result (Unit {0}) ScriptFault → Type 0
+ReadsAll known left old new from to result = MatchResult result (λ _. ReadWhole known left old new from to) (ReadPart known left old new from)

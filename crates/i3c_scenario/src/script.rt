@@ -1,0 +1,275 @@
+ghost use Rattle.std.specs.Prelude.{◌≡◌, ℕ, List, ◌+◌, ◌<◌, ◌≤◌, [], ◌∷◌, ◌++◌, length, min, take, IfErr, IfSome, MatchResult, OnOk};
+ghost use Rattle.std.specs.Io.KnownBytes.{IsAtEnd};
+ghost use Rattle.i3c_lines.specs.Gathering.{gathered};
+ghost use Rattle.i3c_scenario.specs.Outcomes.{HasNoFeed, output, written};
+ghost use Rattle.i3c_script.specs.Printed.{end_text};
+ghost use Rattle.i3c_scenario.specs.Scripts.{LinesGoOut};
+ghost use Rattle.i3c_script.specs.Obeying.{IsBegun};
+ghost use Rattle.i3c_scenario.specs.ScriptSteps.{LineEnds, Reads, ReadsAll, Runs, Takes, progress, state};
+ghost use Rattle.i3c_scenario.specs.Faults.{IsLineFault};
+ghost use Rattle.i3c_script.specs.Stops.{refusals};
+
+use crate::faults::ScriptFault;
+use crate::output::{gather, position_of_feed, show_refusal, write_last};
+use crate::reading::{CHUNK, MOST_BYTES, Piece, read_piece};
+use i3c_lines::{Command, Line, Names, Refusal, Text, is_skipped};
+use i3c_script::{Stage, Stop};
+use std::alloc::Global;
+use std::io::{Read, Write};
+use std::mem;
+
+/// What is known of a script that was run to its end.
+#[derive(Clone, Copy, Debug, PartialEq, Eq)]
+pub struct Tally {
+    /// How many lines were refused.
+    pub refused: u64,
+}
+
+/// Runs a script: its lines in order, as they are read, each of which prints its own. After a refused line the next
+/// is run.
+///
+/// A script has at most 1,048,576 bytes. Where more come, or where the reader fails, each line whose line feed came
+/// before that is run. At the end an open session is ended, and the bus retired.
+pub fn run_script<R: Read, W: Write>(
+    alloc: Global,
+    reader: &mut R,
+    writer: &mut W,
+) -> Result<Tally, ScriptFault>
+    // an `Ok` comes after the whole of a script that isn't too large
+    ensures whole { OnOk result (IsAtEnd (R.remaining reader.new)) }
+    ensures fits { OnOk result (IfSome (R.remaining reader.old) (λ bytes. length bytes ≤ MOST_BYTES)) }
+    ensures large { result ≡ Err ScriptFault.TooLarge → IfSome (R.remaining reader.old) (λ bytes. MOST_BYTES < length bytes) }
+    // the lines that were read are run one after another, from a script's start, each by what its command asks of the
+    // bus; and what goes out is what they print: all of it with `Ok`, and of its beginning what each fault says
+    ensures lines { LinesGoOut (R.remaining reader.old) (R.remaining reader.new) (W.contents writer.old) (W.contents writer.new) result }
+{
+    let mut script = Script::new(alloc);
+    let Ok(mut chunk) = vec![in alloc; 0u8; CHUNK] else {
+        let _none = script.retire();
+        return Err(ScriptFault::Memory);
+    };
+    let outcome = script.read_all(reader, &mut chunk, writer);
+    let refused = script.retire();
+    match outcome {
+        Ok(()) => Ok(Tally { refused }),
+        Err(fault) => Err(fault),
+    }
+}
+
+/// A script that runs: what its lines led to, the line that is read, of the line that is run its command, which is read in
+/// place, and what it prints, and what lines before it printed that waits to go out.
+struct Script {
+    alloc: Global,
+    stage: Stage,
+    names: Names,
+    line: Line,
+    command: Command,
+    text: Text,
+    gathered: Text,
+    refused: u64,
+}
+
+impl Script {
+    /// A script of which nothing was read.
+    fn new(alloc: Global) -> Script
+        ensures held { gathered result.line ≡ [] }
+        ensures refused { result.refused ≡ 0 }
+        ensures begun { IsBegun (state result) }
+    {
+        Script {
+            alloc,
+            stage: Stage::new(),
+            names: Names::new(alloc),
+            line: Line::new(),
+            command: Command::Show,
+            text: Text::new(alloc),
+            gathered: Text::new(alloc),
+            refused: 0,
+        }
+    }
+
+    /// Reads the script to its end, by chunks, and runs its lines.
+    fn read_all<R: Read, W: Write>(
+        &mut self,
+        reader: &mut R,
+        chunk: &mut [u8],
+        out: &mut W,
+    ) -> Result<(), ScriptFault>
+        requires { 0 < length chunk.old }
+        ensures whole { OnOk result (IsAtEnd (R.remaining reader.new)) }
+        ensures fits { OnOk result (IfSome (R.remaining reader.old) (λ bytes. length bytes ≤ MOST_BYTES)) }
+        ensures large { result ≡ Err ScriptFault.TooLarge → IfSome (R.remaining reader.old) (λ bytes. MOST_BYTES < length bytes) }
+        ensures runs { gathered self.old.line ≡ [] → ReadsAll (R.remaining reader.old) (R.remaining reader.new) (W.contents out.old) (W.contents out.new) (progress self.old) (progress self.new) result }
+    {
+        let mut left = MOST_BYTES;
+        for _ in 0..u64::MAX {
+            let piece = match read_piece(reader, chunk, left) {
+                Ok(piece) => piece,
+                Err(fault) => return Err(fault),
+            };
+            match piece {
+                // the last line may lack its line feed
+                Piece::End => return self.end(out),
+                Piece::Within(count) => match self.take(&chunk[..count], out) {
+                    Ok(()) => left -= count,
+                    Err(fault) => return Err(fault),
+                },
+                Piece::Beyond(count) => match self.take(&chunk[..count], out) {
+                    Ok(()) => return Err(ScriptFault::TooLarge),
+                    Err(fault) => return Err(fault),
+                },
+            }
+        }
+        unreachable!()
+    }
+
+    /// Takes bytes as they were read, and runs each line that they end. The first of them may have begun before. All that
+    /// they print is written then.
+    fn take<W: Write>(&mut self, bytes: &[u8], out: &mut W) -> Result<(), ScriptFault>
+        ensures fault { IfErr result IsLineFault }
+        ensures runs { (begun : List ℕ) → gathered self.old.line ≡ take 257 begun → HasNoFeed begun →
+            Takes (begun ++ bytes.now) (gathered self.new.line) (written (W.contents out.old)) (written (W.contents out.new)) (progress self.old) (progress self.new) result }
+    {
+        self.gathered.clear();
+        let outcome = self.take_lines(bytes, out);
+        write_last(outcome, self.gathered.as_bytes(), out)
+    }
+
+    /// The script ends, and with it the line that was begun, which may lack its line feed.
+    fn end<W: Write>(&mut self, out: &mut W) -> Result<(), ScriptFault>
+        ensures fault { IfErr result IsLineFault }
+        ensures runs { (begun : List ℕ) → gathered self.old.line ≡ take 257 begun → HasNoFeed begun →
+            Runs (begun ++ 10 ∷ []) [] (written (W.contents out.old)) (written (W.contents out.new)) (progress self.old) (progress self.new) result }
+    {
+        self.gathered.clear();
+        let outcome = self.end_held_line(&[], out);
+        write_last(outcome, self.gathered.as_bytes(), out)
+    }
+
+    /// Runs each line that these bytes end, and begins the one that they don't. The first of them may have begun before.
+    fn take_lines<W: Write>(&mut self, bytes: &[u8], out: &mut W) -> Result<(), ScriptFault>
+        ensures fault { IfErr result IsLineFault }
+        ensures runs { (begun : List ℕ) → gathered self.old.line ≡ take 257 begun → HasNoFeed begun →
+            Takes (begun ++ bytes.now) (gathered self.new.line) (output (W.contents out.old) self.old.gathered) (output (W.contents out.new) self.new.gathered) (progress self.old) (progress self.new) result }
+    {
+        match position_of_feed(bytes) {
+            None => {
+                self.line.extend(bytes);
+                Ok(())
+            }
+            Some(end) => {
+                match self.end_held_line(&bytes[..end], out) {
+                    Ok(()) => self.run_lines(&bytes[end + 1..], out),
+                    Err(fault) => Err(fault),
+                }
+            }
+        }
+    }
+
+    /// Runs the line that was begun, whose last bytes these are.
+    fn end_held_line<W: Write>(&mut self, bytes: &[u8], out: &mut W) -> Result<(), ScriptFault>
+        ensures fault { IfErr result IsLineFault }
+        ensures held { gathered self.new.line ≡ [] }
+        ensures runs { (begun : List ℕ) → gathered self.old.line ≡ take 257 begun → HasNoFeed begun → HasNoFeed bytes.now →
+            Runs (begun ++ (bytes.now ++ 10 ∷ [])) [] (output (W.contents out.old) self.old.gathered) (output (W.contents out.new) self.new.gathered) (progress self.old) (progress self.new) result }
+    {
+        let mut line = mem::replace(&mut self.line, Line::new());
+        line.extend(bytes);
+        self.run_line(line.as_slice(), out)
+    }
+
+    /// Runs the lines that end in these bytes, and begins the one that doesn't.
+    fn run_lines<W: Write>(&mut self, bytes: &[u8], out: &mut W) -> Result<(), ScriptFault>
+        ensures fault { IfErr result IsLineFault }
+        ensures runs { gathered self.old.line ≡ [] →
+            Takes bytes.now (gathered self.new.line) (output (W.contents out.old) self.old.gathered) (output (W.contents out.new) self.new.gathered) (progress self.old) (progress self.new) result }
+    {
+        let mut rest = bytes;
+        while let Some(end) = position_of_feed(rest) {
+            let (line, after) = rest.split_at(end);
+            match self.run_line(line, out) {
+                Ok(()) => {}
+                Err(fault) => return Err(fault),
+            }
+            // after its line feed
+            rest = &after[1..];
+        }
+        self.line.extend(rest);
+        Ok(())
+    }
+
+    /// Runs a line, and gathers what it prints.
+    fn run_line<W: Write>(&mut self, line: &[u8], out: &mut W) -> Result<(), ScriptFault>
+        ensures fault { IfErr result IsLineFault }
+        ensures held { self.new.line ≡ self.old.line }
+        ensures ends { LineEnds line.now (output (W.contents out.old) self.old.gathered) (output (W.contents out.new) self.new.gathered) (progress self.old) (progress self.new) result }
+    {
+        self.text.clear();
+        let outcome = self.obey(line);
+        self.settle(outcome)?;
+        gather(self.text.as_bytes(), &mut self.gathered, out)
+    }
+
+    /// Obeys a line, if it has a command.
+    fn obey(&mut self, line: &[u8]) -> Result<(), Stop>
+        ensures held { self.new.line ≡ self.old.line }
+        ensures gathered { self.new.gathered ≡ self.old.gathered }
+        ensures refused { self.new.refused ≡ self.old.refused }
+        ensures reads { Reads (state self.old) line.now self.old.text self.new.text result (state self.new) }
+    {
+        match is_skipped(line) {
+            Ok(true) => return Ok(()),
+            Ok(false) => {}
+            Err(refusal) => return Err(Stop::Refused(refusal)),
+        }
+        match self.command.read(line) {
+            Some(()) => {
+                self.stage
+                    .obey(self.alloc, &mut self.names, &self.command, &mut self.text)
+            }
+            None => Err(Stop::Refused(Refusal::BadLine)),
+        }
+    }
+
+    /// What a line comes to: a refusal is printed and counted, and want of memory ends the run.
+    fn settle(&mut self, outcome: Result<(), Stop>) -> Result<(), ScriptFault>
+        ensures fault { IfErr result (λ fault. fault ≡ ScriptFault.Memory) }
+        ensures memory { outcome ≡ Err Stop.Memory → result ≡ Err ScriptFault.Memory }
+        ensures told { OnOk result (self.new.text ≡ self.old.text ++ end_text outcome) }
+        ensures counted { self.new.refused ≡ min (self.old.refused + refusals outcome) u64.MAX }
+        ensures held { self.new.line ≡ self.old.line }
+        ensures gathered { self.new.gathered ≡ self.old.gathered }
+        ensures state { state self.new ≡ state self.old }
+    {
+        let refused = self.refused;
+        match outcome {
+            Ok(()) => Ok(()),
+            Err(Stop::Memory) => Err(ScriptFault::Memory),
+            Err(Stop::Refused(refusal)) => {
+                self.refused = refused.saturating_add(1);
+                match show_refusal(refusal, &mut self.text) {
+                    Ok(()) => Ok(()),
+                    Err(_) => Err(ScriptFault::Memory),
+                }
+            }
+        }
+    }
+
+    /// Takes the script apart, with its bus, and tells how many lines were refused.
+    fn retire(self) -> u64
+        ensures { result ≡ self.refused }
+    {
+        let Script {
+            alloc: _,
+            stage,
+            names: _,
+            line: _,
+            command: _,
+            text: _,
+            gathered: _,
+            refused,
+        } = self;
+        stage.retire();
+        refused
+    }
+}

@@ -1,6 +1,0 @@
-use Rattle.memchr.specs.Find.{is_byte}
-use Rattle.i3c_script.proofs.Feeds.{is_first}
-use Rattle.i3c_script.proofs.output.first_feed.Goals as goal
-
-pub returns : goal.returns
-returns c = is_first (is_byte 10) c.args.bytes.now c.memchr_iter.result c.next.new.self c.next.result c.memchr_iter.ensures.value c.next.ensures.steps
