@@ -1,7 +1,6 @@
 -- What several writes in a row append.
-use Rattle.std.proofs.Common.{◌≡◌, ◌∙◌, ℕ, zero, suc, ◌+◌, List, [], ◌∷◌, ◌++◌, arith, take, drop, Option, Some, None, Result, Ok, Err, ap, subst, sym}
+use Rattle.std.proofs.Common.{◌≡◌, ◌∙◌, ℕ, zero, suc, ◌+◌, List, [], ◌∷◌, ◌++◌, arith, take, drop, Option, Some, None, ap, subst, sym}
 use Rattle.std.proofs.lemmas.List.{append_assoc, take_all}
-use Rattle.std.specs.Result.{OnOk}
 use Rattle.std.specs.Io.KnownBytes.{Appends, Keeps}
 
 pub appends_both : (a b c : Option (List ℕ)) (first last : List ℕ) → Appends a b first → Appends b c last → Appends a c (first ++ last)
@@ -25,14 +24,3 @@ still_written None b c text one kept = tt
 still_written (Some xs) None c text one kept = absurd one
 still_written (Some xs) (Some ys) None text one kept = absurd kept
 still_written (Some xs) (Some ys) (Some zs) text one kept = kept ∙ one
-
--- what follows from a fact of success
-pub on_ok : {E : Type 0} → {P : Type 0} → {Q : Type 0} → (r : Result (Unit {0}) E) → (P → Q) → OnOk r P → OnOk r Q
-on_ok (Ok done) f h = f h
-on_ok (Err e) f h = tt
-
--- four texts, one behind the other
-pub four : (t a b c d x1 x2 x3 x4 : List ℕ) → x1 ≡ t ++ a → x2 ≡ x1 ++ b → x3 ≡ x2 ++ c → x4 ≡ x3 ++ d → x4 ≡ t ++ (a ++ (b ++ (c ++ d)))
-four t a b c d x1 x2 x3 x4 e1 e2 e3 e4 =
-    e4 ∙ ap (λ x. x ++ d) (e3 ∙ ap (λ x. x ++ c) (e2 ∙ ap (λ x. x ++ b) e1))
-    ∙ append_assoc ((t ++ a) ++ b) c d ∙ append_assoc (t ++ a) b (c ++ d) ∙ append_assoc t a (b ++ (c ++ d))

@@ -1,3 +1,4 @@
+pub mod Texts
 pub mod Presence
 pub mod Moving
 pub mod Showing
