@@ -6,3 +6,4 @@ pub mod Refusing
 pub mod Gathering
 pub mod Forms
 pub mod Parsing
+pub mod Laws
