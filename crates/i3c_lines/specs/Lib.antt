@@ -7,3 +7,4 @@ pub mod Gathering
 pub mod Forms
 pub mod Parsing
 pub mod Laws
+pub mod Printing

@@ -11,12 +11,15 @@ mod line;
 mod names;
 mod numerals;
 mod policies;
+mod printing;
 mod refusals;
 mod text;
 mod words;
 
 pub use command::Command;
-pub use laws::{lines_are_of_one_command, skipped_lines_are_no_commands};
+pub use laws::{
+    lines_are_of_one_command, printed_commands_are_read, skipped_lines_are_no_commands,
+};
 pub use line::{Line, is_skipped, read_line};
 pub use names::{Name, Names, Place};
 pub use policies::ACCEPT_ALL;
