@@ -147,7 +147,7 @@ only_l tail command form =
           ]
     ]
 
--- what reads the other commands reads a line that is no command else
+-- what reads word by word reads a line that only such commands can have
 pub becomes_other : (words : List (List ℕ)) (result : Option (Unit {0})) (old new : Command) → ((command : Command) → IsForm words command → IsOther command) → BecomesOther words result old new → Becomes words result old new
 becomes_other words None old new other is = (λ command form. is.0 command (form, other command form), is.1)
 becomes_other words (Some done) old new other is = is.0

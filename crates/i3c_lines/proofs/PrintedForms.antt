@@ -13,7 +13,7 @@ use Rattle.i3c_lines.specs.declared.names.Name.{Name}
 use Rattle.i3c_lines.specs.Forms.{AreAddress, AreByte, AreDevice, AreKinds, AreWritten, IsCommand, IsForm, IsPolicy, tokens, willing_words}
 use Rattle.i3c_lines.specs.Hex.{byte_text, bytes_text, hex_text}
 use Rattle.i3c_lines.specs.Naming.{letters}
-use Rattle.i3c_lines.specs.Printing.{AreKnown, HasLine, IsBelow, IsNamable, byte_words, command_text, command_words, device_words, spaced, verdicts_word, written_words}
+use Rattle.i3c_lines.specs.Printing.{AreKnown, HasLine, IsWithin, IsNamable, byte_words, command_text, command_words, device_words, spaced, verdicts_word, written_words}
 use Rattle.i3c_lines.proofs.Meanings.{as_meant}
 use Rattle.i3c_lines.proofs.PrintedLines.{Apart, byte_writes, decimal_writes, pairs_are, pairs_length, pid_writes, plain, spaced_length, tokens_spaced, total}
 use Rattle.i3c_lines.proofs.SplitLaws.{HasNoSpace, hex_no_space, name_no_space, pairs_no_space}
@@ -25,11 +25,11 @@ byte_apart byte h = hex_no_space (byte_text byte) (byte_writes byte h).0.1
 abbrev Fit : Type 0 → List (List ℕ) → ℕ → Type 0
 Fit Form words most = Form × Apart words × (total words ≤ most)
 
-byte_fits : (byte : Option ℕ) → IsBelow 256 byte → Fit (AreByte (byte_words byte) byte) (byte_words byte) 3
+byte_fits : (byte : Option ℕ) → IsWithin 256 byte → Fit (AreByte (byte_words byte) byte) (byte_words byte) 3
 byte_fits None h = (refl, tt, omega arith)
 byte_fits (Some byte) h = ((byte_text byte, refl, byte_writes byte h), (byte_apart byte h, tt), omega arith)
 
-address_fits : (to : Option ℕ) → IsBelow 128 to → Fit (AreAddress (byte_words to) to) (byte_words to) 3
+address_fits : (to : Option ℕ) → IsWithin 128 to → Fit (AreAddress (byte_words to) to) (byte_words to) 3
 address_fits None h = (refl, tt, omega arith)
 address_fits (Some to) h = let small : to < 256 = omega (arith, h) in ((byte_text to, refl, (byte_writes to small, h)), (byte_apart to small, tt), omega arith)
 
@@ -59,7 +59,7 @@ device_fits name setup is h =
       omega (arith, is.1, pid.0.0, willing.1),
     )
 
-kinds_fit : (to : Option ℕ) (kinds : Kinds) → AreKnown kinds → IsBelow 128 to → Fit (AreKinds (byte_text kinds.0 ∷ byte_words to) to kinds) (byte_text kinds.0 ∷ byte_words to) 6
+kinds_fit : (to : Option ℕ) (kinds : Kinds) → AreKnown kinds → IsWithin 128 to → Fit (AreKinds (byte_text kinds.0 ∷ byte_words to) to kinds) (byte_text kinds.0 ∷ byte_words to) 6
 kinds_fit to kinds known h =
     let small : kinds.0 < 256 = omega (arith, known, and_le_r kinds.0 11) in
     let is = byte_writes kinds.0 small in

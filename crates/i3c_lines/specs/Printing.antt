@@ -6,12 +6,9 @@ use Rattle.i3c_base.specs.declared.device.Setup.{Setup}
 use Rattle.i3c_base.specs.declared.kinds.Kinds.{Kinds}
 use Rattle.i3c_base.specs.declared.requests.Verdict.{Verdict}
 use Rattle.i3c_base.specs.declared.requests.Verdict.TheVariants.{Accept, Refuse}
-use Rattle.i3c_step.specs.declared.events.TheConstants.{WRITE_KEPT}
 use Rattle.i3c_step.specs.declared.events.Command.{Command as Frame}
 use Rattle.i3c_lines.specs.declared.command.Command.{Command}
 use Rattle.i3c_lines.specs.declared.names.Name.{Name}
-use Rattle.i3c_lines.specs.declared.names.TheConstants.{NAME_LENGTH}
-use Rattle.i3c_lines.specs.declared.words.TheConstants.{KNOWN_KINDS, SPACE}
 use Rattle.i3c_lines.specs.Forms.{IsPolicy, willing_words}
 use Rattle.i3c_lines.specs.Hex.{byte_text, bytes_text, hex_text}
 use Rattle.i3c_lines.specs.Naming.{letters}
@@ -20,7 +17,7 @@ use Rattle.i3c_lines.specs.Words.{IsName}
 -- words behind a first one, each behind a space
 abbrev pub behind : List (List ℕ) → List ℕ
 behind [] = []
-behind (word ∷ words) = SPACE ∷ word ++ behind words
+behind (word ∷ words) = 32 ∷ word ++ behind words
 
 -- words with a space between each two
 abbrev pub spaced : List (List ℕ) → List ℕ
@@ -88,26 +85,26 @@ command_text command = spaced (command_words command)
 
 -- a name of 1 to 16 letters
 abbrev pub IsNamable : Name → Type 0
-IsNamable name = IsName NAME_LENGTH (letters name)
+IsNamable name = IsName 16 (letters name)
 
 -- a number below a bound, if there is one
-abbrev pub IsBelow : ℕ → Option ℕ → Type 0
-IsBelow bound None = ⊤
-IsBelow bound (Some number) = number < bound
+abbrev pub IsWithin : ℕ → Option ℕ → Type 0
+IsWithin bound None = ⊤
+IsWithin bound (Some number) = number < bound
 
 -- no bits but those of the kinds
 abbrev pub AreKnown : Kinds → Type 0
-AreKnown kinds = kinds.0 ≡ bit_and kinds.0 KNOWN_KINDS
+AreKnown kinds = kinds.0 ≡ bit_and kinds.0 0x0B
 
 -- a frame that a line can ask for
 abbrev pub FrameHasLine : Frame → Type 0
 FrameHasLine Frame.Serve = ⊤
-FrameHasLine (Frame.Enec to kinds) = AreKnown kinds × IsBelow 128 to
-FrameHasLine (Frame.Disec to kinds) = AreKnown kinds × IsBelow 128 to
+FrameHasLine (Frame.Enec to kinds) = AreKnown kinds × IsWithin 128 to
+FrameHasLine (Frame.Disec to kinds) = AreKnown kinds × IsWithin 128 to
 FrameHasLine Frame.Reset = ⊤
 FrameHasLine Frame.SendList = ⊤
 FrameHasLine (Frame.ReadFrom at) = at < 128
-FrameHasLine (Frame.WriteTo at bytes) = (at < 128) × (length bytes.items ≤ WRITE_KEPT) × All (λ byte. byte < 256) bytes.items
+FrameHasLine (Frame.WriteTo at bytes) = (at < 128) × (length bytes.items ≤ 17) × All (λ byte. byte < 256) bytes.items
 
 -- a command that a line can ask for: its names have letters, its numbers are in range, and its policy has a word
 abbrev pub HasLine : Command → Type 0
@@ -115,7 +112,7 @@ HasLine (Command.Legacy name address lvr) = IsNamable name × (address < 128) ×
 HasLine (Command.Main name setup) = IsNamable name × IsInRange setup.identity
 HasLine (Command.Attach name setup) = IsNamable name × IsInRange setup.identity
 HasLine (Command.DropOff name) = IsNamable name
-HasLine (Command.Raise name byte) = IsNamable name × IsBelow 256 byte
+HasLine (Command.Raise name byte) = IsNamable name × IsWithin 256 byte
 HasLine (Command.AskJoin name) = IsNamable name
 HasLine (Command.AskRole name) = IsNamable name
 HasLine (Command.Frame frame) = FrameHasLine frame
