@@ -1,5 +1,6 @@
 -- The lines that begin with a letter.
 use Rattle.std.proofs.Common.{◌≡◌, ◌∙◌, ◌⊎◌, ℕ, Bool, true, false, cond, inl, inr, List, [], ◌∷◌, ◌++◌, Option, Some, None, codes, ap, arith, refl, sym, subst}
+use Rattle.std.specs.List.{slice_get}
 use Rattle.i3c_step.specs.declared.events.Command.{Command as Frame}
 use Rattle.i3c_lines.specs.declared.command.Command.{Command}
 use Rattle.i3c_lines.specs.Forms.{IsForm, tokens, with_first}
@@ -146,7 +147,18 @@ only_l tail command form =
           ]
     ]
 
--- what reads the other commands reads a line that is no command else
+-- what reads word by word reads a line that only such commands can have
 pub becomes_other : (words : List (List ℕ)) (result : Option (Unit {0})) (old new : Command) → ((command : Command) → IsForm words command → IsOther command) → BecomesOther words result old new → Becomes words result old new
 becomes_other words None old new other is = (λ command form. is.0 command (form, other command form), is.1)
 becomes_other words (Some done) old new other is = is.0
+
+nothing_alone : (command : Command) → IsForm ([] ∷ []) command → ⊥
+nothing_alone command form = omega (arith, ap first_letter (as_meant ([] ∷ []) command form))
+
+-- a line that is passed over is no command's
+pub skipped_is_none : (line : List ℕ) (command : Command) → (line ≡ []) ⊎ (slice_get line 0 ≡ Some 35) → IsForm (tokens line) command → ⊥
+skipped_is_none line command (inl empty) form = nothing_alone command (subst (λ l. IsForm (tokens l) command) empty form)
+skipped_is_none [] command (inr comment) form = nothing_alone command form
+skipped_is_none (byte ∷ line) command (inr comment) form =
+    let is : byte ≡ 35 = grind (arith, comment) in
+    let (word, words, e, here) = begun 35 line command refl (subst (λ b. IsForm (tokens (b ∷ line)) command) is form) in omega (arith, ap first_letter here)

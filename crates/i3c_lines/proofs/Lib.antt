@@ -9,3 +9,5 @@ pub mod LineLaws
 pub mod Beginnings
 pub mod SplitLaws
 pub mod Arguments
+pub mod PrintedLines
+pub mod PrintedForms

@@ -6,13 +6,9 @@ use Rattle.i3c_base.specs.declared.identity.Identity.{Identity}
 use Rattle.i3c_base.specs.declared.kinds.Kinds.{Kinds}
 use Rattle.i3c_base.specs.declared.requests.Fixed.{Fixed}
 use Rattle.i3c_base.specs.declared.requests.Verdict.TheVariants.{Accept, Refuse}
-use Rattle.i3c_step.specs.declared.events.TheConstants.{WRITE_KEPT}
 use Rattle.i3c_step.specs.declared.events.Command.{Command as Frame}
 use Rattle.i3c_lines.specs.declared.command.Command.{Command}
-use Rattle.i3c_lines.specs.declared.line.TheConstants.{COMMENT, LINE_LENGTH}
 use Rattle.i3c_lines.specs.declared.names.Name.{Name}
-use Rattle.i3c_lines.specs.declared.names.TheConstants.{NAME_LENGTH}
-use Rattle.i3c_lines.specs.declared.words.TheConstants.{KNOWN_KINDS, SPACE}
 use Rattle.i3c_lines.specs.Naming.{letters}
 use Rattle.i3c_lines.specs.Policies.{each_kind, interrupts_alone, joins_alone, roles_alone}
 use Rattle.i3c_lines.specs.Words.{AreBytes, IsDecimal, IsHex, IsName, pair_values}
@@ -22,14 +18,14 @@ abbrev pub with_first : ℕ → List (List ℕ) → List (List ℕ)
 with_first byte [] = (byte ∷ []) ∷ []
 with_first byte (word ∷ words) = (byte ∷ word) ∷ words
 
--- the words of a line: the bytes between its spaces
+-- the words of a line: the bytes between its spaces, of which each is 32
 abbrev pub tokens : List ℕ → List (List ℕ)
 tokens [] = [] ∷ []
-tokens (byte ∷ line) = if byte == SPACE then [] ∷ tokens line else with_first byte (tokens line)
+tokens (byte ∷ line) = if byte == 32 then [] ∷ tokens line else with_first byte (tokens line)
 
--- a word is this name's letters
+-- a word of 1 to 16 letters, which are this name's
 abbrev pub IsNamed : List ℕ → Name → Type 0
-IsNamed word name = IsName NAME_LENGTH word × (letters name ≡ word)
+IsNamed word name = IsName 16 word × (letters name ≡ word)
 
 -- so many hex digits, and the number that they write
 abbrev pub Writes : ℕ → List ℕ → ℕ → Type 0
@@ -41,7 +37,7 @@ WritesAddress word address = Writes 2 word address × (address < 128)
 
 -- two hex digits, of which bits 0, 1 and 3 are kept
 abbrev pub WritesKinds : List ℕ → Kinds → Type 0
-WritesKinds word kinds = IsHex 2 word × (kinds.0 ≡ bit_and (digits_value 16 word) KNOWN_KINDS)
+WritesKinds word kinds = IsHex 2 word × (kinds.0 ≡ bit_and (digits_value 16 word) 0x0B)
 
 -- decimal digits, at most 65535
 abbrev pub WritesBit : List ℕ → ℕ → Type 0
@@ -78,7 +74,7 @@ AreKinds words to kinds = (word : List ℕ) × (rest : List (List ℕ)) × (word
 -- `[BYTES]`: of more than seventeen bytes the first ones are kept
 abbrev pub AreWritten : List (List ℕ) → List ℕ → Type 0
 AreWritten words bytes = ((words ≡ []) × (bytes ≡ []))
-    ⊎ ((word : List ℕ) × (words ≡ word ∷ []) × (0 < length word) × AreBytes word × (bytes ≡ take WRITE_KEPT (pair_values word)))
+    ⊎ ((word : List ℕ) × (words ≡ word ∷ []) × (0 < length word) × AreBytes word × (bytes ≡ take 17 (pair_values word)))
 
 -- a word that names this policy
 abbrev pub IsPolicy : List ℕ → Fixed → Type 0
@@ -116,14 +112,14 @@ IsForm words (Command.Cut name bit) = (word digits : List ℕ) × (words ≡ cod
 IsForm words Command.Show = words ≡ codes "show" ∷ []
 IsForm words Command.Symbols = words ≡ codes "symbols" ∷ []
 
--- a line that is passed over: it is empty, or a comment
+-- a line that is passed over: it is empty, or begins with `#`, which is 35
 abbrev pub IsSkipped : List ℕ → Type 0
-IsSkipped line = (length line ≤ LINE_LENGTH) × ((line ≡ []) ⊎ (slice_get line 0 ≡ Some COMMENT))
+IsSkipped line = (length line ≤ 256) × ((line ≡ []) ⊎ (slice_get line 0 ≡ Some 35))
 
 -- a line that asks for this command
 abbrev pub IsCommand : List ℕ → Command → Type 0
-IsCommand line command = (length line ≤ LINE_LENGTH) × IsForm (tokens line) command
+IsCommand line command = (length line ≤ 256) × IsForm (tokens line) command
 
 -- a line that is too long, or neither passed over nor any command's
 abbrev pub HasNoForm : List ℕ → Type 0
-HasNoForm line = (LINE_LENGTH < length line) ⊎ ((IsSkipped line → ⊥) × ((command : Command) → IsCommand line command → ⊥))
+HasNoForm line = (256 < length line) ⊎ ((IsSkipped line → ⊥) × ((command : Command) → IsCommand line command → ⊥))

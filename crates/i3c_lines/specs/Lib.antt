@@ -6,3 +6,5 @@ pub mod Refusing
 pub mod Gathering
 pub mod Forms
 pub mod Parsing
+pub mod Laws
+pub mod Printing

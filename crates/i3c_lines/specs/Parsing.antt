@@ -54,7 +54,7 @@ AreKept words bytes = AreWritten words bytes.items
 abbrev pub Becomes : List (List ℕ) → Option (Unit {0}) → Command → Command → Type 0
 Becomes words result old new = MatchOption result (((command : Command) → IsForm words command → ⊥) × (new ≡ old)) (λ _. IsForm words new)
 
--- a command of several words whose line begins with none of the first letters that are looked at alone
+-- a command whose line is read word by word
 abbrev pub IsOther : Command → Type 0
 IsOther (Command.Legacy name address lvr) = ⊤
 IsOther (Command.Main name setup) = ⊤
@@ -74,10 +74,10 @@ IsOther (Command.Cut name bit) = ⊤
 IsOther Command.Show = ⊥
 IsOther Command.Symbols = ⊥
 
--- these words are such a command's line
+-- these words are the line of a command that is read word by word
 abbrev pub IsOtherForm : List (List ℕ) → Command → Type 0
 IsOtherForm words command = IsForm words command × IsOther command
 
--- a command becomes such a one
+-- a command becomes one that is read word by word, or stays what it was
 abbrev pub BecomesOther : List (List ℕ) → Option (Unit {0}) → Command → Command → Type 0
 BecomesOther words result old new = MatchOption result (((command : Command) → IsOtherForm words command → ⊥) × (new ≡ old)) (λ _. IsOtherForm words new)

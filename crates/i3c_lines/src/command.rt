@@ -131,7 +131,7 @@ impl Command {
         Some(command)
     }
 
-    /// Becomes the command of a line, if the line has a form, and stays what it was else. So nothing of a command's size is
+    /// Becomes the command of a line, if the line has a form. Otherwise it is unchanged. So nothing of a command's size is
     /// moved for each line.
     pub fn read(&mut self, line: &[u8]) -> Option<()>
         ensures { Becomes (tokens line.now) result self.old self.new }

@@ -17,8 +17,8 @@ const COMMENT: u8 = b'#';
 /// Whether a line is skipped: it is an empty one or a comment, whatever bytes follow its `#`. A line that is too long has
 /// no form, even if it begins as a comment does.
 pub fn is_skipped(line: &[u8]) -> Result<bool, Refusal>
-    ensures long { LINE_LENGTH < length line.now → result ≡ Err Refusal.BadLine }
-    ensures short { IfOk result (λ _. length line.now ≤ LINE_LENGTH) }
+    ensures long { 256 < length line.now → result ≡ Err Refusal.BadLine }
+    ensures short { IfOk result (λ _. length line.now ≤ 256) }
     ensures skipped { IfOk result (λ is_skipped. IsTrue is_skipped ↔ IsSkipped line.now) }
     ensures refused { IfErr result (λ why. (why ≡ Refusal.BadLine) × HasNoForm line.now) }
 {

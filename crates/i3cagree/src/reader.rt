@@ -295,10 +295,10 @@ impl Running {
     fn event_of(&mut self, names: &Names, command: &Command) -> Option<Event> {
         match command {
             Command::Attach { name, setup } => Some(Event::Attach(self.seat(names, name)?, *setup)),
-            Command::DropOff { name }
-            | Command::Raise { name, .. }
-            | Command::AskJoin { name }
-            | Command::AskRole { name } => event_at(names.slot_of(name).ok()?, command),
+            Command::DropOff { name } => Some(Event::DropOff(slot_of(names, name)?)),
+            Command::Raise { name, byte } => Some(Event::Raise(slot_of(names, name)?, *byte)),
+            Command::AskJoin { name } => Some(Event::AskJoin(slot_of(names, name)?)),
+            Command::AskRole { name } => Some(Event::AskRole(slot_of(names, name)?)),
             Command::HandOver { to } => Some(Event::HandOver(*to, self.take())),
             Command::Open => Some(Event::OpenDaa(self.take())),
             Command::Round => Some(Event::Round(self.take())),
@@ -352,14 +352,11 @@ impl Running {
     }
 }
 
-/// What a line asks of the device in a slot, if it asks something of one.
-fn event_at(slot: Slot, command: &Command) -> Option<Event> {
-    match command {
-        Command::DropOff { .. } => Some(Event::DropOff(slot)),
-        Command::Raise { byte, .. } => Some(Event::Raise(slot, *byte)),
-        Command::AskJoin { .. } => Some(Event::AskJoin(slot)),
-        Command::AskRole { .. } => Some(Event::AskRole(slot)),
-        _ => None,
+/// The slot that a name stands for, if its device is there.
+fn slot_of(names: &Names, name: &Name) -> Option<Slot> {
+    match names.slot_of(name) {
+        Ok(slot) => Some(slot),
+        Err(_) => None,
     }
 }
 

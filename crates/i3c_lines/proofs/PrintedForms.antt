@@ -1,0 +1,155 @@
+-- A printed command has its own form.
+use Rattle.std.proofs.Common.{◌≡◌, ◌∙◌, ℕ, ◌<◌, ◌≤◌, Bool, true, false, inl, inr, List, [], ◌∷◌, Option, Some, None, All, bit_and, codes, length, take, ap, arith, refl, sym, subst}
+use Rattle.std.proofs.lemmas.List.{take_all}
+use Rattle.std.proofs.lemmas.Nat.{and_le_r}
+use Rattle.std.specs.Fmt.{decimal}
+use Rattle.i3c_base.specs.declared.device.Setup.{Setup}
+use Rattle.i3c_base.specs.declared.kinds.Kinds.{Kinds}
+use Rattle.i3c_base.specs.declared.requests.Fixed.{Fixed}
+use Rattle.i3c_base.specs.Numbers.{IsInRange}
+use Rattle.i3c_step.specs.declared.events.Command.{Command as Frame}
+use Rattle.i3c_lines.specs.declared.command.Command.{Command}
+use Rattle.i3c_lines.specs.declared.names.Name.{Name}
+use Rattle.i3c_lines.specs.Forms.{AreAddress, AreByte, AreDevice, AreKinds, AreWritten, IsCommand, IsForm, IsPolicy, tokens, willing_words}
+use Rattle.i3c_lines.specs.Hex.{byte_text, bytes_text, hex_text}
+use Rattle.i3c_lines.specs.Naming.{letters}
+use Rattle.i3c_lines.specs.Printing.{AreKnown, HasLine, IsWithin, IsNamable, byte_words, command_text, command_words, device_words, spaced, verdicts_word, written_words}
+use Rattle.i3c_lines.proofs.Meanings.{as_meant}
+use Rattle.i3c_lines.proofs.PrintedLines.{Apart, byte_writes, decimal_writes, pairs_are, pairs_length, pid_writes, plain, spaced_length, tokens_spaced, total}
+use Rattle.i3c_lines.proofs.SplitLaws.{HasNoSpace, hex_no_space, name_no_space, pairs_no_space}
+
+byte_apart : (byte : ℕ) → byte < 256 → HasNoSpace (byte_text byte)
+byte_apart byte h = hex_no_space (byte_text byte) (byte_writes byte h).0.1
+
+-- words that have a form, and what becomes of them in a line
+abbrev Fit : Type 0 → List (List ℕ) → ℕ → Type 0
+Fit Form words most = Form × Apart words × (total words ≤ most)
+
+byte_fits : (byte : Option ℕ) → IsWithin 256 byte → Fit (AreByte (byte_words byte) byte) (byte_words byte) 3
+byte_fits None h = (refl, tt, omega arith)
+byte_fits (Some byte) h = ((byte_text byte, refl, byte_writes byte h), (byte_apart byte h, tt), omega arith)
+
+address_fits : (to : Option ℕ) → IsWithin 128 to → Fit (AreAddress (byte_words to) to) (byte_words to) 3
+address_fits None h = (refl, tt, omega arith)
+address_fits (Some to) h = let small : to < 256 = omega (arith, h) in ((byte_text to, refl, (byte_writes to small, h)), (byte_apart to small, tt), omega arith)
+
+written_fits : (bytes : List ℕ) → length bytes ≤ 17 → All (λ byte. byte < 256) bytes → Fit (AreWritten (written_words bytes) bytes) (written_words bytes) 35
+written_fits [] few all = (inl (refl, refl), tt, omega arith)
+written_fits (byte ∷ bytes) few all =
+    let pairs = pairs_are (byte ∷ bytes) all in
+    let long = pairs_length (byte ∷ bytes) in
+    let kept : byte ∷ bytes ≡ take 17 (byte ∷ bytes) = sym (take_all 17 (byte ∷ bytes) few) in (
+      inr (bytes_text (byte ∷ bytes), refl, omega (arith, long), pairs.0, kept ∙ ap (take 17) (sym pairs.1)),
+      (pairs_no_space (bytes_text (byte ∷ bytes)) pairs.0, tt),
+      omega (arith, long, few),
+    )
+
+willing_fits : (willing : Bool) → Apart (willing_words willing) × (total (willing_words willing) ≤ 8)
+willing_fits true = (tt, omega arith)
+willing_fits false = ((plain (codes "decline") tt, tt), omega arith)
+
+device_fits : (name : Name) (setup : Setup) → IsNamable name → IsInRange setup.identity → Fit (AreDevice (device_words name setup) name setup) (device_words name setup) 44
+device_fits name setup is h =
+    let willing = willing_fits setup.willing in
+    let pid = pid_writes setup.identity.pid h.0 in
+    let bcr = byte_writes setup.identity.bcr.0 h.1 in
+    let dcr = byte_writes setup.identity.dcr.0 h.2 in (
+      (letters name, hex_text 12 setup.identity.pid, byte_text setup.identity.bcr.0, byte_text setup.identity.dcr.0, refl, (is, refl), (pid, bcr, dcr)),
+      (name_no_space (letters name) is, (hex_no_space (hex_text 12 setup.identity.pid) pid.0.1, (byte_apart setup.identity.bcr.0 h.1, (byte_apart setup.identity.dcr.0 h.2, willing.0)))),
+      omega (arith, is.1, pid.0.0, willing.1),
+    )
+
+kinds_fit : (to : Option ℕ) (kinds : Kinds) → AreKnown kinds → IsWithin 128 to → Fit (AreKinds (byte_text kinds.0 ∷ byte_words to) to kinds) (byte_text kinds.0 ∷ byte_words to) 6
+kinds_fit to kinds known h =
+    let small : kinds.0 < 256 = omega (arith, known, and_le_r kinds.0 11) in
+    let is = byte_writes kinds.0 small in
+    let at = address_fits to h in (
+      (byte_text kinds.0, byte_words to, refl, (is.0, known ∙ ap (λ n. bit_and n 11) is.1), at.0),
+      (byte_apart kinds.0 small, at.1),
+      omega (arith, at.2),
+    )
+
+abbrev word_of : Fixed → List ℕ
+word_of policy = verdicts_word policy.join policy.role policy.interrupt
+
+policy_fits : (word : List ℕ) (policy : Fixed) → IsPolicy word policy → IsPolicy (word_of policy) policy × HasNoSpace (word_of policy) × (length (word_of policy) ≤ 10)
+policy_fits word policy (inl (_, is)) = let same = ap word_of is in (inl (same, is), subst HasNoSpace (sym same) (plain (codes "all") tt), omega (arith, ap length same))
+policy_fits word policy (inr (inl (_, is))) = let same = ap word_of is in (inr (inl (same, is)), subst HasNoSpace (sym same) (plain (codes "none") tt), omega (arith, ap length same))
+policy_fits word policy (inr (inr (inl (_, is)))) = let same = ap word_of is in (inr (inr (inl (same, is))), subst HasNoSpace (sym same) (plain (codes "joins") tt), omega (arith, ap length same))
+policy_fits word policy (inr (inr (inr (inl (_, is))))) = let same = ap word_of is in (inr (inr (inr (inl (same, is)))), subst HasNoSpace (sym same) (plain (codes "roles") tt), omega (arith, ap length same))
+policy_fits word policy (inr (inr (inr (inr (_, is))))) = let same = ap word_of is in (inr (inr (inr (inr (same, is)))), subst HasNoSpace (sym same) (plain (codes "interrupts") tt), omega (arith, ap length same))
+
+named_fits : (name : Name) → IsNamable name → Apart (letters name ∷ []) × (total (letters name ∷ []) ≤ 17)
+named_fits name is = ((name_no_space (letters name) is, tt), omega (arith, is.1))
+
+-- a command's words have its form, none has a space, and they are short
+abbrev Prints : Command → Type 0
+Prints command = Fit (IsForm (command_words command) command) (command_words command) 60
+
+frame_prints : (frame : Frame) → HasLine (Command.Frame frame) → Prints (Command.Frame frame)
+frame_prints Frame.Serve h = (refl, (plain (codes "serve") tt, tt), omega arith)
+frame_prints (Frame.Enec to kinds) h = let fit = kinds_fit to kinds h.0 h.1 in ((byte_text kinds.0 ∷ byte_words to, refl, fit.0), (plain (codes "enec") tt, fit.1), omega (arith, fit.2))
+frame_prints (Frame.Disec to kinds) h = let fit = kinds_fit to kinds h.0 h.1 in ((byte_text kinds.0 ∷ byte_words to, refl, fit.0), (plain (codes "disec") tt, fit.1), omega (arith, fit.2))
+frame_prints Frame.Reset h = (refl, (plain (codes "reset") tt, tt), omega arith)
+frame_prints Frame.SendList h = (refl, (plain (codes "list") tt, tt), omega arith)
+frame_prints (Frame.ReadFrom at) h = let small : at < 256 = omega (arith, h) in ((byte_text at, refl, (byte_writes at small, h)), (plain (codes "read") tt, (byte_apart at small, tt)), omega arith)
+frame_prints (Frame.WriteTo at bytes) h =
+    let small : at < 256 = omega (arith, h.0) in
+    let fit = written_fits bytes.items h.1 h.2 in
+    ((byte_text at, written_words bytes.items, refl, (byte_writes at small, h.0), fit.0), (plain (codes "write") tt, (byte_apart at small, fit.1)), omega (arith, fit.2))
+
+prints : (command : Command) → HasLine command → Prints command
+prints (Command.Legacy name address lvr) h =
+    let small : address < 256 = omega (arith, h.1) in
+    let fit = named_fits name h.0 in (
+      (letters name, byte_text address, byte_text lvr.0, refl, (h.0, refl), (byte_writes address small, h.1), byte_writes lvr.0 h.2),
+      (plain (codes "legacy") tt, (fit.0.0, (byte_apart address small, (byte_apart lvr.0 h.2, tt)))),
+      omega (arith, fit.1),
+    )
+prints (Command.Main name setup) h = let fit = device_fits name setup h.0 h.1 in ((device_words name setup, refl, fit.0), (plain (codes "main") tt, fit.1), omega (arith, fit.2))
+prints (Command.Attach name setup) h = let fit = device_fits name setup h.0 h.1 in ((device_words name setup, refl, fit.0), (plain (codes "attach") tt, fit.1), omega (arith, fit.2))
+prints (Command.DropOff name) h = let fit = named_fits name h in ((letters name, refl, (h, refl)), (plain (codes "drop") tt, fit.0), omega (arith, fit.1))
+prints (Command.Raise name byte) h =
+    let fit = named_fits name h.0 in
+    let rest = byte_fits byte h.1 in
+    ((letters name, byte_words byte, refl, (h.0, refl), rest.0), (plain (codes "raise") tt, (fit.0.0, rest.1)), omega (arith, fit.1, rest.2))
+prints (Command.AskJoin name) h = let fit = named_fits name h in ((letters name, refl, (h, refl)), (plain (codes "ask-join") tt, fit.0), omega (arith, fit.1))
+prints (Command.AskRole name) h = let fit = named_fits name h in ((letters name, refl, (h, refl)), (plain (codes "ask-role") tt, fit.0), omega (arith, fit.1))
+prints (Command.Frame frame) h = frame_prints frame h
+prints (Command.HandOver to) h = let small : to < 256 = omega (arith, h) in ((byte_text to, refl, (byte_writes to small, h)), (plain (codes "handover") tt, (byte_apart to small, tt)), omega arith)
+prints Command.Open h = (refl, (plain (codes "open") tt, tt), omega arith)
+prints Command.Round h = (refl, (plain (codes "round") tt, tt), omega arith)
+prints Command.End h = (refl, (plain (codes "end") tt, tt), omega arith)
+prints Command.Daa h = (refl, (plain (codes "daa") tt, tt), omega arith)
+prints (Command.Policy policy) h = let fit = policy_fits h.0 policy h.1 in ((word_of policy, refl, fit.0), (plain (codes "policy") tt, (fit.1, tt)), omega (arith, fit.2))
+prints (Command.Cut name bit) h =
+    let fit = named_fits name h.0 in
+    let digits = decimal_writes bit (omega (arith, h.1)) in
+    ((letters name, decimal bit, refl, (h.0, refl), digits.0), (plain (codes "cut") tt, (fit.0.0, (digits.1, tt))), omega (arith, fit.1, digits.2))
+prints Command.Show h = (refl, (plain (codes "show") tt, tt), omega arith)
+prints Command.Symbols h = (refl, (plain (codes "symbols") tt, tt), omega arith)
+
+-- words that are apart are those of their line, and this is short
+read_again : (words : List (List ℕ)) → Apart words → total words ≤ 60 → (0 < length words) → (tokens (spaced words) ≡ words) × (length (spaced words) ≤ 256)
+read_again [] apart short some = absurd (omega (arith, some))
+read_again (word ∷ words) apart short some = let long = spaced_length word words in (tokens_spaced word words apart.0 apart.1, omega (arith, long, short))
+
+letter : List (List ℕ) → ℕ
+letter [] = 0
+letter ([] ∷ words) = 0
+letter ((byte ∷ word) ∷ words) = byte
+
+-- no words are no command's
+no_words : (command : Command) → IsForm [] command → ⊥
+unfolding letter
+no_words command form = omega (arith, ap letter (as_meant [] command form))
+
+some_words : (words : List (List ℕ)) (command : Command) → IsForm words command → 0 < length words
+some_words words command form = elim words as (λ ws. IsForm ws command → 0 < length ws) [ [] ↦ λ none. absurd (no_words command none) | word ∷ more ↦ λ _. omega arith ] form
+
+-- a printed command is read as itself
+pub printed_is_read : (command : Command) → HasLine command → IsCommand (command_text command) command
+printed_is_read command h =
+    let fit = prints command h in
+    let again = read_again (command_words command) fit.1 fit.2 (some_words (command_words command) command fit.0) in
+    (again.1, subst (λ ws. IsForm ws command) (sym again.0) fit.0)

@@ -1,0 +1,107 @@
+-- Commands that are printed, and read again.
+use Rattle.std.proofs.Common.{◌≡◌, ◌∙◌, ℕ, zero, suc, ◌+◌, ◌-◌, ◌*◌, ◌/◌, ◌%◌, ◌^◌, ◌<◌, ◌≤◌, Bool, true, ◌&&◌, T, not, eqb, eq-zero-or-pos, inl, inr, List, [], ◌∷◌, ◌++◌, Some, All, length, length-append, ap, append_assoc, arith, refl, sym, subst}
+use Rattle.std.proofs.Math.Nat.{pow-succ'}
+use Rattle.std.proofs.lemmas.List.{append-nil}
+use Rattle.std.proofs.lemmas.List.Elements.{All-cons, All-nil, All-push}
+use Rattle.std.proofs.lemmas.Str.Parse.{digit_from_value}
+use Rattle.std.proofs.lemmas.Int.Digits.{digits_value_push}
+use Rattle.std.proofs.lemmas.Fmt.{decimal_is_IsNumeral, length-decimal-le}
+use lib.Ieee.Fits.{and_r}
+use Rattle.std.specs.Char.{digit_value}
+use Rattle.std.specs.Fmt.{decimal, digit_glyph}
+use Rattle.std.specs.Str.Parse.{AllDigits, digits_value}
+use Rattle.i3c_lines.specs.Forms.{Writes, WritesBit, tokens}
+use Rattle.i3c_lines.specs.Hex.{byte_text, bytes_text, hex_text}
+use Rattle.i3c_lines.specs.Printing.{behind, spaced}
+use Rattle.i3c_lines.specs.Words.{AreBytes, IsDecimalDigit, IsHex, IsHexDigit, pair_values}
+use Rattle.i3c_lines.proofs.LineLaws.{one_word}
+use Rattle.i3c_lines.proofs.SplitLaws.{HasNoSpace, joined_tokens}
+
+-- a word is put behind a space
+pub behind_space : (old mid new word : List ℕ) → mid ≡ old ++ 32 ∷ [] → new ≡ mid ++ word → new ≡ old ++ behind (word ∷ [])
+behind_space old mid new word first then =
+    then ∙ ap (λ t. t ++ word) first ∙ append_assoc old (32 ∷ []) word ∙ ap (λ w. old ++ 32 ∷ w) (sym (append-nil word))
+
+-- a digit below 16 is a hex digit of its worth
+glyph_is : (n : ℕ) → n < 16 → IsHexDigit (digit_glyph true n) × (digit_value (digit_glyph true n) ≡ n)
+glyph_is n h =
+    elim (eq-zero-or-pos (10 - n)) [
+      | inl z ↦ let is : digit_glyph true n ≡ 55 + n = grind arith in (inr (omega (arith, is, z), omega (arith, is, h)), grind arith)
+      | inr few ↦ let is : digit_glyph true n ≡ 48 + n = grind arith in (inl (omega (arith, is), omega (arith, is, few)), grind arith)
+    ]
+
+hex_is : (count n : ℕ) → n < 16 ^ count → IsHex count (hex_text count n) × (digits_value 16 (hex_text count n) ≡ n)
+hex_is zero n h = ((refl, λ k d within. absurd (omega (arith, within))), omega (arith, h))
+hex_is (suc count) n h =
+    let power : 16 ^ suc count ≡ 16 * 16 ^ count = rw pow-succ' in
+    let before = hex_is count (n / 16) (omega (arith, h, power)) in
+    let digit = glyph_is (n % 16) (omega arith) in
+    let long = length-append (hex_text count (n / 16)) (digit_glyph true (n % 16) ∷ []) in
+    let value = digits_value_push 16 (hex_text count (n / 16)) (digit_glyph true (n % 16)) in (
+      (omega (arith, long, before.0.0), All-push IsHexDigit (hex_text count (n / 16)) (digit_glyph true (n % 16)) before.0.1 digit.0),
+      omega (arith, value, before.1, digit.1),
+    )
+
+-- a byte's two digits
+pub byte_writes : (byte : ℕ) → byte < 256 → Writes 2 (byte_text byte) byte
+byte_writes byte h =
+    let high : byte / 16 % 16 ≡ byte / 16 = omega arith in
+    let same : hex_text 2 byte ≡ byte_text byte = λ i. digit_glyph true (high i) ∷ digit_glyph true (byte % 16) ∷ [] in
+    let is = hex_is 2 byte (omega (arith, h)) in
+    subst (λ word. Writes 2 word byte) same (is.0, sym is.1)
+
+pub pid_writes : (pid : ℕ) → pid < 2 ^ 48 → Writes 12 (hex_text 12 pid) pid
+pid_writes pid h = let is = hex_is 12 pid (omega (arith, h)) in (is.0, sym is.1)
+
+-- the pairs of some bytes
+pub pairs_are : (bytes : List ℕ) → All (λ byte. byte < 256) bytes → AreBytes (bytes_text bytes) × (pair_values (bytes_text bytes) ≡ bytes)
+pairs_are [] all = (tt, refl)
+pairs_are (byte ∷ bytes) all =
+    let is = byte_writes byte (all 0 0 (omega arith)) in
+    let before = pairs_are bytes (λ k d within. all (suc k) d (omega (arith, within))) in
+    ((is.0.1 0 0 (omega arith), is.0.1 1 0 (omega arith), before.0), λ i. sym is.1 i ∷ before.1 i)
+
+pub pairs_length : (bytes : List ℕ) → length (bytes_text bytes) ≡ 2 * length bytes
+pairs_length [] = refl
+pairs_length (byte ∷ bytes) = let before = pairs_length bytes in omega (arith, before)
+
+-- the digits of a number
+decimal_all : (word : List ℕ) → AllDigits 10 word → All IsDecimalDigit word
+decimal_all [] all = All-nil IsDecimalDigit
+decimal_all (byte ∷ word) all = All-cons IsDecimalDigit byte word (digit_from_value byte all.0) (decimal_all word all.1)
+
+pub decimal_writes : (bit : ℕ) → bit < 65536 → WritesBit (decimal bit) bit × HasNoSpace (decimal bit) × (length (decimal bit) ≤ 5)
+decimal_writes bit h =
+    let is = decimal_is_IsNumeral bit (omega (arith, h)) in
+    let digits = decimal_all (decimal bit) is.0.1 in
+    (((is.0.0, digits), sym is.1, h), (λ k within space. let digit : IsDecimalDigit 32 = subst IsDecimalDigit space (digits k 0 within) in omega (arith, digit.0)), length-decimal-le 5 bit (omega arith) (omega (arith, h)) (omega (arith, h)))
+
+-- words without spaces
+abbrev pub Apart : List (List ℕ) → Type 0
+Apart [] = Unit {0}
+Apart (word ∷ words) = HasNoSpace word × Apart words
+
+pub tokens_spaced : (word : List ℕ) (words : List (List ℕ)) → HasNoSpace word → Apart words → tokens (spaced (word ∷ words)) ≡ word ∷ words
+tokens_spaced word [] none apart = ap tokens (append-nil word) ∙ one_word word none
+tokens_spaced word (next ∷ words) none apart = joined_tokens word (Some (spaced (next ∷ words))) none ∙ ap (λ ws. word ∷ ws) (tokens_spaced next words apart.0 apart.1)
+
+-- how many bytes words take, each with a space
+abbrev pub total : List (List ℕ) → ℕ
+total [] = 0
+total (word ∷ words) = length word + 1 + total words
+
+behind_length : (words : List (List ℕ)) → length (behind words) ≡ total words
+behind_length [] = refl
+behind_length (word ∷ words) = let before = behind_length words in omega (arith, before, length-append word (behind words))
+
+pub spaced_length : (word : List ℕ) (words : List (List ℕ)) → length (spaced (word ∷ words)) < total (word ∷ words)
+spaced_length word words = let rest = behind_length words in omega (arith, rest, length-append word (behind words))
+
+abbrev pub is_plain : List ℕ → Bool
+is_plain [] = true
+is_plain (byte ∷ word) = not (eqb byte 32) && is_plain word
+
+pub plain : (word : List ℕ) → T (is_plain word) → HasNoSpace word
+plain [] t k within space = omega (arith, within)
+plain (byte ∷ word) t zero within space = subst (λ b. T (not (eqb b 32) && is_plain word)) space t
+plain (byte ∷ word) t (suc k) within space = plain word (and_r (not (eqb byte 32)) _ t) k (omega (arith, within)) space

@@ -1,0 +1,127 @@
+-- Commands as they are printed, each in a line of its form.
+use Rattle.std.specs.Prelude.{◌≡◌, ℕ, ◌^◌, ◌<◌, ◌≤◌, ⊤, All, List, [], ◌∷◌, ◌++◌, Option, Some, None, bit_and, codes, length}
+use Rattle.std.specs.Fmt.{decimal}
+use Rattle.i3c_base.specs.Numbers.{IsInRange}
+use Rattle.i3c_base.specs.declared.device.Setup.{Setup}
+use Rattle.i3c_base.specs.declared.kinds.Kinds.{Kinds}
+use Rattle.i3c_base.specs.declared.requests.Verdict.{Verdict}
+use Rattle.i3c_base.specs.declared.requests.Verdict.TheVariants.{Accept, Refuse}
+use Rattle.i3c_step.specs.declared.events.Command.{Command as Frame}
+use Rattle.i3c_lines.specs.declared.command.Command.{Command}
+use Rattle.i3c_lines.specs.declared.names.Name.{Name}
+use Rattle.i3c_lines.specs.Forms.{IsPolicy, willing_words}
+use Rattle.i3c_lines.specs.Hex.{byte_text, bytes_text, hex_text}
+use Rattle.i3c_lines.specs.Naming.{letters}
+use Rattle.i3c_lines.specs.Words.{IsName}
+
+-- words behind a first one, each behind a space
+abbrev pub behind : List (List ℕ) → List ℕ
+behind [] = []
+behind (word ∷ words) = 32 ∷ word ++ behind words
+
+-- words with a space between each two
+abbrev pub spaced : List (List ℕ) → List ℕ
+spaced [] = []
+spaced (word ∷ words) = word ++ behind words
+
+-- a byte or an address, if there is one
+abbrev pub byte_words : Option ℕ → List (List ℕ)
+byte_words None = []
+byte_words (Some byte) = byte_text byte ∷ []
+
+-- the bytes of a write, if there are some
+abbrev pub written_words : List ℕ → List (List ℕ)
+written_words [] = []
+written_words (byte ∷ bytes) = bytes_text (byte ∷ bytes) ∷ []
+
+-- a device's name and identity, and whether it takes the controller role
+abbrev pub device_words : Name → Setup → List (List ℕ)
+device_words name setup = letters name ∷ hex_text 12 setup.identity.pid ∷ byte_text setup.identity.bcr.0 ∷ byte_text setup.identity.dcr.0 ∷ willing_words setup.willing
+
+-- the word of a policy that has one, by its verdicts on joins, role requests and interrupts
+abbrev pub verdicts_word : Verdict → Verdict → Verdict → List ℕ
+verdicts_word Accept Accept Accept = codes "all"
+verdicts_word Refuse Refuse Refuse = codes "none"
+verdicts_word Accept Refuse Refuse = codes "joins"
+verdicts_word Refuse Accept Refuse = codes "roles"
+verdicts_word Refuse Refuse Accept = codes "interrupts"
+verdicts_word Accept Accept Refuse = []
+verdicts_word Accept Refuse Accept = []
+verdicts_word Refuse Accept Accept = []
+
+-- the words of a frame's line
+abbrev pub frame_words : Frame → List (List ℕ)
+frame_words Frame.Serve = codes "serve" ∷ []
+frame_words (Frame.Enec to kinds) = codes "enec" ∷ byte_text kinds.0 ∷ byte_words to
+frame_words (Frame.Disec to kinds) = codes "disec" ∷ byte_text kinds.0 ∷ byte_words to
+frame_words Frame.Reset = codes "reset" ∷ []
+frame_words Frame.SendList = codes "list" ∷ []
+frame_words (Frame.ReadFrom at) = codes "read" ∷ byte_text at ∷ []
+frame_words (Frame.WriteTo at bytes) = codes "write" ∷ byte_text at ∷ written_words bytes.items
+
+-- the words of a command's line
+abbrev pub command_words : Command → List (List ℕ)
+command_words (Command.Legacy name address lvr) = codes "legacy" ∷ letters name ∷ byte_text address ∷ byte_text lvr.0 ∷ []
+command_words (Command.Main name setup) = codes "main" ∷ device_words name setup
+command_words (Command.Attach name setup) = codes "attach" ∷ device_words name setup
+command_words (Command.DropOff name) = codes "drop" ∷ letters name ∷ []
+command_words (Command.Raise name byte) = codes "raise" ∷ letters name ∷ byte_words byte
+command_words (Command.AskJoin name) = codes "ask-join" ∷ letters name ∷ []
+command_words (Command.AskRole name) = codes "ask-role" ∷ letters name ∷ []
+command_words (Command.Frame frame) = frame_words frame
+command_words (Command.HandOver to) = codes "handover" ∷ byte_text to ∷ []
+command_words Command.Open = codes "open" ∷ []
+command_words Command.Round = codes "round" ∷ []
+command_words Command.End = codes "end" ∷ []
+command_words Command.Daa = codes "daa" ∷ []
+command_words (Command.Policy policy) = codes "policy" ∷ verdicts_word policy.join policy.role policy.interrupt ∷ []
+command_words (Command.Cut name bit) = codes "cut" ∷ letters name ∷ decimal bit ∷ []
+command_words Command.Show = codes "show" ∷ []
+command_words Command.Symbols = codes "symbols" ∷ []
+
+-- a command's line
+abbrev pub command_text : Command → List ℕ
+command_text command = spaced (command_words command)
+
+-- a name of 1 to 16 letters
+abbrev pub IsNamable : Name → Type 0
+IsNamable name = IsName 16 (letters name)
+
+-- a number below a bound, if there is one
+abbrev pub IsWithin : ℕ → Option ℕ → Type 0
+IsWithin bound None = ⊤
+IsWithin bound (Some number) = number < bound
+
+-- no bits but those of the kinds
+abbrev pub AreKnown : Kinds → Type 0
+AreKnown kinds = kinds.0 ≡ bit_and kinds.0 0x0B
+
+-- a frame that a line can ask for
+abbrev pub FrameHasLine : Frame → Type 0
+FrameHasLine Frame.Serve = ⊤
+FrameHasLine (Frame.Enec to kinds) = AreKnown kinds × IsWithin 128 to
+FrameHasLine (Frame.Disec to kinds) = AreKnown kinds × IsWithin 128 to
+FrameHasLine Frame.Reset = ⊤
+FrameHasLine Frame.SendList = ⊤
+FrameHasLine (Frame.ReadFrom at) = at < 128
+FrameHasLine (Frame.WriteTo at bytes) = (at < 128) × (length bytes.items ≤ 17) × All (λ byte. byte < 256) bytes.items
+
+-- a command that a line can ask for: its names have letters, its numbers are in range, and its policy has a word
+abbrev pub HasLine : Command → Type 0
+HasLine (Command.Legacy name address lvr) = IsNamable name × (address < 128) × (lvr.0 < 256)
+HasLine (Command.Main name setup) = IsNamable name × IsInRange setup.identity
+HasLine (Command.Attach name setup) = IsNamable name × IsInRange setup.identity
+HasLine (Command.DropOff name) = IsNamable name
+HasLine (Command.Raise name byte) = IsNamable name × IsWithin 256 byte
+HasLine (Command.AskJoin name) = IsNamable name
+HasLine (Command.AskRole name) = IsNamable name
+HasLine (Command.Frame frame) = FrameHasLine frame
+HasLine (Command.HandOver to) = to < 128
+HasLine Command.Open = ⊤
+HasLine Command.Round = ⊤
+HasLine Command.End = ⊤
+HasLine Command.Daa = ⊤
+HasLine (Command.Policy policy) = (word : List ℕ) × IsPolicy word policy
+HasLine (Command.Cut name bit) = IsNamable name × (bit < 2 ^ 16)
+HasLine Command.Show = ⊤
+HasLine Command.Symbols = ⊤

@@ -1,0 +1,201 @@
+ghost use Rattle.std.specs.Prelude.{◌≡◌, [], ◌∷◌, ◌++◌, OnOk, codes};
+ghost use Rattle.std.specs.Fmt.{decimal};
+ghost use Rattle.i3c_lines.specs.Forms.{willing_words};
+ghost use Rattle.i3c_lines.specs.Hex.{byte_text, hex_text};
+ghost use Rattle.i3c_lines.specs.Naming.{letters};
+ghost use Rattle.i3c_lines.specs.Printing.{behind, byte_words, command_text, device_words, frame_words, spaced, verdicts_word, written_words};
+
+use crate::command::Command;
+use crate::names::Name;
+use crate::text::Text;
+use bitflags::Flags;
+use i3c_base::{Addr7, Fixed, Kinds, Lvr, Pid, Setup, Verdict};
+use i3c_step::Command as Frame;
+use std::alloc::AllocError;
+
+impl Command {
+    /// Appends the line that asks for it, without its end, to a text.
+    pub fn push(&self, text: &mut Text) -> Result<(), AllocError>
+        ensures { OnOk result (text.new ≡ text.old ++ command_text self.now) }
+    {
+        match self {
+            Command::Legacy { name, address, lvr } => push_legacy(text, name, *address, *lvr),
+            Command::Main { name, setup } => push_device(text, b"main", name, setup),
+            Command::Attach { name, setup } => push_device(text, b"attach", name, setup),
+            Command::DropOff { name } => push_named(text, b"drop", name),
+            Command::Raise { name, byte } => push_raise(text, name, *byte),
+            Command::AskJoin { name } => push_named(text, b"ask-join", name),
+            Command::AskRole { name } => push_named(text, b"ask-role", name),
+            Command::Frame(frame) => push_frame(text, frame),
+            Command::HandOver { to } => push_addressed(text, b"handover", *to),
+            Command::Open => text.push(b"open"),
+            Command::Round => text.push(b"round"),
+            Command::End => text.push(b"end"),
+            Command::Daa => text.push(b"daa"),
+            Command::Policy(policy) => push_policy(text, policy),
+            Command::Cut { name, bit } => push_cut(text, name, *bit),
+            Command::Show => text.push(b"show"),
+            Command::Symbols => text.push(b"symbols"),
+        }
+    }
+}
+
+/// Appends a word behind a space.
+fn push_word(text: &mut Text, word: &[u8]) -> Result<(), AllocError>
+    ensures { OnOk result (text.new ≡ text.old ++ behind (word.now ∷ [])) }
+{
+    text.push(b" ")?;
+    text.push(word)
+}
+
+/// Appends a byte behind a space.
+fn push_byte(text: &mut Text, byte: u8) -> Result<(), AllocError>
+    ensures { OnOk result (text.new ≡ text.old ++ behind (byte_text byte ∷ [])) }
+{
+    text.push(b" ")?;
+    text.push_byte(byte)
+}
+
+/// Appends a provisioned ID behind a space.
+fn push_pid(text: &mut Text, pid: Pid) -> Result<(), AllocError>
+    ensures { OnOk result (text.new ≡ text.old ++ behind (hex_text 12 pid ∷ [])) }
+{
+    text.push(b" ")?;
+    text.push_pid(pid)
+}
+
+/// Appends a first word, and a name.
+fn push_named(text: &mut Text, first: &[u8], name: &Name) -> Result<(), AllocError>
+    ensures { OnOk result (text.new ≡ text.old ++ spaced (first.now ∷ letters name.now ∷ [])) }
+{
+    text.push(first)?;
+    push_word(text, name.as_bytes())
+}
+
+/// Appends a first word, and an address.
+fn push_addressed(text: &mut Text, first: &[u8], address: Addr7) -> Result<(), AllocError>
+    ensures { OnOk result (text.new ≡ text.old ++ spaced (first.now ∷ byte_text address ∷ [])) }
+{
+    text.push(first)?;
+    push_byte(text, address.get())
+}
+
+/// Appends a declaration of a legacy target.
+fn push_legacy(text: &mut Text, name: &Name, address: Addr7, lvr: Lvr) -> Result<(), AllocError>
+    ensures { OnOk result (text.new ≡ text.old ++ spaced (codes "legacy" ∷ letters name.now ∷ byte_text address ∷ byte_text lvr.0 ∷ [])) }
+{
+    push_named(text, b"legacy", name)?;
+    push_byte(text, address.get())?;
+    push_byte(text, lvr.0)
+}
+
+/// Appends a first word, and a device's words.
+fn push_device(text: &mut Text, first: &[u8], name: &Name, setup: &Setup) -> Result<(), AllocError>
+    ensures { OnOk result (text.new ≡ text.old ++ spaced (first.now ∷ device_words name.now setup.now)) }
+{
+    push_named(text, first, name)?;
+    push_pid(text, setup.identity.pid)?;
+    push_byte(text, setup.identity.bcr.0)?;
+    push_byte(text, setup.identity.dcr.0)?;
+    push_willing(text, setup.willing)
+}
+
+/// Appends `decline` for a device that doesn't take the controller role.
+fn push_willing(text: &mut Text, willing: bool) -> Result<(), AllocError>
+    ensures { OnOk result (text.new ≡ text.old ++ behind (willing_words willing)) }
+{
+    if willing {
+        Ok(())
+    } else {
+        push_word(text, b"decline")
+    }
+}
+
+/// Appends a raise.
+fn push_raise(text: &mut Text, name: &Name, byte: Option<u8>) -> Result<(), AllocError>
+    ensures { OnOk result (text.new ≡ text.old ++ spaced (codes "raise" ∷ letters name.now ∷ byte_words byte)) }
+{
+    push_named(text, b"raise", name)?;
+    match byte {
+        None => Ok(()),
+        Some(byte) => push_byte(text, byte),
+    }
+}
+
+/// Appends a frame's line.
+fn push_frame(text: &mut Text, frame: &Frame) -> Result<(), AllocError>
+    ensures { OnOk result (text.new ≡ text.old ++ spaced (frame_words frame.now)) }
+{
+    match frame {
+        Frame::Serve => text.push(b"serve"),
+        Frame::Enec(to, kinds) => push_kinds(text, b"enec", *to, kinds),
+        Frame::Disec(to, kinds) => push_kinds(text, b"disec", *to, kinds),
+        Frame::Reset => text.push(b"reset"),
+        Frame::SendList => text.push(b"list"),
+        Frame::ReadFrom(at) => push_addressed(text, b"read", *at),
+        Frame::WriteTo(at, bytes) => push_write(text, *at, bytes.as_slice()),
+    }
+}
+
+/// Appends a first word, kinds of events, and an address if there is one.
+fn push_kinds(
+    text: &mut Text,
+    first: &[u8],
+    to: Option<Addr7>,
+    kinds: &Kinds,
+) -> Result<(), AllocError>
+    ensures { OnOk result (text.new ≡ text.old ++ spaced (first.now ∷ byte_text kinds.now.0 ∷ byte_words to)) }
+{
+    text.push(first)?;
+    push_byte(text, kinds.bits())?;
+    match to {
+        None => Ok(()),
+        Some(to) => push_byte(text, to.get()),
+    }
+}
+
+/// Appends a private write.
+fn push_write(text: &mut Text, at: Addr7, bytes: &[u8]) -> Result<(), AllocError>
+    ensures { OnOk result (text.new ≡ text.old ++ spaced (codes "write" ∷ byte_text at ∷ written_words bytes.now)) }
+{
+    push_addressed(text, b"write", at)?;
+    if bytes.is_empty() {
+        return Ok(());
+    }
+    text.push(b" ")?;
+    text.push_bytes(bytes)
+}
+
+/// Appends a policy's line.
+fn push_policy(text: &mut Text, policy: &Fixed) -> Result<(), AllocError>
+    ensures { OnOk result (text.new ≡ text.old ++ spaced (codes "policy" ∷ verdicts_word policy.now.join policy.now.role policy.now.interrupt ∷ [])) }
+{
+    text.push(b"policy")?;
+    push_word(
+        text,
+        verdicts_word(policy.join, policy.role, policy.interrupt).as_bytes(),
+    )
+}
+
+/// The word of a policy that has one.
+fn verdicts_word(join: Verdict, role: Verdict, interrupt: Verdict) -> &'static str
+    ensures { result.now ≡ verdicts_word join role interrupt }
+{
+    match (join, role, interrupt) {
+        (Verdict::Accept, Verdict::Accept, Verdict::Accept) => "all",
+        (Verdict::Refuse, Verdict::Refuse, Verdict::Refuse) => "none",
+        (Verdict::Accept, Verdict::Refuse, Verdict::Refuse) => "joins",
+        (Verdict::Refuse, Verdict::Accept, Verdict::Refuse) => "roles",
+        (Verdict::Refuse, Verdict::Refuse, Verdict::Accept) => "interrupts",
+        _ => "",
+    }
+}
+
+/// Appends a cut.
+fn push_cut(text: &mut Text, name: &Name, bit: u16) -> Result<(), AllocError>
+    ensures { OnOk result (text.new ≡ text.old ++ spaced (codes "cut" ∷ letters name.now ∷ decimal bit ∷ [])) }
+{
+    push_named(text, b"cut", name)?;
+    text.push(b" ")?;
+    text.push_decimal(u64::from(bit))
+}
