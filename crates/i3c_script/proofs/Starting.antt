@@ -1,12 +1,16 @@
 -- Lines before the bus.
-use Rattle.std.proofs.Common.{◌≡◌, ◌∙◌, ℕ, List, ◌++◌, Option, None, Some, MatchOption, refl, subst, sym}
+use Rattle.std.proofs.Common.{◌≡◌, ◌∙◌, ℕ, zero, suc, List, ◌++◌, Option, None, Some, MatchOption, ap, refl, replicate, subst, sym}
+use Rattle.std.specs.Prelude.{slice_index_or}
 use Rattle.i3c_base.specs.declared.device.Setup.{Setup}
 use Rattle.i3c_base.specs.declared.identity.Lvr.{Lvr}
+use Rattle.i3c_base.specs.declared.range.TheConstants.{ADDRESSES, SLOTS}
+use Rattle.i3c_base.specs.State.{no_lvrs}
 use Rattle.i3c_lines.specs.declared.command.Command.{Command}
 use Rattle.i3c_lines.specs.declared.names.Name.{Name}
 use Rattle.i3c_lines.specs.declared.names.Names.{Names}
+use Rattle.i3c_lines.specs.Naming.{legacy_names, place_named, slot_names}
 use Rattle.i3c_script.specs.declared.stage.Stage.{Stage}
-use Rattle.i3c_script.specs.Obeying.{IsDone, IsRefused, Obeys, ObeysAt, Starts, main_refusal, script}
+use Rattle.i3c_script.specs.Obeying.{IsBegun, IsDone, IsRefused, Obeys, ObeysAt, Starts, main_refusal, script}
 use Rattle.i3c_script.specs.Printed.{main_text}
 use Rattle.i3c_script.specs.Ran.{Ran}
 
@@ -18,3 +22,18 @@ began stage legacies names named name setup new ran before after is unrefused st
     (main_text name ran.state, printed, subst (λ at. ObeysAt at names (Command.Main name setup) (main_text name ran.state) None (script new named)) (sym is)
       (subst (λ why. MatchOption why ((r : Ran) × Starts legacies names name setup r (script new named) × IsDone (main_text name r.state) (main_text name ran.state) None)
         (λ one. (script new named ≡ script (Stage.Before legacies) names) × IsRefused one (main_text name ran.state) None)) (sym unrefused) (ran, starts, (refl, refl))))
+
+unnamed : (count place : ℕ) (none : Option Name) → none ≡ None → slice_index_or (replicate count none) place None ≡ None
+unnamed zero place none e = refl
+unnamed (suc count) zero none e = e
+unnamed (suc count) (suc place) none e = unnamed count place none e
+
+-- the start of a script, with a new collection of names
+pub begins : (stage : Stage) (names : Names) → stage ≡ Stage.Before no_lvrs → ((name : Name) → place_named names name ≡ None) → slot_names names ≡ replicate SLOTS None → legacy_names names ≡ replicate ADDRESSES None
+    → IsBegun (script stage names)
+begins stage names is none slots legacies = record {
+  stage = is;
+  unnamed = none;
+  slots = λ slot. ap (λ l. slice_index_or l slot None) slots ∙ unnamed SLOTS slot None refl;
+  legacies = λ address. ap (λ l. slice_index_or l address None) legacies ∙ unnamed ADDRESSES address None refl;
+}

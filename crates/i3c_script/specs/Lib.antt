@@ -7,6 +7,7 @@ pub mod Printed
 pub mod Telling
 pub mod Assigning
 pub mod Obeying
+pub mod Leading
 pub mod Outcomes
 pub mod Traces
 pub mod Scripts

@@ -10,6 +10,7 @@
 mod asking;
 mod assigning;
 mod faults;
+mod laws;
 mod output;
 mod reading;
 mod running;
@@ -21,5 +22,6 @@ mod trace;
 mod wires;
 
 pub use faults::ScriptFault;
+pub use laws::scripts_are_legal_runs;
 pub use script::{Tally, run_script};
 pub use trace::run_trace;
