@@ -28,8 +28,8 @@ use Rattle.i3c_script.proofs.Moving.{unsent}
 -- no round of an open session is refused where nobody is cut
 open_round : (st new : State) (cuts : CutList) (opened cut : Bool) → opened ≡ true → cut ≡ false
     → MatchOption (first_refusal ((not opened, BusRefusal.NoSession) ∷ (cut, BusRefusal.ActiveStays) ∷ []))
-      (IsShort st (Event.Round cuts) (Reply.Refused BusRefusal.ActiveStays) new ⊎ Acts st (Event.Round cuts) (Reply.Refused BusRefusal.ActiveStays) new)
-      (λ why. (Reply.Refused BusRefusal.ActiveStays ≡ Reply.Refused why) × (new ≡ st))
+    (IsShort st (Event.Round cuts) (Reply.Refused BusRefusal.ActiveStays) new ⊎ Acts st (Event.Round cuts) (Reply.Refused BusRefusal.ActiveStays) new)
+    (λ why. (Reply.Refused BusRefusal.ActiveStays ≡ Reply.Refused why) × (new ≡ st))
     → ⊥
 open_round st new cuts true false e f (inl (short, is, same)) = absurd cc
 open_round st new cuts true false e f (inr (answer, is, rounds)) = absurd cc
@@ -79,12 +79,16 @@ one_more old now new before text next count answer s uncut move printed more = r
 -- the last round
 pub last : (old now new : Ran) (before text next : List ℕ) (count : ℕ) (answer : RoundReply) (result : Result (Unit {0}) Stop) → SoFar old now before text count → now.cuts ≡ no_cuts → Moves now (Event.Round no_cuts) (Reply.Round answer) new
     → next ≡ text ++ round_text answer → goes_on answer ≡ false → Ends (λ refused. refused ≡ round_refusal answer) result → Prints (λ said refused. HasRounds old said refused new) before next result
-last old now new before text next count answer (Ok done) s uncut move printed over ends =
-    (rounds_text s.answers ++ round_text answer, longer before text next (rounds_text s.answers) (round_text answer) s.text printed,
-      (answer ∷ s.answers, (now, s.rounds, subst (λ cuts. Moves now (Event.Round cuts) (Reply.Round answer) new) (sym uncut) move), (s.on, inl over), refl, ends))
-last old now new before text next count answer (Err (Stop.Refused why)) s uncut move printed over ends =
-    (rounds_text s.answers ++ round_text answer, longer before text next (rounds_text s.answers) (round_text answer) s.text printed,
-      (answer ∷ s.answers, (now, s.rounds, subst (λ cuts. Moves now (Event.Round cuts) (Reply.Round answer) new) (sym uncut) move), (s.on, inl over), refl, ends))
+last old now new before text next count answer (Ok done) s uncut move printed over ends = (
+  rounds_text s.answers ++ round_text answer,
+  longer before text next (rounds_text s.answers) (round_text answer) s.text printed,
+  (answer ∷ s.answers, (now, s.rounds, subst (λ cuts. Moves now (Event.Round cuts) (Reply.Round answer) new) (sym uncut) move), (s.on, inl over), refl, ends),
+)
+last old now new before text next count answer (Err (Stop.Refused why)) s uncut move printed over ends = (
+  rounds_text s.answers ++ round_text answer,
+  longer before text next (rounds_text s.answers) (round_text answer) s.text printed,
+  (answer ∷ s.answers, (now, s.rounds, subst (λ cuts. Moves now (Event.Round cuts) (Reply.Round answer) new) (sym uncut) move), (s.on, inl over), refl, ends),
+)
 last old now new before text next count answer (Err Stop.Memory) s uncut move printed over ends = tt
 
 -- a round that goes on refuses nothing
@@ -119,4 +123,4 @@ pub taken_before : (old : Ran) (st new : State) (policy : Fixed) (taken left : C
 taken_before old st new policy taken left symbols later before after result same rest assigns =
     subst (λ ran. Prints (λ said refused. Assigns ran said refused (ran_of new policy left later)) before after result) (ap (λ (ran : Ran). record ran { cuts = old.cuts }) rest)
     (subst (λ cuts. Prints (λ said refused. Assigns (ran_of st policy old.cuts symbols) said refused (ran_of new policy cuts later)) before after result) (sym (ap (λ (ran : Ran). ran.cuts) rest))
-      (subst (λ cuts. Prints (λ said refused. Assigns (ran_of st policy cuts symbols) said refused (ran_of new policy no_cuts later)) before after result) same assigns))
+    (subst (λ cuts. Prints (λ said refused. Assigns (ran_of st policy cuts symbols) said refused (ran_of new policy no_cuts later)) before after result) same assigns))

@@ -126,7 +126,7 @@ pub sent : (old new : State) (policy : Fixed) (cuts left : CutList) (symbols lat
 sent old new policy cuts left symbols later names frame reply before after result none step wire told =
     answered (ran_of old policy cuts symbols) (ran_of new policy left later) names (event_of frame policy cuts) reply before after result
     (subst (λ rest. Moves (ran_of old policy cuts symbols) (event_of frame policy cuts) reply (ran_of new policy rest later)) (all_taken (event_of frame policy cuts) cuts (carries_cuts frame policy cuts) ∙ sym none)
-      (moved old new policy cuts symbols later (event_of frame policy cuts) reply step wire))
+    (moved old new policy cuts symbols later (event_of frame policy cuts) reply step wire))
     (subst (λ subject. Prints (IsTold names subject reply) before after result) (no_subject frame policy cuts) told)
 
 -- a raise sends nothing

@@ -18,10 +18,13 @@ use Rattle.i3c_script.specs.Ran.{Ran}
 pub began : (stage : Stage) (legacies : List (Option Lvr)) (names named : Names) (name : Name) (setup : Setup) (new : Stage) (ran : Ran) (before after : List ℕ) → stage ≡ Stage.Before legacies → main_refusal names name setup.identity.bcr ≡ None
     → Starts legacies names name setup ran (script new named) → after ≡ before ++ main_text name ran.state
     → (said : List ℕ) × (after ≡ before ++ said) × Obeys (script stage names) (Command.Main name setup) said None (script new named)
-began stage legacies names named name setup new ran before after is unrefused starts printed =
-    (main_text name ran.state, printed, subst (λ at. ObeysAt at names (Command.Main name setup) (main_text name ran.state) None (script new named)) (sym is)
+began stage legacies names named name setup new ran before after is unrefused starts printed = (
+  main_text name ran.state,
+  printed,
+  subst (λ at. ObeysAt at names (Command.Main name setup) (main_text name ran.state) None (script new named)) (sym is)
       (subst (λ why. MatchOption why ((r : Ran) × Starts legacies names name setup r (script new named) × IsDone (main_text name r.state) (main_text name ran.state) None)
-        (λ one. (script new named ≡ script (Stage.Before legacies) names) × IsRefused one (main_text name ran.state) None)) (sym unrefused) (ran, starts, (refl, refl))))
+      (λ one. (script new named ≡ script (Stage.Before legacies) names) × IsRefused one (main_text name ran.state) None)) (sym unrefused) (ran, starts, (refl, refl))),
+)
 
 unnamed : (count place : ℕ) (none : Option Name) → none ≡ None → slice_index_or (replicate count none) place None ≡ None
 unnamed zero place none e = refl

@@ -110,7 +110,7 @@ AnswersIn old names name event said refused new = MatchResult (slot_meant names 
 abbrev pub Enters : Ran → Names → Name → Setup → List ℕ → Option Refusal → Ran → Names → Type 0
 Enters old names name setup said refused new named = (entrance : Result ℕ Refusal) × IsEntrance old.state (place_named names name) entrance
     × MatchResult entrance (λ slot. NamesSlot names named name slot × Answers old named (Event.Attach slot setup) said refused new)
-      (λ why. (named ≡ names) × (new ≡ old) × IsRefused why said refused)
+    (λ why. (named ≡ names) × (new ≡ old) × IsRefused why said refused)
 
 -- a device is cut at this bit of the next frame, if that is earlier than its cut until now
 abbrev pub cut_at : CutList → ℕ → ℕ → CutList

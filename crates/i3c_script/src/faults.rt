@@ -88,7 +88,9 @@ fn outcome_of_answer(answer: &Answer) -> Result<(), Stop>
 {
     match answer {
         Answer::Done | Answer::Bytes(_) => Ok(()),
-        Answer::NoAnswer(address) => Err(Stop::Refused(Refusal::Bus(BusRefusal::NoAnswer(*address)))),
+        Answer::NoAnswer(address) => Err(Stop::Refused(Refusal::Bus(BusRefusal::NoAnswer(
+            *address,
+        )))),
         Answer::NoEnd => Err(Stop::Refused(Refusal::NoEnd)),
     }
 }

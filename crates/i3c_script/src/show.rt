@@ -44,11 +44,7 @@ fn show_place(words: &[u8], address: Option<Addr7>, text: &mut Text) -> Result<(
 }
 
 /// Prints a legacy target that was declared.
-pub(crate) fn show_declared(
-    name: &Name,
-    address: Addr7,
-    text: &mut Text,
-) -> Result<(), AllocError>
+pub(crate) fn show_declared(name: &Name, address: Addr7, text: &mut Text) -> Result<(), AllocError>
     ensures { OnOk result (text.new ≡ text.old ++ declared_text name.now address) }
 {
     text.push(name.as_bytes())?;

@@ -28,6 +28,13 @@ returns-in-Err-clause-assigns c = λ policy.
     let st = c.args.bus.now.state in
     let cuts = c.args.cuts.now in
     let new = c.open_daa.new.self.state in
-    let reply = Reply.Refused BusRefusal.ActiveStays in
-    ([], sym (append-nil c.args.text.now), (ran_of new policy no_cuts c.open_daa.new.tap, reply,
-      moved st new policy cuts c.args.wires.now c.open_daa.new.tap (Event.OpenDaa cuts) reply c.in-Err.ensures.carried.step c.in-Err.ensures.carried.told, (refl, refl, refl)))
+    let reply = Reply.Refused BusRefusal.ActiveStays in (
+      [],
+      sym (append-nil c.args.text.now),
+      (
+        ran_of new policy no_cuts c.open_daa.new.tap,
+        reply,
+        moved st new policy cuts c.args.wires.now c.open_daa.new.tap (Event.OpenDaa cuts) reply c.in-Err.ensures.carried.step c.in-Err.ensures.carried.told,
+        (refl, refl, refl),
+      ),
+    )

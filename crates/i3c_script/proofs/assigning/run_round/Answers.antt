@@ -23,5 +23,5 @@ returns-in-Ok-show_round-clause-moved c = λ policy.
     let new = c.round.new.bus.state in
     subst (λ cuts. Moves (ran_of old policy no_cuts c.args.wires.now) (Event.Round cuts) (Reply.Round c.in-Ok.answer) (ran_of new policy no_cuts c.round.new.tap)) c.requires.uncut
     (moved old new policy no_cuts c.args.wires.now c.round.new.tap (Event.Round c.args.cuts.now) (Reply.Round c.in-Ok.answer)
-      (subst (λ r. Step old (Event.Round c.args.cuts.now) (rounded_reply r) new) c.in-Ok.is c.round.ensures.carried.step)
-      (subst (λ r. Tells note c.args.wires.now c.round.new.tap (IsWire old (Event.Round c.args.cuts.now) (rounded_reply r) new)) c.in-Ok.is c.round.ensures.carried.told))
+    (subst (λ r. Step old (Event.Round c.args.cuts.now) (rounded_reply r) new) c.in-Ok.is c.round.ensures.carried.step)
+    (subst (λ r. Tells note c.args.wires.now c.round.new.tap (IsWire old (Event.Round c.args.cuts.now) (rounded_reply r) new)) c.in-Ok.is c.round.ensures.carried.told))

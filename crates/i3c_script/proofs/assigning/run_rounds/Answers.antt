@@ -13,10 +13,12 @@ returns-then-not-goes_on-clause-rounds c = λ policy.
 
 pub loop-preserved : goal.loop-preserved
 loop-preserved c =
-    let more : goes_on c.in-Ok.answer ≡ true = cc in
-    (c.run_round.ensures.fits, λ policy.
-      one_more (ran_of c.args.bus.now.state policy no_cuts c.args.wires.now) (ran_of c.loop.bus.state policy no_cuts c.loop.wires) (ran_of c.run_round.new.bus.state policy no_cuts c.run_round.new.wires)
-      c.args.text.now c.loop.text c.run_round.new.text c.loop.counter c.in-Ok.answer (c.loop.invariant.1 policy) refl (c.in-Ok.ensures.moved policy) c.in-Ok.ensures.told more)
+    let more : goes_on c.in-Ok.answer ≡ true = cc in (
+      c.run_round.ensures.fits,
+      λ policy.
+          one_more (ran_of c.args.bus.now.state policy no_cuts c.args.wires.now) (ran_of c.loop.bus.state policy no_cuts c.loop.wires) (ran_of c.run_round.new.bus.state policy no_cuts c.run_round.new.wires)
+          c.args.text.now c.loop.text c.run_round.new.text c.loop.counter c.in-Ok.answer (c.loop.invariant.1 policy) refl (c.in-Ok.ensures.moved policy) c.in-Ok.ensures.told more,
+    )
 
 pub returns-clause-rounds : goal.returns-clause-rounds
 returns-clause-rounds c = λ policy.

@@ -17,5 +17,5 @@ loop-number-preserved c =
     let st = c.args.bus.now.state in
     let same : c.unwrap-slot.result ≡ c.loop-number.number = grind (arith, common_steps) in
     let told : c.show_slot.new.text ≡ c.loop-number.text ++ device_text (slice_index_or (slot_names names) c.loop-number.number None) (device_at st c.loop-number.number) =
-        subst (λ s. c.show_slot.new.text ≡ c.loop-number.text ++ device_text (slice_index_or (slot_names names) s None) (device_at st s)) same c.in_ok-show_slot.ensures in
+    subst (λ s. c.show_slot.new.text ≡ c.loop-number.text ++ device_text (slice_index_or (slot_names names) s None) (device_at st s)) same c.in_ok-show_slot.ensures in
     printed_more c.args.text.now c.loop-number.text c.show_slot.new.text _ _ c.loop-number.invariant told ∙ ap (λ l. c.args.text.now ++ l) (sym (devices_more st names c.loop-number.number))

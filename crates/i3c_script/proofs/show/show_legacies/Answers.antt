@@ -15,5 +15,5 @@ loop-number-preserved c =
     let names = c.args.names.now in
     let same : c.unwrap-address.result ≡ c.loop-number.number = grind (arith, common_steps) in
     let told : c.show_legacy.new.text ≡ c.loop-number.text ++ legacy_text (slice_index_or (legacy_names names) c.loop-number.number None) c.loop-number.number =
-        subst (λ a. c.show_legacy.new.text ≡ c.loop-number.text ++ legacy_text (slice_index_or (legacy_names names) a None) a) same c.in_ok-show_legacy.ensures in
+    subst (λ a. c.show_legacy.new.text ≡ c.loop-number.text ++ legacy_text (slice_index_or (legacy_names names) a None) a) same c.in_ok-show_legacy.ensures in
     printed_more c.args.text.now c.loop-number.text c.show_legacy.new.text _ _ c.loop-number.invariant told ∙ ap (λ l. c.args.text.now ++ l) (sym (legacies_more names c.loop-number.number))

@@ -9,6 +9,6 @@ loop-index-preserved c =
     let number = c.loop-index.index + 1 in
     let r = c.index-records-index.result in
     let told : c.show_record.new.text ≡ c.loop-index.text ++ (codes "record " ++ decimal number ++ record_text r) =
-        c.in_ok-show_record.ensures ∙ ap (λ l. l ++ record_text r) c.in_ok-show_number.ensures ∙ append_assoc c.loop-index.text (codes "record " ++ decimal number) (record_text r) in
+    c.in_ok-show_record.ensures ∙ ap (λ l. l ++ record_text r) c.in_ok-show_number.ensures ∙ append_assoc c.loop-index.text (codes "record " ++ decimal number) (record_text r) in
     printed_on _ c.loop-index.text c.show_record.new.text _ _
     (ap (λ l. c.loop-index.text ++ l) (sym (numbered_more c.args.records.now number c.loop-index.index r c.loop-index-test.true (sym c.index-records-index.is))) ∙ c.loop-index.invariant) told

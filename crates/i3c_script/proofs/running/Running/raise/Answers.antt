@@ -16,5 +16,5 @@ returns-in-Ok c =
     let before = ran_of old at.policy at.cuts at.wires in
     let after = ran_of new at.policy at.cuts at.wires in
     rw (← c.self.view_is) (in_slot before after names c.args.name.now (λ slot. Event.Raise slot c.args.byte) c.in-Ok.slot c.args.text.now c.tell_raised.new.text c.tell_raised.result c.in-Ok.ensures
-      (answered before after names event reply c.args.text.now c.tell_raised.new.text c.tell_raised.result
-        (unsent old new at.policy at.cuts at.wires event reply c.raise-raised.ensures.step (raised_still old new event c.raise-raised.result)) (c.tell_raised.ensures names)))
+    (answered before after names event reply c.args.text.now c.tell_raised.new.text c.tell_raised.result
+    (unsent old new at.policy at.cuts at.wires event reply c.raise-raised.ensures.step (raised_still old new event c.raise-raised.result)) (c.tell_raised.ensures names)))

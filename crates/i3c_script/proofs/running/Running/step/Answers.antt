@@ -11,4 +11,4 @@ returns c =
     let new = c.step-hand.new.self.state in
     let event = c.args.event.now in
     rw (← c.self.view_is) (subst (λ cuts. Moves (ran_of old at.policy at.cuts at.wires) event c.step-hand.result.1 (ran_of new at.policy cuts c.step-hand.new.tap)) (subst (λ (ran : Ran). cuts_left event ran.cuts ≡ ran.cuts) (sym c.self.view_is) c.requires)
-      (moved old new at.policy at.cuts at.wires c.step-hand.new.tap event c.step-hand.result.1 c.step-hand.ensures.carried.step c.step-hand.ensures.carried.told))
+    (moved old new at.policy at.cuts at.wires c.step-hand.new.tap event c.step-hand.result.1 c.step-hand.ensures.carried.step c.step-hand.ensures.carried.told))
