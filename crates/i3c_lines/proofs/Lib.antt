@@ -4,3 +4,8 @@ pub mod NameLaws
 pub mod PieceLaws
 pub mod HexTexts
 pub mod PairLaws
+pub mod Meanings
+pub mod LineLaws
+pub mod Beginnings
+pub mod SplitLaws
+pub mod Arguments

@@ -12,7 +12,7 @@ use Rattle.i3c_lines.specs.declared.command.Command.{Command}
 use Rattle.i3c_lines.specs.declared.line.TheConstants.{COMMENT, LINE_LENGTH}
 use Rattle.i3c_lines.specs.declared.names.Name.{Name}
 use Rattle.i3c_lines.specs.declared.names.TheConstants.{NAME_LENGTH}
-use Rattle.i3c_lines.specs.declared.words.TheConstants.{SPACE}
+use Rattle.i3c_lines.specs.declared.words.TheConstants.{KNOWN_KINDS, SPACE}
 use Rattle.i3c_lines.specs.Naming.{letters}
 use Rattle.i3c_lines.specs.Policies.{each_kind, interrupts_alone, joins_alone, roles_alone}
 use Rattle.i3c_lines.specs.Words.{AreBytes, IsDecimal, IsHex, IsName, pair_values}
@@ -41,7 +41,7 @@ WritesAddress word address = Writes 2 word address × (address < 128)
 
 -- two hex digits, of which bits 0, 1 and 3 are kept
 abbrev pub WritesKinds : List ℕ → Kinds → Type 0
-WritesKinds word kinds = IsHex 2 word × (kinds.0 ≡ bit_and (digits_value 16 word) 0x0B)
+WritesKinds word kinds = IsHex 2 word × (kinds.0 ≡ bit_and (digits_value 16 word) KNOWN_KINDS)
 
 -- decimal digits, at most 65535
 abbrev pub WritesBit : List ℕ → ℕ → Type 0

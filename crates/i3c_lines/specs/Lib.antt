@@ -5,3 +5,5 @@ pub mod Hex
 pub mod Refusing
 pub mod Gathering
 pub mod Forms
+pub mod Parsing
+pub mod Laws

@@ -1,5 +1,4 @@
 -- The words that name policies, and what each accepts.
-use Rattle.std.specs.Prelude.{◌≡◌, ◌⊎◌, ℕ, List, codes}
 use Rattle.i3c_base.specs.declared.requests.Fixed.{Fixed}
 use Rattle.i3c_base.specs.declared.requests.Verdict.{Verdict}
 use Rattle.i3c_base.specs.declared.requests.Verdict.TheVariants.{Accept, Refuse}
@@ -19,7 +18,3 @@ roles_alone = record (each_kind Refuse) { role = Accept }
 -- interrupts are accepted, and nothing else
 abbrev pub interrupts_alone : Fixed
 interrupts_alone = record (each_kind Refuse) { interrupt = Accept }
-
--- a word that names a policy
-abbrev pub IsPolicyWord : List ℕ → Type 0
-IsPolicyWord word = (word ≡ codes "all") ⊎ (word ≡ codes "none") ⊎ (word ≡ codes "joins") ⊎ (word ≡ codes "roles") ⊎ (word ≡ codes "interrupts")

@@ -1,22 +1,61 @@
+ghost use Rattle.std.specs.Prelude.{◌≡◌, ◌∷◌, Some, codes, option_copied};
+ghost use Rattle.i3c_lines.specs.Forms.{AreAddress, AreByte, AreDevice, AreKinds, IsForm, IsNamed, Writes, tokens};
+ghost use Rattle.i3c_lines.specs.Parsing.{AreKept, AreNamed, AreWilling, Becomes, BecomesOther, IsOtherForm, Reads, TakesIdentity, TakesWord, left_words, words_of};
+
 use crate::names::Name;
 use crate::policies::policy;
-use crate::words::{self, Words};
+use crate::words::{self, Words, after, is_word};
 use arrayvec::ArrayVec;
 use i3c_base::{Addr7, Bcr, Dcr, Fixed, Identity, Kinds, Lvr, Setup};
-use i3c_step::Command as Frame;
-use std::str;
+use i3c_step::{Command as Frame, WRITE_KEPT};
 
-/// `raise` and a space, behind the first letter. Letters that are compared at once take fewer steps than one by one.
+// Words behind their first letters. Letters that are compared at once take fewer steps than one by one.
 const RAISE: &[u8] = b"aise ";
 
-/// `serve`, behind the first letter.
+const READ: &[u8] = b"ead ";
+
+const RESET: &[u8] = b"eset";
+
+const ROUND: &[u8] = b"ound";
+
 const SERVE: &[u8] = b"erve";
 
-/// `enec` and a space, behind the first letter.
+const SHOW: &[u8] = b"how";
+
+const SYMBOLS: &[u8] = b"ymbols";
+
 const ENEC: &[u8] = b"nec ";
 
-/// `disec` and a space, behind the first letter.
+const END: &[u8] = b"nd";
+
 const DISEC: &[u8] = b"isec ";
+
+const DAA: &[u8] = b"aa";
+
+const LIST: &[u8] = b"ist";
+
+const OPEN: &[u8] = b"pen";
+
+const WRITE: &[u8] = b"rite ";
+
+// Whole words.
+const DROP: &[u8] = b"drop";
+
+const ATTACH: &[u8] = b"attach";
+
+const ASK_JOIN: &[u8] = b"ask-join";
+
+const ASK_ROLE: &[u8] = b"ask-role";
+
+const HANDOVER: &[u8] = b"handover";
+
+const CUT: &[u8] = b"cut";
+
+const POLICY: &[u8] = b"policy";
+
+const LEGACY: &[u8] = b"legacy";
+
+const MAIN: &[u8] = b"main";
 
 /// What a line asks for, with the names as they stand there.
 #[derive(Drop)]
@@ -84,7 +123,9 @@ pub enum Command {
 
 impl Command {
     /// The command of a line, if the line has a form. Its words are parted by exactly one space.
-    pub fn parse(line: &[u8]) -> Option<Command> {
+    pub fn parse(line: &[u8]) -> Option<Command>
+        ensures { Reads IsForm (tokens line.now) result }
+    {
         let mut command = Command::Show;
         command.read(line)?;
         Some(command)
@@ -92,7 +133,9 @@ impl Command {
 
     /// Becomes the command of a line, if the line has a form, and stays what it was else. So nothing of a command's size is
     /// moved for each line.
-    pub fn read(&mut self, line: &[u8]) -> Option<()> {
+    pub fn read(&mut self, line: &[u8]) -> Option<()>
+        ensures { Becomes (tokens line.now) result self.old self.new }
+    {
         let (first, tail) = line.split_first()?;
         match *first {
             b'r' => self.read_r(tail),
@@ -107,96 +150,120 @@ impl Command {
     }
 
     /// Becomes this command.
-    fn set(&mut self, command: Command) -> Option<()> {
+    fn set(&mut self, command: Command) -> Option<()>
+        ensures { (result ≡ Some tt) × (self.new ≡ command) }
+    {
         *self = command;
         Some(())
     }
 
     /// Becomes a command whose first letter is an `r`, by the line behind that.
-    fn read_r(&mut self, tail: &[u8]) -> Option<()> {
-        if tail.starts_with(RAISE) {
-            return self.read_raise(&tail[RAISE.len()..]);
+    fn read_r(&mut self, tail: &[u8]) -> Option<()>
+        ensures { Becomes (tokens (114 ∷ tail.now)) result self.old self.new }
+    {
+        if let Some(line) = after(tail, RAISE) {
+            return self.read_raise(line);
         }
-        match tail {
-            [b'e', b'a', b'd', b' ', word @ ..] => self.read_read(word),
-            b"eset" => self.set(Command::Frame(Frame::Reset)),
-            b"ound" => self.set(Command::Round),
-            _ => None,
+        if let Some(word) = after(tail, READ) {
+            return self.read_read(word);
         }
+        if is_word(tail, RESET) {
+            return self.set(Command::Frame(Frame::Reset));
+        }
+        if is_word(tail, ROUND) {
+            return self.set(Command::Round);
+        }
+        None
     }
 
     /// Becomes a command whose first letter is an `s`, by the line behind that.
-    fn read_s(&mut self, tail: &[u8]) -> Option<()> {
-        if tail.len() == SERVE.len() && tail.starts_with(SERVE) {
+    fn read_s(&mut self, tail: &[u8]) -> Option<()>
+        ensures { Becomes (tokens (115 ∷ tail.now)) result self.old self.new }
+    {
+        if is_word(tail, SERVE) {
             return self.set(Command::Frame(Frame::Serve));
         }
-        match tail {
-            b"how" => self.set(Command::Show),
-            b"ymbols" => self.set(Command::Symbols),
-            _ => None,
+        if is_word(tail, SHOW) {
+            return self.set(Command::Show);
         }
+        if is_word(tail, SYMBOLS) {
+            return self.set(Command::Symbols);
+        }
+        None
     }
 
     /// Becomes a command whose first letter is an `e`, by the line behind that.
-    fn read_e(&mut self, tail: &[u8]) -> Option<()> {
-        if tail.starts_with(ENEC) {
-            return self.read_enec(&tail[ENEC.len()..]);
+    fn read_e(&mut self, tail: &[u8]) -> Option<()>
+        ensures { Becomes (tokens (101 ∷ tail.now)) result self.old self.new }
+    {
+        if let Some(line) = after(tail, ENEC) {
+            return self.read_enec(line);
         }
-        match tail {
-            b"nd" => self.set(Command::End),
-            _ => None,
+        if is_word(tail, END) {
+            return self.set(Command::End);
         }
+        None
     }
 
     /// Becomes a command whose first letter is a `d`, by the line behind that, or by the line.
-    fn read_d(&mut self, tail: &[u8], line: &[u8]) -> Option<()> {
-        if tail.starts_with(DISEC) {
-            return self.read_disec(&tail[DISEC.len()..]);
+    fn read_d(&mut self, tail: &[u8], line: &[u8]) -> Option<()>
+        requires { line.now ≡ 100 ∷ tail.now }
+        ensures { Becomes (tokens line.now) result self.old self.new }
+    {
+        if let Some(line) = after(tail, DISEC) {
+            return self.read_disec(line);
         }
-        match tail {
-            b"aa" => self.set(Command::Daa),
-            _ => self.read_words(line),
+        if is_word(tail, DAA) {
+            return self.set(Command::Daa);
         }
+        self.read_words(line)
     }
 
     /// Becomes a command whose first letter is an `l`, by the line behind that, or by the line.
-    fn read_l(&mut self, tail: &[u8], line: &[u8]) -> Option<()> {
-        match tail {
-            b"ist" => self.set(Command::Frame(Frame::SendList)),
-            _ => self.read_words(line),
+    fn read_l(&mut self, tail: &[u8], line: &[u8]) -> Option<()>
+        requires { line.now ≡ 108 ∷ tail.now }
+        ensures { Becomes (tokens line.now) result self.old self.new }
+    {
+        if is_word(tail, LIST) {
+            return self.set(Command::Frame(Frame::SendList));
         }
+        self.read_words(line)
     }
 
     /// Becomes the command whose first letter is an `o`, by the line behind that.
-    fn read_o(&mut self, tail: &[u8]) -> Option<()> {
-        match tail {
-            b"pen" => self.set(Command::Open),
-            _ => None,
+    fn read_o(&mut self, tail: &[u8]) -> Option<()>
+        ensures { Becomes (tokens (111 ∷ tail.now)) result self.old self.new }
+    {
+        if is_word(tail, OPEN) {
+            return self.set(Command::Open);
         }
+        None
     }
 
     /// Becomes the command whose first letter is a `w`, by the line behind that.
-    fn read_w(&mut self, tail: &[u8]) -> Option<()> {
-        match tail {
-            [b'r', b'i', b't', b'e', b' ', words @ ..] => self.read_write(words),
-            _ => None,
+    fn read_w(&mut self, tail: &[u8]) -> Option<()>
+        ensures { Becomes (tokens (119 ∷ tail.now)) result self.old self.new }
+    {
+        if let Some(line) = after(tail, WRITE) {
+            return self.read_write(line);
         }
+        None
     }
 
     /// Becomes a raise by the words behind its first: a name, and a byte if one is given.
-    fn read_raise(&mut self, line: &[u8]) -> Option<()> {
+    fn read_raise(&mut self, line: &[u8]) -> Option<()>
+        ensures { Becomes (codes "raise" ∷ tokens line.now) result self.old self.new }
+    {
         let (name, rest) = Name::split_from(line)?;
-        let byte = match rest {
-            [] => None,
-            [b' ', word @ ..] => Some(words::byte(word)?),
-            _ => return None,
-        };
+        let byte = parse_mandatory(rest)?;
         *self = Command::Raise { name, byte };
         Some(())
     }
 
     /// Becomes a private read by the word behind its first: an address.
-    fn read_read(&mut self, word: &[u8]) -> Option<()> {
+    fn read_read(&mut self, word: &[u8]) -> Option<()>
+        ensures { Becomes (codes "read" ∷ tokens word.now) result self.old self.new }
+    {
         let at = words::address(word)?;
         *self = Command::Frame(Frame::ReadFrom(at));
         Some(())
@@ -205,28 +272,29 @@ impl Command {
     /// Becomes a private write by the words behind its first: an address, and bytes if there are some.
     // kept apart, so that no other line pays for the room that the bytes take on the stack
     #[inline(never)]
-    fn read_write(&mut self, line: &[u8]) -> Option<()> {
-        let (address, rest) = line.split_at_checked(2)?;
+    fn read_write(&mut self, line: &[u8]) -> Option<()>
+        ensures { Becomes (codes "write" ∷ tokens line.now) result self.old self.new }
+    {
+        let (address, rest) = words::split_two(line)?;
         let at = words::address(address)?;
-        let bytes = match rest {
-            [] => ArrayVec::new(),
-            [b' '] => return None,
-            [b' ', digits @ ..] => words::bytes(digits)?,
-            _ => return None,
-        };
+        let bytes = parse_written(rest)?;
         *self = Command::Frame(Frame::WriteTo(at, bytes));
         Some(())
     }
 
     /// Becomes the command that enables kinds of events, by the words behind its first.
-    fn read_enec(&mut self, line: &[u8]) -> Option<()> {
+    fn read_enec(&mut self, line: &[u8]) -> Option<()>
+        ensures { Becomes (codes "enec" ∷ tokens line.now) result self.old self.new }
+    {
         let (to, kinds) = parse_kinds(line)?;
         *self = Command::Frame(Frame::Enec(to, kinds));
         Some(())
     }
 
     /// Becomes the command that disables kinds of events, by the words behind its first.
-    fn read_disec(&mut self, line: &[u8]) -> Option<()> {
+    fn read_disec(&mut self, line: &[u8]) -> Option<()>
+        ensures { Becomes (codes "disec" ∷ tokens line.now) result self.old self.new }
+    {
         let (to, kinds) = parse_kinds(line)?;
         *self = Command::Frame(Frame::Disec(to, kinds));
         Some(())
@@ -235,30 +303,53 @@ impl Command {
     /// Becomes any other command of several words, if the line has its form.
     // kept apart, so that no other line pays for the room that these take on the stack
     #[inline(never)]
-    fn read_words(&mut self, line: &[u8]) -> Option<()> {
+    fn read_words(&mut self, line: &[u8]) -> Option<()>
+        ensures { BecomesOther (tokens line.now) result self.old self.new }
+    {
         *self = parse_words(&mut Words::of(line))?;
         Some(())
     }
 }
 
 /// The command of several words that has this first word, if the others have its form.
-fn parse_words(words: &mut Words<'_>) -> Option<Command> {
-    match words.next()? {
-        b"handover" => parse_handover(words),
-        b"policy" => parse_policy(words),
-        b"cut" => parse_cut(words),
-        b"attach" => parse_attach(words),
-        b"drop" => parse_drop(words),
-        b"ask-join" => parse_ask_join(words),
-        b"ask-role" => parse_ask_role(words),
-        b"main" => parse_main(words),
-        b"legacy" => parse_legacy(words),
-        _ => None,
+fn parse_words(words: &mut Words<'_>) -> Option<Command>
+    ensures { Reads IsOtherForm (left_words words.old) result }
+{
+    let word = words.next()?;
+    if is_word(word, DROP) {
+        return parse_drop(words);
     }
+    if is_word(word, ATTACH) {
+        return parse_attach(words);
+    }
+    if is_word(word, ASK_JOIN) {
+        return parse_ask_join(words);
+    }
+    if is_word(word, ASK_ROLE) {
+        return parse_ask_role(words);
+    }
+    if is_word(word, HANDOVER) {
+        return parse_handover(words);
+    }
+    if is_word(word, CUT) {
+        return parse_cut(words);
+    }
+    if is_word(word, POLICY) {
+        return parse_policy(words);
+    }
+    if is_word(word, LEGACY) {
+        return parse_legacy(words);
+    }
+    if is_word(word, MAIN) {
+        return parse_main(words);
+    }
+    None
 }
 
 /// The words of `legacy`.
-fn parse_legacy(words: &mut Words<'_>) -> Option<Command> {
+fn parse_legacy(words: &mut Words<'_>) -> Option<Command>
+    ensures { Reads IsForm (codes "legacy" ∷ left_words words.old) result }
+{
     let name = parse_name(words)?;
     let address = words::address(words.next()?)?;
     let lvr = Lvr(parse_byte(words)?);
@@ -267,19 +358,25 @@ fn parse_legacy(words: &mut Words<'_>) -> Option<Command> {
 }
 
 /// The words of `main`.
-fn parse_main(words: &mut Words<'_>) -> Option<Command> {
+fn parse_main(words: &mut Words<'_>) -> Option<Command>
+    ensures { Reads IsForm (codes "main" ∷ left_words words.old) result }
+{
     let (name, setup) = parse_device(words)?;
     Some(Command::Main { name, setup })
 }
 
 /// The words of `attach`.
-fn parse_attach(words: &mut Words<'_>) -> Option<Command> {
+fn parse_attach(words: &mut Words<'_>) -> Option<Command>
+    ensures { Reads IsForm (codes "attach" ∷ left_words words.old) result }
+{
     let (name, setup) = parse_device(words)?;
     Some(Command::Attach { name, setup })
 }
 
 /// The words of a device: its name and its identity, and `decline` if it doesn't take the controller role.
-fn parse_device(words: &mut Words<'_>) -> Option<(Name, Setup)> {
+fn parse_device(words: &mut Words<'_>) -> Option<(Name, Setup)>
+    ensures { Reads (λ words parts. AreDevice words parts.0 parts.1) (left_words words.old) result }
+{
     let name = parse_name(words)?;
     let identity = parse_identity(words)?;
     let willing = parse_willing(words)?;
@@ -287,7 +384,9 @@ fn parse_device(words: &mut Words<'_>) -> Option<(Name, Setup)> {
 }
 
 /// Three words, which are an identity.
-fn parse_identity(words: &mut Words<'_>) -> Option<Identity> {
+fn parse_identity(words: &mut Words<'_>) -> Option<Identity>
+    ensures { TakesIdentity (left_words words.old) (left_words words.new) result }
+{
     let pid = words::pid(words.next()?)?;
     let bcr = Bcr(parse_byte(words)?);
     let dcr = Dcr(parse_byte(words)?);
@@ -295,7 +394,9 @@ fn parse_identity(words: &mut Words<'_>) -> Option<Identity> {
 }
 
 /// Whether a device takes the controller role: the last word of its line, if there is one.
-fn parse_willing(words: &mut Words<'_>) -> Option<bool> {
+fn parse_willing(words: &mut Words<'_>) -> Option<bool>
+    ensures { Reads AreWilling (left_words words.old) result }
+{
     match words.next() {
         None => Some(true),
         Some(b"decline") => {
@@ -307,57 +408,74 @@ fn parse_willing(words: &mut Words<'_>) -> Option<bool> {
 }
 
 /// The next word, which is a name.
-fn parse_name(words: &mut Words<'_>) -> Option<Name> {
+fn parse_name(words: &mut Words<'_>) -> Option<Name>
+    ensures { TakesWord IsNamed (left_words words.old) (left_words words.new) result }
+{
     Name::parse(words.next()?)
 }
 
 /// The last word, which is a name.
-fn parse_last_name(words: &mut Words<'_>) -> Option<Name> {
+fn parse_last_name(words: &mut Words<'_>) -> Option<Name>
+    ensures { Reads AreNamed (left_words words.old) result }
+{
     let name = parse_name(words)?;
     words.end()?;
     Some(name)
 }
 
 /// The next word, which is a byte.
-fn parse_byte(words: &mut Words<'_>) -> Option<u8> {
+fn parse_byte(words: &mut Words<'_>) -> Option<u8>
+    ensures { TakesWord (Writes 2) (left_words words.old) (left_words words.new) result }
+{
     words::byte(words.next()?)
 }
 
 /// The word of `drop`: a name.
-fn parse_drop(words: &mut Words<'_>) -> Option<Command> {
+fn parse_drop(words: &mut Words<'_>) -> Option<Command>
+    ensures { Reads IsForm (codes "drop" ∷ left_words words.old) result }
+{
     let name = parse_last_name(words)?;
     Some(Command::DropOff { name })
 }
 
 /// The word of `ask-join`: a name.
-fn parse_ask_join(words: &mut Words<'_>) -> Option<Command> {
+fn parse_ask_join(words: &mut Words<'_>) -> Option<Command>
+    ensures { Reads IsForm (codes "ask-join" ∷ left_words words.old) result }
+{
     let name = parse_last_name(words)?;
     Some(Command::AskJoin { name })
 }
 
 /// The word of `ask-role`: a name.
-fn parse_ask_role(words: &mut Words<'_>) -> Option<Command> {
+fn parse_ask_role(words: &mut Words<'_>) -> Option<Command>
+    ensures { Reads IsForm (codes "ask-role" ∷ left_words words.old) result }
+{
     let name = parse_last_name(words)?;
     Some(Command::AskRole { name })
 }
 
 /// The word of `handover`: an address.
-fn parse_handover(words: &mut Words<'_>) -> Option<Command> {
+fn parse_handover(words: &mut Words<'_>) -> Option<Command>
+    ensures { Reads IsForm (codes "handover" ∷ left_words words.old) result }
+{
     let to = words::address(words.next()?)?;
     words.end()?;
     Some(Command::HandOver { to })
 }
 
 /// The word of `policy`.
-fn parse_policy(words: &mut Words<'_>) -> Option<Command> {
-    let word = str::from_utf8(words.next()?).ok()?;
-    let policy = policy(word)?;
+fn parse_policy(words: &mut Words<'_>) -> Option<Command>
+    ensures { Reads IsForm (codes "policy" ∷ left_words words.old) result }
+{
+    let policy = policy(words.next()?)?;
     words.end()?;
     Some(Command::Policy(policy))
 }
 
 /// The words of `cut`: a name and a bit.
-fn parse_cut(words: &mut Words<'_>) -> Option<Command> {
+fn parse_cut(words: &mut Words<'_>) -> Option<Command>
+    ensures { Reads IsForm (codes "cut" ∷ left_words words.old) result }
+{
     let name = parse_name(words)?;
     let bit = words::bit(words.next()?)?;
     words.end()?;
@@ -365,13 +483,49 @@ fn parse_cut(words: &mut Words<'_>) -> Option<Command> {
 }
 
 /// The words of `enec` and of `disec`: a byte, and an address if one is given.
-fn parse_kinds(line: &[u8]) -> Option<(Option<Addr7>, Kinds)> {
-    let (byte, rest) = line.split_at_checked(2)?;
+fn parse_kinds(line: &[u8]) -> Option<(Option<Addr7>, Kinds)>
+    ensures { Reads (λ words parts. AreKinds words parts.0 parts.1) (tokens line.now) result }
+{
+    let (byte, rest) = words::split_two(line)?;
     let kinds = words::kinds(byte)?;
-    let to = match rest {
-        [] => None,
-        [b' ', word @ ..] => Some(words::address(word)?),
-        _ => return None,
-    };
+    let to = parse_to(rest)?;
     Some((to, kinds))
+}
+
+/// The last words of `raise`: a byte, if one is given.
+#[inline(always)]
+fn parse_mandatory(rest: Option<&[u8]>) -> Option<Option<u8>>
+    ensures { Reads AreByte (words_of (option_copied rest.entry)) result }
+{
+    let Some(word) = rest else {
+        return Some(None);
+    };
+    let byte = words::byte(word)?;
+    Some(Some(byte))
+}
+
+/// The last words of `enec` and of `disec`: an address, if one is given.
+#[inline(always)]
+fn parse_to(rest: Option<&[u8]>) -> Option<Option<Addr7>>
+    ensures { Reads AreAddress (words_of (option_copied rest.entry)) result }
+{
+    let Some(word) = rest else {
+        return Some(None);
+    };
+    let at = words::address(word)?;
+    Some(Some(at))
+}
+
+/// The last words of `write`: its bytes, if some are given. A word of no bytes has no form.
+#[inline(always)]
+fn parse_written(rest: Option<&[u8]>) -> Option<ArrayVec<u8, WRITE_KEPT>>
+    ensures { Reads AreKept (words_of (option_copied rest.entry)) result }
+{
+    let Some(digits) = rest else {
+        return Some(ArrayVec::new());
+    };
+    if digits.is_empty() {
+        return None;
+    }
+    words::bytes(digits)
 }

@@ -1,4 +1,5 @@
-ghost use Rattle.std.specs.Prelude.{◌≡◌, ◌<◌, ◌≤◌, [], true, length, slice_get};
+ghost use Rattle.std.specs.Prelude.{◌≡◌, ◌<◌, ◌≤◌, ◌↔◌, IfErr, IfOk, IsTrue, MatchOption, length};
+ghost use Rattle.i3c_lines.specs.Forms.{HasNoForm, IsCommand, IsSkipped};
 
 use crate::command::Command;
 use crate::refusals::Refusal;
@@ -17,8 +18,9 @@ const COMMENT: u8 = b'#';
 /// no form, even if it begins as a comment does.
 pub fn is_skipped(line: &[u8]) -> Result<bool, Refusal>
     ensures long { LINE_LENGTH < length line.now → result ≡ Err Refusal.BadLine }
-    ensures empty { line.now ≡ [] → result ≡ Ok true }
-    ensures comment { length line.now ≤ LINE_LENGTH → slice_get line.now 0 ≡ Some COMMENT → result ≡ Ok true }
+    ensures short { IfOk result (λ _. length line.now ≤ LINE_LENGTH) }
+    ensures skipped { IfOk result (λ is_skipped. IsTrue is_skipped ↔ IsSkipped line.now) }
+    ensures refused { IfErr result (λ why. (why ≡ Refusal.BadLine) × HasNoForm line.now) }
 {
     if line.len() > LINE_LENGTH {
         return Err(Refusal::BadLine);
@@ -31,9 +33,8 @@ pub fn is_skipped(line: &[u8]) -> Result<bool, Refusal>
 
 /// The command of a line, if it isn't one that is skipped.
 pub fn read_line(line: &[u8]) -> Result<Option<Command>, Refusal>
-    ensures long { LINE_LENGTH < length line.now → result ≡ Err Refusal.BadLine }
-    ensures empty { line.now ≡ [] → result ≡ Ok None }
-    ensures comment { length line.now ≤ LINE_LENGTH → slice_get line.now 0 ≡ Some COMMENT → result ≡ Ok None }
+    ensures read { IfOk result (λ read. MatchOption read (IsSkipped line.now) (λ command. IsCommand line.now command)) }
+    ensures refused { IfErr result (λ why. (why ≡ Refusal.BadLine) × HasNoForm line.now) }
 {
     if is_skipped(line)? {
         return Ok(None);

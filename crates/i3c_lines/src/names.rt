@@ -1,8 +1,10 @@
 ghost use Rattle.std.specs.Prelude.{◌≡◌, ◌<◌, ◌≤◌, ◌-◌, ◌↔◌, ◌++◌, All, IsTrue, IsSome, IfSome, drop, length, replicate, slice_index_or, take};
+ghost use Rattle.std.specs.Prelude.{length as place_count};
 ghost use Rattle.i3c_lines.specs.Words.{IsNameLetter};
 ghost use Rattle.i3c_lines.specs.declared.names.TheConstants.{NAME_LENGTH};
 
 use crate::refusals::Refusal;
+use crate::words::behind_space;
 use i3c_base::{ADDRESSES, Addr7, SLOTS, Slot};
 use i3c_step::Refusal as BusRefusal;
 use indexmap::IndexMap;
@@ -35,6 +37,7 @@ pub struct Name {
     length: u8,
     ghost short: { length ≤ NAME_LENGTH },
     ghost padded: { drop length bytes ≡ replicate (NAME_LENGTH - length) 0 },
+    ghost whole: { place_count bytes ≡ NAME_LENGTH },
 }
 
 /// Whether a byte is a letter of names.
@@ -45,7 +48,9 @@ fn is_letter(byte: u8) -> bool
 }
 
 impl Name {
+    ghost use Rattle.std.specs.Prelude.{ℕ, List, Option, IsNone, option_copied};
     ghost use Rattle.i3c_lines.specs.Naming.{letters};
+    ghost use Rattle.i3c_lines.specs.Parsing.{joined};
     ghost use Rattle.i3c_lines.specs.Words.{IsName};
 
     /// The name that a word is, if it has a name's form.
@@ -60,16 +65,19 @@ impl Name {
         Some(name)
     }
 
-    /// The name that a line begins with, and what stands behind it.
-    pub(crate) fn split_from(line: &[u8]) -> Option<(Name, &[u8])>
+    /// The name that is a line's first word, and the line behind its space if there is one.
+    #[inline(always)]
+    pub(crate) fn split_from(line: &[u8]) -> Option<(Name, Option<&[u8]>)>
+        ensures none { IsNone result → (word : List ℕ) (rest : Option (List ℕ)) → IsName NAME_LENGTH word → line.now ≡ joined word rest → ⊥ }
         ensures name { IfSome result (λ parts. IsName NAME_LENGTH (letters parts.0)) }
-        ensures parts { IfSome result (λ parts. line.now ≡ letters parts.0 ++ parts.1.now) }
+        ensures split { IfSome result (λ parts. line.now ≡ joined (letters parts.0) (option_copied parts.1)) }
     {
         let name = Name::leading(line);
         if name.length == 0 {
             return None;
         }
-        Some((name, &line[usize::from(name.length)..]))
+        let rest = behind_space(&line[usize::from(name.length)..])?;
+        Some((name, rest))
     }
 
     /// The letters that a line begins with, no more than a name may have.

@@ -1,8 +1,8 @@
-ghost use Rattle.std.specs.Prelude.{◌≡◌, ◌<◌, ◌^◌, ◌≤◌, ◌↔◌, ◌++◌, ◌∷◌, [], ◌-◌, All, IsTrue, IsSome, IfSome, length, take};
+ghost use Rattle.std.specs.Prelude.{ℕ, List, MatchOption, Option, IsNone, option_copied, ◌≡◌, ◌<◌, ◌^◌, ◌≤◌, ◌↔◌, ◌++◌, ◌∷◌, [], ◌-◌, All, IsTrue, IsSome, IfSome, ◌==◌, bit_and, length, position, take};
 ghost use Rattle.std.specs.Char.{digit_value};
 ghost use Rattle.std.specs.Str.Parse.{digits_value};
-ghost use Rattle.i3c_base.specs.Numbers.{kind_set};
 ghost use Rattle.i3c_lines.specs.Words.{AreBytes, IsDecimal, IsDecimalDigit, IsHex, IsHexDigit, pair_values};
+ghost use Rattle.i3c_lines.specs.Parsing.{joined};
 
 use arrayvec::ArrayVec;
 use bitflags::Flags;
@@ -37,6 +37,9 @@ const RADIX: u64 = 16;
 /// Bits of frames are written in decimal.
 const BIT_RADIX: u32 = 10;
 
+/// Bits 0, 1 and 3 of a byte: interrupts, role requests and Hot-Join.
+const KNOWN_KINDS: u8 = 0x0B;
+
 /// How many digits a byte has: an address, a BCR, a DCR or an LVR.
 const BYTE_DIGITS: usize = 2;
 
@@ -50,15 +53,23 @@ pub(crate) struct Words<'a> {
 }
 
 impl<'a> Words<'a> {
+    ghost use Rattle.std.specs.Prelude.{◌≡◌, ◌∷◌, ◌↔◌, [], IsSome, MatchOption};
+    ghost use Rattle.i3c_lines.specs.Forms.{tokens};
+    ghost use Rattle.i3c_lines.specs.Parsing.{left_words};
+
     /// All words of a line. Without a space it is one word, and so is a line of no bytes.
-    pub fn of(line: &'a [u8]) -> Words<'a> {
+    pub fn of(line: &'a [u8]) -> Words<'a>
+        ensures { left_words result ≡ tokens line.now }
+    {
         Words { rest: Some(line) }
     }
 
     /// The next word, if there is one.
-    pub fn next(&mut self) -> Option<&'a [u8]> {
+    pub fn next(&mut self) -> Option<&'a [u8]>
+        ensures { MatchOption result (left_words self.old ≡ []) (λ word. left_words self.old ≡ word.now ∷ left_words self.new) }
+    {
         let rest = self.rest?;
-        match rest.iter().position(|byte| *byte == SPACE) {
+        match first_space(rest) {
             Some(end) => {
                 self.rest = Some(&rest[end + 1..]);
                 Some(&rest[..end])
@@ -71,12 +82,64 @@ impl<'a> Words<'a> {
     }
 
     /// Nothing, if each word was read.
-    pub fn end(&self) -> Option<()> {
+    pub fn end(&self) -> Option<()>
+        ensures { IsSome result ↔ (left_words self.now ≡ []) }
+    {
         match self.rest {
             None => Some(()),
             Some(_) => None,
         }
     }
+}
+
+/// What stands behind these letters, if a text begins with them.
+#[inline(always)]
+pub(crate) fn after<'a>(text: &'a [u8], start: &[u8]) -> Option<&'a [u8]>
+    ensures { MatchOption result ((rest : List ℕ) → text.now ≡ start.now ++ rest → ⊥) (λ rest. text.now ≡ start.now ++ rest.now) }
+{
+    if text.starts_with(start) {
+        Some(&text[start.len()..])
+    } else {
+        None
+    }
+}
+
+/// Whether a text is these letters.
+#[inline(always)]
+pub(crate) fn is_word(text: &[u8], word: &[u8]) -> bool
+    ensures { IsTrue result ↔ (text.now ≡ word.now) }
+{
+    text.len() == word.len() && text.starts_with(word)
+}
+
+/// A first word of two bytes, and the line behind its space if there is one.
+#[inline(always)]
+pub(crate) fn split_two(line: &[u8]) -> Option<(&[u8], Option<&[u8]>)>
+    ensures none { IsNone result → (word : List ℕ) (rest : Option (List ℕ)) → length word ≡ 2 → line.now ≡ joined word rest → ⊥ }
+    ensures split { IfSome result (λ parts. (length parts.0.now ≡ 2) × (line.now ≡ joined parts.0.now (option_copied parts.1))) }
+{
+    let (word, rest) = line.split_at_checked(2)?;
+    let rest = behind_space(rest)?;
+    Some((word, rest))
+}
+
+/// The line behind a space, or nothing at a line's end.
+#[inline(always)]
+pub(crate) fn behind_space(line: &[u8]) -> Option<Option<&[u8]>>
+    ensures { MatchOption result ((rest : Option (List ℕ)) → line.now ≡ joined [] rest → ⊥) (λ rest. line.now ≡ joined [] (option_copied rest)) }
+{
+    match line {
+        [] => Some(None),
+        [b' ', rest @ ..] => Some(Some(rest)),
+        _ => None,
+    }
+}
+
+/// The place of the first space, if there is one.
+fn first_space(bytes: &[u8]) -> Option<usize>
+    ensures { result ≡ position (λ byte. byte == SPACE) bytes.now }
+{
+    bytes.iter().position(|byte| *byte == SPACE)
 }
 
 /// The number that a word writes, if it has so many hex digits.
@@ -137,13 +200,14 @@ pub(crate) fn bit(word: &[u8]) -> Option<u16>
     u16::from_str_radix(text, BIT_RADIX).ok()
 }
 
-/// Kinds of events: two hex digits, of which bit 0 names interrupts, bit 1 role requests and bit 3 Hot-Join.
+/// Kinds of events: two hex digits, of which bit 0 names interrupts, bit 1 role requests and bit 3 Hot-Join. Other bits
+/// are dropped.
 pub(crate) fn kinds(word: &[u8]) -> Option<Kinds>
     ensures form { IsSome result ↔ IsHex BYTE_DIGITS word.now }
-    ensures value { IfSome result (λ kinds. kind_set kinds ≡ kind_set (record { 0 = digits_value RADIX word.now })) }
+    ensures value { IfSome result (λ kinds. kinds.0 ≡ bit_and (digits_value RADIX word.now) KNOWN_KINDS) }
 {
     let byte = byte(word)?;
-    Some(Kinds::from_bits_retain(byte))
+    Some(Kinds::from_bits_retain(byte & KNOWN_KINDS))
 }
 
 /// A provisioned ID: twelve hex digits.

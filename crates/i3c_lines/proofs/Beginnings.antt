@@ -1,0 +1,164 @@
+-- The lines that begin with a letter.
+use Rattle.std.proofs.Common.{◌≡◌, ◌∙◌, ◌⊎◌, ℕ, Bool, true, false, cond, inl, inr, List, [], ◌∷◌, ◌++◌, Option, Some, None, codes, ap, arith, refl, sym, subst}
+use Rattle.std.specs.List.{slice_get}
+use Rattle.i3c_step.specs.declared.events.Command.{Command as Frame}
+use Rattle.i3c_lines.specs.declared.command.Command.{Command}
+use Rattle.i3c_lines.specs.Forms.{IsForm, tokens, with_first}
+use Rattle.i3c_lines.specs.Parsing.{Becomes, BecomesOther, IsOther}
+use Rattle.i3c_lines.proofs.LineLaws.{line_is, line_of, some_word}
+use Rattle.i3c_lines.proofs.Meanings.{are_same, as_meant, first_of, hex, kinds_of, meant, meant_is, named, number_of, rest_of, written_of}
+
+abbrev tail_of : List ℕ → List ℕ
+tail_of [] = []
+tail_of (byte ∷ line) = line
+
+abbrev letter_of : List ℕ → ℕ
+letter_of [] = 0
+letter_of (byte ∷ word) = byte
+
+-- a word's form is one of two commands'
+either : (b : Bool) (one other : Command) (words : List (List ℕ)) → IsForm words (cond b one other) → IsForm words one ⊎ IsForm words other
+either true one other words form = inl form
+either false one other words form = inr form
+
+abbrev first_letter : List (List ℕ) → ℕ
+first_letter [] = 0
+first_letter (word ∷ words) = letter_of word
+
+-- a line that is a word alone
+alone : (letter : ℕ) (tail word : List ℕ) → tokens (letter ∷ tail) ≡ (letter ∷ word) ∷ [] → tail ≡ word
+alone letter tail word e = ap tail_of (line_is (letter ∷ tail) ((letter ∷ word) ∷ []) e)
+
+-- a line that goes on behind its first word
+abbrev pub GoesOn : List ℕ → List ℕ → Type 0
+GoesOn line word = (rest : List ℕ) × (line ≡ word ++ 32 ∷ rest)
+
+goes_on : (letter : ℕ) (tail word next : List ℕ) (words : List (List ℕ)) → tokens (letter ∷ tail) ≡ (letter ∷ word) ∷ next ∷ words → GoesOn tail word
+goes_on letter tail word next words e = (line_of (next ∷ words), ap tail_of (line_is (letter ∷ tail) ((letter ∷ word) ∷ next ∷ words) e))
+
+-- the words of a line by its first letter, and what they mean
+begun : (letter : ℕ) (tail : List ℕ) (command : Command) → (tokens (letter ∷ tail) ≡ with_first letter (tokens tail)) → IsForm (tokens (letter ∷ tail)) command
+    → (word : List ℕ) × (words : List (List ℕ)) × (tokens (letter ∷ tail) ≡ (letter ∷ word) ∷ words) × IsForm ((letter ∷ word) ∷ words) (meant ((letter ∷ word) ∷ words))
+begun letter tail command no_space form =
+    let some = some_word tail in
+    let words : tokens (letter ∷ tail) ≡ (letter ∷ some.0) ∷ some.1 = no_space ∙ ap (λ ws. with_first letter ws) some.2 in
+    (some.0, some.1, words, subst (λ ws. IsForm ws (meant ws)) words (as_meant (tokens (letter ∷ tail)) command form))
+
+-- behind `o`
+pub only_open : (tail : List ℕ) (command : Command) → IsForm (tokens (111 ∷ tail)) command → tail ≡ codes "pen"
+only_open tail command form =
+    let (word, words, e, here) = begun 111 tail command refl form in
+    elim (either (are_same word (codes "pen")) Command.Open Command.Show _ here) [
+      | inl is ↦ alone 111 tail (codes "pen") (e ∙ is)
+      | inr show ↦ absurd (omega (arith, ap first_letter show))
+    ]
+
+-- behind `w`
+pub only_write : (tail : List ℕ) (command : Command) → IsForm (tokens (119 ∷ tail)) command → GoesOn tail (codes "rite")
+only_write tail command form =
+    let (word, words, e, here) = begun 119 tail command refl form in
+    elim (either (are_same word (codes "rite")) (Command.Frame (Frame.WriteTo (hex (first_of words)) (record { items = written_of (rest_of words) }))) Command.Show _ here) [
+      | inl is ↦ goes_on 119 tail (codes "rite") is.0 is.1 (e ∙ is.2)
+      | inr show ↦ absurd (omega (arith, ap first_letter show))
+    ]
+
+-- behind `e`
+pub only_e : (tail : List ℕ) (command : Command) → IsForm (tokens (101 ∷ tail)) command → GoesOn tail (codes "nec") ⊎ (tail ≡ codes "nd")
+only_e tail command form =
+    let (word, words, e, here) = begun 101 tail command refl form in
+    elim (either (are_same word (codes "nec")) (Command.Frame (Frame.Enec (number_of (rest_of words)) (kinds_of (first_of words)))) _ _ here) [
+      | inl is ↦ inl (goes_on 101 tail (codes "nec") is.2.0 is.2.1 (e ∙ is.1 ∙ ap (λ ws. codes "enec" ∷ ws) is.2.2))
+      | inr other ↦
+          elim (either (are_same word (codes "nd")) Command.End Command.Show _ other) [
+            | inl is ↦ inr (alone 101 tail (codes "nd") (e ∙ is))
+            | inr show ↦ absurd (omega (arith, ap first_letter show))
+          ]
+    ]
+
+-- behind `s`
+pub only_s : (tail : List ℕ) (command : Command) → IsForm (tokens (115 ∷ tail)) command → (tail ≡ codes "erve") ⊎ (tail ≡ codes "how") ⊎ (tail ≡ codes "ymbols")
+only_s tail command form =
+    let (word, words, e, here) = begun 115 tail command refl form in
+    elim (either (are_same word (codes "erve")) (Command.Frame Frame.Serve) _ _ here) [
+      | inl is ↦ inl (alone 115 tail (codes "erve") (e ∙ is))
+      | inr other ↦
+          elim (either (are_same word (codes "ymbols")) Command.Symbols Command.Show _ other) [
+            | inl is ↦ inr (inr (alone 115 tail (codes "ymbols") (e ∙ is)))
+            | inr is ↦ inr (inl (alone 115 tail (codes "how") (e ∙ is)))
+          ]
+    ]
+
+-- behind `r`
+pub only_r : (tail : List ℕ) (command : Command) → IsForm (tokens (114 ∷ tail)) command
+    → GoesOn tail (codes "aise") ⊎ GoesOn tail (codes "ead") ⊎ (tail ≡ codes "eset") ⊎ (tail ≡ codes "ound")
+only_r tail command form =
+    let (word, words, e, here) = begun 114 tail command refl form in
+    elim (either (are_same word (codes "aise")) (Command.Raise (named (first_of words)) (number_of (rest_of words))) _ _ here) [
+      | inl is ↦ inl (goes_on 114 tail (codes "aise") is.0 is.1 (e ∙ is.2))
+      | inr second ↦
+          elim (either (are_same word (codes "ead")) (Command.Frame (Frame.ReadFrom (hex (first_of words)))) _ _ second) [
+            | inl is ↦ inr (inl (goes_on 114 tail (codes "ead") is.0 [] (e ∙ is.1)))
+            | inr third ↦
+                elim (either (are_same word (codes "eset")) (Command.Frame Frame.Reset) _ _ third) [
+                  | inl is ↦ inr (inr (inl (alone 114 tail (codes "eset") (e ∙ is))))
+                  | inr fourth ↦
+                      elim (either (are_same word (codes "ound")) Command.Round Command.Show _ fourth) [
+                        | inl is ↦ inr (inr (inr (alone 114 tail (codes "ound") (e ∙ is))))
+                        | inr show ↦ absurd (omega (arith, ap first_letter show))
+                      ]
+                ]
+          ]
+    ]
+
+-- the same, with the command that it is
+either_is : (b : Bool) (one other command : Command) (words : List (List ℕ)) → cond b one other ≡ command → IsForm words (cond b one other) → ((one ≡ command) × IsForm words one) ⊎ ((other ≡ command) × IsForm words other)
+either_is true one other command words e form = inl (e, form)
+either_is false one other command words e form = inr (e, form)
+
+-- behind `d`
+pub only_d : (tail : List ℕ) (command : Command) → IsForm (tokens (100 ∷ tail)) command → GoesOn tail (codes "isec") ⊎ (tail ≡ codes "aa") ⊎ IsOther command
+only_d tail command form =
+    let (word, words, e, here) = begun 100 tail command refl form in
+    let is : meant ((100 ∷ word) ∷ words) ≡ command = ap meant (sym e) ∙ meant_is (tokens (100 ∷ tail)) command form in
+    elim (either_is (are_same word (codes "isec")) (Command.Frame (Frame.Disec (number_of (rest_of words)) (kinds_of (first_of words)))) _ command _ is here) [
+      | inl disec ↦ inl (goes_on 100 tail (codes "isec") disec.1.2.0 disec.1.2.1 (e ∙ disec.1.1 ∙ ap (λ ws. codes "disec" ∷ ws) disec.1.2.2))
+      | inr second ↦
+          elim (either_is (are_same word (codes "aa")) Command.Daa _ command _ second.0 second.1) [
+            | inl daa ↦ inr (inl (alone 100 tail (codes "aa") (e ∙ daa.1)))
+            | inr third ↦
+                elim (either_is (are_same word (codes "rop")) (Command.DropOff (named (first_of words))) Command.Show command _ third.0 third.1) [
+                  | inl drops ↦ inr (inr (subst IsOther drops.0 tt))
+                  | inr show ↦ absurd (omega (arith, ap first_letter show.1))
+                ]
+          ]
+    ]
+
+-- behind `l`
+pub only_l : (tail : List ℕ) (command : Command) → IsForm (tokens (108 ∷ tail)) command → (tail ≡ codes "ist") ⊎ IsOther command
+only_l tail command form =
+    let (word, words, e, here) = begun 108 tail command refl form in
+    let is : meant ((108 ∷ word) ∷ words) ≡ command = ap meant (sym e) ∙ meant_is (tokens (108 ∷ tail)) command form in
+    elim (either_is (are_same word (codes "ist")) (Command.Frame Frame.SendList) _ command _ is here) [
+      | inl list ↦ inl (alone 108 tail (codes "ist") (e ∙ list.1))
+      | inr second ↦
+          elim (either_is (are_same word (codes "egacy")) (Command.Legacy (named (first_of words)) (hex (first_of (rest_of words))) (record { 0 = hex (first_of (rest_of (rest_of words))) })) Command.Show command _ second.0 second.1) [
+            | inl legacy ↦ inr (subst IsOther legacy.0 tt)
+            | inr show ↦ absurd (omega (arith, ap first_letter show.1))
+          ]
+    ]
+
+-- what reads the other commands reads a line that is no command else
+pub becomes_other : (words : List (List ℕ)) (result : Option (Unit {0})) (old new : Command) → ((command : Command) → IsForm words command → IsOther command) → BecomesOther words result old new → Becomes words result old new
+becomes_other words None old new other is = (λ command form. is.0 command (form, other command form), is.1)
+becomes_other words (Some done) old new other is = is.0
+
+nothing_alone : (command : Command) → IsForm ([] ∷ []) command → ⊥
+nothing_alone command form = omega (arith, ap first_letter (as_meant ([] ∷ []) command form))
+
+-- a line that is passed over is no command's
+pub skipped_is_none : (line : List ℕ) (command : Command) → (line ≡ []) ⊎ (slice_get line 0 ≡ Some 35) → IsForm (tokens line) command → ⊥
+skipped_is_none line command (inl empty) form = nothing_alone command (subst (λ l. IsForm (tokens l) command) empty form)
+skipped_is_none [] command (inr comment) form = nothing_alone command form
+skipped_is_none (byte ∷ line) command (inr comment) form =
+    let is : byte ≡ 35 = grind (arith, comment) in
+    let (word, words, e, here) = begun 35 line command refl (subst (λ b. IsForm (tokens (b ∷ line)) command) is form) in omega (arith, ap first_letter here)

@@ -1,0 +1,190 @@
+-- The command that a line can be at most.
+use Rattle.std.proofs.Common.{◌≡◌, ◌∙◌, ℕ, ◌-◌, ◌≤◌, Bool, true, false, cond, nat_eq, inl, inr, List, [], ◌∷◌, ◌++◌, Option, Some, None, drop, length, replicate, take, bit_and, codes, ap, arith, refl, sym, subst}
+use Rattle.std.proofs.lemmas.List.{length-append, length-replicate, length-take, length-take-le, take_all, take-append-drop}
+use Rattle.std.proofs.Math.Seq.{drop-append_seam, take-append_seam}
+use Rattle.std.specs.Cmp.Lexicographic.{pointwise}
+use Rattle.std.specs.Str.Parse.{digits_value}
+use std.HLevel.{prop→path_p}
+use mathlib.Core.List.{is_set}
+use native.Mathlib.Bridge.{le_prop}
+use native.Mathlib.Nat.{ℕ_set}
+use Rattle.i3c_base.specs.declared.device.Setup.{Setup}
+use Rattle.i3c_base.specs.declared.kinds.Kinds.{Kinds}
+use Rattle.i3c_base.specs.declared.requests.Fixed.{Fixed}
+use Rattle.i3c_base.specs.declared.requests.Verdict.TheVariants.{Accept, Refuse}
+use Rattle.i3c_step.specs.declared.events.Command.{Command as Frame}
+use Rattle.i3c_lines.specs.declared.command.Command.{Command}
+use Rattle.i3c_lines.specs.declared.names.Name.{Name}
+use Rattle.i3c_lines.specs.Forms.{AreAddress, AreByte, AreWritten, IsForm, IsFrameForm, IsNamed, IsPolicy, WritesIdentity, WritesKinds, willing_words}
+use Rattle.i3c_lines.specs.Naming.{letters}
+use Rattle.i3c_lines.specs.Policies.{each_kind, interrupts_alone, joins_alone, roles_alone}
+use Rattle.i3c_lines.specs.Words.{pair_values}
+
+-- a name is known by its letters
+pub same_name : (one other : Name) → letters one ≡ letters other → one ≡ other
+same_name one other e =
+    let first : length (letters one) ≡ one.length = length-take-le one.length one.bytes (omega arith) in
+    let second : length (letters other) ≡ other.length = length-take-le other.length other.bytes (omega arith) in
+    let l : one.length ≡ other.length = sym first ∙ ap length e ∙ second in
+    let b : one.bytes ≡ other.bytes =
+    sym (take-append-drop one.length one.bytes) ∙ (λ i. e i ++ (one.padded ∙ ap (λ n. replicate (16 - n) 0) l ∙ sym other.padded) i) ∙ take-append-drop other.length other.bytes in
+    let s = prop→path_p (λ i. l i ≤ 16) (hlevel le_prop) one.short other.short in
+    let p = prop→path_p (λ i. drop (l i) (b i) ≡ replicate (16 - l i) 0) (is_set ℕ_set _ _) one.padded other.padded in
+    let w = prop→path_p (λ i. length (b i) ≡ 16) (ℕ_set _ _) one.whole other.whole in
+    λ i. record { bytes = b i; length = l i; short = s i; padded = p i; whole = w i }
+
+pub few : (word : List ℕ) → length (take 16 word) ≤ 16
+few word = omega (arith, length-take 16 word)
+
+-- the name that has the first sixteen bytes of a word
+abbrev pub named : List ℕ → Name
+named word =
+    let first : List ℕ = take 16 word in
+    record {
+      bytes = first ++ replicate (16 - length first) 0;
+      length = length first;
+      short = few word;
+      padded = drop-append_seam first (replicate (16 - length first) 0);
+      whole = length-append first (replicate (16 - length first) 0) ∙ omega (arith, length-replicate {A = ℕ} (16 - length first) 0, few word);
+    }
+
+named_is : (word : List ℕ) (name : Name) → IsNamed word name → named word ≡ name
+named_is word name is =
+    same_name (named word) name (take-append_seam (take 16 word) (replicate (16 - length (take 16 word)) 0) ∙ take_all 16 word (omega (arith, is.0.1)) ∙ sym is.1)
+
+abbrev pub hex : List ℕ → ℕ
+hex word = digits_value 16 word
+
+abbrev pub first_of : List (List ℕ) → List ℕ
+first_of [] = []
+first_of (word ∷ words) = word
+
+abbrev pub rest_of : List (List ℕ) → List (List ℕ)
+rest_of [] = []
+rest_of (word ∷ words) = words
+
+-- the number of the first word, if there is a word
+abbrev pub number_of : List (List ℕ) → Option ℕ
+number_of [] = None
+number_of (word ∷ words) = Some (hex word)
+
+abbrev pub written_of : List (List ℕ) → List ℕ
+written_of [] = []
+written_of (word ∷ words) = take 17 (pair_values word)
+
+abbrev pub willing_of : List (List ℕ) → Bool
+willing_of [] = true
+willing_of (word ∷ words) = false
+
+abbrev pub kinds_of : List ℕ → Kinds
+kinds_of word = record { 0 = bit_and (hex word) 11 }
+
+abbrev pub setup_of : List (List ℕ) → Setup
+setup_of words =
+    record { identity = record { pid = hex (first_of words); bcr = record { 0 = hex (first_of (rest_of words)) }; dcr = record { 0 = hex (first_of (rest_of (rest_of words))) } }; willing = willing_of (rest_of (rest_of (rest_of words))) }
+
+abbrev pub are_same : List ℕ → List ℕ → Bool
+are_same one other = pointwise nat_eq one other
+
+abbrev pub policy_of : List ℕ → Fixed
+policy_of word = cond (are_same word (codes "all")) (each_kind Accept)
+    (cond (are_same word (codes "none")) (each_kind Refuse) (cond (are_same word (codes "joins")) joins_alone (cond (are_same word (codes "roles")) roles_alone interrupts_alone)))
+
+-- the command that begins with this word, if it begins with one's
+abbrev pub meant_by : List ℕ → List (List ℕ) → Command
+meant_by word args =
+    cond (are_same word (codes "raise")) (Command.Raise (named (first_of args)) (number_of (rest_of args)))
+    (cond (are_same word (codes "read")) (Command.Frame (Frame.ReadFrom (hex (first_of args))))
+    (cond (are_same word (codes "reset")) (Command.Frame Frame.Reset)
+    (cond (are_same word (codes "round")) Command.Round
+    (cond (are_same word (codes "serve")) (Command.Frame Frame.Serve)
+    (cond (are_same word (codes "symbols")) Command.Symbols
+    (cond (are_same word (codes "enec")) (Command.Frame (Frame.Enec (number_of (rest_of args)) (kinds_of (first_of args))))
+    (cond (are_same word (codes "end")) Command.End
+    (cond (are_same word (codes "disec")) (Command.Frame (Frame.Disec (number_of (rest_of args)) (kinds_of (first_of args))))
+    (cond (are_same word (codes "daa")) Command.Daa
+    (cond (are_same word (codes "drop")) (Command.DropOff (named (first_of args)))
+    (cond (are_same word (codes "list")) (Command.Frame Frame.SendList)
+    (cond (are_same word (codes "legacy")) (Command.Legacy (named (first_of args)) (hex (first_of (rest_of args))) (record { 0 = hex (first_of (rest_of (rest_of args))) }))
+    (cond (are_same word (codes "open")) Command.Open
+    (cond (are_same word (codes "write")) (Command.Frame (Frame.WriteTo (hex (first_of args)) (record { items = written_of (rest_of args) })))
+    (cond (are_same word (codes "main")) (Command.Main (named (first_of args)) (setup_of (rest_of args)))
+    (cond (are_same word (codes "attach")) (Command.Attach (named (first_of args)) (setup_of (rest_of args)))
+    (cond (are_same word (codes "ask-join")) (Command.AskJoin (named (first_of args)))
+    (cond (are_same word (codes "ask-role")) (Command.AskRole (named (first_of args)))
+    (cond (are_same word (codes "handover")) (Command.HandOver (hex (first_of args)))
+    (cond (are_same word (codes "policy")) (Command.Policy (policy_of (first_of args)))
+    (cond (are_same word (codes "cut")) (Command.Cut (named (first_of args)) (digits_value 10 (first_of (rest_of args)))) Command.Show)))))))))))))))))))))
+
+-- the command that these words can be at most
+abbrev pub meant : List (List ℕ) → Command
+meant words = meant_by (first_of words) (rest_of words)
+
+address_is : (words : List (List ℕ)) (to : Option ℕ) → AreAddress words to → number_of words ≡ to
+address_is words None e = ap number_of e
+address_is words (Some address) (word, e, at) = ap number_of e ∙ ap Some (sym at.0.1)
+
+byte_is : (words : List (List ℕ)) (byte : Option ℕ) → AreByte words byte → number_of words ≡ byte
+byte_is words None e = ap number_of e
+byte_is words (Some byte) (word, e, writes) = ap number_of e ∙ ap Some (sym writes.1)
+
+written_is : (words : List (List ℕ)) (bytes : List ℕ) → AreWritten words bytes → written_of words ≡ bytes
+written_is words bytes (inl none) = ap written_of none.0 ∙ sym none.1
+written_is words bytes (inr (word, e, some, are, kept)) = ap written_of e ∙ sym kept
+
+willing_is : (willing : Bool) → willing_of (willing_words willing) ≡ willing
+willing_is true = refl
+willing_is false = refl
+
+policy_is : (word : List ℕ) (policy : Fixed) → IsPolicy word policy → policy_of word ≡ policy
+policy_is word policy (inl (e, is)) = ap policy_of e ∙ sym is
+policy_is word policy (inr (inl (e, is))) = ap policy_of e ∙ sym is
+policy_is word policy (inr (inr (inl (e, is)))) = ap policy_of e ∙ sym is
+policy_is word policy (inr (inr (inr (inl (e, is))))) = ap policy_of e ∙ sym is
+policy_is word policy (inr (inr (inr (inr (e, is))))) = ap policy_of e ∙ sym is
+
+setup_is : (word pid bcr dcr : List ℕ) (words : List (List ℕ)) (name : Name) (setup : Setup) → words ≡ word ∷ pid ∷ bcr ∷ dcr ∷ willing_words setup.willing → WritesIdentity pid bcr dcr setup.identity → setup_of (rest_of words) ≡ setup
+setup_is word pid bcr dcr words name setup e is =
+    ap (λ ws. setup_of (rest_of ws)) e
+    ∙ (λ i. record { identity = record { pid = sym is.0.1 i; bcr = record { 0 = sym is.1.1 i }; dcr = record { 0 = sym is.2.1 i } }; willing = willing_is setup.willing i })
+
+kinds_is : (word : List ℕ) (kinds : Kinds) → WritesKinds word kinds → kinds_of word ≡ kinds
+kinds_is word kinds is = λ i. record { 0 = sym is.1 i }
+
+frame_is : (words : List (List ℕ)) (frame : Frame) → IsFrameForm words frame → meant words ≡ Command.Frame frame
+frame_is words Frame.Serve e = ap meant e
+frame_is words (Frame.Enec to kinds) (rest, e, (word, more, e', kept, at)) =
+    ap meant (e ∙ ap (λ ws. codes "enec" ∷ ws) e') ∙ (λ i. Command.Frame (Frame.Enec (address_is more to at i) (kinds_is word kinds kept i)))
+frame_is words (Frame.Disec to kinds) (rest, e, (word, more, e', kept, at)) =
+    ap meant (e ∙ ap (λ ws. codes "disec" ∷ ws) e') ∙ (λ i. Command.Frame (Frame.Disec (address_is more to at i) (kinds_is word kinds kept i)))
+frame_is words Frame.Reset e = ap meant e
+frame_is words Frame.SendList e = ap meant e
+frame_is words (Frame.ReadFrom at) (word, e, is) = ap meant e ∙ ap (λ n. Command.Frame (Frame.ReadFrom n)) (sym is.0.1)
+frame_is words (Frame.WriteTo at bytes) (word, rest, e, is, are) =
+    ap meant e ∙ (λ i. Command.Frame (Frame.WriteTo (sym is.0.1 i) (record { items = written_is rest bytes.items are i })))
+
+-- words are no other command's than the one that they mean
+pub meant_is : (words : List (List ℕ)) (command : Command) → IsForm words command → meant words ≡ command
+meant_is words (Command.Legacy name address lvr) (word, at, byte, e, is, a, b) = ap meant e ∙ (λ i. Command.Legacy (named_is word name is i) (sym a.0.1 i) (record { 0 = sym b.1 i }))
+meant_is words (Command.Main name setup) (rest, e, (word, pid, bcr, dcr, e', is, identity)) =
+    ap meant e ∙ (λ i. Command.Main ((ap (λ ws. named (first_of ws)) e' ∙ named_is word name is) i) (setup_is word pid bcr dcr rest name setup e' identity i))
+meant_is words (Command.Attach name setup) (rest, e, (word, pid, bcr, dcr, e', is, identity)) =
+    ap meant e ∙ (λ i. Command.Attach ((ap (λ ws. named (first_of ws)) e' ∙ named_is word name is) i) (setup_is word pid bcr dcr rest name setup e' identity i))
+meant_is words (Command.DropOff name) (word, e, is) = ap meant e ∙ ap Command.DropOff (named_is word name is)
+meant_is words (Command.Raise name byte) (word, rest, e, is, are) = ap meant e ∙ (λ i. Command.Raise (named_is word name is i) (byte_is rest byte are i))
+meant_is words (Command.AskJoin name) (word, e, is) = ap meant e ∙ ap Command.AskJoin (named_is word name is)
+meant_is words (Command.AskRole name) (word, e, is) = ap meant e ∙ ap Command.AskRole (named_is word name is)
+meant_is words (Command.Frame frame) form = frame_is words frame form
+meant_is words (Command.HandOver to) (word, e, is) = ap meant e ∙ ap Command.HandOver (sym is.0.1)
+meant_is words Command.Open e = ap meant e
+meant_is words Command.Round e = ap meant e
+meant_is words Command.End e = ap meant e
+meant_is words Command.Daa e = ap meant e
+meant_is words (Command.Policy policy) (word, e, is) = ap meant e ∙ ap Command.Policy (policy_is word policy is)
+meant_is words (Command.Cut name bit) (word, digits, e, is, b) = ap meant e ∙ (λ i. Command.Cut (named_is word name is i) (sym b.1 i))
+meant_is words Command.Show e = ap meant e
+meant_is words Command.Symbols e = ap meant e
+
+-- so they have its form, if they have any
+pub as_meant : (words : List (List ℕ)) (command : Command) → IsForm words command → IsForm words (meant words)
+as_meant words command form = subst (λ c. IsForm words c) (sym (meant_is words command form)) form

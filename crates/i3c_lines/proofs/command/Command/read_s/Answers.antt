@@ -1,0 +1,15 @@
+use Rattle.std.proofs.Common.{inl, inr, refl}
+use Rattle.std.proofs.lemmas.Bool.{false≢true}
+use Rattle.i3c_lines.proofs.Beginnings.{only_s}
+use Rattle.i3c_lines.proofs.command.Command.read_s.Goals as goal
+
+pub returns : goal.returns
+returns c = (
+  λ command form.
+      elim (only_s c.args.tail.now command form) [
+        | inl serve ↦ false≢true (c.if-is_word.ensures.1 serve)
+        | inr (inl show) ↦ false≢true (c.if-is_word-2.ensures.1 show)
+        | inr (inr symbols) ↦ false≢true (c.if-is_word-3.ensures.1 symbols)
+      ],
+  refl,
+)
