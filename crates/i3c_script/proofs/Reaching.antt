@@ -113,7 +113,7 @@ abbrev pub IsSound : Stage → Type 0
 IsSound (Stage.Before legacies) = Unit {0}
 IsSound (Stage.Running ran) = IsReached ran.state
 
-before : (legacies : List (Option Lvr)) (stage : Stage) → stage ≡ Stage.Before legacies → IsSound stage
+pub before : (legacies : List (Option Lvr)) (stage : Stage) → stage ≡ Stage.Before legacies → IsSound stage
 before legacies stage is = subst IsSound (sym is) tt
 
 same_before : (legacies : List (Option Lvr)) (names : Names) (new : ScriptState) → new ≡ script (Stage.Before legacies) names → IsSound new.stage
@@ -149,7 +149,8 @@ before_on legacies names (Command.Cut name bit) said refused new h = same_before
 before_on legacies names Command.Show said refused new h = same_before legacies names new h.0
 before_on legacies names Command.Symbols said refused new h = same_before legacies names new h.0
 
-at_on : (stage : Stage) (names : Names) (command : Command) (said : List ℕ) (refused : Option Refusal) (new : ScriptState) → IsSound stage → ObeysAt stage names command said refused new → IsSound new.stage
+-- a command leads from a sound stage to a sound one
+pub at_on : (stage : Stage) (names : Names) (command : Command) (said : List ℕ) (refused : Option Refusal) (new : ScriptState) → IsSound stage → ObeysAt stage names command said refused new → IsSound new.stage
 at_on (Stage.Before legacies) names command said refused new s h = before_on legacies names command said refused new h
 at_on (Stage.Running old) names command said refused new s (ran, is, h) = subst IsSound (sym is) (obeys_on old ran names new.names command said refused s h)
 

@@ -1,10 +1,11 @@
 //! Scripts over the bus: a script's lines are read, run in order, and each writes what came of it. And traces, which
 //! are told in lines.
 //!
-//! A line of one event takes one path: `asking` reads it to an event, `running` has the bus answer, `telling` prints the
-//! reply. `assigning` plays the whole session of a `daa`. `stage` is where a script stands, before its bus and with it;
-//! `script` parts the bytes into lines and counts the refusals, `output` writes what a line printed. `trace` tells what a
-//! trace says. Both read by `reading`.
+//! A line of one event takes one path: `stage` hands its command to `running`, which makes the event and has the bus
+//! answer it, and `telling` prints the reply. `asking` finds the slots that names mean, `assigning` plays the whole
+//! session of a `daa`, `show` and `wires` print the bus and its last symbols. `stage` is where a script is, before its bus
+//! and with it; `script` parts the bytes into lines and counts the refusals, `output` writes what a line printed. `laws`
+//! says that lines make legal runs. `trace` tells what a trace says. `script` and `trace` read by `reading`.
 #![tactic(auto)]
 
 mod asking;
