@@ -6,17 +6,16 @@ use Rattle.i3c_base.specs.declared.identity.Lvr.{Lvr}
 use Rattle.i3c_base.specs.State.{State, legacy_targets_of, no_lvrs}
 use Rattle.i3c_step.specs.declared.events.Event.{Event}
 use Rattle.i3c_step.specs.declared.replies.Reply.{Reply}
-use Rattle.i3c_step.specs.Step.{Step}
 use Rattle.i3c_step.proofs.RunLaws.{legal_more, legal_none}
 use Rattle.i3c_lines.specs.declared.command.Command.{Command}
 use Rattle.i3c_lines.specs.declared.names.Name.{Name}
 use Rattle.i3c_lines.specs.declared.names.Names.{Names}
 use Rattle.i3c_lines.specs.declared.refusals.Refusal.{Refusal}
 use Rattle.i3c_script.specs.declared.stage.Stage.{Stage}
-use Rattle.i3c_script.specs.Asking.{IsEntrance, slot_meant, slot_of_device}
+use Rattle.i3c_script.specs.Asking.{slot_meant, slot_of_device}
 use Rattle.i3c_script.specs.Assigning.{Assigns, Follows, HasSession, Moves, Rounds}
 use Rattle.i3c_script.specs.Leading.{IsReached, Lead, Obeyed}
-use Rattle.i3c_script.specs.Obeying.{Answers, Declares, Does, IsBegun, IsDone, IsRefused, NamesSlot, Obeys, ObeysAt, ObeysBefore, ObeysOn, ScriptState, Starts, legacy_refusal, main_refusal, script}
+use Rattle.i3c_script.specs.Obeying.{Answers, Declares, Does, IsBegun, IsDone, IsRefused, NamesSlot, ObeysAt, ObeysBefore, ObeysOn, ScriptState, Starts, legacy_refusal, main_refusal, script}
 use Rattle.i3c_script.specs.Printed.{main_text}
 use Rattle.i3c_script.specs.Ran.{Ran}
 

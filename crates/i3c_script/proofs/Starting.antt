@@ -1,5 +1,5 @@
 -- Lines before the bus.
-use Rattle.std.proofs.Common.{◌≡◌, ◌∙◌, ℕ, zero, suc, List, ◌++◌, Option, None, Some, MatchOption, ap, refl, replicate, subst, sym}
+use Rattle.std.proofs.Common.{◌≡◌, ◌∙◌, ℕ, zero, suc, List, ◌++◌, Option, None, MatchOption, ap, refl, replicate, subst, sym}
 use Rattle.std.specs.Prelude.{slice_index_or}
 use Rattle.i3c_base.specs.declared.device.Setup.{Setup}
 use Rattle.i3c_base.specs.declared.identity.Lvr.{Lvr}
