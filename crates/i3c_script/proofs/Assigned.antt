@@ -1,5 +1,5 @@
 -- The rounds of a session, and what they print.
-use Rattle.std.proofs.Common.{◌≡◌, ◌≢◌, ◌⊎◌, ◌∙◌, ℕ, ◌+◌, Bool, true, false, not, arith, List, [], ◌∷◌, ◌++◌, length, Option, None, Some, MatchOption, Result, Ok, Err, ap, append_assoc, inl, inr, refl, subst, sym}
+use Rattle.std.proofs.Common.{◌≡◌, ◌⊎◌, ◌∙◌, ℕ, ◌+◌, Bool, true, false, not, arith, List, [], ◌∷◌, ◌++◌, length, None, MatchOption, Result, Ok, Err, ap, append_assoc, inl, inr, refl, subst, sym}
 use Rattle.std.proofs.lemmas.List.{append-nil}
 use Rattle.std.specs.Option.{is_some}
 use Rattle.i3c_base.specs.declared.answers.RoundReply.{RoundReply}
@@ -18,7 +18,7 @@ use Rattle.i3c_bus.specs.declared.tokens.Hand.{Hand}
 use Rattle.i3c_bus.specs.Hands.{HandFits, is_session}
 use Rattle.i3c_lines.specs.declared.refusals.Refusal.{Refusal}
 use Rattle.i3c_script.specs.declared.faults.Stop.{Stop}
-use Rattle.i3c_script.specs.Assigning.{AreAll, Assigns, GoOn, HasRounds, HasSession, Moves, Rounds, goes_on, rounds_text}
+use Rattle.i3c_script.specs.Assigning.{Assigns, GoOn, HasRounds, HasSession, Moves, Rounds, goes_on, rounds_text}
 use Rattle.i3c_script.specs.Printed.{request_text, round_text}
 use Rattle.i3c_script.specs.Ran.{Ran, ran_of}
 use Rattle.i3c_script.specs.Stops.{Ends, round_refusal}

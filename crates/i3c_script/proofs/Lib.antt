@@ -4,3 +4,4 @@ pub mod Moving
 pub mod Showing
 pub mod Assigned
 pub mod Starting
+pub mod Reaching

@@ -1,5 +1,5 @@
 -- The symbols that are kept, and steps of a script with a bus.
-use Rattle.std.proofs.Common.{◌≡◌, ◌∙◌, ℕ, ◌+◌, ◌-◌, ◌≤◌, Bool, true, cond, List, [], ◌∷◌, ◌++◌, length, drop, Option, Some, None, Result, Ok, Err, ap, refl, sym, subst, arith, append_assoc, length-append, length-drop, drop-drop}
+use Rattle.std.proofs.Common.{◌≡◌, ◌∙◌, ℕ, ◌+◌, ◌-◌, true, cond, List, [], ◌∷◌, ◌++◌, length, drop, Option, Some, None, Result, Ok, Err, ap, refl, sym, subst, arith, append_assoc, length-append, length-drop, drop-drop}
 use Rattle.std.proofs.lemmas.List.{append-nil, drop-append-le}
 use Rattle.std.specs.Option.{is_some}
 use Rattle.std.specs.Prelude.{MatchResult}

@@ -1,5 +1,5 @@
 -- What `show` and `symbols` print, line by line and symbol by symbol.
-use Rattle.std.proofs.Common.{◌≡◌, ◌∙◌, ℕ, zero, suc, ◌+◌, ◌<◌, List, [], ◌∷◌, ◌++◌, codes, drop, get_or, length, map, Option, Some, None, ap, refl, sym, subst, arith, append_assoc}
+use Rattle.std.proofs.Common.{◌≡◌, ◌∙◌, ℕ, zero, suc, ◌+◌, ◌<◌, List, [], ◌∷◌, ◌++◌, codes, drop, get_or, length, map, Some, None, ap, refl, sym, arith, append_assoc}
 use Rattle.std.proofs.lemmas.List.{append-nil, at_drop_more, at_drop_all}
 use Rattle.std.specs.Prelude.{Result, Ok, Err, OnOk, slice_get, slice_index_or}
 use Rattle.std.specs.Fmt.{decimal}

@@ -1,12 +1,16 @@
 -- Lines before the bus.
-use Rattle.std.proofs.Common.{◌≡◌, ◌∙◌, ℕ, List, ◌++◌, Option, None, Some, MatchOption, refl, subst, sym}
+use Rattle.std.proofs.Common.{◌≡◌, ◌∙◌, ℕ, zero, suc, List, ◌++◌, Option, None, MatchOption, ap, refl, replicate, subst, sym}
+use Rattle.std.specs.Prelude.{slice_index_or}
 use Rattle.i3c_base.specs.declared.device.Setup.{Setup}
 use Rattle.i3c_base.specs.declared.identity.Lvr.{Lvr}
+use Rattle.i3c_base.specs.declared.range.TheConstants.{ADDRESSES, SLOTS}
+use Rattle.i3c_base.specs.State.{no_lvrs}
 use Rattle.i3c_lines.specs.declared.command.Command.{Command}
 use Rattle.i3c_lines.specs.declared.names.Name.{Name}
 use Rattle.i3c_lines.specs.declared.names.Names.{Names}
+use Rattle.i3c_lines.specs.Naming.{legacy_names, place_named, slot_names}
 use Rattle.i3c_script.specs.declared.stage.Stage.{Stage}
-use Rattle.i3c_script.specs.Obeying.{IsDone, IsRefused, Obeys, ObeysAt, Starts, main_refusal, script}
+use Rattle.i3c_script.specs.Obeying.{IsBegun, IsDone, IsRefused, Obeys, ObeysAt, Starts, main_refusal, script}
 use Rattle.i3c_script.specs.Printed.{main_text}
 use Rattle.i3c_script.specs.Ran.{Ran}
 

@@ -6,3 +6,4 @@ pub mod Printed
 pub mod Telling
 pub mod Assigning
 pub mod Obeying
+pub mod Leading

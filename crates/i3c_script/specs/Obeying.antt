@@ -1,5 +1,5 @@
 -- What a line's command does, what it prints, and why it is refused.
-use Rattle.std.specs.Prelude.{◌≡◌, ◌≢◌, ℕ, List, [], ◌∷◌, ◌++◌, Option, Some, None, Result, Ok, Err, MatchOption, MatchResult, if◌then◌else◌, is_some, option_map, slice_set, replicate}
+use Rattle.std.specs.Prelude.{◌≡◌, ℕ, List, [], Option, Some, None, Result, MatchOption, MatchResult, if◌then◌else◌, is_some, option_map, slice_set, replicate}
 use Rattle.i3c_base.specs.declared.device.Setup.{Setup}
 use Rattle.i3c_base.specs.declared.identity.Bcr.{Bcr}
 use Rattle.i3c_base.specs.declared.identity.Lvr.{Lvr}

@@ -1,14 +1,16 @@
 //! What the lines of a script do: each one's command is obeyed on a stage, before the bus or with it, and prints what came
 //! of it.
 //!
-//! A line of one event takes one path: `asking` finds the slots that its names stand for, `running` has the bus answer,
-//! `telling` prints the reply. `assigning` plays the whole session of a `daa`. `stage` is where a script is, before its
-//! bus and with it. `wires` keeps the last symbols of the wire.
+//! A line of one event takes one path: `stage` hands its command to `running`, which makes the event and has the bus
+//! answer it, and `telling` prints the reply. `asking` finds the slots that names mean, `assigning` plays the whole
+//! session of a `daa`, `show` and `wires` print the bus and its last symbols. `stage` is where a script is, before its bus
+//! and with it. `laws` says that lines make legal runs.
 #![tactic(auto)]
 
 mod asking;
 mod assigning;
 mod faults;
+mod laws;
 mod running;
 mod show;
 mod stage;
@@ -16,5 +18,6 @@ mod telling;
 mod wires;
 
 pub use faults::Stop;
+pub use laws::scripts_are_legal_runs;
 pub use running::Running;
 pub use stage::Stage;

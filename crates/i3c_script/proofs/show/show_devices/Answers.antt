@@ -4,7 +4,7 @@ use Rattle.std.proofs.lemmas.List.{append-nil}
 use Rattle.std.specs.Prelude.{slice_index_or, None}
 use Rattle.i3c_base.specs.State.{device_at}
 use Rattle.i3c_lines.specs.Naming.{slot_names}
-use Rattle.i3c_script.specs.Printed.{device_text, devices_text}
+use Rattle.i3c_script.specs.Printed.{device_text}
 use Rattle.i3c_script.proofs.Showing.{devices_more, devices_none, printed_more}
 use Rattle.i3c_script.proofs.show.show_devices.Goals as goal
 

@@ -3,7 +3,7 @@ use Rattle.std.proofs.lemmas.Grind.{common_steps}
 use Rattle.std.proofs.lemmas.List.{append-nil}
 use Rattle.std.specs.Prelude.{slice_index_or, None}
 use Rattle.i3c_lines.specs.Naming.{legacy_names}
-use Rattle.i3c_script.specs.Printed.{legacies_text, legacy_text}
+use Rattle.i3c_script.specs.Printed.{legacy_text}
 use Rattle.i3c_script.proofs.Showing.{legacies_more, legacies_none, printed_more}
 use Rattle.i3c_script.proofs.show.show_legacies.Goals as goal
 

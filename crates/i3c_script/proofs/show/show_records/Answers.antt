@@ -1,4 +1,4 @@
-use Rattle.std.proofs.Common.{◌≡◌, ◌+◌, ◌++◌, ◌∙◌, ap, codes, refl, sym, append_assoc}
+use Rattle.std.proofs.Common.{◌≡◌, ◌+◌, ◌++◌, ◌∙◌, ap, codes, sym, append_assoc}
 use Rattle.std.specs.Fmt.{decimal}
 use Rattle.i3c_script.specs.Printed.{record_text}
 use Rattle.i3c_script.proofs.Showing.{numbered_more, printed_on}
