@@ -1,8 +1,10 @@
-ghost use Rattle.std.specs.Prelude.{◌≡◌, ℕ, ◌-◌, ◌^◌, ◌<◌, ◌≤◌, true, Bool, map, if◌then◌else◌, slice_index, bit_or};
+ghost use Rattle.std.specs.Prelude.{◌≡◌, ℕ, ◌-◌, ◌^◌, ◌<◌, ◌≤◌, Bool, length, map};
+ghost use Rattle.std.specs.Int.{bit_not, w16};
+ghost use Rattle.std.specs.Int.RustNames.{bit_and};
 ghost use Rattle.std.specs.List.{filter};
 ghost use Rattle.i3c_base.specs.Cutting.{cut_of};
 ghost use Rattle.i3c_base.specs.declared.range.TheConstants.{SLOTS as SLOT_COUNT};
-ghost use Rattle.i3c_wires.specs.Contest.{drives_one, is_one};
+ghost use Rattle.i3c_wires.specs.Contest.{drives_one};
 ghost use Rattle.i3c_wires.specs.Masks.{is_at, mask_of};
 
 use arrayvec::ArrayVec;
@@ -10,12 +12,6 @@ use i3c_base::{Cuts, SLOTS, Slot};
 
 /// A set of contenders: a bit for each place in the list of keys.
 pub(crate) type Mask = u16;
-
-/// The most bits that a key has.
-const KEY_BITS: usize = 64;
-
-/// A set of contenders for each bit of a contest.
-pub(crate) type Planes = [Mask; KEY_BITS];
 
 /// The first `count` places.
 pub(crate) fn first_places(count: usize) -> Mask
@@ -29,28 +25,27 @@ pub(crate) fn first_places(count: usize) -> Mask
     }
 }
 
-/// Puts a place into the set of each bit where the key has a 1. Sets go by the number of bits that follow.
-fn put(planes: &mut Planes, place: usize, key: u64)
-    requires { place < SLOT_COUNT }
-    ensures { (left : ℕ) → left < 64 → slice_index planes.new left ≡ (if is_one left key then bit_or (slice_index planes.old left) (2 ^ place) else slice_index planes.old left) }
+/// Those of these places who drive 0 at the bit after which this many follow.
+pub(crate) fn zeros_among(
+    keys: &ArrayVec<(Slot, u64), SLOTS>,
+    among: Mask,
+    left: u32,
+) -> Mask
+    requires bit { left < 64 }
+    requires few { length keys.now.items ≤ SLOT_COUNT }
+    requires places { (p : ℕ × ℕ → Bool) × (among ≡ mask_of p keys.now.items) }
+    ensures { result ≡ bit_and among (bit_not w16 (mask_of (drives_one left) keys.now.items)) }
 {
-    let mut rest = key;
+    let mut low = 0;
+    let mut rest = among;
     while rest != 0 {
-        let left = rest.trailing_zeros();
-        planes[left as usize] |= 1 << place;
-        rest &= !(1 << left);
+        let place = rest.trailing_zeros();
+        if keys[place as usize].1 >> left & 1 == 0 {
+            low |= 1 << place;
+        }
+        rest &= !(1 << place);
     }
-}
-
-/// For each bit of these, by the number of bits that follow, those whose key has a 1 there.
-pub(crate) fn planes_of(keys: &ArrayVec<(Slot, u64), SLOTS>, among: u64) -> Planes
-    ensures { (left : ℕ) → left < 64 → is_one left among ≡ true → slice_index result left ≡ mask_of (drives_one left) keys.now.items }
-{
-    let mut planes = [0; KEY_BITS];
-    for (place, contender) in keys.iter().enumerate() {
-        put(&mut planes, place, contender.1 & among);
-    }
-    planes
+    low
 }
 
 /// Whether a slot is cut at this bit of a contest.
