@@ -23,8 +23,8 @@ fn enter(keys: &mut ArrayVec<(Slot, u64), SLOTS>, devices: &Devices, slot: Slot)
     keys.push((slot, identity.number()));
 }
 
-/// Adds those who hear to no others, each with the number of its identity.
-// filled where it stands, since a list of keys is large to hand back
+/// Enters those who hear into an empty list, each with the number of its identity.
+// the list is the caller's, since it is large to hand back
 pub(crate) fn contend(keys: &mut ArrayVec<(Slot, u64), SLOTS>, devices: &Devices)
     requires { keys.old.items ≡ [] }
     ensures exact { keys.new.items ≡ contenders_from 0 devices.now }

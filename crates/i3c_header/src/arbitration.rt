@@ -29,8 +29,8 @@ pub fn arbitrate(requests: &[Request]) -> Option<Request>
     Some(requests[winner.index()])
 }
 
-/// Adds the key of each request to no others: it contends under its place in the list.
-// filled where it stands, since a list of keys is large to hand back
+/// Enters the key of each request into an empty list: it contends under the request's place.
+// the list is the caller's, since it is large to hand back
 fn contend(keys: &mut ArrayVec<(Slot, u64), SLOTS>, requests: &[Request])
     requires few { length requests.now ≤ SLOT_COUNT }
     requires none { keys.old.items ≡ [] }

@@ -1,11 +1,11 @@
 -- The sets of contenders at a bit, and the steps of a contest on them.
-use Rattle.std.proofs.Common.{◌≡◌, ◌≢◌, ℕ, suc, ◌+◌, ◌-◌, ◌*◌, ◌/◌, ◌%◌, ◌^◌, ◌<◌, ◌≤◌, ◌==◌, Bool, true, false, cond, not, ◌&&◌, List, [], ◌∷◌, ◌++◌, length, map, get_or, take, refl, ap, sym, subst, ◌∙◌, arith, inl, inr}
+use Rattle.std.proofs.Common.{one-mul, ◌≡◌, ◌≢◌, ℕ, zero, suc, ◌+◌, ◌-◌, ◌*◌, ◌/◌, ◌%◌, ◌^◌, ◌<◌, ◌≤◌, ◌==◌, Bool, true, false, cond, not, ◌&&◌, List, [], ◌∷◌, ◌++◌, length, map, get_or, take, refl, ap, sym, subst, ◌∙◌, arith, inl, inr}
 use Rattle.std.proofs.lemmas.Bool.{cases_eq, cases_lt, cond-true, cond-false, eq-eqb, ne_eqb, and_from, and_left, and_right, not_from_false, not_from_true}
-use Rattle.std.proofs.lemmas.Nat.{and_le_l}
-use Rattle.std.proofs.lemmas.Nat.Bits.{bit_at-lt, bit_at-zero, bit_at_above, shr_and_one, bit_at_and, bit_at-trailing_zeros, bit_at_clear_same, bit_at_clear_other, bit_at_set_other, bit_at_set_same, same_from_bits}
-use Rattle.std.proofs.lemmas.List.{append-nil, get_or-map, get_or_default, length-append, map-append}
+use Rattle.std.proofs.lemmas.Nat.{and-not, and_comm, and_le_l, one_shl}
+use Rattle.std.proofs.lemmas.Nat.Bits.{and_pow, bit_at-lt, bit_at-zero, bit_at_above, shr_and_one, bit_at_and, bit_at-trailing_zeros, bit_at_clear_same, bit_at_clear_other, bit_at_set_other, bit_at_set_same, same_from_bits}
+use Rattle.std.proofs.lemmas.List.{append-nil, get_or-map, get_or_default, take_all, length-append, map-append}
 use Rattle.std.proofs.lemmas.List.Elements.{recursion_from_All, All-weaker, filter_more}
-use Rattle.std.specs.Int.{Width, w16, bit_at, bit_not, trailing_zeros}
+use Rattle.std.specs.Int.{Width, w32, bit_at, bit_not, trailing_zeros}
 use Rattle.std.specs.Int.RustNames.{bit_or}
 use Rattle.std.specs.List.{All, filter, list_all}
 use lib.Bits.{bit_and}
@@ -18,7 +18,7 @@ use mir.Val.{bits as bits_of}
 
 -- the width of a mask
 abbrev pub mask_width : Width
-mask_width = w16
+mask_width = w32
 
 -- ---- those of a set who drive 0, one place after another
 
@@ -38,6 +38,24 @@ lowest_less rest some fits =
     let was = (bit_at-trailing_zeros mask_width rest some fits).1 in
     let apart : without_lowest rest ≢ rest = λ e. absurd (omega (arith, sym gone ∙ ap (λ n. bit_at n (trailing_zeros mask_width rest)) e ∙ was)) in
     omega (arith, and_le_l rest (bit_not mask_width (1 * 2 ^ trailing_zeros mask_width rest % 2 ^ bits_of mask_width)))
+
+-- the lowest place, as a number that is subtracted
+abbrev pub lowest_of : ℕ → ℕ
+lowest_of rest = 1 * 2 ^ trailing_zeros mask_width rest % 2 ^ bits_of mask_width
+
+pub lowest_off : (rest : ℕ) → 0 < rest → rest < 2 ^ bits_of mask_width → without_lowest rest + lowest_of rest ≡ rest
+lowest_off rest some fits =
+    let t = trailing_zeros mask_width rest in
+    let lies = bit_at-trailing_zeros mask_width rest some fits in
+    let m : lowest_of rest ≡ 2 ^ t = one_shl t (bits_of mask_width) lies.0 in
+    let there : bit_and rest (2 ^ t) ≡ 2 ^ t = and_pow rest t ∙ (ap (λ b. b * 2 ^ t) lies.1 ∙ one-mul (2 ^ t)) in
+    let held : bit_and (lowest_of rest) rest ≡ lowest_of rest = and_comm (lowest_of rest) rest ∙ (ap (bit_and rest) m ∙ (there ∙ sym m)) in
+    let parts : bit_and (bit_not mask_width (lowest_of rest)) rest + bit_and (lowest_of rest) rest ≡ rest = and-not (bits_of mask_width) (lowest_of rest) rest (omega arith) fits in
+    let turned : without_lowest rest ≡ bit_and (bit_not mask_width (lowest_of rest)) rest = and_comm rest (bit_not mask_width (lowest_of rest)) in
+    omega (arith, parts, held, turned)
+
+pub subtracted : (rest : ℕ) → 0 < rest → rest < 2 ^ bits_of mask_width → rest - lowest_of rest ≡ without_lowest rest
+subtracted rest some fits = omega (arith, lowest_off rest some fits)
 
 -- the key at a place
 abbrev pub key_at : List (ℕ × ℕ) → ℕ → ℕ
@@ -73,7 +91,7 @@ key_found shown keys i left x e l =
     ap (λ (k : ℕ × ℕ). bit_at k.1 left) same ∙ sym (shr_and_one (get_or shown i x).1 left)
 
 pub key_zero : (shown keys : List (ℕ × ℕ)) (i left : ℕ) (x : ℕ × ℕ) → shown ≡ keys → i < length keys → bit_and ((get_or shown i x).1 / 2 ^ left) 1 ≡ 0 → is_one left (key_at keys i) ≡ false
-key_zero shown keys i left x e l zero = ne_eqb _ _ (λ one. absurd (omega (arith, key_found shown keys i left x e l, zero, one)))
+key_zero shown keys i left x e l none = ne_eqb _ _ (λ one. absurd (omega (arith, key_found shown keys i left x e l, none, one)))
 
 pub key_one : (shown keys : List (ℕ × ℕ)) (i left : ℕ) (x : ℕ × ℕ) → shown ≡ keys → i < length keys → bit_and ((get_or shown i x).1 / 2 ^ left) 1 ≢ 0 → is_one left (key_at keys i) ≡ true
 key_one shown keys i left x e l some =
@@ -212,6 +230,86 @@ slots_without keys places i slots now x h l at isnt e = record {
     fails_if : (b : Bool) → (◌≡◌ {A = ℕ} (cond b 1 0) 1 → ⊥) → b ≡ false
     fails_if true n = absurd (n refl)
     fails_if false n = refl
+
+-- from place to place: those between aren't in the set
+slots_skip : (keys : List (ℕ × ℕ)) (places : ℕ) (slots : List ℕ) (n i : ℕ) → n + i ≤ length keys → ((j : ℕ) → i ≤ j → j < n + i → bit_at places j ≡ 0) → SlotsSoFar keys places i slots → SlotsSoFar keys places (n + i) slots
+slots_skip keys places slots zero i l none h = let same : i ≡ 0 + i = omega arith in subst (λ k. SlotsSoFar keys places k slots) same h
+slots_skip keys places slots (suc n) i l none h =
+    let before = slots_skip keys places slots n i (omega (arith, l)) (λ j a b. none j a (omega (arith, b))) h in
+    let x = get_or keys (n + i) (0, 0) in
+    let zero_there : bit_and (places / 2 ^ (n + i)) 1 ≡ 0 = shr_and_one places (n + i) ∙ none (n + i) (omega arith) (omega arith) in
+    let more = slots_without keys places (n + i) slots slots x before (omega (arith, l)) (get_or_default keys (n + i) (0, 0) x (omega (arith, l))) (λ e. absurd (omega (arith, e, zero_there))) refl in
+    let same : n + i + 1 ≡ suc n + i = omega arith in
+    subst (λ k. SlotsSoFar keys places k slots) same more
+
+-- the slots of the places before this one, and the places that are left over
+pub record SlotsLeft (keys : List (ℕ × ℕ)) (places first rest : ℕ) (slots : List ℕ) : Type 0 where
+  pub so_far : SlotsSoFar keys places first slots
+  pub low : first ≤ length keys
+  pub before : (i : ℕ) → i < first → bit_at rest i ≡ 0
+  pub after : (i : ℕ) → first ≤ i → i < bits_of mask_width → bit_at rest i ≡ bit_at places i
+
+pub slots_none : (keys : List (ℕ × ℕ)) (places : ℕ) (slots : List ℕ) → slots ≡ [] → SlotsLeft keys places 0 places slots
+slots_none keys places slots e = record {
+  so_far = subst (SlotsSoFar keys places 0) (sym e) (record { room = omega arith; are = λ p named. refl });
+  low = omega arith;
+  before = λ i l. absurd (omega (arith, l));
+  after = λ i l m. refl;
+}
+
+-- the lowest place that is left over
+pub slots_place : (p : ℕ × ℕ → Bool) (keys : List (ℕ × ℕ)) (places first rest : ℕ) (slots : List ℕ) → places ≡ mask_of p keys → 0 < rest → rest < 2 ^ bits_of mask_width → SlotsLeft keys places first rest slots
+    → (first ≤ trailing_zeros mask_width rest) × (bit_at places (trailing_zeros mask_width rest) ≡ 1) × (trailing_zeros mask_width rest < length keys)
+slots_place p keys places first rest slots named some fits h =
+    let t = trailing_zeros mask_width rest in
+    let lies = bit_at-trailing_zeros mask_width rest some fits in
+    let start : first ≤ t = elim (cases_lt t first) [ inl l ↦ absurd (omega (arith, h.before t l, lies.1)) | inr above ↦ above ] in
+    let one : bit_at places t ≡ 1 = sym (h.after t start lies.0) ∙ lies.1 in (
+      start,
+      one,
+      elim (cases_lt t (length keys)) [
+        | inl inside ↦ inside
+        | inr past ↦
+            let none : bit_at places t ≡ 0 = ap (λ n. bit_at n t) named ∙ (mask_at p keys t ∙ ap (λ b. cond b 1 0) (passes_past p keys t past)) in
+            absurd (omega (arith, none, one))
+      ],
+    )
+
+pub slots_next : (p : ℕ × ℕ → Bool) (keys : List (ℕ × ℕ)) (places first rest : ℕ) (slots now : List ℕ) (x : ℕ × ℕ) → places ≡ mask_of p keys → 0 < rest → rest < 2 ^ bits_of mask_width → SlotsLeft keys places first rest slots
+    → x ≡ get_or keys (trailing_zeros mask_width rest) x → now ≡ slots ++ x.0 ∷ [] → SlotsLeft keys places (trailing_zeros mask_width rest + 1) (without_lowest rest) now
+slots_next p keys places first rest slots now x named some fits h at e = record {
+  so_far = slots_with keys places t slots now x there found_at.2 at (shr_and_one places t ∙ found_at.1) e;
+  low = omega (arith, found_at.2);
+  before = λ i l. elim (cases_eq i t) [
+    | inl same ↦ ap (bit_at (without_lowest rest)) same ∙ lowest_gone rest some fits
+    | inr n ↦ others_kept rest some fits i (omega (arith, l, lies.0)) n ∙ lies.2 i (omega (arith, l, n))
+  ];
+  after = λ i l m. others_kept rest some fits i m (λ same. absurd (omega (arith, l, same))) ∙ h.after i (omega (arith, l, found_at.0)) m;
+}
+  where
+    t : ℕ
+    t = trailing_zeros mask_width rest
+
+    lies : (t < bits_of mask_width) × (bit_at rest t ≡ 1) × ((i : ℕ) → i < t → bit_at rest i ≡ 0)
+    lies = bit_at-trailing_zeros mask_width rest some fits
+
+    found_at : (first ≤ t) × (bit_at places t ≡ 1) × (t < length keys)
+    found_at = slots_place p keys places first rest slots named some fits h
+
+    there : SlotsSoFar keys places t slots
+    there =
+        let same : t - first + first ≡ t = omega (arith, found_at.0) in
+        subst (λ k. SlotsSoFar keys places k slots) same
+        (slots_skip keys places slots (t - first) first (omega (arith, found_at.0, found_at.2)) (λ j a b. let l : j < t = omega (arith, b, found_at.0) in sym (h.after j a (omega (arith, l, lies.0))) ∙ lies.2 j l) h.so_far)
+
+-- all places
+pub slots_all : (keys : List (ℕ × ℕ)) (places first : ℕ) (slots : List ℕ) → length keys ≤ bits_of mask_width → SlotsLeft keys places first 0 slots
+    → (p : ℕ × ℕ → Bool) → places ≡ mask_of p keys → slots ≡ map (λ e. e.0) (filter p keys)
+slots_all keys places first slots few h p named =
+    let same : length keys - first + first ≡ length keys = omega (arith, h.low) in
+    let last = subst (λ k. SlotsSoFar keys places k slots) same
+    (slots_skip keys places slots (length keys - first) first (omega (arith, h.low)) (λ j a b. sym (h.after j a (omega (arith, b, few, h.low))) ∙ bit_at-zero j) h.so_far) in
+    last.are p named ∙ ap (λ ks. map (λ (e : ℕ × ℕ). e.0) (filter p ks)) (take_all (length keys) keys (omega arith))
 
 -- ---- the steps of a contest
 

@@ -335,6 +335,9 @@ module _ (cuts : CutList) (keys : List (ℕ × ℕ)) (width : ℕ) where
       let next = turning_next turns bits still t h top in
       (drives cuts width t (bits / 2 ^ suc t), still_driving cuts keys width t (bits / 2 ^ suc t) still drop few next.still_in cut)
 
+  pub turning_places : (turns bits still : ℕ) → Turning cuts keys width turns bits still → (p : ℕ × ℕ → Bool) × (still ≡ mask_of p keys)
+  turning_places turns bits still h = (stays cuts width h.left (bits / 2 ^ h.left), h.contested.still_in)
+
   pub turning_within : (turns bits still t : ℕ) → Turning cuts keys width turns bits still → IsTop turns t → t < width
   turning_within turns bits still t h top = omega (arith, h.below t (top_one turns t top), h.contested.reading.within)
 

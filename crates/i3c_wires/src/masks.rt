@@ -1,5 +1,5 @@
 ghost use Rattle.std.specs.Prelude.{◌≡◌, ℕ, ◌-◌, ◌^◌, ◌<◌, ◌≤◌, Bool, length, map};
-ghost use Rattle.std.specs.Int.{bit_not, w16};
+ghost use Rattle.std.specs.Int.{bit_not, w32};
 ghost use Rattle.std.specs.Int.RustNames.{bit_and};
 ghost use Rattle.std.specs.List.{filter};
 ghost use Rattle.i3c_base.specs.Cutting.{cut_of};
@@ -11,7 +11,7 @@ use arrayvec::ArrayVec;
 use i3c_base::{Cuts, SLOTS, Slot};
 
 /// A set of contenders: a bit for each place in the list of keys.
-pub(crate) type Mask = u16;
+pub(crate) type Mask = u32;
 
 /// The first `count` places.
 pub(crate) fn first_places(count: usize) -> Mask
@@ -21,29 +21,26 @@ pub(crate) fn first_places(count: usize) -> Mask
     if count == 0 {
         0
     } else {
-        Mask::MAX >> (SLOTS - count)
+        Mask::MAX >> (Mask::BITS as usize - count)
     }
 }
 
 /// Those of these places who drive 0 at the bit after which this many follow.
-pub(crate) fn zeros_among(
-    keys: &ArrayVec<(Slot, u64), SLOTS>,
-    among: Mask,
-    left: u32,
-) -> Mask
+pub(crate) fn zeros_among(keys: &ArrayVec<(Slot, u64), SLOTS>, among: Mask, left: u32) -> Mask
     requires bit { left < 64 }
     requires few { length keys.now.items ≤ SLOT_COUNT }
     requires places { (p : ℕ × ℕ → Bool) × (among ≡ mask_of p keys.now.items) }
-    ensures { result ≡ bit_and among (bit_not w16 (mask_of (drives_one left) keys.now.items)) }
+    ensures { result ≡ bit_and among (bit_not w32 (mask_of (drives_one left) keys.now.items)) }
 {
     let mut low = 0;
     let mut rest = among;
     while rest != 0 {
         let place = rest.trailing_zeros();
+        let bit = 1 << place;
         if keys[place as usize].1 >> left & 1 == 0 {
-            low |= 1 << place;
+            low |= bit;
         }
-        rest &= !(1 << place);
+        rest -= bit;
     }
     low
 }
@@ -76,13 +73,18 @@ pub(crate) fn cut_at(keys: &ArrayVec<(Slot, u64), SLOTS>, cuts: &Cuts, bit: u32)
 
 /// The slots at the places of a set, in their order.
 pub(crate) fn slots_at(keys: &ArrayVec<(Slot, u64), SLOTS>, places: Mask) -> ArrayVec<Slot, SLOTS>
+    requires few { length keys.now.items ≤ SLOT_COUNT }
+    requires places { (p : ℕ × ℕ → Bool) × (places ≡ mask_of p keys.now.items) }
     ensures { (p : ℕ × ℕ → Bool) → places ≡ mask_of p keys.now.items → result.items ≡ map (λ e. e.0) (filter p keys.now.items) }
 {
     let mut slots = ArrayVec::new();
-    for (place, contender) in keys.iter().enumerate() {
-        if places >> place & 1 == 1 {
-            slots.push(contender.0);
-        }
+    let mut first = 0;
+    let mut rest = places;
+    while rest != 0 {
+        let place = rest.trailing_zeros();
+        slots.push(keys[place as usize].0);
+        first = place + 1;
+        rest -= 1 << place;
     }
     slots
 }

@@ -3,7 +3,7 @@ use Rattle.std.proofs.Common.{◌≡◌, ◌≤◌, ◌-◌, ℕ, List, suc, len
 use Rattle.i3c_base.specs.Cutting.{CutList, cut_of}
 use Rattle.i3c_wires.specs.Masks.{is_at, mask_of}
 use Rattle.i3c_wires.proofs.Reading.{read_each, read_idle, read_in_width, read_least, read_none}
-use Rattle.i3c_wires.proofs.TurnLaws.{IsTop, first_of, none_contend, none_of, turn_less, turning_driving, turning_first, turning_last, turning_one, turning_unheard, turning_within, turning_zero}
+use Rattle.i3c_wires.proofs.TurnLaws.{IsTop, first_of, none_contend, none_of, turn_less, turning_driving, turning_first, turning_last, turning_one, turning_places, turning_unheard, turning_within, turning_zero}
 use Rattle.i3c_wires.proofs.arbitration.contest.Goals as goal
 use Rattle.i3c_wires.proofs.arbitration.contest.Goals.{then-low-eq0, else-low-eq0}
 
@@ -75,7 +75,7 @@ loop-turns-preserved c =
     let t = c.ilog2-left.result in
     let top : IsTop c.loop-turns.turns t = record { low = c.ilog2-left.ensures.power_le; high = c.ilog2-left.ensures.next_power_gt; fits = c.ilog2-left.ensures.bound } in
     let cut = cut_there cuts keys c.args.width t c.cut_at.result c.cut_at.ensures in
-    let few : length keys ≤ 16 = omega (arith, c.len.ensures.value, c.len.ensures.fits) in
+    let few : length keys ≤ 32 = omega (arith, c.len.ensures.value, c.len.ensures.fits) in
     elim c.if-low-eq0.branch [
       | then-low-eq0 w ↦ rw (w.bits-is, w.still-is)
           (turning_one cuts keys c.args.width c.loop-turns.turns c.loop-turns.bits c.loop-turns.still t c.cut_at.result _ few (omega arith) (omega arith) c.loop-turns.invariant top cut
@@ -84,6 +84,9 @@ loop-turns-preserved c =
           (turning_zero cuts keys c.args.width c.loop-turns.turns c.loop-turns.bits c.loop-turns.still t c.cut_at.result _ few (omega arith) (omega arith) c.loop-turns.invariant top cut
           refl (λ none. w.if-low-eq0.false (c.zeros_among-low.ensures ∙ none)))
     ]
+
+pub slots_at-winners-requires-clause-places : goal.slots_at-winners-requires-clause-places
+slots_at-winners-requires-clause-places c = turning_places c.args.cuts.now c.args.keys.now.items c.args.width c.loop-turns.turns c.loop-turns.bits c.loop-turns.still c.loop-turns.invariant
 
 pub returns : goal.returns
 returns c =
