@@ -1,5 +1,5 @@
 -- Keys of requests, and what they say of a device.
-use Rattle.std.proofs.Common.{◌≡◌, ℕ, ◌+◌, ◌*◌, ◌/◌, ◌%◌, ◌<◌, ◌≤◌, Bool, true, false, not, ◌&&◌, ◌||◌, ◌==◌, ◌⊎◌, if◌then◌else◌, List, get_or, slice_index, Option, Some, None, IfSome, MatchOption, option_map, is_none, is_some, inl, inr, refl, sym, ap, subst, ◌∙◌, arith}
+use Rattle.std.proofs.Common.{◌≡◌, ℕ, ◌+◌, ◌*◌, ◌/◌, ◌%◌, ◌≤◌, Bool, true, false, not, ◌&&◌, ◌||◌, ◌==◌, ◌⊎◌, if◌then◌else◌, List, get_or, Option, Some, None, is_none, is_some, inl, inr, refl, sym, ap, subst, ◌∙◌, arith}
 use Rattle.std.proofs.lemmas.Bool.{and_parts, both_ways, cases_eq, cond-true, cond-false, eq-eqb, eqb-true, ne_eqb}
 use Rattle.i3c_base.specs.declared.requests.Request.{Request}
 use Rattle.i3c_base.specs.declared.requests.Request.TheVariants.{Interrupt, Join, Role}
@@ -13,7 +13,7 @@ use Rattle.i3c_device.specs.Marks.{key_in}
 use Rattle.i3c_device.specs.Walks.{drives_at}
 use Rattle.i3c_device.specs.Wishing.{asks_some, key_of, request_of}
 use Rattle.i3c_header.proofs.KeyLaws.{key_of as key_of_request}
-use Rattle.i3c_device.proofs.SeenWalks.{AreAsking, and_join, asked_of, now_at}
+use Rattle.i3c_device.proofs.SeenWalks.{and_join, now_at}
 
 -- a join's key, or one of an address from 08 on
 abbrev pub IsLawfulKey : ℕ → Type 0

@@ -1,5 +1,5 @@
 -- Walks over devices as they are seen with their kinds.
-use Rattle.std.proofs.Common.{◌≡◌, ℕ, ◌+◌, ◌-◌, ◌*◌, ◌<◌, ◌≤◌, ◌↔◌, ◌⊎◌, slice_index, Bool, true, false, not, ◌&&◌, ◌||◌, ◌==◌, if◌then◌else◌, List, length, get_or, Option, Some, None, Result, Ok, Err, IsTrue, MatchOption, OnErr, OnOk, option_map, is_none, is_some, inl, inr, refl, sym, ap, subst, ◌∙◌, arith}
+use Rattle.std.proofs.Common.{◌≡◌, ℕ, ◌+◌, ◌-◌, ◌*◌, ◌<◌, ◌↔◌, ◌⊎◌, slice_index, Bool, true, false, not, ◌&&◌, ◌||◌, ◌==◌, if◌then◌else◌, List, length, get_or, Option, Some, None, Result, Ok, Err, IsTrue, MatchOption, OnErr, OnOk, option_map, is_none, is_some, inl, inr, refl, sym, ap, subst, ◌∙◌, arith}
 use Rattle.std.proofs.lemmas.Bool.{and_parts, both_ways, cases_Bool, cases_lt, false_from_ne_true, or_left, or_right}
 use Rattle.std.proofs.lemmas.List.{get_or_past}
 use Rattle.std.proofs.lemmas.Option.{none-some, same_Some}
@@ -10,7 +10,7 @@ use Rattle.i3c_base.specs.declared.requests.Request.{Request}
 use Rattle.i3c_base.specs.declared.requests.Request.TheVariants.{Interrupt, Join, Role}
 use Rattle.i3c_base.specs.Cutting.{CutList, Lost, lost_by}
 use Rattle.i3c_base.specs.Frames.{with_kinds, without_kinds}
-use Rattle.i3c_base.specs.Numbers.{IsInRange, KindSet, number_of}
+use Rattle.i3c_base.specs.Numbers.{KindSet}
 use Rattle.i3c_base.specs.Places.{changed}
 use Rattle.i3c_base.specs.Serve.{asks, is_empty}
 use Rattle.i3c_base.specs.State.{Device, in_slot, is_the}

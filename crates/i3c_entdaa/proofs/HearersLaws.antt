@@ -1,5 +1,5 @@
 -- The contenders of a round: each is a hearer with its number, and each hearer is among them.
-use Rattle.std.proofs.Common.{◌≡◌, ℕ, Bool, zero, suc, ◌+◌, ◌-◌, ◌<◌, ◌≤◌, ◌^◌, ◌&&◌, ◌==◌, nat_le, if◌then◌else◌, true, false, List, [], ◌∷◌, ◌++◌, length, length-append, take, get_or, cond, Option, None, Some, inl, inr, refl, ap, sym, subst, ◌∙◌, arith, add-zero, zero-add, append-nil, append_assoc}
+use Rattle.std.proofs.Common.{◌≡◌, ℕ, zero, suc, ◌+◌, ◌-◌, ◌<◌, ◌≤◌, ◌&&◌, ◌==◌, nat_le, if◌then◌else◌, true, false, List, [], ◌∷◌, ◌++◌, length, take, get_or, cond, Option, None, Some, inl, inr, refl, ap, sym, subst, ◌∙◌, arith, add-zero, zero-add, append-nil, append_assoc}
 use Rattle.std.specs.List.{All, Contains}
 use Rattle.std.proofs.lemmas.List.Elements.{All-append, All-nil, All-cons, Contains-append_left, Contains-push}
 use Rattle.std.proofs.lemmas.Bool.{and_parts, both_ways, cases_eq, cases_lt, cond-false, cond-true, eq-eqb, eqb-true, le-leb, lt-leb, ne_eqb}

@@ -1,4 +1,4 @@
-ghost use Rattle.std.specs.Prelude.{◌≡◌, ◌+◌, ◌≤◌, ◌++◌, ℕ, Some, None, true, length, slice_index_or};
+ghost use Rattle.std.specs.Prelude.{◌≡◌, ◌+◌, ◌≤◌, ◌++◌, ℕ, Some, None, true, [], length, slice_index_or};
 ghost use Rattle.std.specs.List.{All, Contains};
 ghost use Rattle.i3c_base.specs.declared.range.TheConstants.{SLOTS as SLOT_COUNT};
 ghost use Rattle.i3c_base.specs.Numbers.{IsInRange, number_of};
@@ -23,19 +23,19 @@ fn enter(keys: &mut ArrayVec<(Slot, u64), SLOTS>, devices: &Devices, slot: Slot)
     keys.push((slot, identity.number()));
 }
 
-/// Those who hear, each with the number of its identity.
-pub(crate) fn contenders(devices: &Devices) -> ArrayVec<(Slot, u64), SLOTS>
-    ensures exact { result.items ≡ contenders_from 0 devices.now }
-    ensures sound { All (IsContenderKey devices.now) result.items }
-    ensures complete { (s : ℕ) (d : DeviceState) → slice_index_or devices.now s None ≡ Some d → d.hearing ≡ true → Contains result.items (s, number_of d.identity) }
+/// Enters those who hear into an empty list, each with the number of its identity.
+// the list is the caller's, since it is large to hand back
+pub(crate) fn contend(keys: &mut ArrayVec<(Slot, u64), SLOTS>, devices: &Devices)
+    requires { keys.old.items ≡ [] }
+    ensures exact { keys.new.items ≡ contenders_from 0 devices.now }
+    ensures sound { All (IsContenderKey devices.now) keys.new.items }
+    ensures complete { (s : ℕ) (d : DeviceState) → slice_index_or devices.now s None ≡ Some d → d.hearing ≡ true → Contains keys.new.items (s, number_of d.identity) }
     ensures slots { length devices.now ≡ SLOT_COUNT }
 {
-    let mut keys: ArrayVec<(Slot, u64), SLOTS> = ArrayVec::new();
     let mut first = 0;
     let mut left = devices.hearers();
     while let Some(index) = left.take_lowest() {
-        enter(&mut keys, devices, Slot::from_index(index));
+        enter(keys, devices, Slot::from_index(index));
         first = index + 1;
     }
-    keys
 }

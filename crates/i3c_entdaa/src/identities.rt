@@ -6,8 +6,9 @@ ghost use Rattle.i3c_base.specs.Round.{AllHearersLost};
 ghost use Rattle.i3c_base.specs.State.{State};
 ghost use Rattle.i3c_entdaa.specs.Parts.{AreTakers, HearersAreRanged, IsContest};
 
-use crate::hearers::contenders;
-use i3c_base::{Cuts, Slot};
+use crate::hearers::contend;
+use arrayvec::ArrayVec;
+use i3c_base::{Cuts, SLOTS, Slot};
 use i3c_device::{Devices, SlotSet};
 use i3c_wires::contest;
 
@@ -52,7 +53,8 @@ pub(crate) fn read_identity(devices: &Devices, cuts: &Cuts) -> Option<Contested>
     ensures ranged { IfSome result (λ _. HearersAreRanged devices.now) }
     ensures slots { length devices.now ≡ SLOT_COUNT }
 {
-    let keys = contenders(devices);
+    let mut keys: ArrayVec<(Slot, u64), SLOTS> = ArrayVec::new();
+    contend(&mut keys, devices);
     if are_lost(&keys, cuts, HEADER_ACK) {
         return None;
     }

@@ -22,22 +22,23 @@ pub fn arbitrate(requests: &[Request]) -> Option<Request>
     if requests.is_empty() {
         return None;
     }
-    let keys = contenders(requests);
+    let mut keys: ArrayVec<(Slot, u64), SLOTS> = ArrayVec::new();
+    contend(&mut keys, requests);
     let outcome = contest(&keys, KEY_BITS, &Cuts::new());
     let winner = outcome.winners[0];
     Some(requests[winner.index()])
 }
 
-/// The key of each request, which contends under its place in the list.
-fn contenders(requests: &[Request]) -> ArrayVec<(Slot, u64), SLOTS>
-    requires { length requests.now ≤ SLOT_COUNT }
-    ensures keys { result.items ≡ keyed 0 requests.now }
-    ensures fit { All (λ e. e.1 < 2 ^ 8) result.items }
+/// Enters the key of each request into an empty list: it contends under the request's place.
+// the list is the caller's, since it is large to hand back
+fn contend(keys: &mut ArrayVec<(Slot, u64), SLOTS>, requests: &[Request])
+    requires few { length requests.now ≤ SLOT_COUNT }
+    requires none { keys.old.items ≡ [] }
+    ensures keys { keys.new.items ≡ keyed 0 requests.now }
+    ensures fit { All (λ e. e.1 < 2 ^ 8) keys.new.items }
 {
-    let mut keys: ArrayVec<(Slot, u64), SLOTS> = ArrayVec::new();
     for (index, request) in requests.iter().enumerate() {
         let place = Slot::new(index as u8).unwrap();
         keys.push((place, u64::from(key(*request))));
     }
-    keys
 }

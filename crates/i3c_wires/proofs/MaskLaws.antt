@@ -13,7 +13,7 @@ use mir.Val.{bits}
 use Rattle.i3c_wires.specs.Masks.{mask_of}
 
 -- whether the element at a place passes
-abbrev passes : {X : Type 0} → (X → Bool) → List X → ℕ → Bool
+abbrev pub passes : {X : Type 0} → (X → Bool) → List X → ℕ → Bool
 passes p xs i = get_or (map p xs) i false
 
 mask_low : (b : Bool) (m : ℕ) → (cond b 1 0 + 2 * m) % 2 ≡ cond b 1 0
@@ -67,7 +67,7 @@ module _ {X : Type 0} where
   passes_but p q (x ∷ xs) zero = refl
   passes_but p q (x ∷ xs) (suc i) = passes_but p q xs i
 
-  passes_past : (p : X → Bool) (xs : List X) (i : ℕ) → length xs ≤ i → passes p xs i ≡ false
+  pub passes_past : (p : X → Bool) (xs : List X) (i : ℕ) → length xs ≤ i → passes p xs i ≡ false
   passes_past p xs i l = get_or_past (map p xs) i false (subst (λ n. n ≤ i) (sym (length-map xs p)) l)
 
   -- those of one set who are not in another

@@ -1,113 +1,189 @@
--- The sets of contenders for each bit, and the steps of a contest on them.
-use Rattle.std.proofs.Common.{◌≡◌, ◌≢◌, ℕ, suc, ◌+◌, ◌-◌, ◌*◌, ◌/◌, ◌%◌, ◌^◌, ◌<◌, ◌≤◌, ◌==◌, Bool, true, false, cond, not, ◌&&◌, List, [], ◌∷◌, ◌++◌, length, map, get_or, set, take, refl, ap, sym, subst, ◌∙◌, arith, inl, inr, length-set, get_or-set_same, get_or-set_other}
-use Rattle.std.proofs.lemmas.Bool.{cases_eq, cond-true, cond-false, eq-eqb, ne_eqb, and_from, and_right, not_from_false, not_from_true}
-use Rattle.std.proofs.lemmas.Nat.{and_le_l, one_shl}
-use Rattle.std.proofs.lemmas.Nat.Bits.{bit_at-lt, bit_at-zero, shr_and_one, bit_at_and, bit_at-trailing_zeros, bit_at_clear_same, bit_at_clear_other}
-use Rattle.std.proofs.lemmas.List.{append-nil, get_or-map, length-append, map-append}
+-- The sets of contenders at a bit, and the steps of a contest on them.
+use Rattle.std.proofs.Common.{one-mul, ◌≡◌, ◌≢◌, ℕ, zero, suc, ◌+◌, ◌-◌, ◌*◌, ◌/◌, ◌%◌, ◌^◌, ◌<◌, ◌≤◌, ◌==◌, Bool, true, false, cond, not, ◌&&◌, List, [], ◌∷◌, ◌++◌, length, map, get_or, take, refl, ap, sym, subst, ◌∙◌, arith, inl, inr}
+use Rattle.std.proofs.lemmas.Bool.{cases_eq, cases_lt, cond-true, cond-false, eq-eqb, ne_eqb, and_from, and_left, and_right, not_from_false, not_from_true}
+use Rattle.std.proofs.lemmas.Nat.{and-not, and_comm, and_le_l, one_shl}
+use Rattle.std.proofs.lemmas.Nat.Bits.{and_pow, bit_at-lt, bit_at-zero, bit_at_above, shr_and_one, bit_at_and, bit_at-trailing_zeros, bit_at_clear_same, bit_at_clear_other, bit_at_set_other, bit_at_set_same, same_from_bits}
+use Rattle.std.proofs.lemmas.List.{append-nil, get_or-map, get_or_default, take_all, length-append, map-append}
 use Rattle.std.proofs.lemmas.List.Elements.{recursion_from_All, All-weaker, filter_more}
-use Rattle.std.specs.Int.{Width, w16, w64, bit_at, bit_not, trailing_zeros}
+use Rattle.std.specs.Int.{Width, w32, bit_at, bit_not, trailing_zeros}
 use Rattle.std.specs.Int.RustNames.{bit_or}
 use Rattle.std.specs.List.{All, filter, list_all}
 use lib.Bits.{bit_and}
 use Rattle.i3c_base.specs.Cutting.{CutList, cut_of}
 use Rattle.i3c_wires.specs.Contest.{drives_one, holders, is_one}
 use Rattle.i3c_wires.specs.Masks.{is_at, mask_of}
-use Rattle.i3c_wires.proofs.MaskLaws.{mask_agree, mask_at, mask_but, mask_every, mask_kept, mask_none_but}
+use Rattle.i3c_wires.proofs.MaskLaws.{mask_agree, mask_at, mask_but, mask_every, mask_kept, mask_none_but, passes, passes_past}
 use Rattle.i3c_wires.proofs.Reading.{Reading, drives, drives_is, read_holders, reading_more, reading_none, stays, stays_first, stays_is}
 use mir.Val.{bits as bits_of}
 
 -- the width of a mask
 abbrev pub mask_width : Width
-mask_width = w16
+mask_width = w32
 
--- ---- a key put into the sets
+-- ---- those of a set who drive 0, one place after another
 
--- the bits of the key that are not left over are put
-pub record PutSoFar (old : List ℕ) (place key rest : ℕ) (now : List ℕ) : Type 0 where
-  pub long : length now ≡ 64
-  pub rest_of : (i : ℕ) → bit_at rest i ≡ 1 → bit_at key i ≡ 1
-  pub put : (left : ℕ) → left < 64 → get_or now left 0 ≡ cond (is_one left key && not (is_one left rest)) (bit_or (get_or old left 0) (2 ^ place)) (get_or old left 0)
-
-pub put_none : (old : List ℕ) (place key : ℕ) → length old ≡ 64 → PutSoFar old place key key old
-put_none old place key long = record {
-  long = long;
-  rest_of = λ i h. h;
-  put = λ left l. sym (cond-false (is_one left key && not (is_one left key)) (bit_or (get_or old left 0) (2 ^ place)) (get_or old left 0) (never (is_one left key)));
-}
-  where
-    never : (b : Bool) → (b && not b) ≡ false
-    never true = refl
-    never false = refl
-
-pub put_all : (old : List ℕ) (place key : ℕ) (now : List ℕ) → PutSoFar old place key 0 now → (left : ℕ) → left < 64 → get_or now left 0 ≡ cond (is_one left key) (bit_or (get_or old left 0) (2 ^ place)) (get_or old left 0)
-put_all old place key now h left l =
-    let gone : is_one left 0 ≡ false = ne_eqb (bit_at 0 left) 1 (λ e. absurd (omega (arith, bit_at-zero left, e))) in
-    h.put left l ∙ ap (λ b. cond b (bit_or (get_or old left 0) (2 ^ place)) (get_or old left 0)) (ap (λ b. is_one left key && not b) gone ∙ kept (is_one left key))
-  where
-    kept : (b : Bool) → (b && true) ≡ b
-    kept true = refl
-    kept false = refl
-
--- a number without its lowest bit
+-- the places without the lowest one
 abbrev pub without_lowest : ℕ → ℕ
-without_lowest rest = bit_and rest (bit_not w64 (1 * 2 ^ trailing_zeros w64 rest % 2 ^ 64))
+without_lowest rest = bit_and rest (bit_not mask_width (1 * 2 ^ trailing_zeros mask_width rest % 2 ^ bits_of mask_width))
 
-lowest_gone : (rest : ℕ) → 0 < rest → rest < 2 ^ 64 → bit_at (without_lowest rest) (trailing_zeros w64 rest) ≡ 0
-lowest_gone rest some fits = bit_at_clear_same w64 rest (trailing_zeros w64 rest) (bit_at-trailing_zeros w64 rest some fits).0
+lowest_gone : (rest : ℕ) → 0 < rest → rest < 2 ^ bits_of mask_width → bit_at (without_lowest rest) (trailing_zeros mask_width rest) ≡ 0
+lowest_gone rest some fits = bit_at_clear_same mask_width rest (trailing_zeros mask_width rest) (bit_at-trailing_zeros mask_width rest some fits).0
 
-others_kept : (rest : ℕ) → 0 < rest → rest < 2 ^ 64 → (i : ℕ) → i < 64 → i ≢ trailing_zeros w64 rest → bit_at (without_lowest rest) i ≡ bit_at rest i
-others_kept rest some fits i l n = bit_at_clear_other w64 rest (trailing_zeros w64 rest) (bit_at-trailing_zeros w64 rest some fits).0 i l n
+others_kept : (rest : ℕ) → 0 < rest → rest < 2 ^ bits_of mask_width → (i : ℕ) → i < bits_of mask_width → i ≢ trailing_zeros mask_width rest → bit_at (without_lowest rest) i ≡ bit_at rest i
+others_kept rest some fits i l n = bit_at_clear_other mask_width rest (trailing_zeros mask_width rest) (bit_at-trailing_zeros mask_width rest some fits).0 i l n
 
-pub put_less : (rest : ℕ) → 0 < rest → rest < 2 ^ 64 → without_lowest rest < rest
-put_less rest some fits =
+pub lowest_less : (rest : ℕ) → 0 < rest → rest < 2 ^ bits_of mask_width → without_lowest rest < rest
+lowest_less rest some fits =
     let gone = lowest_gone rest some fits in
-    let was = (bit_at-trailing_zeros w64 rest some fits).1 in
-    let apart : without_lowest rest ≢ rest = λ e. absurd (omega (arith, sym gone ∙ ap (λ n. bit_at n (trailing_zeros w64 rest)) e ∙ was)) in
-    omega (arith, and_le_l rest (bit_not w64 (1 * 2 ^ trailing_zeros w64 rest % 2 ^ 64)))
+    let was = (bit_at-trailing_zeros mask_width rest some fits).1 in
+    let apart : without_lowest rest ≢ rest = λ e. absurd (omega (arith, sym gone ∙ ap (λ n. bit_at n (trailing_zeros mask_width rest)) e ∙ was)) in
+    omega (arith, and_le_l rest (bit_not mask_width (1 * 2 ^ trailing_zeros mask_width rest % 2 ^ bits_of mask_width)))
 
--- the lowest bit that is left over, put and taken away
-pub put_more : (old : List ℕ) (place key rest : ℕ) (now : List ℕ) → 0 < rest → rest < 2 ^ 64 → key < 2 ^ 64 → place < bits_of mask_width → PutSoFar old place key rest now
-    → PutSoFar old place key (without_lowest rest) (set now (trailing_zeros w64 rest) (bit_or (get_or now (trailing_zeros w64 rest) 0) (1 * 2 ^ place % 2 ^ bits_of mask_width)))
-put_more old place key rest now some fits key_fits place_fits h = record {
-  long = length-set now (trailing_zeros w64 rest) _ ∙ h.long;
-  rest_of = λ i e. h.rest_of i (subset i e);
-  put = λ left l. elim (cases_eq left (trailing_zeros w64 rest)) [ inl e ↦ subst (λ k. get_or (set now (trailing_zeros w64 rest) (bit_or (get_or now (trailing_zeros w64 rest) 0) (1 * 2 ^ place % 2 ^ bits_of mask_width))) k 0 ≡ cond (is_one k key && not (is_one k (without_lowest rest))) (bit_or (get_or old k 0) (2 ^ place)) (get_or old k 0)) (sym e) lowest | inr n ↦ other left l n ];
+-- the lowest place, as a number that is subtracted
+abbrev pub lowest_of : ℕ → ℕ
+lowest_of rest = 1 * 2 ^ trailing_zeros mask_width rest % 2 ^ bits_of mask_width
+
+pub lowest_off : (rest : ℕ) → 0 < rest → rest < 2 ^ bits_of mask_width → without_lowest rest + lowest_of rest ≡ rest
+lowest_off rest some fits =
+    let t = trailing_zeros mask_width rest in
+    let lies = bit_at-trailing_zeros mask_width rest some fits in
+    let m : lowest_of rest ≡ 2 ^ t = one_shl t (bits_of mask_width) lies.0 in
+    let there : bit_and rest (2 ^ t) ≡ 2 ^ t = and_pow rest t ∙ (ap (λ b. b * 2 ^ t) lies.1 ∙ one-mul (2 ^ t)) in
+    let held : bit_and (lowest_of rest) rest ≡ lowest_of rest = and_comm (lowest_of rest) rest ∙ (ap (bit_and rest) m ∙ (there ∙ sym m)) in
+    let parts : bit_and (bit_not mask_width (lowest_of rest)) rest + bit_and (lowest_of rest) rest ≡ rest = and-not (bits_of mask_width) (lowest_of rest) rest (omega arith) fits in
+    let turned : without_lowest rest ≡ bit_and (bit_not mask_width (lowest_of rest)) rest = and_comm rest (bit_not mask_width (lowest_of rest)) in
+    omega (arith, parts, held, turned)
+
+pub subtracted : (rest : ℕ) → 0 < rest → rest < 2 ^ bits_of mask_width → rest - lowest_of rest ≡ without_lowest rest
+subtracted rest some fits = omega (arith, lowest_off rest some fits)
+
+-- the key at a place
+abbrev pub key_at : List (ℕ × ℕ) → ℕ → ℕ
+key_at keys i = (get_or keys i (0, 0)).1
+
+-- of the places that aren't left over, those who drive 0
+pub record ZerosSoFar (keys : List (ℕ × ℕ)) (among left rest low : ℕ) : Type 0 where
+  pub within : (i : ℕ) → bit_at rest i ≡ 1 → bit_at among i ≡ 1
+  pub are : (i : ℕ) → i < bits_of mask_width → bit_at low i ≡ cond (not (is_one i rest) && (is_one i among && not (is_one left (key_at keys i)))) 1 0
+
+pub zeros_none : (keys : List (ℕ × ℕ)) (among left : ℕ) → ZerosSoFar keys among left among 0
+zeros_none keys among left = record { within = λ i h. h; are = λ i l. bit_at-zero i ∙ never (is_one i among) (not (is_one left (key_at keys i))) }
+  where
+    never : (a b : Bool) → ◌≡◌ {A = ℕ} 0 (cond (not a && (a && b)) 1 0)
+    never true b = refl
+    never false b = refl
+
+-- the lowest place that is left over
+pub lowest_place : (p : ℕ × ℕ → Bool) (keys : List (ℕ × ℕ)) (among left rest low : ℕ) → among ≡ mask_of p keys → 0 < rest → rest < 2 ^ bits_of mask_width → ZerosSoFar keys among left rest low → trailing_zeros mask_width rest < length keys
+lowest_place p keys among left rest low named some fits h =
+    let t = trailing_zeros mask_width rest in
+    elim (cases_lt t (length keys)) [
+      | inl inside ↦ inside
+      | inr past ↦
+          let none : bit_at among t ≡ 0 = ap (λ n. bit_at n t) named ∙ (mask_at p keys t ∙ ap (λ b. cond b 1 0) (passes_past p keys t past)) in
+          absurd (omega (arith, none, h.within t (bit_at-trailing_zeros mask_width rest some fits).1))
+    ]
+
+-- what a key that is found has at a bit
+key_found : (shown keys : List (ℕ × ℕ)) (i left : ℕ) (x : ℕ × ℕ) → shown ≡ keys → i < length keys → bit_at (key_at keys i) left ≡ bit_and ((get_or shown i x).1 / 2 ^ left) 1
+key_found shown keys i left x e l =
+    let same : get_or keys i (0, 0) ≡ get_or shown i x = get_or_default keys i (0, 0) x l ∙ ap (λ ys. get_or ys i x) (sym e) in
+    ap (λ (k : ℕ × ℕ). bit_at k.1 left) same ∙ sym (shr_and_one (get_or shown i x).1 left)
+
+pub key_zero : (shown keys : List (ℕ × ℕ)) (i left : ℕ) (x : ℕ × ℕ) → shown ≡ keys → i < length keys → bit_and ((get_or shown i x).1 / 2 ^ left) 1 ≡ 0 → is_one left (key_at keys i) ≡ false
+key_zero shown keys i left x e l none = ne_eqb _ _ (λ one. absurd (omega (arith, key_found shown keys i left x e l, none, one)))
+
+pub key_one : (shown keys : List (ℕ × ℕ)) (i left : ℕ) (x : ℕ × ℕ) → shown ≡ keys → i < length keys → bit_and ((get_or shown i x).1 / 2 ^ left) 1 ≢ 0 → is_one left (key_at keys i) ≡ true
+key_one shown keys i left x e l some =
+    let other : bit_and ((get_or shown i x).1 / 2 ^ left) 1 ≡ 0 → ⊥ = some in
+    eq-eqb _ _ (omega (arith, key_found shown keys i left x e l, other, bit_at-lt (key_at keys i) left))
+
+-- what is the same at the other places
+zeros_still : (rest i : ℕ) → bit_at (without_lowest rest) i ≡ 1 → bit_at rest i ≡ 1
+zeros_still rest i e = let mask = bit_not mask_width (1 * 2 ^ trailing_zeros mask_width rest % 2 ^ bits_of mask_width) in omega (arith, sym (bit_at_and rest mask i) ∙ e, bit_at-lt rest i)
+
+zeros_other : (keys : List (ℕ × ℕ)) (among left rest low i : ℕ) → 0 < rest → rest < 2 ^ bits_of mask_width → ZerosSoFar keys among left rest low → i < bits_of mask_width → i ≢ trailing_zeros mask_width rest
+    → bit_at low i ≡ cond (not (is_one i (without_lowest rest)) && (is_one i among && not (is_one left (key_at keys i)))) 1 0
+zeros_other keys among left rest low i some fits h l n = h.are i l ∙ ap (λ m. cond (not (m == 1) && (is_one i among && not (is_one left (key_at keys i)))) 1 0) (sym (others_kept rest some fits i l n))
+
+pub zeros_put : (keys : List (ℕ × ℕ)) (among left rest low : ℕ) → 0 < rest → rest < 2 ^ bits_of mask_width → ZerosSoFar keys among left rest low → is_one left (key_at keys (trailing_zeros mask_width rest)) ≡ false
+    → ZerosSoFar keys among left (without_lowest rest) (bit_or low (1 * 2 ^ trailing_zeros mask_width rest % 2 ^ bits_of mask_width))
+zeros_put keys among left rest low some fits h none = record {
+  within = λ i e. h.within i (zeros_still rest i e);
+  are = λ i l. elim (cases_eq i (trailing_zeros mask_width rest)) [
+    | inl e ↦ subst (λ k. bit_at (bit_or low (1 * 2 ^ trailing_zeros mask_width rest % 2 ^ bits_of mask_width)) k ≡ cond (not (is_one k (without_lowest rest)) && (is_one k among && not (is_one left (key_at keys k)))) 1 0) (sym e) here
+    | inr n ↦ bit_at_set_other mask_width low (trailing_zeros mask_width rest) lies.0 i n ∙ zeros_other keys among left rest low i some fits h l n
+  ];
 }
   where
-    subset : (i : ℕ) → bit_at (without_lowest rest) i ≡ 1 → bit_at rest i ≡ 1
-    subset i e =
-        let lowest = bit_not w64 (1 * 2 ^ trailing_zeros w64 rest % 2 ^ 64) in
-        omega (arith, sym (bit_at_and rest lowest i) ∙ e, bit_at-lt rest i)
+    lies : (trailing_zeros mask_width rest < bits_of mask_width) × (bit_at rest (trailing_zeros mask_width rest) ≡ 1) × ((i : ℕ) → i < trailing_zeros mask_width rest → bit_at rest i ≡ 0)
+    lies = bit_at-trailing_zeros mask_width rest some fits
 
-    lowest : get_or (set now (trailing_zeros w64 rest) (bit_or (get_or now (trailing_zeros w64 rest) 0) (1 * 2 ^ place % 2 ^ bits_of mask_width))) (trailing_zeros w64 rest) 0
-        ≡ cond (is_one (trailing_zeros w64 rest) key && not (is_one (trailing_zeros w64 rest) (without_lowest rest))) (bit_or (get_or old (trailing_zeros w64 rest) 0) (2 ^ place)) (get_or old (trailing_zeros w64 rest) 0)
-    lowest =
-        let t = trailing_zeros w64 rest in
-        let lies = bit_at-trailing_zeros w64 rest some fits in
-        let had : get_or now t 0 ≡ get_or old t 0 = h.put t lies.0 ∙ cond-false (is_one t key && not (is_one t rest)) (bit_or (get_or old t 0) (2 ^ place)) (get_or old t 0) (and_right (is_one t key) (not (is_one t rest)) (not_from_true (is_one t rest) (eq-eqb _ _ lies.1))) in
+    here : bit_at (bit_or low (1 * 2 ^ trailing_zeros mask_width rest % 2 ^ bits_of mask_width)) (trailing_zeros mask_width rest)
+        ≡ cond (not (is_one (trailing_zeros mask_width rest) (without_lowest rest)) && (is_one (trailing_zeros mask_width rest) among && not (is_one left (key_at keys (trailing_zeros mask_width rest))))) 1 0
+    here =
+        let t = trailing_zeros mask_width rest in
         let gone : is_one t (without_lowest rest) ≡ false = ne_eqb _ _ (λ e. absurd (omega (arith, lowest_gone rest some fits, e))) in
-        get_or-set_same now t (bit_or (get_or now t 0) (1 * 2 ^ place % 2 ^ bits_of mask_width)) 0 (omega (arith, h.long, lies.0))
-        ∙ ((λ k. bit_or (had k) (one_shl place (bits_of mask_width) place_fits k))
-        ∙ sym (cond-true (is_one t key && not (is_one t (without_lowest rest))) (bit_or (get_or old t 0) (2 ^ place)) (get_or old t 0) (and_from (is_one t key) (not (is_one t (without_lowest rest))) (eq-eqb _ _ (h.rest_of t lies.1)) (not_from_false (is_one t (without_lowest rest)) gone))))
+        bit_at_set_same mask_width low t lies.0
+        ∙ sym (cond-true _ 1 0 (and_from (not (is_one t (without_lowest rest))) (is_one t among && not (is_one left (key_at keys t))) (not_from_false _ gone)
+        (and_from (is_one t among) (not (is_one left (key_at keys t))) (eq-eqb _ _ (h.within t lies.1)) (not_from_false _ none))))
 
-    other : (left : ℕ) → left < 64 → left ≢ trailing_zeros w64 rest → get_or (set now (trailing_zeros w64 rest) (bit_or (get_or now (trailing_zeros w64 rest) 0) (1 * 2 ^ place % 2 ^ bits_of mask_width))) left 0 ≡ cond (is_one left key && not (is_one left (without_lowest rest))) (bit_or (get_or old left 0) (2 ^ place)) (get_or old left 0)
-    other left l n = get_or-set_other now (trailing_zeros w64 rest) left _ 0 n ∙ (h.put left l ∙ ap (λ m. cond (is_one left key && not (m == 1)) (bit_or (get_or old left 0) (2 ^ place)) (get_or old left 0)) (sym (others_kept rest some fits left l n)))
+pub zeros_pass : (keys : List (ℕ × ℕ)) (among left rest low : ℕ) → 0 < rest → rest < 2 ^ bits_of mask_width → ZerosSoFar keys among left rest low → is_one left (key_at keys (trailing_zeros mask_width rest)) ≡ true
+    → ZerosSoFar keys among left (without_lowest rest) low
+zeros_pass keys among left rest low some fits h one = record {
+  within = λ i e. h.within i (zeros_still rest i e);
+  are = λ i l. elim (cases_eq i (trailing_zeros mask_width rest)) [
+    | inl e ↦ subst (λ k. bit_at low k ≡ cond (not (is_one k (without_lowest rest)) && (is_one k among && not (is_one left (key_at keys k)))) 1 0) (sym e) here
+    | inr n ↦ zeros_other keys among left rest low i some fits h l n
+  ];
+}
+  where
+    lies : (trailing_zeros mask_width rest < bits_of mask_width) × (bit_at rest (trailing_zeros mask_width rest) ≡ 1) × ((i : ℕ) → i < trailing_zeros mask_width rest → bit_at rest i ≡ 0)
+    lies = bit_at-trailing_zeros mask_width rest some fits
+
+    here : bit_at low (trailing_zeros mask_width rest)
+        ≡ cond (not (is_one (trailing_zeros mask_width rest) (without_lowest rest)) && (is_one (trailing_zeros mask_width rest) among && not (is_one left (key_at keys (trailing_zeros mask_width rest))))) 1 0
+    here =
+        let t = trailing_zeros mask_width rest in
+        h.are t lies.0 ∙ (cond-false _ 1 0 (and_left (not (is_one t rest)) (is_one t among && not (is_one left (key_at keys t))) (not_from_true _ (eq-eqb _ _ lies.1)))
+        ∙ sym (cond-false _ 1 0 (and_right (not (is_one t (without_lowest rest))) (is_one t among && not (is_one left (key_at keys t))) (and_right (is_one t among) (not (is_one left (key_at keys t))) (not_from_true _ one)))))
+
+-- all places
+pub zeros_all : (p : ℕ × ℕ → Bool) (keys : List (ℕ × ℕ)) (among left low : ℕ) → length keys ≤ bits_of mask_width → low < 2 ^ bits_of mask_width → among ≡ mask_of p keys → ZerosSoFar keys among left 0 low
+    → low ≡ bit_and among (bit_not mask_width (mask_of (drives_one left) keys))
+zeros_all p keys among left low few fits named h =
+    same_from_bits _ _ (λ i. each i ∙ sym (mask_at (λ e. p e && not (drives_one left e)) keys i))
+    ∙ (sym (mask_but mask_width p (drives_one left) keys few) ∙ ap (λ n. bit_and n (bit_not mask_width (mask_of (drives_one left) keys))) (sym named))
+  where
+    gone : (i : ℕ) → is_one i 0 ≡ false
+    gone i = ne_eqb _ _ (λ e. absurd (omega (arith, bit_at-zero i, e)))
+
+    bit_is : (b : Bool) → ((cond b 1 0) == 1) ≡ b
+    bit_is true = refl
+    bit_is false = refl
+
+    in_set : (i : ℕ) → is_one i among ≡ passes p keys i
+    in_set i = ap (λ n. n == 1) (ap (λ n. bit_at n i) named ∙ mask_at p keys i) ∙ bit_is (passes p keys i)
+
+    each : (i : ℕ) → bit_at low i ≡ cond (passes (λ e. p e && not (drives_one left e)) keys i) 1 0
+    each i = elim (cases_lt i (length keys)) [
+      | inl inside ↦
+          h.are i (omega (arith, inside, few))
+          ∙ ((λ t. cond (not (gone i t) && ((in_set i ∙ get_or-map p keys i (0, 0) false inside) t && not (is_one left (key_at keys i)))) 1 0)
+          ∙ ap (λ b. cond b 1 0) (sym (get_or-map (λ e. p e && not (drives_one left e)) keys i (0, 0) false inside)))
+      | inr past ↦ elim (cases_lt i (bits_of mask_width)) [
+        | inl low_place ↦
+            h.are i low_place ∙ (cond-false _ 1 0 (and_right (not (is_one i 0)) (is_one i among && not (is_one left (key_at keys i))) (and_left (is_one i among) (not (is_one left (key_at keys i))) (in_set i ∙ passes_past p keys i past)))
+            ∙ ap (λ b. cond b 1 0) (sym (passes_past (λ e. p e && not (drives_one left e)) keys i past)))
+        | inr high ↦ bit_at_above low (bits_of mask_width) i fits high ∙ ap (λ b. cond b 1 0) (sym (passes_past (λ e. p e && not (drives_one left e)) keys i past))
+      ]
+    ]
 
 -- ---- the sets of each bit
 
 -- a contender put at its place, and a contender found at the place where it is
 pub found : {X : Type 0} (shown xs : List X) (i : ℕ) (x : X) → shown ≡ xs → x ≡ get_or shown i x → x ≡ get_or xs i x
 found shown xs i x e at = at ∙ ap (λ ys. get_or ys i x) e
-
--- a set of the bit of a cut, after one more contender
-pub drop_more : (was now : List ℕ) (at bit place : ℕ) (here : Bool) → bit < 64 → (at < 64) → length was ≡ 64 → place < bits_of mask_width → here ≡ (at == bit) → now ≡ set was at (bit_or (get_or was at 0) (1 * 2 ^ place % 2 ^ bits_of mask_width)) → get_or now bit 0 ≡ cond here (bit_or (get_or was bit 0) (2 ^ place)) (get_or was bit 0)
-drop_more was now at bit place here l m long fits h e =
-    let put : bit_or (get_or was at 0) (1 * 2 ^ place % 2 ^ bits_of mask_width) ≡ bit_or (get_or was at 0) (2 ^ place) = ap (bit_or (get_or was at 0)) (one_shl place (bits_of mask_width) fits) in
-    ap (λ ys. get_or ys bit 0) e ∙ elim (cases_eq at bit) [
-      | inl same ↦ subst (λ k. get_or (set was at (bit_or (get_or was at 0) (1 * 2 ^ place % 2 ^ bits_of mask_width))) k 0 ≡ cond here (bit_or (get_or was k 0) (2 ^ place)) (get_or was k 0)) same
-          (get_or-set_same was at _ 0 (omega (arith, long)) ∙ (put ∙ sym (cond-true here _ _ (h ∙ eq-eqb at bit same))))
-      | inr other ↦ get_or-set_other was at bit _ 0 (λ q. other (sym q)) ∙ sym (cond-false here _ _ (h ∙ ne_eqb at bit other))
-    ]
 
 -- ---- the slots at the places of a set
 
@@ -155,6 +231,86 @@ slots_without keys places i slots now x h l at isnt e = record {
     fails_if true n = absurd (n refl)
     fails_if false n = refl
 
+-- from place to place: those between aren't in the set
+slots_skip : (keys : List (ℕ × ℕ)) (places : ℕ) (slots : List ℕ) (n i : ℕ) → n + i ≤ length keys → ((j : ℕ) → i ≤ j → j < n + i → bit_at places j ≡ 0) → SlotsSoFar keys places i slots → SlotsSoFar keys places (n + i) slots
+slots_skip keys places slots zero i l none h = let same : i ≡ 0 + i = omega arith in subst (λ k. SlotsSoFar keys places k slots) same h
+slots_skip keys places slots (suc n) i l none h =
+    let before = slots_skip keys places slots n i (omega (arith, l)) (λ j a b. none j a (omega (arith, b))) h in
+    let x = get_or keys (n + i) (0, 0) in
+    let zero_there : bit_and (places / 2 ^ (n + i)) 1 ≡ 0 = shr_and_one places (n + i) ∙ none (n + i) (omega arith) (omega arith) in
+    let more = slots_without keys places (n + i) slots slots x before (omega (arith, l)) (get_or_default keys (n + i) (0, 0) x (omega (arith, l))) (λ e. absurd (omega (arith, e, zero_there))) refl in
+    let same : n + i + 1 ≡ suc n + i = omega arith in
+    subst (λ k. SlotsSoFar keys places k slots) same more
+
+-- the slots of the places before this one, and the places that are left over
+pub record SlotsLeft (keys : List (ℕ × ℕ)) (places first rest : ℕ) (slots : List ℕ) : Type 0 where
+  pub so_far : SlotsSoFar keys places first slots
+  pub low : first ≤ length keys
+  pub before : (i : ℕ) → i < first → bit_at rest i ≡ 0
+  pub after : (i : ℕ) → first ≤ i → i < bits_of mask_width → bit_at rest i ≡ bit_at places i
+
+pub slots_none : (keys : List (ℕ × ℕ)) (places : ℕ) (slots : List ℕ) → slots ≡ [] → SlotsLeft keys places 0 places slots
+slots_none keys places slots e = record {
+  so_far = subst (SlotsSoFar keys places 0) (sym e) (record { room = omega arith; are = λ p named. refl });
+  low = omega arith;
+  before = λ i l. absurd (omega (arith, l));
+  after = λ i l m. refl;
+}
+
+-- the lowest place that is left over
+pub slots_place : (p : ℕ × ℕ → Bool) (keys : List (ℕ × ℕ)) (places first rest : ℕ) (slots : List ℕ) → places ≡ mask_of p keys → 0 < rest → rest < 2 ^ bits_of mask_width → SlotsLeft keys places first rest slots
+    → (first ≤ trailing_zeros mask_width rest) × (bit_at places (trailing_zeros mask_width rest) ≡ 1) × (trailing_zeros mask_width rest < length keys)
+slots_place p keys places first rest slots named some fits h =
+    let t = trailing_zeros mask_width rest in
+    let lies = bit_at-trailing_zeros mask_width rest some fits in
+    let start : first ≤ t = elim (cases_lt t first) [ inl l ↦ absurd (omega (arith, h.before t l, lies.1)) | inr above ↦ above ] in
+    let one : bit_at places t ≡ 1 = sym (h.after t start lies.0) ∙ lies.1 in (
+      start,
+      one,
+      elim (cases_lt t (length keys)) [
+        | inl inside ↦ inside
+        | inr past ↦
+            let none : bit_at places t ≡ 0 = ap (λ n. bit_at n t) named ∙ (mask_at p keys t ∙ ap (λ b. cond b 1 0) (passes_past p keys t past)) in
+            absurd (omega (arith, none, one))
+      ],
+    )
+
+pub slots_next : (p : ℕ × ℕ → Bool) (keys : List (ℕ × ℕ)) (places first rest : ℕ) (slots now : List ℕ) (x : ℕ × ℕ) → places ≡ mask_of p keys → 0 < rest → rest < 2 ^ bits_of mask_width → SlotsLeft keys places first rest slots
+    → x ≡ get_or keys (trailing_zeros mask_width rest) x → now ≡ slots ++ x.0 ∷ [] → SlotsLeft keys places (trailing_zeros mask_width rest + 1) (without_lowest rest) now
+slots_next p keys places first rest slots now x named some fits h at e = record {
+  so_far = slots_with keys places t slots now x there found_at.2 at (shr_and_one places t ∙ found_at.1) e;
+  low = omega (arith, found_at.2);
+  before = λ i l. elim (cases_eq i t) [
+    | inl same ↦ ap (bit_at (without_lowest rest)) same ∙ lowest_gone rest some fits
+    | inr n ↦ others_kept rest some fits i (omega (arith, l, lies.0)) n ∙ lies.2 i (omega (arith, l, n))
+  ];
+  after = λ i l m. others_kept rest some fits i m (λ same. absurd (omega (arith, l, same))) ∙ h.after i (omega (arith, l, found_at.0)) m;
+}
+  where
+    t : ℕ
+    t = trailing_zeros mask_width rest
+
+    lies : (t < bits_of mask_width) × (bit_at rest t ≡ 1) × ((i : ℕ) → i < t → bit_at rest i ≡ 0)
+    lies = bit_at-trailing_zeros mask_width rest some fits
+
+    found_at : (first ≤ t) × (bit_at places t ≡ 1) × (t < length keys)
+    found_at = slots_place p keys places first rest slots named some fits h
+
+    there : SlotsSoFar keys places t slots
+    there =
+        let same : t - first + first ≡ t = omega (arith, found_at.0) in
+        subst (λ k. SlotsSoFar keys places k slots) same
+        (slots_skip keys places slots (t - first) first (omega (arith, found_at.0, found_at.2)) (λ j a b. let l : j < t = omega (arith, b, found_at.0) in sym (h.after j a (omega (arith, l, lies.0))) ∙ lies.2 j l) h.so_far)
+
+-- all places
+pub slots_all : (keys : List (ℕ × ℕ)) (places first : ℕ) (slots : List ℕ) → length keys ≤ bits_of mask_width → SlotsLeft keys places first 0 slots
+    → (p : ℕ × ℕ → Bool) → places ≡ mask_of p keys → slots ≡ map (λ e. e.0) (filter p keys)
+slots_all keys places first slots few h p named =
+    let same : length keys - first + first ≡ length keys = omega (arith, h.low) in
+    let last = subst (λ k. SlotsSoFar keys places k slots) same
+    (slots_skip keys places slots (length keys - first) first (omega (arith, h.low)) (λ j a b. sym (h.after j a (omega (arith, b, few, h.low))) ∙ bit_at-zero j) h.so_far) in
+    last.are p named ∙ ap (λ ks. map (λ (e : ℕ × ℕ). e.0) (filter p ks)) (take_all (length keys) keys (omega arith))
+
 -- ---- the steps of a contest
 
 -- what was read before the last `left` bits, and who is still in
@@ -173,7 +329,7 @@ module _ (cuts : CutList) (keys : List (ℕ × ℕ)) (width : ℕ) where
   still_first mask fit e = omega (arith, e, mask_every (stays cuts width width 0) keys (recursion_from_All (λ e. stays cuts width width 0 e ≡ true) keys (All-weaker (λ e. e.1 < 2 ^ width) (λ e. stays cuts width width 0 e ≡ true) (stays_first cuts width) keys fit)))
 
   -- who is in and not cut at the bit
-  still_driving : (left bits still drop : ℕ) → length keys ≤ bits_of mask_width → still ≡ mask_of (stays cuts width (suc left) bits) keys → drop ≡ mask_of (λ e. is_at (width - suc left) (cut_of cuts e.0)) keys → bit_and still (bit_not mask_width drop) ≡ mask_of (drives cuts width left bits) keys
+  pub still_driving : (left bits still drop : ℕ) → length keys ≤ bits_of mask_width → still ≡ mask_of (stays cuts width (suc left) bits) keys → drop ≡ mask_of (λ e. is_at (width - suc left) (cut_of cuts e.0)) keys → bit_and still (bit_not mask_width drop) ≡ mask_of (drives cuts width left bits) keys
   still_driving left bits still drop few s d =
       (λ t. bit_and (s t) (bit_not mask_width (d t)))
       ∙ (mask_but mask_width (stays cuts width (suc left) bits) (λ e. is_at (width - suc left) (cut_of cuts e.0)) keys few

@@ -1,8 +1,8 @@
 -- A contest goes from turn to turn: between them every contender drives the same bit, and nobody is cut.
-use Rattle.std.proofs.Common.{◌≡◌, ◌≢◌, ℕ, zero, suc, ◌+◌, ◌-◌, ◌*◌, ◌/◌, ◌%◌, ◌^◌, ◌<◌, ◌≤◌, ◌==◌, max, Bool, true, false, cond, not, ◌&&◌, List, [], ◌∷◌, length, map, get_or, take, Option, None, Some, slice_get, refl, ap, sym, subst, ◌∙◌, arith, inl, inr, lit<}
+use Rattle.std.proofs.Common.{◌≡◌, ◌≢◌, ℕ, zero, suc, ◌+◌, ◌-◌, ◌*◌, ◌/◌, ◌%◌, ◌^◌, ◌<◌, ◌≤◌, ◌==◌, max, Bool, true, false, cond, not, ◌&&◌, List, [], ◌∷◌, length, map, get_or, take, Option, None, Some, slice_get, ◌⊎◌, refl, ap, sym, subst, ◌∙◌, arith, inl, inr, lit<}
 use Rattle.std.proofs.lemmas.Bool.{cases_Bool, cases_eq, cases_lt, both_ways, eq-eqb, eqb-true, eqb-false, ne_eqb}
 use Rattle.std.proofs.lemmas.Nat.{and_le_l, one_shl, pow-add, pow_pos}
-use Rattle.std.proofs.lemmas.Nat.Bits.{bit_at-lt, bit_at-zero, bit_at_above, bit_at_and, bit_at-pow_other, bit_at-pow_same, bit_at_clear_other, bit_at_clear_same, bit_at_ones, bit_at_ones_above, bit_at_or, bit_at_set_other, bit_at_set_same, bit_at_xor, ones_shr, same_from_bits}
+use Rattle.std.proofs.lemmas.Nat.Bits.{bit_at-lt, bit_at-zero, bit_at_above, bit_at-pow_other, bit_at-pow_same, bit_at_clear_other, bit_at_clear_same, bit_at_ones, bit_at_ones_above, bit_at_or, bit_at_set_other, bit_at_set_same, bit_at_xor, ones_shr, same_from_bits}
 use Rattle.std.proofs.lemmas.List.{take_all}
 use Rattle.std.proofs.lemmas.List.Elements.{All-more, recursion_from_All}
 use Rattle.std.proofs.Math.Nat.{div-div-eq-div-mul, div-eq_of_lt, div-eq_of_lt-le, div-one, pow-le-pow_right, pow-suc}
@@ -15,7 +15,7 @@ use Rattle.i3c_base.specs.Cutting.{CutList, cut_of}
 use Rattle.i3c_wires.specs.Contest.{drives_one, holders, is_one}
 use Rattle.i3c_wires.specs.Masks.{is_at, mask_of}
 use Rattle.i3c_wires.specs.Turns.{IsQuiet}
-use Rattle.i3c_wires.proofs.PlaneLaws.{Contested, contested_first, contested_last, contested_one, contested_zero, mask_width}
+use Rattle.i3c_wires.proofs.PlaneLaws.{Contested, contested_first, contested_last, contested_one, contested_zero, mask_width, still_driving}
 use Rattle.i3c_wires.proofs.Reading.{Reading, drives, drives_is, reading_more, stays, stays_is}
 
 -- ---- lists
@@ -96,10 +96,6 @@ none_bit n i e = ne_eqb _ _ (λ one. absurd (omega (arith, e, one)))
 same_one : (m n i : ℕ) → bit_at m i ≡ bit_at n i → is_one i m ≡ is_one i n
 same_one m n i e = ap (λ b. b == 1) e
 
--- a bit of a number that others are masked out of
-pub masked : (n among i : ℕ) → is_one i among ≡ true → is_one i (bit_and n among) ≡ is_one i n
-masked n among i one = same_one _ _ i (bit_at_and n among i ∙ (let at_i = bit_one among i one in omega (arith, at_i, bit_at-lt n i)))
-
 -- two numbers with the same upper bits
 bit_above : (n k i : ℕ) → bit_at (n / 2 ^ k) i ≡ bit_at n (k + i)
 bit_above n k i = ap (λ q. q % 2) (div-div-eq-div-mul n (2 ^ k) (2 ^ i) ∙ ap (λ m. n / m) (sym (pow-add 2 k i)))
@@ -170,47 +166,78 @@ module _ (cuts : CutList) (keys : List (ℕ × ℕ)) (width : ℕ) where
 
 -- ---- the turns of all contenders
 
--- the contenders so far: where no turn is marked, nothing is decided
-pub record TurnsSoFar (cuts : CutList) (keys : List (ℕ × ℕ)) (width first i turns : ℕ) : Type 0 where
-  pub quiet : (left : ℕ) → left < width → is_one left turns ≡ false → All (IsQuiet cuts width left first) (take i keys)
+-- a bit that two numbers together don't have, or have
+pub neither : (a b left : ℕ) → is_one left (bit_or a b) ≡ false → (is_one left a ≡ false) × (is_one left b ≡ false)
+neither a b left none =
+    let split : max (bit_at a left) (bit_at b left) ≡ 0 = sym (bit_at_or a b left) ∙ bit_none _ left none in
+    (none_bit a left (omega (arith, split)), none_bit b left (omega (arith, split)))
+
+pub either : (a b left : ℕ) → is_one left (bit_or a b) ≡ true → (is_one left a ≡ true) ⊎ (is_one left b ≡ true)
+either a b left one = elim (cases_Bool (is_one left a)) [
+  | inl has ↦ inl has
+  | inr lacks ↦
+      let split : max (bit_at a left) (bit_at b left) ≡ 1 = sym (bit_at_or a b left) ∙ bit_one _ left one in
+      let none = bit_none a left lacks in
+      inr (one_bit b left (omega (arith, split, none)))
+]
+
+-- no bit of 0
+pub none_within : (width left : ℕ) → is_one left 0 ≡ true → left < width
+none_within width left one = absurd (omega (arith, bit_at-zero left, bit_one 0 left one))
+
+-- the contenders so far: where no turn is marked, their keys are alike
+pub record AlikeSoFar (keys : List (ℕ × ℕ)) (width first i turns : ℕ) : Type 0 where
+  pub alike : (left : ℕ) → is_one left turns ≡ false → All (λ e. is_one left e.1 ≡ is_one left first) (take i keys)
   pub within : (left : ℕ) → is_one left turns ≡ true → left < width
 
-pub turns_none : (cuts : CutList) (keys : List (ℕ × ℕ)) (width first : ℕ) → TurnsSoFar cuts keys width first 0 0
-turns_none cuts keys width first = record {
-  quiet = λ left l none k d m. absurd (omega (arith, m));
-  within = λ left one. absurd (omega (arith, bit_at-zero left, bit_one 0 left one));
-}
+pub alike_none : (keys : List (ℕ × ℕ)) (width first : ℕ) → AlikeSoFar keys width first 0 0
+alike_none keys width first = record { alike = λ left none k d m. absurd (omega (arith, m)); within = none_within width }
 
-pub turns_more : (cuts : CutList) (keys : List (ℕ × ℕ)) (width first i turns cut : ℕ) (x : ℕ × ℕ) → i < length keys → x ≡ get_or keys i x → x.1 < 2 ^ width → first < 2 ^ width
-    → ((left : ℕ) → left < width → is_one left cut ≡ false → is_at (width - suc left) (cut_of cuts x.0) ≡ false) → ((left : ℕ) → is_one left cut ≡ true → left < width)
-    → TurnsSoFar cuts keys width first i turns → TurnsSoFar cuts keys width first (i + 1) (bit_or turns (bit_or (bit_xor x.1 first) cut))
-turns_more cuts keys width first i turns cut x l at fits first_fits uncut cut_within h = record {
-  quiet = λ left low none.
-      let none_at = bit_none _ left none in
-      let split : max (bit_at turns left) (max ((bit_at x.1 left + bit_at first left) % 2) (bit_at cut left)) ≡ 0 = sym (parts left) ∙ none_at in
+pub alike_more : (keys : List (ℕ × ℕ)) (width first i turns : ℕ) (x : ℕ × ℕ) → i < length keys → x ≡ get_or keys i x → x.1 < 2 ^ width → first < 2 ^ width
+    → AlikeSoFar keys width first i turns → AlikeSoFar keys width first (i + 1) (bit_or turns (bit_xor x.1 first))
+alike_more keys width first i turns x l at fits first_fits h = record {
+  alike = λ left none.
+      let parts = neither turns (bit_xor x.1 first) left none in
+      let split : (bit_at x.1 left + bit_at first left) % 2 ≡ 0 = sym (bit_at_xor x.1 first left) ∙ bit_none _ left parts.1 in
       let same : bit_at x.1 left ≡ bit_at first left = omega (arith, split, bit_at-lt x.1 left, bit_at-lt first left) in
-      All-more (IsQuiet cuts width left first) keys i x l
-      (h.quiet left low (none_bit turns left (omega (arith, split))))
-      (subst (IsQuiet cuts width left first) at (record { uncut = uncut left low (none_bit cut left (omega (arith, split))); alike = same_one x.1 first left same }));
-  within = λ left one. elim (cases_lt left width) [
-    | inl low ↦ low
-    | inr high ↦
-        let some : max (bit_at turns left) (max ((bit_at x.1 left + bit_at first left) % 2) (bit_at cut left)) ≡ 1 = sym (parts left) ∙ bit_one _ left one in
-        let turns_0 : bit_at turns left ≡ 0 = bit_none turns left (not_true _ (λ e. absurd (omega (arith, high, h.within left e)))) in
-        let cut_0 : bit_at cut left ≡ 0 = bit_none cut left (not_true _ (λ e. absurd (omega (arith, high, cut_within left e)))) in
-        absurd (omega (arith, some, turns_0, cut_0, bit_at_above x.1 width left fits high, bit_at_above first width left first_fits high))
+      All-more (λ e. is_one left e.1 ≡ is_one left first) keys i x l (h.alike left parts.0) (subst (λ (e : ℕ × ℕ). is_one left e.1 ≡ is_one left first) at (same_one x.1 first left same));
+  within = λ left one. elim (either turns (bit_xor x.1 first) left one) [
+    | inl before ↦ h.within left before
+    | inr here ↦ elim (cases_lt left width) [
+      | inl low ↦ low
+      | inr high ↦
+          let some : (bit_at x.1 left + bit_at first left) % 2 ≡ 1 = sym (bit_at_xor x.1 first left) ∙ bit_one _ left here in
+          absurd (omega (arith, some, bit_at_above x.1 width left fits high, bit_at_above first width left first_fits high))
+    ]
   ];
 }
-  where
-    parts : (left : ℕ) → bit_at (bit_or turns (bit_or (bit_xor x.1 first) cut)) left ≡ max (bit_at turns left) (max ((bit_at x.1 left + bit_at first left) % 2) (bit_at cut left))
-    parts left = bit_at_or turns (bit_or (bit_xor x.1 first) cut) left ∙ ap (max (bit_at turns left)) (bit_at_or (bit_xor x.1 first) cut left ∙ ap (λ n. max n (bit_at cut left)) (bit_at_xor x.1 first left))
 
-    not_true : (b : Bool) → (b ≡ true → ⊥) → b ≡ false
-    not_true true n = absurd (n refl)
-    not_true false n = refl
+pub alike_all : (keys : List (ℕ × ℕ)) (width first i turns : ℕ) → length keys ≤ i → AlikeSoFar keys width first i turns → (left : ℕ) → is_one left turns ≡ false → All (λ e. is_one left e.1 ≡ is_one left first) keys
+alike_all keys width first i turns past h left none = subst (All (λ (e : ℕ × ℕ). is_one left e.1 ≡ is_one left first)) (take_all i keys past) (h.alike left none)
 
-pub turns_all : (cuts : CutList) (keys : List (ℕ × ℕ)) (width first i turns : ℕ) → length keys ≤ i → TurnsSoFar cuts keys width first i turns → (left : ℕ) → left < width → is_one left turns ≡ false → All (IsQuiet cuts width left first) keys
-turns_all cuts keys width first i turns past h left low none = subst (All (IsQuiet cuts width left first)) (take_all i keys past) (h.quiet left low none)
+-- the contenders so far: where no turn is marked, none of them is cut
+abbrev pub IsUncutAt : CutList → ℕ → ℕ → ℕ × ℕ → Type 0
+IsUncutAt cuts width left e = is_at (width - suc left) (cut_of cuts e.0) ≡ false
+
+pub record UncutSoFar (cuts : CutList) (keys : List (ℕ × ℕ)) (width i turns : ℕ) : Type 0 where
+  pub uncut : (left : ℕ) → left < width → is_one left turns ≡ false → All (IsUncutAt cuts width left) (take i keys)
+  pub within : (left : ℕ) → is_one left turns ≡ true → left < width
+
+pub uncut_none : (cuts : CutList) (keys : List (ℕ × ℕ)) (width : ℕ) → UncutSoFar cuts keys width 0 0
+uncut_none cuts keys width = record { uncut = λ left l none k d m. absurd (omega (arith, m)); within = none_within width }
+
+pub uncut_more : (cuts : CutList) (keys : List (ℕ × ℕ)) (width i turns cut : ℕ) (x : ℕ × ℕ) → i < length keys → x ≡ get_or keys i x
+    → ((left : ℕ) → left < width → is_one left cut ≡ false → IsUncutAt cuts width left x) → ((left : ℕ) → is_one left cut ≡ true → left < width)
+    → UncutSoFar cuts keys width i turns → UncutSoFar cuts keys width (i + 1) (bit_or turns cut)
+uncut_more cuts keys width i turns cut x l at uncut cut_within h = record {
+  uncut = λ left low none.
+      let parts = neither turns cut left none in
+      All-more (IsUncutAt cuts width left) keys i x l (h.uncut left low parts.0) (subst (IsUncutAt cuts width left) at (uncut left low parts.1));
+  within = λ left one. elim (either turns cut left one) [ inl before ↦ h.within left before | inr here ↦ cut_within left here ];
+}
+
+pub uncut_all : (cuts : CutList) (keys : List (ℕ × ℕ)) (width i turns : ℕ) → length keys ≤ i → UncutSoFar cuts keys width i turns → (left : ℕ) → left < width → is_one left turns ≡ false → All (IsUncutAt cuts width left) keys
+uncut_all cuts keys width i turns past h left low none = subst (All (IsUncutAt cuts width left)) (take_all i keys past) (h.uncut left low none)
 
 -- the bit of a cut
 pub cut_uncut : (width bit left : ℕ) → bit < width → width ≤ 64 → left < width → is_one left (1 * 2 ^ (width - 1 - bit) % 2 ^ 64) ≡ false → is_at (width - suc left) (Some bit) ≡ false
@@ -242,12 +269,11 @@ ones_below bits left l i low = one_bit _ i (ap (λ n. bit_at (bit_or bits n) i) 
 -- ---- from turn to turn
 
 -- before the turns that are left: who is still in, what was read, and below it nothing else is decided
-pub record Turning (cuts : CutList) (keys : List (ℕ × ℕ)) (width all turns bits still : ℕ) : Type 0 where
+pub record Turning (cuts : CutList) (keys : List (ℕ × ℕ)) (width turns bits still : ℕ) : Type 0 where
   pub left : ℕ
   pub contested : Contested cuts keys width left (bits / 2 ^ left) still
   pub someone : still ≢ 0
   pub below : (i : ℕ) → is_one i turns ≡ true → i < left
-  pub among : (i : ℕ) → is_one i turns ≡ true → is_one i all ≡ true
   pub quiet : (i : ℕ) → i < left → is_one i turns ≡ false → All (IsQuiet cuts width i bits) keys
 
 abbrev pub set_bit : ℕ → ℕ → ℕ
@@ -286,34 +312,42 @@ none_of shown (y ∷ keys) e at = let some = at ∙ ap (λ ys. slice_get ys 0) e
 module _ (cuts : CutList) (keys : List (ℕ × ℕ)) (width : ℕ) where
   pub turning_first : (first turns still : ℕ) → 0 < length keys → All (λ e. e.1 < 2 ^ width) keys → first < 2 ^ width → still ≡ 2 ^ length keys - 1
       → ((left : ℕ) → left < width → is_one left turns ≡ false → All (IsQuiet cuts width left first) keys) → ((left : ℕ) → is_one left turns ≡ true → left < width)
-      → Turning cuts keys width turns turns first still
+      → Turning cuts keys width turns first still
   turning_first first turns still some fit fits e quiet within = record {
     left = width;
     contested = subst (λ b. Contested cuts keys width width b still) (sym (div-eq_of_lt fits)) (contested_first cuts keys width still fit e);
     someone = λ none. absurd (omega (arith, e, none, pow-le-pow_right {n = 2} (lit< tt) some));
     below = within;
-    among = λ i h. h;
     quiet = quiet;
   }
 
   -- up to the next turn
-  turning_next : (all turns bits still t : ℕ) → Turning cuts keys width all turns bits still → IsTop turns t → Contested cuts keys width (suc t) (bits / 2 ^ suc t) still
-  turning_next all turns bits still t h top =
+  turning_next : (turns bits still t : ℕ) → Turning cuts keys width turns bits still → IsTop turns t → Contested cuts keys width (suc t) (bits / 2 ^ suc t) still
+  turning_next turns bits still t h top =
       let l : t < h.left = h.below t (top_one turns t top) in
       let up : h.left ≡ (h.left - suc t) + suc t = omega arith in
       quiet_jump cuts keys width (h.left - suc t) (suc t) still bits (λ i low high. h.quiet i (omega arith) (top_above turns t i top low)) h.someone
       (subst (λ n. Contested cuts keys width n (bits / 2 ^ n) still) up h.contested)
 
-  pub turning_within : (all turns bits still t : ℕ) → Turning cuts keys width all turns bits still → IsTop turns t → t < width
-  turning_within all turns bits still t h top = omega (arith, h.below t (top_one turns t top), h.contested.reading.within)
+  pub turning_driving : (turns bits still t drop : ℕ) → length keys ≤ bits_of mask_width → Turning cuts keys width turns bits still → IsTop turns t → drop ≡ mask_of (λ e. is_at (width - suc t) (cut_of cuts e.0)) keys
+      → (p : ℕ × ℕ → Bool) × (bit_and still (bit_not mask_width drop) ≡ mask_of p keys)
+  turning_driving turns bits still t drop few h top cut =
+      let next = turning_next turns bits still t h top in
+      (drives cuts width t (bits / 2 ^ suc t), still_driving cuts keys width t (bits / 2 ^ suc t) still drop few next.still_in cut)
+
+  pub turning_places : (turns bits still : ℕ) → Turning cuts keys width turns bits still → (p : ℕ × ℕ → Bool) × (still ≡ mask_of p keys)
+  turning_places turns bits still h = (stays cuts width h.left (bits / 2 ^ h.left), h.contested.still_in)
+
+  pub turning_within : (turns bits still t : ℕ) → Turning cuts keys width turns bits still → IsTop turns t → t < width
+  turning_within turns bits still t h top = omega (arith, h.below t (top_one turns t top), h.contested.reading.within)
 
   -- nobody drives at it
-  pub turning_unheard : (all turns bits still t drop result : ℕ) → 0 < width → length keys ≤ bits_of mask_width → Turning cuts keys width all turns bits still → IsTop turns t
+  pub turning_unheard : (turns bits still t drop result : ℕ) → 0 < width → length keys ≤ bits_of mask_width → Turning cuts keys width turns bits still → IsTop turns t
       → drop ≡ mask_of (λ e. is_at (width - suc t) (cut_of cuts e.0)) keys → bit_and still (bit_not mask_width drop) ≡ 0
       → result / 2 ^ suc t ≡ bits / 2 ^ suc t → ((i : ℕ) → i ≤ t → is_one i result ≡ true)
       → ([] ≡ holders cuts keys width result) × Reading cuts keys width 0 result
-  turning_unheard all turns bits still t drop result some few h top cut none above ones =
-      let next = turning_next all turns bits still t h top in
+  turning_unheard turns bits still t drop result some few h top cut none above ones =
+      let next = turning_next turns bits still t h top in
       let silent : bit_and (bit_and still (bit_not mask_width drop)) (bit_not mask_width (mask_of (drives_one t) keys)) ≡ 0 = omega (arith, none, and_le_l (bit_and still (bit_not mask_width drop)) (bit_not mask_width (mask_of (drives_one t) keys))) in
       let at = contested_one cuts keys width t (bits / 2 ^ suc t) still drop (mask_of (drives_one t) keys) (record { few = few; cut = cut; ones = refl }) next silent in
       let read : 2 * (bits / 2 ^ suc t) + 1 ≡ result / 2 ^ t = ap (λ q. 2 * q + 1) (sym above) ∙ (ap (λ b. 2 * (result / 2 ^ suc t) + bool_byte b) (sym (ones t (omega arith))) ∙ whole result t) in
@@ -321,15 +355,14 @@ module _ (cuts : CutList) (keys : List (ℕ × ℕ)) (width : ℕ) where
       contested_last cuts keys width 0 result 0 [] some (omega arith) (subst (λ b. Contested cuts keys width 0 b 0) (div-one result) last) (λ p e. sym (ap (map (λ (e : ℕ × ℕ). e.0)) (nobody_left p keys (sym e))))
 
   -- somebody does
-  turned : (all turns bits now still next t : ℕ) (b : Bool) → Turning cuts keys width all turns bits still → IsTop turns t → turns < 2 ^ 64
+  turned : (turns bits now still next t : ℕ) (b : Bool) → Turning cuts keys width turns bits still → IsTop turns t → turns < 2 ^ 64
       → ((i : ℕ) → i ≢ t → i < 64 → bit_at now i ≡ bit_at bits i) → ((i : ℕ) → 64 ≤ i → bit_at now i ≡ bit_at bits i) → is_one t now ≡ b → next ≢ 0
-      → Contested cuts keys width t (2 * (bits / 2 ^ suc t) + bool_byte b) next → Turning cuts keys width all (clear_bit turns t) now next
-  turned all turns bits now still next t b h top fits others past at some read = record {
+      → Contested cuts keys width t (2 * (bits / 2 ^ suc t) + bool_byte b) next → Turning cuts keys width (clear_bit turns t) now next
+  turned turns bits now still next t b h top fits others past at some read = record {
     left = t;
     contested = subst (λ q. Contested cuts keys width t q next) ((λ k. 2 * upper k + bool_byte (sym at k)) ∙ whole now t) read;
     someone = some;
     below = λ i one. lower i (bit_one _ i one);
-    among = λ i one. h.among i (was i one);
     quiet = λ i l none.
         let same = others i (λ e. absurd (omega (arith, e, l))) (omega (arith, l, top.fits)) in
         let kept = bit_at_clear_other w64 turns t top.fits i (omega (arith, l, top.fits)) (λ e. absurd (omega (arith, e, l))) in
@@ -355,30 +388,30 @@ module _ (cuts : CutList) (keys : List (ℕ × ℕ)) (width : ℕ) where
         | inr low ↦ omega (arith, low, other i one)
       ]
 
-  pub turning_one : (all turns bits still t drop plane : ℕ) → length keys ≤ bits_of mask_width → bits < 2 ^ 64 → turns < 2 ^ 64 → Turning cuts keys width all turns bits still → IsTop turns t
-      → drop ≡ mask_of (λ e. is_at (width - suc t) (cut_of cuts e.0)) keys → (is_one t all ≡ true → plane ≡ mask_of (drives_one t) keys) → bit_and still (bit_not mask_width drop) ≢ 0
+  pub turning_one : (turns bits still t drop plane : ℕ) → length keys ≤ bits_of mask_width → bits < 2 ^ 64 → turns < 2 ^ 64 → Turning cuts keys width turns bits still → IsTop turns t
+      → drop ≡ mask_of (λ e. is_at (width - suc t) (cut_of cuts e.0)) keys → plane ≡ mask_of (drives_one t) keys → bit_and still (bit_not mask_width drop) ≢ 0
       → bit_and (bit_and still (bit_not mask_width drop)) (bit_not mask_width plane) ≡ 0
-      → Turning cuts keys width all (clear_bit turns t) (set_bit bits t) (bit_and still (bit_not mask_width drop))
-  turning_one all turns bits still t drop plane few fits turns_fit h top cut ones some none =
-      turned all turns bits (set_bit bits t) still (bit_and still (bit_not mask_width drop)) t true h top turns_fit
+      → Turning cuts keys width (clear_bit turns t) (set_bit bits t) (bit_and still (bit_not mask_width drop))
+  turning_one turns bits still t drop plane few fits turns_fit h top cut ones some none =
+      turned turns bits (set_bit bits t) still (bit_and still (bit_not mask_width drop)) t true h top turns_fit
       (λ i other low. bit_at_set_other w64 bits t top.fits i other) (λ i high. bit_at_set_other w64 bits t top.fits i (λ e. absurd (omega (arith, e, high, top.fits)))) (one_bit _ t (bit_at_set_same w64 bits t top.fits)) some
-      (contested_one cuts keys width t (bits / 2 ^ suc t) still drop plane (record { few = few; cut = cut; ones = ones (h.among t (top_one turns t top)) }) (turning_next all turns bits still t h top) none)
+      (contested_one cuts keys width t (bits / 2 ^ suc t) still drop plane (record { few = few; cut = cut; ones = ones }) (turning_next turns bits still t h top) none)
 
-  pub turning_zero : (all turns bits still t drop plane : ℕ) → length keys ≤ bits_of mask_width → bits < 2 ^ 64 → turns < 2 ^ 64 → Turning cuts keys width all turns bits still → IsTop turns t
-      → drop ≡ mask_of (λ e. is_at (width - suc t) (cut_of cuts e.0)) keys → (is_one t all ≡ true → plane ≡ mask_of (drives_one t) keys)
+  pub turning_zero : (turns bits still t drop plane : ℕ) → length keys ≤ bits_of mask_width → bits < 2 ^ 64 → turns < 2 ^ 64 → Turning cuts keys width turns bits still → IsTop turns t
+      → drop ≡ mask_of (λ e. is_at (width - suc t) (cut_of cuts e.0)) keys → plane ≡ mask_of (drives_one t) keys
       → bit_and (bit_and still (bit_not mask_width drop)) (bit_not mask_width plane) ≢ 0
-      → Turning cuts keys width all (clear_bit turns t) (clear_bit bits t) (bit_and (bit_and still (bit_not mask_width drop)) (bit_not mask_width plane))
-  turning_zero all turns bits still t drop plane few fits turns_fit h top cut ones some =
-      turned all turns bits (clear_bit bits t) still (bit_and (bit_and still (bit_not mask_width drop)) (bit_not mask_width plane)) t false h top turns_fit
+      → Turning cuts keys width (clear_bit turns t) (clear_bit bits t) (bit_and (bit_and still (bit_not mask_width drop)) (bit_not mask_width plane))
+  turning_zero turns bits still t drop plane few fits turns_fit h top cut ones some =
+      turned turns bits (clear_bit bits t) still (bit_and (bit_and still (bit_not mask_width drop)) (bit_not mask_width plane)) t false h top turns_fit
       (λ i other low. bit_at_clear_other w64 bits t top.fits i low other)
       (λ i high. bit_at_above (clear_bit bits t) 64 i (omega (arith, fits, and_le_l bits (bit_not w64 (1 * 2 ^ t % 2 ^ 64)))) high ∙ sym (bit_at_above bits 64 i fits high))
       (none_bit _ t (bit_at_clear_same w64 bits t top.fits)) some
-      (contested_zero cuts keys width t (bits / 2 ^ suc t) still drop plane (record { few = few; cut = cut; ones = ones (h.among t (top_one turns t top)) }) (turning_next all turns bits still t h top) some)
+      (contested_zero cuts keys width t (bits / 2 ^ suc t) still drop plane (record { few = few; cut = cut; ones = ones }) (turning_next turns bits still t h top) some)
 
   -- no turn is left
-  pub turning_last : (all bits still : ℕ) (winners : List ℕ) → 0 < width → Turning cuts keys width all 0 bits still → ((p : ℕ × ℕ → Bool) → still ≡ mask_of p keys → winners ≡ map (λ e. e.0) (filter p keys))
+  pub turning_last : (bits still : ℕ) (winners : List ℕ) → 0 < width → Turning cuts keys width 0 bits still → ((p : ℕ × ℕ → Bool) → still ≡ mask_of p keys → winners ≡ map (λ e. e.0) (filter p keys))
       → (winners ≡ holders cuts keys width bits) × Reading cuts keys width 0 bits
-  turning_last all bits still winners some h named =
+  turning_last bits still winners some h named =
       let up : h.left ≡ h.left + 0 = omega arith in
       let last = quiet_jump cuts keys width h.left 0 still bits (λ i low high. h.quiet i (omega arith) (none_bit 0 i (bit_at-zero i))) h.someone (subst (λ n. Contested cuts keys width n (bits / 2 ^ n) still) up h.contested) in
       contested_last cuts keys width 0 bits still winners some (omega arith) (subst (λ b. Contested cuts keys width 0 b still) (div-one bits) last) named

@@ -2,7 +2,7 @@ ghost use Rattle.std.specs.Prelude.{◌≡◌, ◌⊎◌, ◌-◌, ◌/◌, ◌^
 ghost use Rattle.std.specs.List.{All};
 ghost use Rattle.i3c_wires.specs.Contest.{AllLost, EachBit, LostIsBelow, holders, is_lost, is_one};
 
-use crate::masks::{cut_at, first_places, planes_of, slots_at};
+use crate::masks::{cut_at, first_places, slots_at, zeros_among};
 use crate::outcome::Contest;
 use crate::turns::turns_of;
 use arrayvec::ArrayVec;
@@ -44,14 +44,13 @@ pub fn contest(keys: &ArrayVec<(Slot, u64), SLOTS>, width: u32, cuts: &Cuts) -> 
     let mut bits = first.1;
     let mut still = first_places(keys.len());
     let mut turns = turns_of(keys, bits, width, cuts);
-    let planes = planes_of(keys, turns);
     while turns != 0 {
         let left = turns.ilog2();
         still &= !cut_at(keys, cuts, width - 1 - left);
         if still == 0 {
             return unheard(bits, left);
         }
-        let low = still & !planes[left as usize];
+        let low = zeros_among(keys, still, left);
         if low == 0 {
             bits |= 1 << left;
         } else {

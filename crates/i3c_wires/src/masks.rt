@@ -1,21 +1,17 @@
-ghost use Rattle.std.specs.Prelude.{◌≡◌, ℕ, ◌-◌, ◌^◌, ◌<◌, ◌≤◌, true, Bool, map, if◌then◌else◌, slice_index, bit_or};
+ghost use Rattle.std.specs.Prelude.{◌≡◌, ℕ, ◌-◌, ◌^◌, ◌<◌, ◌≤◌, Bool, length, map};
+ghost use Rattle.std.specs.Int.{bit_not, w32};
+ghost use Rattle.std.specs.Int.RustNames.{bit_and};
 ghost use Rattle.std.specs.List.{filter};
 ghost use Rattle.i3c_base.specs.Cutting.{cut_of};
 ghost use Rattle.i3c_base.specs.declared.range.TheConstants.{SLOTS as SLOT_COUNT};
-ghost use Rattle.i3c_wires.specs.Contest.{drives_one, is_one};
+ghost use Rattle.i3c_wires.specs.Contest.{drives_one};
 ghost use Rattle.i3c_wires.specs.Masks.{is_at, mask_of};
 
 use arrayvec::ArrayVec;
 use i3c_base::{Cuts, SLOTS, Slot};
 
 /// A set of contenders: a bit for each place in the list of keys.
-pub(crate) type Mask = u16;
-
-/// The most bits that a key has.
-const KEY_BITS: usize = 64;
-
-/// A set of contenders for each bit of a contest.
-pub(crate) type Planes = [Mask; KEY_BITS];
+pub(crate) type Mask = u32;
 
 /// The first `count` places.
 pub(crate) fn first_places(count: usize) -> Mask
@@ -25,32 +21,28 @@ pub(crate) fn first_places(count: usize) -> Mask
     if count == 0 {
         0
     } else {
-        Mask::MAX >> (SLOTS - count)
+        Mask::MAX >> (Mask::BITS as usize - count)
     }
 }
 
-/// Puts a place into the set of each bit where the key has a 1. Sets go by the number of bits that follow.
-fn put(planes: &mut Planes, place: usize, key: u64)
-    requires { place < SLOT_COUNT }
-    ensures { (left : ℕ) → left < 64 → slice_index planes.new left ≡ (if is_one left key then bit_or (slice_index planes.old left) (2 ^ place) else slice_index planes.old left) }
+/// Those of these places who drive 0 at the bit after which this many follow.
+pub(crate) fn zeros_among(keys: &ArrayVec<(Slot, u64), SLOTS>, among: Mask, left: u32) -> Mask
+    requires bit { left < 64 }
+    requires few { length keys.now.items ≤ SLOT_COUNT }
+    requires places { (p : ℕ × ℕ → Bool) × (among ≡ mask_of p keys.now.items) }
+    ensures { result ≡ bit_and among (bit_not w32 (mask_of (drives_one left) keys.now.items)) }
 {
-    let mut rest = key;
+    let mut low = 0;
+    let mut rest = among;
     while rest != 0 {
-        let left = rest.trailing_zeros();
-        planes[left as usize] |= 1 << place;
-        rest &= !(1 << left);
+        let place = rest.trailing_zeros();
+        let bit = 1 << place;
+        if keys[place as usize].1 >> left & 1 == 0 {
+            low |= bit;
+        }
+        rest -= bit;
     }
-}
-
-/// For each bit of these, by the number of bits that follow, those whose key has a 1 there.
-pub(crate) fn planes_of(keys: &ArrayVec<(Slot, u64), SLOTS>, among: u64) -> Planes
-    ensures { (left : ℕ) → left < 64 → is_one left among ≡ true → slice_index result left ≡ mask_of (drives_one left) keys.now.items }
-{
-    let mut planes = [0; KEY_BITS];
-    for (place, contender) in keys.iter().enumerate() {
-        put(&mut planes, place, contender.1 & among);
-    }
-    planes
+    low
 }
 
 /// Whether a slot is cut at this bit of a contest.
@@ -81,13 +73,18 @@ pub(crate) fn cut_at(keys: &ArrayVec<(Slot, u64), SLOTS>, cuts: &Cuts, bit: u32)
 
 /// The slots at the places of a set, in their order.
 pub(crate) fn slots_at(keys: &ArrayVec<(Slot, u64), SLOTS>, places: Mask) -> ArrayVec<Slot, SLOTS>
+    requires few { length keys.now.items ≤ SLOT_COUNT }
+    requires places { (p : ℕ × ℕ → Bool) × (places ≡ mask_of p keys.now.items) }
     ensures { (p : ℕ × ℕ → Bool) → places ≡ mask_of p keys.now.items → result.items ≡ map (λ e. e.0) (filter p keys.now.items) }
 {
     let mut slots = ArrayVec::new();
-    for (place, contender) in keys.iter().enumerate() {
-        if places >> place & 1 == 1 {
-            slots.push(contender.0);
-        }
+    let mut first = 0;
+    let mut rest = places;
+    while rest != 0 {
+        let place = rest.trailing_zeros();
+        slots.push(keys[place as usize].0);
+        first = place + 1;
+        rest -= 1 << place;
     }
     slots
 }

@@ -25,6 +25,36 @@ fn cut_bit(cuts: &Cuts, slot: Slot, width: u32) -> u64
     }
 }
 
+/// The bits at which a key differs from the first one, by the number of bits that follow.
+fn differing(keys: &ArrayVec<(Slot, u64), SLOTS>, first: u64, width: u32) -> u64
+    requires fit { All (λ e. e.1 < 2 ^ width) keys.now.items }
+    requires first_fits { first < 2 ^ width }
+    ensures alike { (left : ℕ) → is_one left result ≡ false → All (λ e. is_one left e.1 ≡ is_one left first) keys.now.items }
+    ensures within { (left : ℕ) → is_one left result ≡ true → left < width }
+{
+    let mut turns = 0;
+    for contender in keys.iter() {
+        turns |= contender.1 ^ first;
+    }
+    turns
+}
+
+/// The bits at which a contender is cut, by the number of bits that follow.
+fn cut_bits(keys: &ArrayVec<(Slot, u64), SLOTS>, width: u32, cuts: &Cuts) -> u64
+    requires few_bits { width ≤ 64 }
+    ensures uncut { (left : ℕ) → left < width → is_one left result ≡ false → All (λ e. is_at (width - suc left) (cut_of cuts.now e.0) ≡ false) keys.now.items }
+    ensures within { (left : ℕ) → is_one left result ≡ true → left < width }
+{
+    if cuts.is_empty() {
+        return 0;
+    }
+    let mut turns = 0;
+    for contender in keys.iter() {
+        turns |= cut_bit(cuts, contender.0, width);
+    }
+    turns
+}
+
 /// The bits at which a contest may turn, by the number of bits that follow: where a key differs from the first one, or
 /// a contender is cut.
 pub(crate) fn turns_of(
@@ -39,9 +69,5 @@ pub(crate) fn turns_of(
     ensures quiet { (left : ℕ) → left < width → is_one left result ≡ false → All (IsQuiet cuts.now width left first) keys.now.items }
     ensures within { (left : ℕ) → is_one left result ≡ true → left < width }
 {
-    let mut turns = 0;
-    for contender in keys.iter() {
-        turns |= (contender.1 ^ first) | cut_bit(cuts, contender.0, width);
-    }
-    turns
+    differing(keys, first, width) | cut_bits(keys, width, cuts)
 }

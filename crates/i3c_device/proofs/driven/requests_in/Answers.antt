@@ -1,6 +1,5 @@
 -- One slot more, until none is left.
-use Rattle.std.proofs.Common.{◌∙◌, ap, arith}
-use Rattle.i3c_device.specs.Wishing.{request_of}
+use Rattle.std.proofs.Common.{arith}
 use Rattle.i3c_device.proofs.FirstLaws.{requests_all, requests_more, requests_none}
 use Rattle.i3c_device.proofs.driven.requests_in.Goals as goal
 

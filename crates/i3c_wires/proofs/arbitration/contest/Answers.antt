@@ -3,7 +3,7 @@ use Rattle.std.proofs.Common.{◌≡◌, ◌≤◌, ◌-◌, ℕ, List, suc, len
 use Rattle.i3c_base.specs.Cutting.{CutList, cut_of}
 use Rattle.i3c_wires.specs.Masks.{is_at, mask_of}
 use Rattle.i3c_wires.proofs.Reading.{read_each, read_idle, read_in_width, read_least, read_none}
-use Rattle.i3c_wires.proofs.TurnLaws.{IsTop, first_of, none_contend, none_of, turn_less, turning_first, turning_last, turning_one, turning_unheard, turning_within, turning_zero}
+use Rattle.i3c_wires.proofs.TurnLaws.{IsTop, first_of, none_contend, none_of, turn_less, turning_driving, turning_first, turning_last, turning_one, turning_places, turning_unheard, turning_within, turning_zero}
 use Rattle.i3c_wires.proofs.arbitration.contest.Goals as goal
 use Rattle.i3c_wires.proofs.arbitration.contest.Goals.{then-low-eq0, else-low-eq0}
 
@@ -38,14 +38,14 @@ loop-turns-init c =
 pub overflow_sub-width-in-loop-turns : goal.overflow_sub-width-in-loop-turns
 overflow_sub-width-in-loop-turns c =
     let top : IsTop c.loop-turns.turns c.ilog2-left.result = record { low = c.ilog2-left.ensures.power_le; high = c.ilog2-left.ensures.next_power_gt; fits = c.ilog2-left.ensures.bound } in
-    omega (arith, turning_within c.args.cuts.now c.args.keys.now.items c.args.width c.turns_of-turns.result c.loop-turns.turns c.loop-turns.bits c.loop-turns.still c.ilog2-left.result c.loop-turns.invariant top)
+    omega (arith, turning_within c.args.cuts.now c.args.keys.now.items c.args.width c.loop-turns.turns c.loop-turns.bits c.loop-turns.still c.ilog2-left.result c.loop-turns.invariant top)
 
 pub returns-then-still-eq0 : goal.returns-then-still-eq0
 returns-then-still-eq0 c =
     let cuts = c.args.cuts.now in
     let keys = c.args.keys.now.items in
     let top : IsTop c.loop-turns.turns c.ilog2-left.result = record { low = c.ilog2-left.ensures.power_le; high = c.ilog2-left.ensures.next_power_gt; fits = c.ilog2-left.ensures.bound } in
-    let last = turning_unheard cuts keys c.args.width c.turns_of-turns.result c.loop-turns.turns c.loop-turns.bits c.loop-turns.still c.ilog2-left.result c.cut_at.result c.unheard.result.bits
+    let last = turning_unheard cuts keys c.args.width c.loop-turns.turns c.loop-turns.bits c.loop-turns.still c.ilog2-left.result c.cut_at.result c.unheard.result.bits
     c.requires.some_bits (omega (arith, c.len.ensures.value, c.len.ensures.fits)) c.loop-turns.invariant top (cut_there cuts keys c.args.width c.ilog2-left.result c.cut_at.result c.cut_at.ensures)
     c.if-still-eq0.true c.unheard.ensures.above c.unheard.ensures.ones in
     record {
@@ -57,6 +57,14 @@ returns-then-still-eq0 c =
       in_width = read_in_width cuts keys c.args.width c.unheard.result.bits last.1;
     }
 
+pub zeros_among-low-requires-clause-places : goal.zeros_among-low-requires-clause-places
+zeros_among-low-requires-clause-places c =
+    let cuts = c.args.cuts.now in
+    let keys = c.args.keys.now.items in
+    let top : IsTop c.loop-turns.turns c.ilog2-left.result = record { low = c.ilog2-left.ensures.power_le; high = c.ilog2-left.ensures.next_power_gt; fits = c.ilog2-left.ensures.bound } in
+    turning_driving cuts keys c.args.width c.loop-turns.turns c.loop-turns.bits c.loop-turns.still c.ilog2-left.result c.cut_at.result (omega (arith, c.len.ensures.value, c.len.ensures.fits)) c.loop-turns.invariant top
+    (cut_there cuts keys c.args.width c.ilog2-left.result c.cut_at.result c.cut_at.ensures)
+
 pub loop-turns-smaller : goal.loop-turns-smaller
 loop-turns-smaller c = turn_less c.loop-turns.turns c.ilog2-left.result (record { low = c.ilog2-left.ensures.power_le; high = c.ilog2-left.ensures.next_power_gt; fits = c.ilog2-left.ensures.bound })
 
@@ -67,21 +75,24 @@ loop-turns-preserved c =
     let t = c.ilog2-left.result in
     let top : IsTop c.loop-turns.turns t = record { low = c.ilog2-left.ensures.power_le; high = c.ilog2-left.ensures.next_power_gt; fits = c.ilog2-left.ensures.bound } in
     let cut = cut_there cuts keys c.args.width t c.cut_at.result c.cut_at.ensures in
-    let few : length keys ≤ 16 = omega (arith, c.len.ensures.value, c.len.ensures.fits) in
+    let few : length keys ≤ 32 = omega (arith, c.len.ensures.value, c.len.ensures.fits) in
     elim c.if-low-eq0.branch [
       | then-low-eq0 w ↦ rw (w.bits-is, w.still-is)
-          (turning_one cuts keys c.args.width c.turns_of-turns.result c.loop-turns.turns c.loop-turns.bits c.loop-turns.still t c.cut_at.result _ few (omega arith) (omega arith) c.loop-turns.invariant top cut
-          (c.planes_of-planes.ensures t c.ilog2-left.ensures.bound) c.if-still-eq0.false w.if-low-eq0.true)
-      | else-low-eq0 w ↦ rw (w.bits-is, w.still-is)
-          (turning_zero cuts keys c.args.width c.turns_of-turns.result c.loop-turns.turns c.loop-turns.bits c.loop-turns.still t c.cut_at.result _ few (omega arith) (omega arith) c.loop-turns.invariant top cut
-          (c.planes_of-planes.ensures t c.ilog2-left.ensures.bound) w.if-low-eq0.false)
+          (turning_one cuts keys c.args.width c.loop-turns.turns c.loop-turns.bits c.loop-turns.still t c.cut_at.result _ few (omega arith) (omega arith) c.loop-turns.invariant top cut
+          refl c.if-still-eq0.false (sym c.zeros_among-low.ensures ∙ w.if-low-eq0.true))
+      | else-low-eq0 w ↦ rw (w.bits-is, w.still-is, c.zeros_among-low.ensures)
+          (turning_zero cuts keys c.args.width c.loop-turns.turns c.loop-turns.bits c.loop-turns.still t c.cut_at.result _ few (omega arith) (omega arith) c.loop-turns.invariant top cut
+          refl (λ none. w.if-low-eq0.false (c.zeros_among-low.ensures ∙ none)))
     ]
+
+pub slots_at-winners-requires-clause-places : goal.slots_at-winners-requires-clause-places
+slots_at-winners-requires-clause-places c = turning_places c.args.cuts.now c.args.keys.now.items c.args.width c.loop-turns.turns c.loop-turns.bits c.loop-turns.still c.loop-turns.invariant
 
 pub returns : goal.returns
 returns c =
     let cuts = c.args.cuts.now in
     let keys = c.args.keys.now.items in
-    let last = turning_last cuts keys c.args.width c.turns_of-turns.result c.loop-turns.bits c.loop-turns.still c.slots_at-winners.result.items c.requires.some_bits
+    let last = turning_last cuts keys c.args.width c.loop-turns.bits c.loop-turns.still c.slots_at-winners.result.items c.requires.some_bits
     (rw c.loop-turns-test.false at c.loop-turns.invariant) c.slots_at-winners.ensures in
     record {
       winners = last.0;

@@ -1,25 +1,14 @@
--- One contender more.
-use Rattle.std.proofs.Common.{◌≡◌, ℕ, ap, arith, get_or, length}
-use Rattle.i3c_wires.proofs.PlaneLaws.{found}
-use Rattle.i3c_wires.proofs.TurnLaws.{turns_all, turns_more, turns_none}
+-- What neither part marks is quiet.
+use Rattle.std.proofs.Common.{inl, inr}
+use Rattle.i3c_wires.proofs.TurnLaws.{either, neither}
 use Rattle.i3c_wires.proofs.turns.turns_of.Goals as goal
 
-pub loop-contender-init : goal.loop-contender-init
-loop-contender-init c = turns_none c.args.cuts.now c.args.keys.now.items c.args.width c.args.first
+pub returns-clause-quiet : goal.returns-clause-quiet
+returns-clause-quiet c left low none =
+    let parts = neither c.differing.result c.cut_bits.result left none in
+    let alike = c.differing.ensures.alike left parts.0 in
+    let uncut = c.cut_bits.ensures.uncut left low parts.1 in
+    λ k d m. record { uncut = uncut k d m; alike = alike k d m }
 
-pub loop-contender-preserved : goal.loop-contender-preserved
-loop-contender-preserved c =
-    let keys = c.args.keys.now.items in
-    let at = found _ keys c.loop-contender.contender-index c.contender-item.result c.deref-contender-items.ensures.0 c.contender-item.is in
-    let key : c.contender-item.result.1 ≡ (get_or keys c.loop-contender.contender-index c.contender-item.result).1 = ap (λ (e : ℕ × ℕ). e.1) at in
-    turns_more c.args.cuts.now keys c.args.width c.args.first c.loop-contender.contender-index c.loop-contender.turns c.cut_bit.result c.contender-item.result
-    (omega (arith, ap length c.deref-contender-items.ensures.0)) at
-    (omega (arith, key, c.requires.fit c.loop-contender.contender-index c.contender-item.result (omega (arith, ap length c.deref-contender-items.ensures.0)))) c.requires.first_fits
-    c.cut_bit.ensures.uncut c.cut_bit.ensures.within c.loop-contender.invariant
-
-pub returns : goal.returns
-returns c = record {
-  quiet = turns_all c.args.cuts.now c.args.keys.now.items c.args.width c.args.first c.loop-contender.contender-index c.loop-contender.turns
-      (omega (arith, ap length c.deref-contender-items.ensures.0)) c.loop-contender.invariant;
-  within = c.loop-contender.invariant.within;
-}
+pub returns-clause-within : goal.returns-clause-within
+returns-clause-within c left one = elim (either c.differing.result c.cut_bits.result left one) [ inl differs ↦ c.differing.ensures.within left differs | inr is_cut ↦ c.cut_bits.ensures.within left is_cut ]

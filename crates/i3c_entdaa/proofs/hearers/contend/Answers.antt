@@ -2,12 +2,12 @@
 use Rattle.std.proofs.Common.{◌+◌, arith, get_or, sym, subst, refl, None}
 use Rattle.i3c_base.specs.declared.range.TheConstants.{SLOTS}
 use Rattle.i3c_entdaa.proofs.HearersLaws.{ContendersSoFar, contenders_complete, contenders_exact, contenders_more, contenders_none, contenders_skip, left_first, left_more, none_from, silent_below, taken_from}
-use Rattle.i3c_entdaa.proofs.hearers.contenders.Goals as goal
-use Rattle.i3c_entdaa.proofs.hearers.contenders.Goals.{In_default}
+use Rattle.i3c_entdaa.proofs.hearers.contend.Goals as goal
+use Rattle.i3c_entdaa.proofs.hearers.contend.Goals.{In_default}
 
 pub loop-index-init : goal.loop-index-init
 loop-index-init c = record {
-  so_far = subst (ContendersSoFar c.args.devices.now 0) (sym c.new-keys.ensures) (contenders_none c.args.devices.now);
+  so_far = subst (ContendersSoFar c.args.devices.now 0) (sym c.requires) (contenders_none c.args.devices.now);
   low = omega arith;
   left = left_first c.args.devices.now c.hearers-left.result c.hearers-left.ensures.hearing;
 }

@@ -1,7 +1,7 @@
 use Rattle.std.proofs.Common.{◌≤◌}
 use Rattle.i3c_base.specs.declared.range.TheConstants.{SLOTS}
 use Rattle.i3c_entdaa.proofs.HearersLaws.{AreLeftFrom, ContendersSoFar}
-use Rattle.i3c_entdaa.proofs.hearers.contenders.Given as goal
+use Rattle.i3c_entdaa.proofs.hearers.contend.Given as goal
 
 -- the contenders of the slots so far, and the hearers after them
 abbrev pub invariant-loop-index : goal.invariant-loop-index

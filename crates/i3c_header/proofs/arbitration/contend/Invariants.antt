@@ -1,5 +1,5 @@
 use Rattle.i3c_header.proofs.KeyLaws.{KeyedSoFar}
-use Rattle.i3c_header.proofs.arbitration.contenders.Given as goal
+use Rattle.i3c_header.proofs.arbitration.contend.Given as goal
 
 -- the contenders of the requests so far
 abbrev pub invariant-loop-index : goal.invariant-loop-index

@@ -1,7 +1,7 @@
 -- One request more, under its place.
 use Rattle.std.proofs.Common.{◌≡◌, IfOk, arith, subst, ◌∙◌}
 use Rattle.i3c_header.proofs.KeyLaws.{keyed_next, keyed_room}
-use Rattle.i3c_header.proofs.arbitration.contenders.Goals as goal
+use Rattle.i3c_header.proofs.arbitration.contend.Goals as goal
 
 pub push-requires : goal.push-requires
 push-requires c =
