@@ -8,3 +8,4 @@ pub mod ScriptRuns
 pub mod ScriptRead
 pub mod AsciiLaws
 mod Counted
+mod Obeying

@@ -4,6 +4,7 @@ pub mod Faults
 pub mod Traces
 pub mod Scripts
 pub mod ScriptSteps
+pub mod Legal
 pub mod Counting
 pub mod Agreeing
 pub mod Reporting
