@@ -10,7 +10,6 @@ use Rattle.i3c_step.specs.declared.replies.Reply.{Reply}
 use Rattle.i3c_step.specs.Step.{Step, cuts_in}
 use Rattle.i3c_bus.specs.Wire.{IsWire}
 use Rattle.i3c_lines.specs.declared.refusals.Refusal.{Refusal}
-use Rattle.i3c_script.specs.declared.wires.TheConstants.{SYMBOLS}
 use Rattle.i3c_script.specs.Printed.{request_text, round_text}
 use Rattle.i3c_script.specs.Ran.{Ran}
 use Rattle.i3c_script.specs.Stops.{round_refusal}
@@ -24,7 +23,7 @@ pub record Moves (old : Ran) (event : Event) (reply : Reply) (new : Ran) : Type 
   pub wire : List Symbol
   pub step : Step old.state event reply new.state
   pub sent : IsWire old.state event reply new.state wire
-  pub kept : new.wire ≡ keep_last SYMBOLS (old.wire ++ wire)
+  pub kept : new.wire ≡ keep_last 256 (old.wire ++ wire)
   pub policy : new.policy ≡ old.policy
   pub cuts : new.cuts ≡ cuts_left event old.cuts
 

@@ -5,7 +5,6 @@ use Rattle.i3c_base.specs.declared.requests.Fixed.{Fixed}
 use Rattle.i3c_base.specs.Cutting.{CutList}
 use Rattle.i3c_base.specs.State.{State}
 use Rattle.i3c_frame.specs.declared.symbols.Symbol.{Symbol}
-use Rattle.i3c_script.specs.declared.wires.TheConstants.{SYMBOLS}
 
 -- the bus's state, which requests its frames accept, the cuts that wait for the next frame, and the last symbols of the wire
 pub record Ran : Type 0 where
@@ -16,4 +15,4 @@ pub record Ran : Type 0 where
 
 -- the same of these, where the last of the symbols are kept
 abbrev pub ran_of : State → Fixed → CutList → List Symbol → Ran
-ran_of state policy cuts symbols = record { state = state; policy = policy; cuts = cuts; wire = keep_last SYMBOLS symbols }
+ran_of state policy cuts symbols = record { state = state; policy = policy; cuts = cuts; wire = keep_last 256 symbols }
