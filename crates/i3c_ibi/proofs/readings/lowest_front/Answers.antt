@@ -1,5 +1,5 @@
 -- Where none of these slots is a driver, nobody drives; else the lowest has a front.
-use Rattle.std.proofs.Common.{ap, slice_get, sym, ◌∙◌}
+use Rattle.std.proofs.Common.{sym, ◌∙◌}
 use Rattle.std.proofs.lemmas.Bool.{both_ways}
 use Rattle.i3c_base.specs.declared.requests.Request.TheVariants.{Interrupt}
 use Rattle.i3c_device.proofs.FirstLaws.{driven_below}
