@@ -1,9 +1,9 @@
 use super::checks::same;
 use super::setting::{NONE, entry, reached};
 use i3c_base::{Cuts, Served, Slot};
+use i3c_scenario::{StressFault, StressReport, Watch, stress_watched};
 use i3c_shared::{Closed, Entry};
 use i3c_step::{Event, Refusal, Reply};
-use i3c_scenario::{StressFault, StressReport, Watch, stress_watched};
 use std::alloc::Global;
 use std::sync::Wait;
 use std::sync::atomic::{AtomicU64, Ordering};
@@ -105,10 +105,7 @@ struct Outcome {
     wrong: u64,
 }
 
-fn run_watched<R: Threads + Wait + Clock + Sync>(
-    rt: &R,
-    alloc: Global,
-) -> Outcome {
+fn run_watched<R: Threads + Wait + Clock + Sync>(rt: &R, alloc: Global) -> Outcome {
     let watch = Watched {
         rt,
         answers: AtomicU64::new(0),

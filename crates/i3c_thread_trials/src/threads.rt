@@ -7,9 +7,9 @@ use super::setting::{
 };
 use i3c_base::{Addr7, Cuts, Request, Served, Slot, Verdict};
 use i3c_bus::Policy;
+use i3c_scenario::{Gate, StressFault, StressReport, stress};
 use i3c_shared::{Entry, Full, HeldRole, Port, SharedBus, StaleRole};
 use i3c_step::{Command, Event, Reply};
-use i3c_scenario::{Gate, StressFault, StressReport, stress};
 use std::alloc::Global;
 use std::process::Abort;
 use std::sync::Wait;
