@@ -8,4 +8,4 @@ pub mod ScriptRuns
 pub mod ScriptRead
 pub mod AsciiLaws
 mod Counted
-mod Obeying
+mod Reaching

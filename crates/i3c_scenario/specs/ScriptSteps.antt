@@ -33,7 +33,7 @@ pub record LineDone (line : List ℕ) (old new : Output) (from to : Progress) : 
   pub out : Puts old new (said ++ refused_text refused)
   pub count : to.refused ≡ min (from.refused + refusals_of refused) 18446744073709551615
 
--- a line was run, and of what was gathered and what it puts out a beginning went out
+-- a line was run, and a prefix of the buffer and its output was written
 pub record LineLost (line : List ℕ) (old new : Output) (from : Progress) : Type 0 where
   pub said : List ℕ
   pub refused : Option Refusal
@@ -85,7 +85,7 @@ Takes bytes held old new from to result = MatchResult result (λ _. (rest : List
 abbrev pub Runs : List ℕ → List ℕ → Output → Output → Progress → Progress → Result (Unit {0}) ScriptFault → Type 0
 Runs bytes rest old new from to result = MatchResult result (λ _. RunsTo bytes rest old new from to) (RunStops bytes old new from)
 
--- what was read of a script so far, and what it came to, where so much of a line is held and so many bytes may still come
+-- the bytes that were read of a script so far, their effect, the partial line, and how many bytes may follow
 pub record ReadSoFar (known now old new : Option (List ℕ)) (held : List ℕ) (from to : Progress) (left : ℕ) : Type 0 where
   pub read : List ℕ
   pub rest : List ℕ

@@ -77,7 +77,7 @@ pub record IsWhole (known old new : Option (List ℕ)) (tally : Tally) : Type 0 
   pub out : Appends old new (lines_out lines)
   pub counted : tally.refused ≡ min (lines_refused lines) 18446744073709551615
 
--- what these lines put out, as far as it went out before a fault. Where a line lacks memory, or the reader fails, or the script is too large, each line before that was written whole; the reader's failing and a script's end at its most bytes come in the midst of a line that isn't run
+-- what these lines put out, as far as it went out before a fault. Where a line lacks memory, or the reader fails, or the script is too large, each line before that was written whole. A failed read, or the size limit, may fall inside a line; that line isn't run
 abbrev pub OutBefore : ScriptFault → Option (List ℕ) → Option (List ℕ) → Option (List ℕ) → Option (List ℕ) → List LineRun → Type 0
 OutBefore ScriptFault.Memory known left old new lines = Appends old new (lines_out lines)
 OutBefore ScriptFault.Write known left old new lines = AppendsSome old new (lines_out lines)

@@ -1,6 +1,6 @@
 ghost use Rattle.i3c_scenario.specs.Legal.{LinesAreLegalRuns};
 
-/// Whatever lines a script has, the state of its bus is one that a legal run leads to.
+/// The steps of a script's lines are a legal run, whatever these lines are.
 pub fn lines_are_legal_runs()
     ensures { LinesAreLegalRuns }
 {}

@@ -39,8 +39,8 @@ pub fn run_script<R: Read, W: Write>(
     ensures whole { OnOk result (IsAtEnd (R.remaining reader.new)) }
     ensures fits { OnOk result (IfSome (R.remaining reader.old) (λ bytes. length bytes ≤ MOST_BYTES)) }
     ensures large { result ≡ Err ScriptFault.TooLarge → IfSome (R.remaining reader.old) (λ bytes. MOST_BYTES < length bytes) }
-    // the lines that were read are run one after another, from a script's start, each by what its command asks of the
-    // bus; and what goes out is what they print: all of it with `Ok`, and of its beginning what each fault says
+    // a script starts with no bus, no legacy target and no name; each line changes the state, prints and is refused as its
+    // command says; all that they print goes out with `Ok`, and before a fault as much as that fault says
     ensures lines { LinesGoOut (R.remaining reader.old) (R.remaining reader.new) (W.contents writer.old) (W.contents writer.new) result }
 {
     let mut script = Script::new(alloc);
@@ -56,8 +56,8 @@ pub fn run_script<R: Read, W: Write>(
     }
 }
 
-/// A script that runs: what its lines led to, the line that is read, of the line that is run its command, which is read in
-/// place, and what it prints, and what lines before it printed that waits to go out.
+/// The state of a running script: its bus and names, the partial line, the current command, that command's output, and
+/// output not yet written.
 struct Script {
     alloc: Global,
     stage: Stage,

@@ -1,5 +1,5 @@
 -- The slots that a line's names stand for, and where a device enters.
-use Rattle.std.specs.Prelude.{ℕ, Option, Some, None, Result, Ok, Err, if◌then◌else◌, is_some}
+use Rattle.std.specs.Prelude.{ℕ, ◌<◌, Option, Some, None, Result, Ok, Err, if◌then◌else◌, is_some}
 use Rattle.i3c_base.specs.declared.range.TheConstants.{SLOTS}
 use Rattle.i3c_base.specs.State.{State, IsPresent, device_at}
 use Rattle.i3c_step.specs.declared.replies.Refusal.{Refusal as BusRefusal}
@@ -32,7 +32,7 @@ IsTaken st (Some Place.Gone) = ⊥
 
 -- where a device whose name has this place enters: the lowest free slot, unless the name is taken or no slot is free
 abbrev pub IsEntrance : State → Option Place → Result ℕ Refusal → Type 0
-IsEntrance st place (Ok slot) = (¬ IsTaken st place) × (¬ IsPresent st slot) × AllPresentBelow st slot
+IsEntrance st place (Ok slot) = (¬ IsTaken st place) × (slot < SLOTS) × (¬ IsPresent st slot) × AllPresentBelow st slot
 IsEntrance st place (Err Refusal.NameTaken) = IsTaken st place
 IsEntrance st place (Err (Refusal.Bus BusRefusal.SlotTaken)) = (¬ IsTaken st place) × AllPresentBelow st SLOTS
 IsEntrance st place (Err _) = ⊥

@@ -1,15 +1,14 @@
 -- Where the commands of a script lead.
-use Rattle.std.specs.Prelude.{◌≡◌, ℕ, List, [], ◌∷◌, Option}
+use Rattle.std.specs.Prelude.{◌≡◌, ℕ, List, [], ◌∷◌, ◌++◌, Option}
 use Rattle.i3c_base.specs.declared.device.LegacyTarget.{LegacyTarget}
 use Rattle.i3c_base.specs.declared.device.Setup.{Setup}
 use Rattle.i3c_base.specs.State.{State}
-use Rattle.i3c_step.specs.declared.events.Event.{Event}
-use Rattle.i3c_step.specs.declared.replies.Reply.{Reply}
 use Rattle.i3c_step.specs.Runs.{IsLegalRun}
 use Rattle.i3c_lines.specs.declared.command.Command.{Command}
 use Rattle.i3c_lines.specs.declared.refusals.Refusal.{Refusal}
 use Rattle.i3c_script.specs.declared.stage.Stage.{Stage}
 use Rattle.i3c_script.specs.Obeying.{IsBegun, Obeys, ScriptState}
+use Rattle.i3c_script.specs.Making.{Made, command_made, events_of, replies_of}
 use Rattle.i3c_script.specs.Ran.{Ran}
 
 -- a command that was obeyed: what it printed, and why it was refused, if it was
@@ -23,10 +22,15 @@ abbrev pub Lead : ScriptState → List Obeyed → ScriptState → Type 0
 Lead old [] new = new ≡ old
 Lead old (one ∷ rest) new = (mid : ScriptState) × Obeys old one.command one.said one.refused mid × Lead mid rest new
 
--- a legal run leads to this state of the bus
-abbrev pub IsReached : State → Type 0
-IsReached st = (main : Setup) × (legacy : List (Option LegacyTarget)) × (events : List Event) × (replies : List Reply) × IsLegalRun main legacy events replies st
+-- the steps of the bus that these commands are, in order
+abbrev pub made : (old : ScriptState) (commands : List Obeyed) (new : ScriptState) → Lead old commands new → List Made
+made old [] new same = []
+made old (one ∷ rest) new (mid, obeys, lead) = command_made old.stage old.names one.command one.said one.refused mid obeys ++ made mid rest new lead
 
--- Whatever commands lead from a script's start to a bus, a legal run leads to the state of that bus.
+-- these steps are a legal run from some start to this state of the bus
+abbrev pub AreLegal : List Made → State → Type 0
+AreLegal steps st = (main : Setup) × (legacy : List (Option LegacyTarget)) × IsLegalRun main legacy (events_of steps) (replies_of steps) st
+
+-- Wherever commands lead from a script's start to a bus, their steps are a legal run to the state of that bus.
 abbrev pub ScriptsAreLegalRuns : Type 0
-ScriptsAreLegalRuns = (old : ScriptState) (commands : List Obeyed) (new : ScriptState) (ran : Ran) → IsBegun old → Lead old commands new → new.stage ≡ Stage.Running ran → IsReached ran.state
+ScriptsAreLegalRuns = (old : ScriptState) (commands : List Obeyed) (new : ScriptState) (ran : Ran) → IsBegun old → (lead : Lead old commands new) → new.stage ≡ Stage.Running ran → AreLegal (made old commands new lead) ran.state

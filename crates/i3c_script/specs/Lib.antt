@@ -6,4 +6,5 @@ pub mod Printed
 pub mod Telling
 pub mod Assigning
 pub mod Obeying
+pub mod Making
 pub mod Leading

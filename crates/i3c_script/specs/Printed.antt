@@ -90,7 +90,7 @@ abbrev pub named_text : Option Name → ℕ → List ℕ
 named_text None slot = []
 named_text (Some name) slot = letters name ++ number_text (codes " slot ") slot
 
--- what of an event its reply's text has in it
+-- the part of the event that its printed reply mentions
 abbrev pub subject_of : Event → Subject
 subject_of (Event.Attach slot setup) = Subject.Attached slot
 subject_of (Event.HandOver to cuts) = Subject.HandedTo to
@@ -129,7 +129,7 @@ handed_text Subject.Nothing served = []
 abbrev pub raised_text : ℕ → List ℕ
 raised_text number = number_text (codes "raised ") number
 
--- a reply to an event that a line is; of the event the text has no more than its subject
+-- the reply to a line's event; of the event its text mentions the subject alone
 abbrev pub reply_text : Names → Subject → Reply → List ℕ
 reply_text names subject (Reply.Refused why) = []
 reply_text names subject Reply.OutOfMemory = []

@@ -1,4 +1,4 @@
-ghost use Rattle.std.specs.Prelude.{◌≡◌, ◌↔◌, IsTrue, MatchOption};
+ghost use Rattle.std.specs.Prelude.{◌≡◌, ◌<◌, ◌↔◌, IsTrue, MatchOption};
 ghost use Rattle.i3c_base.specs.State.{IsPresent};
 ghost use Rattle.i3c_script.specs.Asking.{IsEntrance, IsTaken, slot_of_device};
 ghost use Rattle.i3c_lines.specs.Naming.{place_named};
@@ -50,7 +50,7 @@ fn is_taken(bus: &Bus, names: &Names, name: &Name) -> bool
 /// The lowest slot without a device.
 fn free_slot(bus: &Bus) -> Option<Slot>
     ensures { MatchOption result (AllPresentBelow bus.now.state SLOTS)
-        (λ slot. (¬ IsPresent bus.now.state slot) × AllPresentBelow bus.now.state slot) }
+        (λ slot. (slot < SLOTS) × (¬ IsPresent bus.now.state slot) × AllPresentBelow bus.now.state slot) }
 {
     for number in 0..SLOTS as u8 {
         let slot = Slot::new(number).unwrap();

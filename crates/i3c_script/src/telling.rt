@@ -12,7 +12,7 @@ use i3c_bus::{Event, Framed, Reply};
 use i3c_lines::{Names, Refusal, Text};
 use std::alloc::AllocError;
 
-/// What of its event a reply's text has in it.
+/// The part of an event that its printed reply mentions.
 #[derive(Clone, Copy)]
 pub(crate) enum Subject {
     /// The slot in which a device was attached.
@@ -23,7 +23,7 @@ pub(crate) enum Subject {
     Nothing,
 }
 
-/// What of an event its reply's text has in it.
+/// The part of an event that its printed reply mentions.
 pub(crate) fn subject_of(event: &Event) -> Subject
     ensures { result ≡ subject_of event.now }
 {
