@@ -90,7 +90,7 @@ declined_carried gives tap first second last old new to holder offer cuts served
     let all : bits + n ≡ word + (header_bits served + n) = let count = way.count in omega (arith, count) in
     let after : new.state ≡ emptied (lost_by cuts (word + (header_bits served + n))) old.state = gone ∙ ap (λ k. emptied (lost_by cuts k) old.state) all in
     let keeps = keeps_of old.state to (lost_by cuts (bits + n)) offer untaken offered in
-    let part : IsDeclinedPart old.state cuts to (word + header_bits served) own.0 = subst (λ b. IsDeclinedPart old.state cuts to b own.0) way.count (offer, untaken, acked, read, own.2) in
+    let part : IsDeclinedPart old.state cuts to new.state (word + header_bits served) own.0 = subst (λ b. IsDeclinedPart old.state cuts to new.state b own.0) way.count (offer, untaken, acked, read, gone, own.2) in
     record {
       step = acting old.state (Event.HandOver to cuts) (Reply.Framed (record { served = served; answer = Answer.NoAnswer to })) new.state (offer_free old.state cuts to fits.1 free) (inr (
         served,
@@ -107,7 +107,7 @@ declined_carried gives tap first second last old new to holder offer cuts served
           left = after;
         },
       ));
-      told = tells_parts gives tap first second last old.state cuts served word new.state (IsDeclinedPart old.state cuts to) way.sent
+      told = tells_parts gives tap first second last old.state cuts served word new.state (IsDeclinedPart old.state cuts to new.state) way.sent
           (way.begun.0, way.begun.1, begun_anyway served old.state cuts old.state new.state way.begun.0 way.unrecorded way.begun.2) way.on (own.0, own.1, part);
       fits = (fits.0 ∙ sym (ap (λ (st : State). st.active) after), ap (λ (st : State). st.in_session) after ∙ fits.1);
       room = record { enough = λ full e. cc; lasts = λ full none. same ∙ full };

@@ -10,7 +10,7 @@ use Rattle.i3c_base.specs.declared.requests.Request.TheVariants.{Join, Role, Int
 use Rattle.i3c_base.specs.declared.requests.Served.{Served}
 use Rattle.i3c_base.specs.Cutting.{CutList, lost_by}
 use Rattle.i3c_base.specs.State.{State, entry_at}
-use Rattle.i3c_base.specs.Serve.{IsFirst, IsWordBits, byte_due, drives, header_bits}
+use Rattle.i3c_base.specs.Serve.{IsFirst, IsWordBits, byte_due, drives, emptied, header_bits}
 use Rattle.i3c_base.specs.Frames.{AnyLeft, SomeLeftAt, active_has}
 use Rattle.i3c_word.specs.declared.Word.{Word}
 use Rattle.i3c_deftgts.specs.declared.entries.Entry.{Entry}
@@ -21,7 +21,7 @@ use Rattle.i3c_entdaa.specs.Rounds.{IsAcknowledged, IsRead, reply_of}
 use Rattle.i3c_entdaa.specs.Telling.{IsRoundWire}
 use Rattle.i3c_events.specs.Telling.{IsKindsWire, IsWord}
 use Rattle.i3c_handoff.specs.declared.outcome.Offer.{Offer}
-use Rattle.i3c_handoff.specs.Offers.{IsReadAs, SomeTakes, is_acknowledged}
+use Rattle.i3c_handoff.specs.Offers.{IsReadAs, SomeTakes, is_acknowledged, offer_bits}
 use Rattle.i3c_handoff.specs.Telling.{IsOfferWire}
 use Rattle.i3c_ibi.specs.Driving.{IsByteRead}
 use Rattle.i3c_ibi.specs.Telling.{byte_word, request_header}
@@ -131,10 +131,11 @@ IsUntaken (Offer.Torn byte) = ⊤
 IsUntaken (Offer.Taken s) = ⊥
 
 -- an offer that nobody took, after so many bits: acknowledged where a willing device is left at its header's ninth bit, and
--- its byte as it is read then
-abbrev pub IsDeclinedPart : State → CutList → ℕ → ℕ → List Symbol → Type 0
-IsDeclinedPart old cuts to begun wire =
-    (offer : Offer) × IsUntaken offer × ((is_acknowledged offer ≡ true) ↔ SomeTakes old to (lost_by cuts (begun + 18))) × IsReadAs old to cuts (begun + 19) offer × IsOfferWire to offer wire
+-- its byte as it is read then. Who is cut by its last bit is gone, and nobody else
+abbrev pub IsDeclinedPart : State → CutList → ℕ → State → ℕ → List Symbol → Type 0
+IsDeclinedPart old cuts to new begun wire =
+    (offer : Offer) × IsUntaken offer × ((is_acknowledged offer ≡ true) ↔ SomeTakes old to (lost_by cuts (begun + 18))) × IsReadAs old to cuts (begun + 19) offer
+    × (new ≡ emptied (lost_by cuts (begun + offer_bits offer)) old) × IsOfferWire to offer wire
 
 -- one that the new active controller took
 abbrev pub IsHandedWire : State → Event → List Symbol → Type 0
@@ -142,15 +143,15 @@ IsHandedWire new (HandOver to cuts) wire = IsOfferWire to (Offer.Taken new.activ
 IsHandedWire new _ wire = ⊥
 
 -- the own part of a frame that is answered, by its event
-abbrev pub IsOwnWire : State → CutList → Event → Answer → ℕ → List Symbol → Type 0
-IsOwnWire old cuts (Enec to kinds policy others) answer begun wire = IsKindsPart old cuts Change.Enable to kinds answer begun wire
-IsOwnWire old cuts (Disec to kinds policy others) answer begun wire = IsKindsPart old cuts Change.Disable to kinds answer begun wire
-IsOwnWire old cuts (Reset policy others) answer begun wire = IsResetWire wire
-IsOwnWire old cuts (SendList policy others) answer begun wire = IsListPart old wire
-IsOwnWire old cuts (ReadFrom a policy others) answer begun wire = IsReadPart old cuts a answer begun wire
-IsOwnWire old cuts (WriteTo a bytes policy others) answer begun wire = IsWritePart old cuts a bytes.items answer begun wire
-IsOwnWire old cuts (HandOver to others) answer begun wire = IsDeclinedPart old cuts to begun wire
-IsOwnWire old cuts _ answer begun wire = ⊥
+abbrev pub IsOwnWire : State → CutList → Event → Answer → State → ℕ → List Symbol → Type 0
+IsOwnWire old cuts (Enec to kinds policy others) answer new begun wire = IsKindsPart old cuts Change.Enable to kinds answer begun wire
+IsOwnWire old cuts (Disec to kinds policy others) answer new begun wire = IsKindsPart old cuts Change.Disable to kinds answer begun wire
+IsOwnWire old cuts (Reset policy others) answer new begun wire = IsResetWire wire
+IsOwnWire old cuts (SendList policy others) answer new begun wire = IsListPart old wire
+IsOwnWire old cuts (ReadFrom a policy others) answer new begun wire = IsReadPart old cuts a answer begun wire
+IsOwnWire old cuts (WriteTo a bytes policy others) answer new begun wire = IsWritePart old cuts a bytes.items answer begun wire
+IsOwnWire old cuts (HandOver to others) answer new begun wire = IsDeclinedPart old cuts to new begun wire
+IsOwnWire old cuts _ answer new begun wire = ⊥
 
 -- ENTDAA: the code 07. The session goes on with its rounds
 abbrev pub IsOpenWire : List Symbol → Type 0
@@ -179,7 +180,7 @@ IsWire old event Reply.Dropped new wire = wire ≡ []
 IsWire old event (Reply.Raised number) new wire = wire ≡ []
 IsWire old event Reply.Asked new wire = wire ≡ []
 IsWire old event (Reply.Served served) new wire = OfCuts event (λ cuts. IsServeWire old cuts served new wire)
-IsWire old event (Reply.Framed framed) new wire = OfCuts event (λ cuts. IsFrameWire old cuts framed.served new (IsOwnWire old cuts event framed.answer) wire)
+IsWire old event (Reply.Framed framed) new wire = OfCuts event (λ cuts. IsFrameWire old cuts framed.served new (IsOwnWire old cuts event framed.answer new) wire)
 IsWire old event (Reply.Opened served) new wire = OfCuts event (λ cuts. IsFrameWire old cuts served new (λ begun. IsOpenWire) wire)
 IsWire old event (Reply.Round answer) new wire = OfCuts event (λ cuts. IsRoundWireOf old cuts answer wire)
 IsWire old event (Reply.Handed served) new wire = OfCuts event (λ cuts. IsFrameWire old cuts served new (λ begun. IsHandedWire new event) wire)

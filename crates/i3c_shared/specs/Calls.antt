@@ -87,7 +87,7 @@ AsksFor old new event (Ok done) = Does old event Reply.Asked new
 AsksFor old new event (Err (AskFault.Refused why)) = Does old event (Reply.Refused why) new
 AsksFor old new event (Err AskFault.OutOfMemory) = DoesNothing old new
 
--- the role isn't the active controller's: so many handovers were granted, and nothing is looked at
+-- the role isn't the active controller's: the answer is the number of handovers granted so far, and nothing changes
 abbrev pub IsStale : KeptValue → KeptValue → ℕ → StaleRole → Type 0
 IsStale old new role stale = (role ≢ old.log.state.active) × (stale.0 ≡ terms_of old.log.run) × (new ≡ old)
 

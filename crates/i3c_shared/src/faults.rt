@@ -2,7 +2,7 @@ use i3c_base::{Addr7, Served, Slot};
 use i3c_step::Refusal;
 use thiserror::Error;
 
-/// The held role isn't the active controller's: so many handovers were granted.
+/// The held role isn't the active controller's. The number of handovers granted so far.
 #[derive(Clone, Copy, Debug, PartialEq, Eq, Drop, Error)]
 #[error("the role was handed over")]
 pub struct StaleRole(pub u64);

@@ -160,6 +160,7 @@ impl SharedBus {
         role: Option<HeldRole>,
         ports: Vec<Port>,
     ) -> Result<Closed, Unclosed<SharedBus>>
+        // of some bus: that it is this one, tests show
         ensures closed { IfOk result (λ c. (old : KeptValue) × Closes old role ports.items c.run.entries c.records c.waiting) }
         ensures back { IfErr result (λ u. (u.role ≡ role) × SamePorts ports.items u.ports.items) }
     {
