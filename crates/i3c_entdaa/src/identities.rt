@@ -1,10 +1,10 @@
-ghost use Rattle.std.specs.Prelude.{◌≡◌, length, not, IfSome, MatchOption};
+ghost use Rattle.std.specs.Prelude.{◌≡◌, length, not, IfSome, IsTrue, MatchOption};
 ghost use Rattle.std.specs.List.{list_all, list_any};
 ghost use Rattle.i3c_base.specs.declared.range.TheConstants.{SLOTS as SLOT_COUNT};
 ghost use Rattle.i3c_base.specs.Cutting.{lost_by};
 ghost use Rattle.i3c_base.specs.Round.{AllHearersLost};
 ghost use Rattle.i3c_base.specs.State.{State};
-ghost use Rattle.i3c_entdaa.specs.Parts.{AreTakers, HearersAreRanged, IsContest};
+ghost use Rattle.i3c_entdaa.specs.Parts.{AreTakers, HearersAreRanged, IsContest, NobodyHears};
 
 use crate::hearers::contend;
 use arrayvec::ArrayVec;
@@ -46,8 +46,30 @@ fn is_left(slots: &[Slot], cuts: &Cuts, last: u16) -> bool
     slots.iter().any(|slot| !cuts.is_lost(*slot, last))
 }
 
+/// Whether nobody hears.
+fn nobody_hears(devices: &Devices) -> bool
+    ensures silent { IsTrue result → NobodyHears devices.now }
+    ensures slots { length devices.now ≡ SLOT_COUNT }
+{
+    devices.hearers().lowest().is_none()
+}
+
 /// The contest of a round: all who hear drive their identities at once. `None` where nobody acknowledges the header.
+// a round that nobody hears, as each session's last, makes no room for keys
 pub(crate) fn read_identity(devices: &Devices, cuts: &Cuts) -> Option<Contested>
+    ensures contest { (st : State) → st.devices ≡ devices.now → MatchOption result (AllHearersLost st (lost_by cuts.now 0)) (λ read. IsContest st cuts.now read.bits read.acknowledged) }
+    ensures takers { IfSome result (λ read. AreTakers cuts.now devices.now read.bits read.takers) }
+    ensures ranged { IfSome result (λ _. HearersAreRanged devices.now) }
+    ensures slots { length devices.now ≡ SLOT_COUNT }
+{
+    if nobody_hears(devices) {
+        return None;
+    }
+    read_contest(devices, cuts)
+}
+
+/// The same, where somebody may hear.
+fn read_contest(devices: &Devices, cuts: &Cuts) -> Option<Contested>
     ensures contest { (st : State) → st.devices ≡ devices.now → MatchOption result (AllHearersLost st (lost_by cuts.now 0)) (λ read. IsContest st cuts.now read.bits read.acknowledged) }
     ensures takers { IfSome result (λ read. AreTakers cuts.now devices.now read.bits read.takers) }
     ensures ranged { IfSome result (λ _. HearersAreRanged devices.now) }

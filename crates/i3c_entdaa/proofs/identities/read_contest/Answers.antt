@@ -3,7 +3,7 @@ use Rattle.std.proofs.Common.{◌≡◌, ◌==◌, ℕ, not, false, ◌∙◌, a
 use Rattle.std.specs.List.{list_all, list_any}
 use Rattle.i3c_base.specs.Cutting.{lost_by}
 use Rattle.i3c_entdaa.proofs.ContestLaws.{contest_of, ranged_of, takers_of}
-use Rattle.i3c_entdaa.proofs.identities.read_identity.Goals as goal
+use Rattle.i3c_entdaa.proofs.identities.read_contest.Goals as goal
 
 pub returns-clause-contest : goal.returns-clause-contest
 returns-clause-contest c st same =
