@@ -158,24 +158,6 @@ pub length-no_entries : length no_entries ≡ ADDRESSES
 unfolding no_entries
 length-no_entries = length-replicate_of {A = Option Entry} ADDRESSES None
 
--- a loop that changes each place in turn
-changed_from_over : {A : Type 0} (f : ℕ → A → A) (n : ℕ) (xs : List A) (i : ℕ) (x : A) → i < length xs → x ≡ get_or (changed_from n f (take i xs) ++ drop i xs) i x
-    → set (changed_from n f (take i xs) ++ drop i xs) i (f (i + n) x) ≡ changed_from n f (take (suc i) xs) ++ drop (suc i) xs
-changed_from_over f n [] i x l e = absurd (omega arith)
-changed_from_over f n (y ∷ xs) zero x l e = ap (λ z. z ∷ xs) (ap (λ k. f k x) (zero-add n) ∙ ap (f n) e)
-changed_from_over f n (y ∷ xs) (suc i) x l e =
-    let same : suc i + n ≡ i + suc n = omega arith in
-    ap (λ zs. f n y ∷ zs) (ap (λ k. set (changed_from (suc n) f (take i xs) ++ drop i xs) i (f k x)) same ∙ changed_from_over f (suc n) xs i x (omega arith) e)
-
-pub changed_over_more : {A : Type 0} (f : ℕ → A → A) (xs ys : List A) (i : ℕ) (x : A) → i < length xs → ys ≡ changed f (take i xs) ++ drop i xs → x ≡ get_or ys i x
-    → set ys i (f i x) ≡ changed f (take (i + 1) xs) ++ drop (i + 1) xs
-changed_over_more f xs ys i x l e at =
-    let zero_right : i + 0 ≡ i = omega arith in
-    let more : suc i ≡ i + 1 = omega arith in
-    ap (λ k. set ys i (f k x)) (sym zero_right)
-    ∙ (ap (λ zs. set zs i (f (i + 0) x)) e
-    ∙ (changed_from_over f 0 xs i x l (at ∙ ap (λ zs. get_or zs i x) e) ∙ ap (λ k. changed f (take k xs) ++ drop k xs) more))
-
 -- two functions that agree on the places
 changed_from_same : {A : Type 0} (f g : ℕ → A → A) (d : A) (n : ℕ) (xs : List A) → ((k : ℕ) → k < length xs → f (k + n) (get_or xs k d) ≡ g (k + n) (get_or xs k d)) → changed_from n f xs ≡ changed_from n g xs
 changed_from_same f g d n [] h = refl
@@ -189,15 +171,3 @@ pub changed_same : {A : Type 0} (f g : ℕ → A → A) (d : A) (xs : List A) �
 changed_same f g d xs h = changed_from_same f g d 0 xs (λ k l.
     let same : k + 0 ≡ k = omega arith in
     ap (λ m. f m (get_or xs k d)) same ∙ (h k ∙ ap (λ m. g m (get_or xs k d)) (sym same)))
-
--- a function that leaves each place as it is
-changed_from_none : {A : Type 0} (f : ℕ → A → A) (n : ℕ) (xs : List A) → ((k : ℕ) (x : A) → f k x ≡ x) → changed_from n f xs ≡ xs
-changed_from_none f n [] h = refl
-changed_from_none f n (x ∷ xs) h = ap (λ y. y ∷ changed_from (suc n) f xs) (h n x) ∙ ap (λ ys. x ∷ ys) (changed_from_none f (suc n) xs h)
-
-pub changed_none : {A : Type 0} (f : ℕ → A → A) (xs : List A) → ((k : ℕ) (x : A) → f k x ≡ x) → changed f xs ≡ xs
-changed_none f xs h = changed_from_none f 0 xs h
-
--- the end of such a loop
-pub changed_over_all : {A : Type 0} (f : ℕ → A → A) (xs ys : List A) (i : ℕ) → length xs ≤ i → ys ≡ changed f (take i xs) ++ drop i xs → ys ≡ changed f xs
-changed_over_all f xs ys i l e = e ∙ ((λ t. changed f (take_all i xs l t) ++ drop_all i xs l t) ∙ append-nil (changed f xs))

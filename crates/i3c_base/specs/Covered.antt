@@ -22,8 +22,3 @@ IsTable st table = (table.given ≡ st.given) × (table.legacy ≡ lvrs st) × (
 -- a current copy of it, which keeps no address for an identity
 abbrev pub IsCopy : State → Table → Type 0
 IsCopy st table = (table.given ≡ map (option_map unkept) st.given) × (table.legacy ≡ lvrs st)
-
--- the active controller's table covers the bus, and so does, while the list is current, each other controller's copy
-pub record IsCovered (table : Table) (copies : ℕ → Table) (st : State) : Type 0 where
-  pub whole : IsTable st table
-  pub copied : st.listed ≡ true → (s a : ℕ) (d : Device) → device_at st s ≡ Some d → d.address ≡ Some a → is_capable d.identity.bcr ≡ true → s ≢ st.active → IsCopy st (copies s)

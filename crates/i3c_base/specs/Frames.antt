@@ -1,5 +1,5 @@
 -- The frames' own parts: enabling, reset, list, handover and private transfers, with the bits that each sends.
-use Rattle.std.specs.Prelude.{◌≡◌, ◌≢◌, ℕ, ◌+◌, ◌*◌, ◌<◌, Bool, true, false, not, ◌&&◌, ◌||◌, ◌==◌, ◌⊎◌, List, ◌++◌, length, drop, slice_index, slice_set, count_by, Option, Some, None, if◌then◌else◌, is_some, option_map}
+use Rattle.std.specs.Prelude.{◌≡◌, ◌≢◌, ℕ, ◌+◌, ◌*◌, ◌<◌, Bool, true, false, not, ◌&&◌, ◌||◌, ◌==◌, ◌⊎◌, List, ◌++◌, All, length, drop, slice_index, slice_set, count_by, Option, Some, None, if◌then◌else◌, is_some, option_map}
 use Rattle.i3c_base.specs.declared.answers.Answer.{Answer}
 use Rattle.i3c_base.specs.declared.device.LegacyTarget.{LegacyTarget}
 use Rattle.i3c_base.specs.State.{Device, State, IsPresent, IsTargetAt, change, device_at, each, forgotten, has_address, in_slot, legacy_target_at, unkept}
@@ -114,11 +114,11 @@ IsRefusedBits st a bits = (bits ≡ 18) ⊎ ((bits ≡ 27) × ((s : ℕ) × IsWi
 abbrev pub DrivesRegister : State → ℕ → ℕ → ℕ → ℕ → Type 0
 DrivesRegister st a k s v = (d : Device) × IsTargetAt st a s d × (v ≡ slice_index d.registers k)
 
--- what a read of the address gives: a legacy target's registers; of several devices the AND, free where some are lost
+-- what a read of the address gives: a legacy target's registers; of several devices the AND, any bytes where some are lost
 abbrev pub IsReadOf : State → ℕ → Lost → List ℕ → Type 0
 IsReadOf st a lost bytes =
     ((target : LegacyTarget) × (legacy_target_at st a ≡ Some target) × (bytes ≡ target.registers))
-    ⊎ ((legacy_target_at st a ≡ None) × SomeLeftAt st a lost × (length bytes ≡ 16)
+    ⊎ ((legacy_target_at st a ≡ None) × SomeLeftAt st a lost × (length bytes ≡ 16) × All (λ byte. byte < 256) bytes
     × (((s : ℕ) (d : Device) → IsTargetAt st a s d → lost s ≡ false)
     → (k : ℕ) → k < 16 → IsAnd (slice_index bytes k) (DrivesRegister st a k)))
 

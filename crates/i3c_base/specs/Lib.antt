@@ -4,6 +4,7 @@ pub mod Sets
 pub mod Cutting
 pub mod State
 pub mod Local
+pub mod Refusing
 pub mod Serve
 pub mod Frames
 pub mod Round

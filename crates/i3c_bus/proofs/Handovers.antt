@@ -38,11 +38,6 @@ pub offer_free : (st : State) (cuts : CutList) (to : ℕ) → st.in_session ≡ 
     → first_refusal ((st.in_session, Refusal.SessionOpen) ∷ (cuts_active st cuts, Refusal.ActiveStays) ∷ hand_checks st to) ≡ None
 offer_free st cuts to closed free = ap (λ b. first_refusal ((b, Refusal.SessionOpen) ∷ (cuts_active st cuts, Refusal.ActiveStays) ∷ hand_checks st to)) closed ∙ free
 
--- and where it is
-pub offer_refused : (st : State) (cuts : CutList) (to : ℕ) (why : Refusal) → st.in_session ≡ false → first_refusal ((cuts_active st cuts, Refusal.ActiveStays) ∷ hand_checks st to) ≡ Some why
-    → first_refusal ((st.in_session, Refusal.SessionOpen) ∷ (cuts_active st cuts, Refusal.ActiveStays) ∷ hand_checks st to) ≡ Some why
-offer_refused st cuts to why closed free = ap (λ b. first_refusal ((b, Refusal.SessionOpen) ∷ (cuts_active st cuts, Refusal.ActiveStays) ∷ hand_checks st to)) closed ∙ free
-
 -- a device at the address took it
 pub handed_carried : {T : Type 0} (gives : T → Symbol → T → Type 0) (tap first second last : T) (old mid new : Held) (to slot holder taker : ℕ) (cuts : CutList) (served : Served) (word bits : ℕ)
     → HandFits (Hand.Role holder) old.state → first_refusal ((cuts_active old.state cuts, Refusal.ActiveStays) ∷ hand_checks old.state to) ≡ None → IsWayTo gives tap first second old.state cuts served word bits

@@ -14,3 +14,4 @@ pub mod Listing
 pub mod Resetting
 pub mod Handovers
 pub mod Transfers
+pub mod RoundsMore

@@ -1,7 +1,7 @@
 -- The state that a bus's fields are seen as.
 use Rattle.std.proofs.Common.{◌≡◌, ◌∙◌, ℕ, ap, refl, sym}
 use Rattle.i3c_base.specs.State.{HasDevices, Held, State}
-use Rattle.i3c_bus.specs.declared.parts.Bus.TheInside.{Inside}
+use Rattle.i3c_bus.specs.declared.bus.Bus.TheInside.{Inside}
 use Rattle.i3c_bus.specs.Parts.{state_of}
 
 abbrev pub seen : Inside → State

@@ -108,11 +108,13 @@ read_alike old new a cuts first (Read.Ended bytes) alike h = (
   legacy_alike old new a None alike h.0,
   λ k j l m. let same = pulls_alike old new a (lost_by cuts (first + 9 * k + j)) k (7 - j) alike in (λ e. same.0 ((h.1 k j l m).0 e), λ p. (h.1 k j l m).1 (same.1 p)),
   h.2,
+  h.3,
 )
 read_alike old new a cuts first (Read.Torn bytes) alike h = (
   legacy_alike old new a None alike h.0,
   λ k j l m. let same = pulls_alike old new a (lost_by cuts (first + 9 * k + j)) k (7 - j) alike in (λ e. same.0 ((h.1 k j l m).0 e), λ p. (h.1 k j l m).1 (same.1 p)),
   h.2,
+  h.3,
 )
 
 written_alike : (old new : State) (a : ℕ) (write : Write) → Alike old new → IsWrittenBy new a write → IsWrittenBy old a write

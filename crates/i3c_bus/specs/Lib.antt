@@ -6,4 +6,5 @@ pub mod Wire
 pub mod Calls
 pub mod Beginning
 pub mod Asking
+pub mod Assigning
 pub mod Whole

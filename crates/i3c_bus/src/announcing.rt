@@ -1,4 +1,4 @@
-use crate::parts::Bus;
+use crate::bus::Bus;
 use crate::wire::{tell_list, tell_reset};
 use i3c_base::{Answer, Cuts};
 use i3c_ccc::Code;

@@ -1,7 +1,7 @@
 ghost use Rattle.std.specs.Prelude.{◌≡◌};
 ghost use Rattle.i3c_bus.specs.Hands.{unhanded};
 
-use crate::parts::Bus;
+use crate::bus::Bus;
 use crate::tokens::Hand;
 use i3c_base::{Addr7, Answer, Cuts, Fixed, Served};
 use i3c_frame::Tap;

@@ -3,7 +3,7 @@ ghost use Rattle.i3c_ibi.specs.Serving.{served_as};
 ghost use Rattle.i3c_bus.specs.Beginning.{kept_in};
 ghost use Rattle.i3c_step.specs.Serving.{place_of};
 
-use crate::parts::Bus;
+use crate::bus::Bus;
 use crate::tokens::Hand;
 use i3c_base::{Addr7, Answer, Change, Cuts, Kinds, Record, Served};
 use i3c_events::{answer_of, hear_kinds, kinds_bits, tell_kinds};
@@ -18,7 +18,7 @@ use i3c_word::HEADER_BITS;
 
 /// How a frame began: what it served, and how many bits it has sent after its first, which is the header's ninth.
 #[derive(Clone, Copy)]
-pub(crate) struct Begun {
+pub(crate) struct FrameStart {
     pub served: Served,
     pub bits: u16,
 }
@@ -227,7 +227,7 @@ impl Bus {
         policy: &mut P,
         tap: &mut T,
         cuts: &Cuts,
-    ) -> Result<Begun, OutOfMemory>
+    ) -> Result<FrameStart, OutOfMemory>
         ensures begins { IfOk result (λ b. (word : ℕ) × Begins self.old.state cuts.now b.served word self.new.state × (b.bits ≡ word + header_bits b.served)
             × Tells T.note_gives tap.old tap.new (IsWay self.old.state cuts.now b.served word self.new.state)) }
         ensures asks { IfOk result (λ b. Decides P.verdict_gives policy.old policy.new self.old.state (given_for b.served)) }
@@ -242,7 +242,7 @@ impl Bus {
 
     /// The beginning of a frame: its first request is served. There must be room for a record.
     #[inline(always)]
-    fn begin<P: Policy, T: Tap>(&mut self, policy: &mut P, tap: &mut T, cuts: &Cuts) -> Begun
+    fn begin<P: Policy, T: Tap>(&mut self, policy: &mut P, tap: &mut T, cuts: &Cuts) -> FrameStart
         requires room { self.old.room ≡ true }
         ensures begins { Begins self.old.state cuts.now result.served result.bits self.new.state }
         ensures asks { Decides P.verdict_gives policy.old policy.new self.old.state (given_for result.served) }
@@ -255,26 +255,26 @@ impl Bus {
         tell_reading(tap, &reading, ack);
         let served = record_due(&mut self.records, &reading);
         let bits = reading.word_bits();
-        Begun { served, bits }
+        FrameStart { served, bits }
     }
 
     /// How a frame goes on after its beginning: after a request a repeated START and the broadcast header are sent.
     #[inline(always)]
-    pub(crate) fn go_on<T: Tap>(&self, begun: Begun, tap: &mut T, cuts: &Cuts) -> Begun
+    pub(crate) fn go_on<T: Tap>(&self, begun: FrameStart, tap: &mut T, cuts: &Cuts) -> FrameStart
         requires { begun.bits ≤ 9 }
         ensures served { result.served ≡ begun.served }
         ensures bits { result.bits ≡ begun.bits + header_bits begun.served }
         ensures told { Tells T.note_gives tap.old tap.new (IsOn self.now.state cuts.now begun.served begun.bits) }
     {
-        let Begun { served, bits } = begun;
+        let FrameStart { served, bits } = begun;
         match served {
-            Served::Quiet => Begun { served, bits },
+            Served::Quiet => FrameStart { served, bits },
             _ => {
                 let ack = self
                     .devices
                     .is_heard(self.active(), &None, cuts, bits + HEADER_BITS);
                 tell_repeated(tap, ack);
-                Begun {
+                FrameStart {
                     served,
                     bits: bits + HEADER_BITS,
                 }
@@ -283,7 +283,7 @@ impl Bus {
     }
 
     /// The beginning of a frame that turns each request down.
-    pub(crate) fn begin_refusing<T: Tap>(&self, tap: &mut T, cuts: &Cuts) -> Begun
+    pub(crate) fn begin_refusing<T: Tap>(&self, tap: &mut T, cuts: &Cuts) -> FrameStart
         ensures serves { (lost : Lost) → Serves self.now.state refuse_all lost result.served self.now.state }
         ensures sent { IsWordBits self.now.state result.served result.bits }
         ensures bits { result.bits ≡ 0 }
@@ -302,7 +302,7 @@ impl Bus {
                 Served::Refused
             }
         };
-        Begun { served, bits: 0 }
+        FrameStart { served, bits: 0 }
     }
 }
 

@@ -1,5 +1,5 @@
-use crate::frames::Begun;
-use crate::parts::Bus;
+use crate::bus::Bus;
+use crate::frames::FrameStart;
 use i3c_base::{Addr7, Cuts, Served, Slot};
 use i3c_frame::Tap;
 use i3c_handoff::{HandFault, Offer, Role, give, offer, offer_bits, tell_offer};
@@ -37,7 +37,7 @@ impl Bus {
             return Err((role, Served::Quiet, fault));
         }
         let begun = self.begin_refusing(tap, cuts);
-        let Begun { served, bits } = self.go_on(begun, tap, cuts);
+        let FrameStart { served, bits } = self.go_on(begun, tap, cuts);
         let active = self.active();
         let offer = offer(&self.devices, active, to, cuts, bits);
         tell_offer(tap, to, &offer);

@@ -4,7 +4,7 @@ ghost use Rattle.i3c_base.specs.State.{HasDistinctIdentities, HasUniqueAnswers, 
 ghost use Rattle.i3c_step.specs.Runs.{IsLegalRun};
 ghost use Rattle.i3c_bus.specs.Hands.{HandFits};
 
-use crate::parts::Bus;
+use crate::bus::Bus;
 use crate::tokens::Hand;
 use i3c_base::Setup;
 use i3c_frame::Silent;

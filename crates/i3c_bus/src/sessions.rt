@@ -1,5 +1,5 @@
-use crate::frames::Begun;
-use crate::parts::Bus;
+use crate::bus::Bus;
+use crate::frames::FrameStart;
 use crate::tokens::Session;
 use crate::wire::tell_open;
 use i3c_base::{Cuts, RoundReply, Served};
@@ -38,7 +38,7 @@ impl Bus {
             return Err((role, ActiveStays));
         }
         let begun = self.begin_refusing(tap, cuts);
-        let Begun { served, bits } = self.go_on(begun, tap, cuts);
+        let FrameStart { served, bits } = self.go_on(begun, tap, cuts);
         tell_open(tap);
         self.open();
         self.drop_lost(cuts, bits + WORD_BITS);

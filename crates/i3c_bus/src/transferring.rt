@@ -1,4 +1,4 @@
-use crate::parts::Bus;
+use crate::bus::Bus;
 use arrayvec::ArrayVec;
 use i3c_base::{Addr7, Answer, Cuts};
 use i3c_frame::Tap;

@@ -38,16 +38,9 @@ module _ (words : List Word) where
       ∙ (ap (λ b. chosen None b miscounted (entries_in (bytes words))) whole
       ∙ ap (λ b. chosen None false b (entries_in (bytes words))) right)
 
--- how many words are cut short
-pub few_are_cut : (n : ℕ) → n < 5 → is_cut_short n ≡ true
-few_are_cut n l = ap (λ b. b || not ((n - 1) % 4 == 0)) (lt-ltb n 5 l)
-
 or_true : (b : Bool) → (b || true) ≡ true
 or_true true = refl
 or_true false = refl
-
-pub rest_is_cut : (n : ℕ) → 5 ≤ n → (n - 5) % 4 ≢ 0 → is_cut_short n ≡ true
-rest_is_cut n l odd = ap (λ b. nat_lt n 5 || not b) (ne_eqb ((n - 1) % 4) 0 (λ e. odd (omega (arith, e, l)))) ∙ or_true (nat_lt n 5)
 
 pub whole_is_not : (n : ℕ) → 5 ≤ n → (n - 5) % 4 ≡ 0 → is_cut_short n ≡ false
 whole_is_not n l even = ap (λ b. b || not ((n - 1) % 4 == 0)) (le-ltb n 5 l) ∙ ap not (eq-eqb ((n - 1) % 4) 0 (omega (arith, even, l)))

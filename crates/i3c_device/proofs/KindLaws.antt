@@ -7,10 +7,6 @@ use mir.Val.{bits}
 use Rattle.std.specs.Int.RustNames.{bit_or}
 use lib.Bits.{bit_and}
 
--- a test of the lowest bit, the second and the fourth
-pub has_lowest : (n : ℕ) → (bit_and n 1 == 1) ≡ (n % 2 == 1)
-has_lowest n = let e : bit_and n 1 ≡ bit_at n 0 * 1 = and_pow n 0 in let same : bit_and n 1 ≡ n % 2 = omega (arith, e, bit_at_lowest n) in ap (λ x. x == 1) same
-
 pub has_second : (n : ℕ) → (bit_and n 2 == 2) ≡ (n / 2 % 2 == 1)
 has_second n = ap (λ x. x == 2) (and_pow n 1) ∙ twice (bit_at n 1)
   where

@@ -18,11 +18,6 @@ use Rattle.i3c_device.specs.Walks.{drives_at}
 use Rattle.i3c_device.specs.Reading.{AreAt}
 use Rattle.i3c_device.specs.Wishing.{key_of, wishes_interrupt, wishes_join, wishes_role}
 
--- a place that holds a device
-pub present_is : (o : Option Device) → is_some o ≡ in_slot (λ d. true) o
-present_is None = refl
-present_is (Some d) = refl
-
 -- places that are all empty
 pub all_none : {A : Type 0} (xs : List (Option A)) (n : ℕ) → length xs ≡ n → ((k : ℕ) → k < n → get_or xs k None ≡ None) → xs ≡ replicate n None
 all_none [] zero l h = refl

@@ -24,10 +24,6 @@ pub driven_gone : (own bit start : ℕ) → bit ≤ start → IsDrivenFrom own (
 driven_gone own bit start early j l =
     bit_at_ones 8 (7 - j) (omega arith) ∙ sym (cond-true (is_by (start + j) (Some bit)) 1 (bit_at own (7 - j)) (le-leb bit (start + j) (omega arith)))
 
--- one that isn't cut before the end of its byte: its own
-pub driven_whole : (own bit start : ℕ) → start + 8 ≤ bit → IsDrivenFrom own (Some bit) start own
-driven_whole own bit start late j l = sym (cond-false (is_by (start + j) (Some bit)) 1 (bit_at own (7 - j)) (lt-leb bit (start + j) (omega arith)))
-
 max_one : (b : ℕ) → b < 2 → max b 1 ≡ 1
 max_one b l = grind (arith, nat_tests)
 
@@ -50,15 +46,6 @@ driven_part own bit start n at few j l = elim (cases_lt j n) [
   | inl before ↦ own_before own n j (omega arith) before ∙ sym (cond-false (is_by (start + j) (Some bit)) 1 (bit_at own (7 - j)) (lt-leb bit (start + j) (omega arith)))
   | inr after ↦ ones_after own n j l after ∙ sym (cond-true (is_by (start + j) (Some bit)) 1 (bit_at own (7 - j)) (le-leb bit (start + j) (omega arith)))
 ]
-
--- a slot pulls low what its device has as 0
-pub register_of_device : (d : Device) (k own start byte : ℕ) (cut : Option ℕ) → own ≡ get_or d.registers k 0 → IsDrivenFrom own cut start byte → IsRegisterFrom (Some d) k cut start byte
-register_of_device d k own start byte cut is driven j l =
-    driven j l ∙ (ap (λ v. if is_by (start + j) cut then 1 else bit_at v (7 - j)) is ∙ go (is_by (start + j) cut) (bit_at (get_or d.registers k 0) (7 - j)) (bit_at-lt (get_or d.registers k 0) (7 - j)))
-  where
-    go : (b : Bool) (v : ℕ) → v < 2 → (if b then 1 else v) ≡ (if not b && (v == 0) then 0 else 1)
-    go true v l = refl
-    go false v l = grind (arith, nat_tests)
 
 pub register_of_none : (k start : ℕ) (cut : Option ℕ) → IsRegisterFrom None k cut start 255
 register_of_none k start cut j l = bit_at_ones 8 (7 - j) (omega arith) ∙ go (is_by (start + j) cut)
@@ -85,21 +72,6 @@ at_none active a present slots devices none is s l = none s ∙ sym (go (get_or 
     go : (o : Option Device) → has present s ≡ in_slot (λ d. true) o → (not (has present s) && in_slot (reaches_at active (Some a) s) o) ≡ false
     go None e = and_false (not (has present s))
     go (Some d) e = ap (λ b. not b && reaches_at active (Some a) s d) e
-
-pub at_more : (active a i : ℕ) (left next slots more : SlotSet) (devices : List (Option Device)) (there : Bool) → AreAtSoFar active a left slots devices → TakesOut i left next
-    → there ≡ in_slot (reaches_at active (Some a) i) (get_or devices i None) → ((s : ℕ) → s < SLOTS → has more s ≡ (if s == i then there else has slots s)) → AreAtSoFar active a next more devices
-at_more active a i left next slots more devices there h out is put s l = put s l ∙ elim (cases_eq s i) [
-  | inl e ↦
-      cond-true (s == i) there (has slots s) (eq-eqb s i e)
-      ∙ (is ∙ sym (ap (λ b. not b && in_slot (reaches_at active (Some a) s) (get_or devices s None)) (out s l ∙ cond-true (s == i) false (has left s) (eq-eqb s i e))
-      ∙ ap (λ k. in_slot (reaches_at active (Some a) k) (get_or devices k None)) e))
-  | inr ne ↦
-      cond-false (s == i) there (has slots s) (ne_eqb s i ne)
-      ∙ (h s l ∙ ap (λ b. not b && in_slot (reaches_at active (Some a) s) (get_or devices s None)) (sym (out s l ∙ cond-false (s == i) false (has left s) (ne_eqb s i ne))))
-]
-
-pub at_all : (active a : ℕ) (left slots : SlotSet) (devices : List (Option Device)) → AreAtSoFar active a left slots devices → ((s : ℕ) → s < SLOTS → has left s ≡ false) → AreAt active a slots devices
-at_all active a left slots devices h none s l = h s l ∙ ap (λ b. not b && in_slot (reaches_at active (Some a) s) (get_or devices s None)) (none s l)
 
 -- one of the slots that aren't left isn't lost, and has 0 there
 abbrev pub SomeZeroSoFar : SlotSet → SlotSet → Lost → ℕ → ℕ → List (Option Device) → Type 0

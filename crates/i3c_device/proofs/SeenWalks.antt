@@ -240,10 +240,6 @@ asked_of d (Interrupt a) h =
     (or_right (wishes_role d && d.kinds.role) (wishes_interrupt d && d.kinds.interrupt)
     (and_join (wishes_interrupt d) d.kinds.interrupt (and_join (is_some d.address) (not d.role_wish && not (is_empty d.waiting)) (there a d.address p.0) (and_join (not d.role_wish) (not (is_empty d.waiting)) q.0 r.0)) r.1))
 
--- a slot whose device drives a request
-abbrev pub AreAsking : ℕ → SlotSet → List (Option Device) → Type 0
-AreAsking active slots now = (s : ℕ) → s < SLOTS → has slots s ≡ true → (not (s == active) && in_slot asks_some (get_or now s None)) ≡ true
-
 pub asking_seen : (e : Enabled) (marks : Marks) (xs now : List (Option Device)) (active s : ℕ) (joins roles interrupts more all result : SlotSet) → seen e xs ≡ now → AreMarks marks xs → s < SLOTS
     → has joins s ≡ (has marks.joining s && has e.joins s) → has roles s ≡ (has marks.asking s && has e.roles s) → has interrupts s ≡ (has marks.interrupting s && has e.interrupts s)
     → has more s ≡ (has roles s || has interrupts s) → has all s ≡ (has joins s || has more s) → has result s ≡ (if s == active then false else has all s)

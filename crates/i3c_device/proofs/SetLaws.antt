@@ -35,17 +35,6 @@ min_one b l = grind (arith, nat_tests)
 min_zero : (b : ℕ) → min b 0 ≡ 0
 min_zero b = grind (arith, nat_tests)
 
-pub from_bit : (n k s : ℕ) → k < 16 → s < 16 → (bit_at (bit_and n (65535 * 2 ^ k % 65536)) s == 1) ≡ (nat_le k s && (bit_at n s == 1))
-from_bit n k s l m =
-    ap (λ b. b == 1) (ap (λ mask. bit_at (bit_and n mask) s) (ones_shl 16 k (omega arith)) ∙ bit_at_and n (2 ^ 16 - 2 ^ k) s) ∙ elim (cases_lt s k) [
-      | inl below ↦
-          ap (λ b. b == 1) (ap (min (bit_at n s)) (bit_at_mask_below k 16 s below) ∙ min_zero (bit_at n s))
-          ∙ sym (and_left (nat_le k s) (bit_at n s == 1) (lt-leb k s below))
-      | inr above ↦
-          ap (λ b. b == 1) (ap (min (bit_at n s)) (bit_at_mask_inside k 16 s above m) ∙ min_one (bit_at n s) (bit_at-lt n s))
-          ∙ sym (ap (λ b. b && (bit_at n s == 1)) (le-leb k s above))
-    ]
-
 -- the lowest slot of a set
 pub lowest_in : (n : ℕ) → 0 < n → n < 65536 → (trailing_zeros w16 n < 16) × (bit_at n (trailing_zeros w16 n) ≡ 1) × ((i : ℕ) → i < trailing_zeros w16 n → bit_at n i ≡ 0)
 lowest_in n p l = bit_at-trailing_zeros w16 n p l

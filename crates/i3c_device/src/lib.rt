@@ -3,6 +3,8 @@
 #![tactic(auto)]
 
 mod attached;
+mod device;
+mod devices;
 mod driven;
 mod enabled;
 mod kinds;
@@ -12,10 +14,8 @@ mod own_kinds;
 mod places;
 mod queues;
 mod sets;
-mod single;
-mod slots;
 mod walks;
 
+pub use device::Device;
+pub use devices::Devices;
 pub use sets::SlotSet;
-pub use single::Device;
-pub use slots::Devices;

@@ -2,7 +2,7 @@ use crate::attached::Attached;
 use crate::marks::Marks;
 use crate::places::{raise, register_from};
 use crate::sets::SlotSet;
-use crate::walks::{Happening, Sought, happen_in};
+use crate::walks::{SlotUpdate, Sought, happen_in};
 use i3c_base::{Addr7, Cuts, RaiseRefusal, SLOTS, Slot};
 use std::marker::Model;
 
@@ -46,6 +46,15 @@ impl Occupants {
             places: std::array::from_fn(|_| None),
             marks: Marks::new(),
         }
+    }
+
+    /// How many slots there are.
+    pub fn slots(&self) -> usize
+        ensures count { result ≡ SLOT_COUNT }
+        ensures slots { length self.now ≡ SLOT_COUNT }
+    {
+        let places = &self.places;
+        places.len()
     }
 
     /// Whatever stands in a slot.
@@ -136,7 +145,7 @@ impl Occupants {
     }
 
     /// This happens in one slot.
-    pub fn happen<H: Happening>(&mut self, slot: Slot, happening: &H)
+    pub fn happen<H: SlotUpdate>(&mut self, slot: Slot, happening: &H)
         ensures changed { self.new ≡ slice_set self.old slot (H.after happening.now slot (slice_index_or self.old slot None)) }
         ensures slots { length self.old ≡ SLOT_COUNT }
     {
@@ -145,7 +154,7 @@ impl Occupants {
     }
 
     /// This happens in each of these slots.
-    pub fn each<H: Happening>(&mut self, among: SlotSet, happening: &H)
+    pub fn each<H: SlotUpdate>(&mut self, among: SlotSet, happening: &H)
         ensures changed { self.new ≡ changed (within among (H.after happening.now)) self.old }
         ensures slots { length self.old ≡ SLOT_COUNT }
     {

@@ -18,7 +18,7 @@ use crate::places::{
 use i3c_base::{Addr7, Request, Slot};
 
 /// What happens to whatever stands in some slots.
-pub(crate) trait Happening {
+pub(crate) trait SlotUpdate {
     /// What stands in a slot after it.
     ghost after: { Self → ℕ → Option DeviceState → Option DeviceState };
 
@@ -42,7 +42,7 @@ pub(crate) trait Happening {
 
 /// This happens to whatever stands in a slot, if it concerns it, and is noted in the marks.
 #[inline(always)]
-pub(crate) fn happen_in<H: Happening>(
+pub(crate) fn happen_in<H: SlotUpdate>(
     happening: &H,
     index: usize,
     place: &mut Option<Attached>,
@@ -64,7 +64,7 @@ pub(crate) struct Accepted<'a> {
     pub request: &'a Request,
 }
 
-impl Happening for Accepted<'_> {
+impl SlotUpdate for Accepted<'_> {
     ghost after = { λ h s place. taken_from h.request.now place };
 
     fn concerns(&self, _place: &Option<Attached>, _index: usize) -> bool {
@@ -80,7 +80,7 @@ impl Happening for Accepted<'_> {
 #[derive(Drop)]
 pub(crate) struct FrontLost;
 
-impl Happening for FrontLost {
+impl SlotUpdate for FrontLost {
     ghost after = { λ h s place. option_map without_front place };
 
     fn concerns(&self, _place: &Option<Attached>, _index: usize) -> bool {
@@ -100,7 +100,7 @@ impl Happening for FrontLost {
 #[derive(Drop)]
 pub(crate) struct JoinWished;
 
-impl Happening for JoinWished {
+impl SlotUpdate for JoinWished {
     ghost after = { λ h s place. option_map wishing_join place };
 
     fn concerns(&self, _place: &Option<Attached>, _index: usize) -> bool {
@@ -116,7 +116,7 @@ impl Happening for JoinWished {
 #[derive(Drop)]
 pub(crate) struct RoleWished;
 
-impl Happening for RoleWished {
+impl SlotUpdate for RoleWished {
     ghost after = { λ h s place. option_map wishing_role place };
 
     fn concerns(&self, _place: &Option<Attached>, _index: usize) -> bool {
@@ -132,7 +132,7 @@ impl Happening for RoleWished {
 #[derive(Drop)]
 pub(crate) struct RoleLost;
 
-impl Happening for RoleLost {
+impl SlotUpdate for RoleLost {
     ghost after = { λ h s place. option_map without_role place };
 
     fn concerns(&self, _place: &Option<Attached>, _index: usize) -> bool {
@@ -148,7 +148,7 @@ impl Happening for RoleLost {
 #[derive(Drop)]
 pub(crate) struct Reset;
 
-impl Happening for Reset {
+impl SlotUpdate for Reset {
     ghost after = { λ h s place. option_map unaddressed_device place };
 
     fn concerns(&self, _place: &Option<Attached>, _index: usize) -> bool {
@@ -164,7 +164,7 @@ impl Happening for Reset {
 #[derive(Drop)]
 pub(crate) struct Opened;
 
-impl Happening for Opened {
+impl SlotUpdate for Opened {
     ghost after = { λ h s place. option_map hears place };
 
     fn concerns(&self, _place: &Option<Attached>, _index: usize) -> bool {
@@ -184,7 +184,7 @@ impl Happening for Opened {
 #[derive(Drop)]
 pub(crate) struct Ended;
 
-impl Happening for Ended {
+impl SlotUpdate for Ended {
     ghost after = { λ h s place. option_map unhearing place };
 
     fn concerns(&self, _place: &Option<Attached>, _index: usize) -> bool {
@@ -207,7 +207,7 @@ pub(crate) struct Won {
     ghost dynamic: { 8 ≤ address },
 }
 
-impl Happening for Won {
+impl SlotUpdate for Won {
     ghost after = { λ h s place. option_map (winner h.address) place };
 
     fn concerns(&self, _place: &Option<Attached>, _index: usize) -> bool {
@@ -228,7 +228,7 @@ pub(crate) struct Written<'a> {
     ghost fitting: { length bytes.now ≤ REGISTER_COUNT },
 }
 
-impl Happening for Written<'_> {
+impl SlotUpdate for Written<'_> {
     ghost after = { λ h s place. written_at h.active h.address h.bytes.now s place };
 
     fn concerns(&self, place: &Option<Attached>, index: usize) -> bool {
@@ -244,7 +244,7 @@ impl Happening for Written<'_> {
 #[derive(Drop)]
 pub(crate) struct Lost;
 
-impl Happening for Lost {
+impl SlotUpdate for Lost {
     ghost after = { λ h s place. None };
 
     fn concerns(&self, _place: &Option<Attached>, _index: usize) -> bool {

@@ -24,16 +24,6 @@ pub left_reached : (st : State) (a : ℕ) (lost : Lost) (devices : List (Option 
 left_reached st a lost devices active has h =
     subst (λ ds. SomeReached active (Some a) lost ds) has.0 (subst (λ s. SomeReached s (Some a) lost st.devices) has.1 (own_left_at st a lost h))
 
--- a broadcast is heard by any who is left
-pub reached_any : (st : State) (lost : Lost) (devices : List (Option Device)) (active : ℕ) → HasDevices st devices active → SomeReached active None lost devices → IsHeard st None lost
-reached_any st lost devices active has h =
-    let k = subst (λ ds. SomeReached st.active None lost ds) (sym has.0) (subst (λ s. SomeReached s None lost devices) (sym has.1) h) in
-    (k.0, (k.1, k.2), other_slot k.0 st.active k.3, k.4)
-
-pub any_reached : (st : State) (lost : Lost) (devices : List (Option Device)) (active : ℕ) → HasDevices st devices active → IsHeard st None lost → SomeReached active None lost devices
-any_reached st lost devices active has h =
-    subst (λ ds. SomeReached active None lost ds) has.0 (subst (λ s. SomeReached s None lost st.devices) has.1 (h.0, h.1.0, h.1.1, slot_other h.0 st.active h.2, h.3))
-
 -- what stands in a slot after the kinds of those whom it reaches were changed
 turned_is : (to : Option ℕ) (f : KindSet → KindSet) (st : State) (s : ℕ) (place : Option Device)
     → rekinded_at st.active to f s place ≡ option_map (λ d. if reaches st to s d then record d { kinds = f d.kinds } else d) place

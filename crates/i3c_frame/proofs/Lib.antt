@@ -1,4 +1,3 @@
-pub mod DigitLaws
 pub mod TapLaws
 pub mod TextLaws
 pub mod PartLaws

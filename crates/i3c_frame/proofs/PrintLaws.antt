@@ -8,7 +8,8 @@ use Rattle.std.specs.List.{join_with_byte}
 use Rattle.i3c_frame.specs.declared.symbols.Symbol.{Symbol}
 use Rattle.i3c_frame.specs.declared.symbols.Symbol.TheVariants.{Start, Repeated, Stop, Header, Word, Identity, AddressByte, LegacyWord}
 use Rattle.i3c_frame.specs.Parts.{is_separator, parts}
-use Rattle.i3c_frame.specs.Texts.{answer_text, digits_of, direction_text, t_text, text_of}
+use Rattle.i3c_frame.specs.Texts.{answer_text, direction_text, t_text, text_of}
+use Rattle.i3c_text.specs.Hex.{hex_text}
 use Rattle.i3c_frame.proofs.TextLaws.{length-text_of, size_of}
 
 -- a text that no separator parts
@@ -37,8 +38,8 @@ mark {byte} {rest} here whole = record { all = All-cons (λ byte. is_separator b
 both : {xs ys : List ℕ} → IsWhole xs → IsWhole ys → IsWhole (xs ++ ys)
 both {xs} {ys} first second = record { all = All-append (λ byte. is_separator byte ≡ false) xs ys first.all second.all }
 
-digits_whole : (count n : ℕ) → IsWhole (digits_of count n)
-unfolding digits_of
+digits_whole : (count n : ℕ) → IsWhole (hex_text count n)
+unfolding hex_text
 digits_whole zero n = nothing
 digits_whole (suc count) n = both (digits_whole count (n / 16)) (mark (glyph_whole (n % 16) (omega arith)) nothing)
 

@@ -4,8 +4,9 @@ use Rattle.std.proofs.lemmas.Bool.Decides.{nat_tests}
 use Rattle.std.specs.Fmt.{digit_glyph}
 use Rattle.i3c_frame.specs.declared.symbols.Symbol.{Symbol}
 use Rattle.i3c_frame.specs.declared.symbols.Symbol.TheVariants.{Start, Repeated, Stop, Header, Word, Identity, AddressByte, LegacyWord}
-use Rattle.i3c_frame.specs.Texts.{digits_of, direction_text, answer_text, t_text, text_of, IsInRange}
-use Rattle.i3c_frame.proofs.DigitLaws.{digits_of_same}
+use Rattle.i3c_frame.specs.Texts.{direction_text, answer_text, t_text, text_of, IsInRange}
+use Rattle.i3c_text.specs.Hex.{hex_text}
+use Rattle.i3c_text.proofs.DigitLaws.{hex_text_same}
 
 -- how long a symbol's text is
 abbrev pub size_of : Symbol → ℕ
@@ -31,7 +32,7 @@ length-t_text true = refl
 length-t_text false = refl
 
 pub length-text_of : (symbol : Symbol) → length (text_of symbol) ≡ size_of symbol
-unfolding digits_of
+unfolding hex_text
 length-text_of Start = refl
 length-text_of Repeated = refl
 length-text_of Stop = refl
@@ -53,16 +54,16 @@ wrong_length symbol text e other = absurd (other (omega (arith, length-text_of s
 pub record IsAnswered (high low mark : ℕ) : Type 0 where
   pub byte : ℕ
   pub ack : Bool
-  pub digits : digits_of 2 byte ≡ high ∷ low ∷ []
+  pub digits : hex_text 2 byte ≡ high ∷ low ∷ []
   pub answer : answer_text ack ≡ mark ∷ []
 
 pub legacy_word_parts : (symbol : Symbol) (high low mark : ℕ) → text_of symbol ≡ high ∷ low ∷ mark ∷ [] → IsAnswered high low mark
-unfolding digits_of
+unfolding hex_text
 legacy_word_parts (LegacyWord byte ack) high low mark e = record { byte = byte; ack = ack; digits = cc; answer = cc }
 legacy_word_parts symbol high low mark e = wrong_length symbol _ e (λ same. omega arith)
 
 pub address_byte_parts : (symbol : Symbol) (high low mark : ℕ) → text_of symbol ≡ 64 ∷ high ∷ low ∷ mark ∷ [] → IsAnswered high low mark
-unfolding digits_of
+unfolding hex_text
 address_byte_parts (AddressByte byte ack) high low mark e = record { byte = byte; ack = ack; digits = cc; answer = cc }
 address_byte_parts (Word word) high low mark e = absurd ((not_marks (word.byte / 16)).1 (cc))
 address_byte_parts symbol high low mark e = wrong_length symbol _ e (λ same. omega arith)
@@ -76,11 +77,11 @@ dot_first false = refl
 pub record IsByteAndT (high low digit : ℕ) : Type 0 where
   pub byte : ℕ
   pub t : Bool
-  pub digits : digits_of 2 byte ≡ high ∷ low ∷ []
+  pub digits : hex_text 2 byte ≡ high ∷ low ∷ []
   pub t_bit : t_text t ≡ 46 ∷ digit ∷ []
 
 pub word_parts : (symbol : Symbol) (high low digit : ℕ) → text_of symbol ≡ high ∷ low ∷ 46 ∷ digit ∷ [] → IsByteAndT high low digit
-unfolding digits_of
+unfolding hex_text
 word_parts (Word word) high low digit e = record { byte = word.byte; t = word.t; digits = cc; t_bit = cc }
 word_parts (AddressByte byte ack) high low digit e = absurd ((not_marks byte).0 (cc))
 word_parts symbol high low digit e = wrong_length symbol _ e (λ same. omega arith)
@@ -91,14 +92,14 @@ pub record IsAddressed (high low slash direction mark : ℕ) : Type 0 where
   pub read : Bool
   pub ack : Bool
   pub range : address < 128
-  pub digits : digits_of 2 address ≡ high ∷ low ∷ []
+  pub digits : hex_text 2 address ≡ high ∷ low ∷ []
   pub divided : slash ≡ 47
   pub way : direction_text read ≡ 47 ∷ direction ∷ []
   pub answer : answer_text ack ≡ mark ∷ []
 
 pub header_parts : (symbol : Symbol) (high low slash direction mark : ℕ) → IsInRange symbol
     → text_of symbol ≡ high ∷ low ∷ slash ∷ direction ∷ mark ∷ [] → IsAddressed high low slash direction mark
-unfolding digits_of
+unfolding hex_text
 header_parts (Header address true ack) high low slash direction mark range e = record {
   address = address;
   read = true;
@@ -134,14 +135,14 @@ pair_parts symbol first second e = wrong_length symbol _ e (λ same. omega arith
 
 -- four letters begin with `@`, or the third is a dot
 pub four_parts : (symbol : Symbol) (first second third fourth : ℕ) → text_of symbol ≡ first ∷ second ∷ third ∷ fourth ∷ [] → (first ≡ 64) ⊎ (third ≡ 46)
-unfolding digits_of
+unfolding hex_text
 four_parts (AddressByte byte ack) first second third fourth e = inl (cc)
 four_parts (Word word) first second third fourth e = inr (ap (λ text. get_or text 2 0) (sym e) ∙ dot_first word.t)
 four_parts symbol first second third fourth e = wrong_length symbol _ e (λ same. omega arith)
 
 -- more than five letters are an identity
 pub identity_parts : (symbol : Symbol) (equals : ℕ) (digits : List ℕ) → text_of symbol ≡ equals ∷ digits → 5 ≤ length digits
-    → (bits : ℕ) × (equals ≡ 61) × (digits_of 16 bits ≡ digits)
+    → (bits : ℕ) × (equals ≡ 61) × (hex_text 16 bits ≡ digits)
 identity_parts (Identity bits) equals digits e long = (bits, cc, ap (drop 1) e)
 identity_parts symbol equals digits e long = wrong_length symbol _ e (λ same. omega arith)
 
@@ -163,12 +164,12 @@ direction_same false false c d e = (refl, ap (drop 2) e)
 direction_same true false c d e = absurd (omega (arith, ap (λ text. get_or text 1 0) e))
 direction_same false true c d e = absurd (omega (arith, ap (λ text. get_or text 1 0) e))
 
-byte_same : (m n : ℕ) → m < 2 ^ 8 → n < 2 ^ 8 → digits_of 2 m ≡ digits_of 2 n → m ≡ n
-byte_same m n small low e = digits_of_same 2 m n (omega arith) (omega arith) e
+byte_same : (m n : ℕ) → m < 2 ^ 8 → n < 2 ^ 8 → hex_text 2 m ≡ hex_text 2 n → m ≡ n
+byte_same m n small low e = hex_text_same 2 m n (omega arith) (omega arith) e
 
 -- a text is that of one symbol at most
 pub text_of_same : (a b : Symbol) → IsInRange a → IsInRange b → text_of a ≡ text_of b → a ≡ b
-unfolding digits_of
+unfolding hex_text
 text_of_same Start Start fit range e = refl
 text_of_same Repeated Repeated fit range e = refl
 text_of_same Stop Stop fit range e = refl
@@ -181,7 +182,7 @@ text_of_same (Header a r k) (Header b s l) fit range e =
 text_of_same (Word v) (Word w) fit range e =
     let byte = byte_same v.byte w.byte fit range (ap (take 2) e) in
     let t = t_same v.t w.t (ap (drop 2) e) in λ i. Word (record { byte = byte i; t = t i })
-text_of_same (Identity m) (Identity n) fit range e = ap Identity (digits_of_same 16 m n fit range (ap (drop 1) e))
+text_of_same (Identity m) (Identity n) fit range e = ap Identity (hex_text_same 16 m n fit range (ap (drop 1) e))
 text_of_same (AddressByte a k) (AddressByte b l) fit range e =
     let byte = byte_same a b fit range (ap (λ text. take 2 (drop 1 text)) e) in
     let ack = answer_same k l (ap (drop 3) e) in λ i. AddressByte (byte i) (ack i)

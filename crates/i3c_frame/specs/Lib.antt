@@ -1,4 +1,5 @@
 pub mod Firsts
+pub mod Frames
 pub mod Laws
 pub mod Parts
 pub mod Taps

@@ -1,13 +1,8 @@
 -- The texts of symbols.
 use Rattle.std.specs.Prelude.{⊤, ◌≡◌, ◌<◌, ◌^◌, ℕ, zero, suc, ◌/◌, ◌%◌, Bool, true, false, List, [], ◌∷◌, ◌++◌, codes, Option, IsSome}
-use Rattle.std.specs.Fmt.{digit_glyph}
+use Rattle.i3c_text.specs.Hex.{hex_text}
 use Rattle.i3c_frame.specs.declared.symbols.Symbol.{Symbol}
 use Rattle.i3c_frame.specs.declared.symbols.Symbol.TheVariants.{Start, Repeated, Stop, Header, Word, Identity, AddressByte, LegacyWord}
-
--- the last digits of a number, so many, in upper case hexadecimal
-unfoldable pub digits_of : ℕ → ℕ → List ℕ
-digits_of zero n = []
-digits_of (suc count) n = digits_of count (n / 16) ++ digit_glyph true (n % 16) ∷ []
 
 -- read or write
 abbrev pub direction_text : Bool → List ℕ
@@ -29,11 +24,11 @@ abbrev pub text_of : Symbol → List ℕ
 text_of Start = codes "S"
 text_of Repeated = codes "Sr"
 text_of Stop = codes "P"
-text_of (Header address read ack) = digits_of 2 address ++ (direction_text read ++ answer_text ack)
-text_of (Word word) = digits_of 2 word.byte ++ t_text word.t
-text_of (Identity bits) = codes "=" ++ digits_of 16 bits
-text_of (AddressByte byte ack) = codes "@" ++ (digits_of 2 byte ++ answer_text ack)
-text_of (LegacyWord byte ack) = digits_of 2 byte ++ answer_text ack
+text_of (Header address read ack) = hex_text 2 address ++ (direction_text read ++ answer_text ack)
+text_of (Word word) = hex_text 2 word.byte ++ t_text word.t
+text_of (Identity bits) = codes "=" ++ hex_text 16 bits
+text_of (AddressByte byte ack) = codes "@" ++ (hex_text 2 byte ++ answer_text ack)
+text_of (LegacyWord byte ack) = hex_text 2 byte ++ answer_text ack
 
 -- the numbers of a symbol fit their types
 abbrev pub IsInRange : Symbol → Type 0

@@ -1,9 +1,10 @@
 ghost use Rattle.std.specs.Prelude.{◌≡◌, ◌≤◌, length, Bool, [], ◌∷◌, ◌++◌, codes, Some, IfSome, IsSome};
 ghost use Rattle.std.specs.Fmt.{WritesOnOk};
-ghost use Rattle.i3c_frame.specs.Texts.{FindsSymbol, HasText, IsInRange, answer_text, digits_of, direction_text, t_text, text_of};
+ghost use Rattle.i3c_frame.specs.Texts.{FindsSymbol, HasText, IsInRange, answer_text, direction_text, t_text, text_of};
+ghost use Rattle.i3c_text.specs.Hex.{hex_text};
 
-use crate::digits::{read_byte, read_digits, write_digits};
 use i3c_base::Addr7;
+use i3c_text::{read_byte, read_digits, write_digits};
 use i3c_word::Word;
 use std::fmt;
 
@@ -90,7 +91,7 @@ fn write_header<W: fmt::Write>(
     read: bool,
     ack: bool,
 ) -> fmt::Result
-    ensures { WritesOnOk W.write_str_gives f.old result (digits_of 2 address ++ (direction_text read ++ answer_text ack)) f.new }
+    ensures { WritesOnOk W.write_str_gives f.old result (hex_text 2 address ++ (direction_text read ++ answer_text ack)) f.new }
 {
     write_digits(f, u64::from(address.get()), 2)?;
     f.write_str(direction(read))?;
@@ -99,7 +100,7 @@ fn write_header<W: fmt::Write>(
 
 /// Writes a word: a byte and its T bit.
 fn write_word<W: fmt::Write>(f: &mut fmt::Formatter<W>, word: Word) -> fmt::Result
-    ensures { WritesOnOk W.write_str_gives f.old result (digits_of 2 word.byte ++ t_text word.t) f.new }
+    ensures { WritesOnOk W.write_str_gives f.old result (hex_text 2 word.byte ++ t_text word.t) f.new }
 {
     write_digits(f, u64::from(word.byte), 2)?;
     f.write_str(t_bit(word.t))
@@ -107,7 +108,7 @@ fn write_word<W: fmt::Write>(f: &mut fmt::Formatter<W>, word: Word) -> fmt::Resu
 
 /// Writes the bits of an identity: an equals sign and 16 digits.
 fn write_identity<W: fmt::Write>(f: &mut fmt::Formatter<W>, bits: u64) -> fmt::Result
-    ensures { WritesOnOk W.write_str_gives f.old result (codes "=" ++ digits_of 16 bits) f.new }
+    ensures { WritesOnOk W.write_str_gives f.old result (codes "=" ++ hex_text 16 bits) f.new }
 {
     f.write_str("=")?;
     write_digits(f, bits, 16)
@@ -115,7 +116,7 @@ fn write_identity<W: fmt::Write>(f: &mut fmt::Formatter<W>, bits: u64) -> fmt::R
 
 /// Writes an address byte of a round, and its answer.
 fn write_address_byte<W: fmt::Write>(f: &mut fmt::Formatter<W>, byte: u8, ack: bool) -> fmt::Result
-    ensures { WritesOnOk W.write_str_gives f.old result (codes "@" ++ (digits_of 2 byte ++ answer_text ack)) f.new }
+    ensures { WritesOnOk W.write_str_gives f.old result (codes "@" ++ (hex_text 2 byte ++ answer_text ack)) f.new }
 {
     f.write_str("@")?;
     write_legacy_word(f, byte, ack)
@@ -123,7 +124,7 @@ fn write_address_byte<W: fmt::Write>(f: &mut fmt::Formatter<W>, byte: u8, ack: b
 
 /// Writes a byte of a legacy target, and its answer.
 fn write_legacy_word<W: fmt::Write>(f: &mut fmt::Formatter<W>, byte: u8, ack: bool) -> fmt::Result
-    ensures { WritesOnOk W.write_str_gives f.old result (digits_of 2 byte ++ answer_text ack) f.new }
+    ensures { WritesOnOk W.write_str_gives f.old result (hex_text 2 byte ++ answer_text ack) f.new }
 {
     write_digits(f, u64::from(byte), 2)?;
     f.write_str(answer(ack))

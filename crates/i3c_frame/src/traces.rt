@@ -10,7 +10,7 @@ use std::alloc::Global;
 use thiserror::Error;
 
 /// How many bytes of a trace are a symbol and what parts it from the next, as a rule.
-const BYTES_A_SYMBOL: usize = 4;
+pub(crate) const BYTES_A_SYMBOL: usize = 4;
 
 /// Why a text is no trace. Symbols are counted from 1.
 #[derive(Clone, Copy, Debug, PartialEq, Eq, Drop, Error)]
@@ -41,7 +41,7 @@ pub(crate) enum Place {
 }
 
 /// The place after a symbol, if the symbol may stand there.
-fn after(place: &Place, symbol: &Symbol) -> Option<Place>
+pub(crate) fn after(place: &Place, symbol: &Symbol) -> Option<Place>
     ensures { result ≡ after place.now symbol.now }
 {
     match (place, symbol) {

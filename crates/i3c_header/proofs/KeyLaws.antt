@@ -49,9 +49,6 @@ keyed_next requests i keys more r s k so_far l at place is small e = record {
 pub keyed_room : (requests : List Request) (i : ℕ) (keys : List (ℕ × ℕ)) → KeyedSoFar requests i keys → i < length requests → length keys ≡ i
 keyed_room requests i keys so_far l = ap length so_far.keys_are ∙ (length-keyed 0 (take i requests) ∙ length-take-le i requests (omega arith))
 
-pub keyed_all : (requests : List Request) (i : ℕ) (keys : List (ℕ × ℕ)) → KeyedSoFar requests i keys → length requests ≤ i → keys ≡ keyed 0 requests
-keyed_all requests i keys so_far l = so_far.keys_are ∙ ap (keyed 0) (take_all i requests l)
-
 -- what is known of a winner's place
 pub record Stands (rs : List Request) (n bits w : ℕ) : Type 0 where
   pub request : Request

@@ -196,22 +196,6 @@ reading_of st devices cuts at slot front byte drivers same are long found read s
     subst (λ s. IsReading s cuts at (record { slot = slot; number = front.number; at = at; byte = byte })) (λ k. record st { devices = sym same k })
     (reading_at (record st { devices = devices }) cuts at slot front byte drivers are long found read small)
 
--- whoever drives an interrupt has a front
-driver_front : (active s at : ℕ) (o : Option Device) → drives_at active s o (Interrupt at) ≡ true → (w : Waiting) × IsFrontOf o w
-driver_front active s at None d = absurd (both_ways _ refl (and_parts (not (s == active)) false d).1)
-driver_front active s at (Some d) asked = go d.waiting refl
-  where
-    parts : is_empty d.waiting ≡ true → ⊥
-    parts e =
-        let a = (and_parts (not (s == active)) (asks d (Interrupt at)) asked).1 in
-        let b = (and_parts (has_address at d) (not d.role_wish && (not (is_empty d.waiting) && d.kinds.interrupt)) a).1 in
-        let c = (and_parts (not d.role_wish) (not (is_empty d.waiting) && d.kinds.interrupt) b).1 in
-        both_ways _ (ap not e) (and_parts (not (is_empty d.waiting)) d.kinds.interrupt c).0
-
-    go : (ws : List Waiting) → d.waiting ≡ ws → (w : Waiting) × IsFrontOf (Some d) w
-    go [] e = absurd (parts (ap is_empty e))
-    go (w ∷ ws) e = (w, (d, ws, refl, e))
-
 -- the front that is found first in a list
 pub front_at : (place : Option Device) (d : Device) (w : Waiting) → Some d ≡ place → slice_get d.waiting 0 ≡ Some w → IsFrontOf place w
 front_at place d w there first = go d.waiting refl first
@@ -223,12 +207,6 @@ front_at place d w there first = go d.waiting refl first
 pub front_held : (place : Option Device) (w : Waiting) → front_in place ≡ Some w → IsFrontOf place w
 front_held None w first = absurd (none-some w first)
 front_held (Some d) w first = front_at (Some d) d w refl first
-
--- where the lowest of the drivers has no front, there is none
-pub no_driver : (active at : ℕ) (devices : List (Option Device)) (drivers : SlotSet) (slot : ℕ) → AreDrivers active (Interrupt at) devices drivers → IsLowestOf drivers slot
-    → ((w : Waiting) → IsFrontOf (get_or devices slot None) w → ⊥) → ⊥
-no_driver active at devices drivers slot are h none =
-    let f = driver_front active slot at (get_or devices slot None) (sym (are slot h.0) ∙ h.1) in none f.0 f.1
 
 -- the byte that was read is there exactly where one is due
 pub due_byte : (devices : List (Option Device)) (active : ℕ) (cuts : CutList) (at : ℕ) (due : Bool) (r : Record) → HaveBytes active devices at due

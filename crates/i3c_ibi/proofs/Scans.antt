@@ -33,9 +33,6 @@ first_on st devices active r drivers has first =
     go : IsFirstDriven st.active st.devices (r, drivers) → IsFirst st r
     go h = record { driven = h.driven; first = h.least }
 
-pub none_on : (st : State) (devices : List (Option Device)) (active : ℕ) → HasDevices st devices active → NobodyDrives active devices → NoneAsks st
-none_on st devices active has none = subst (λ ds. NobodyDrives st.active ds) (sym has.0) (subst (λ a. NobodyDrives a devices) (sym has.1) none)
-
 pub drivers_on : (st : State) (devices : List (Option Device)) (active : ℕ) (r : Request) (drivers : SlotSet) → HasDevices st devices active → AreDrivers active r devices drivers → AreDrivers st.active r devices drivers
 drivers_on st devices active r drivers has are = subst (λ a. AreDrivers a r devices drivers) (sym has.1) are
 
@@ -43,9 +40,6 @@ drivers_on st devices active r drivers has are = subst (λ a. AreDrivers a r dev
 pub record TogetherSoFar (bytes : ℕ → Option ℕ) (own : ℕ) (left : SlotSet) (both : ℕ) : Type 0 where
   pub bits : (bit : ℕ) → bit < 8 → ((bit_at both bit ≡ 1) ↔ ((bit_at own bit ≡ 1) × ((s v : ℕ) → s < SLOTS → has left s ≡ false → bytes s ≡ Some v → bit_at v bit ≡ 1)))
   pub alone : ((s : ℕ) → s < SLOTS → has left s ≡ false → bytes s ≡ None) → both ≡ own
-
-pub together_none : (bytes : ℕ → Option ℕ) (own : ℕ) (left : SlotSet) → ((s : ℕ) → s < SLOTS → has left s ≡ false → bytes s ≡ None) → TogetherSoFar bytes own left own
-together_none bytes own left none = record { bits = λ bit l. (λ h. (h, λ s v low n k. absurd (none-some v (sym (none s low n) ∙ k))), λ h. h.0); alone = λ h. refl }
 
 -- a slot that isn't left any more
 gone : (left next : SlotSet) (i s : ℕ) → TakesOut i left next → i < SLOTS → s ≡ i → has next s ≡ false
@@ -93,25 +87,9 @@ together_all bytes own both left h none = record {
   alone = λ k. h.alone (λ s m n. k s m);
 }
 
--- beside the lowest of the drivers are the others
-pub others_none : (cuts : CutList) (drivers others : SlotSet) (lowest s : ℕ) (o : Option Device) → has others s ≡ (if s == lowest then false else has drivers s) → has others s ≡ false → byte_beside cuts drivers lowest s o ≡ None
-others_none cuts drivers others lowest s o is n = go (s == lowest) (has drivers s) (sym is ∙ n)
-  where
-    go : (b d : Bool) → (if b then false else d) ≡ false → (if not b && d then option_map (driven (cut_of cuts s)) (slot_byte o) else None) ≡ None
-    go true d e = refl
-    go false true e = absurd (both_ways _ e refl)
-    go false false e = refl
-
 -- the slots that are left are others
 pub record Others (drivers left : SlotSet) (lowest : ℕ) : Type 0 where
   pub each : (s : ℕ) → s < SLOTS → has left s ≡ true → (not (s == lowest) && has drivers s) ≡ true
-
-pub others_all : (drivers others : SlotSet) (lowest : ℕ) → ((s : ℕ) → s < SLOTS → has others s ≡ (if s == lowest then false else has drivers s)) → Others drivers others lowest
-others_all drivers others lowest is = record { each = λ s l h. go (s == lowest) (has drivers s) (sym (is s l) ∙ h) }
-  where
-    go : (b d : Bool) → (if b then false else d) ≡ true → (not b && d) ≡ true
-    go true d e = absurd (both_ways _ refl e)
-    go false d e = e
 
 pub others_less : (drivers left next : SlotSet) (lowest i : ℕ) → Others drivers left lowest → TakesOut i left next → Others drivers next lowest
 others_less drivers left next lowest i h out = record { each = λ s l t. h.each s l (sym (still_in i left next out s l (not_taken i left next out s l t)) ∙ t) }

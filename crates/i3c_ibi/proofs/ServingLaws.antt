@@ -152,10 +152,6 @@ have_bytes st old active at given has same fits =
     subst (λ g. HaveBytes active old at (byte_due (entry_in g at))) same
     (subst (λ ds. HaveBytes active ds at (byte_due (entry_at st at))) has.0 (subst (λ a. HaveBytes a st.devices at (byte_due (entry_at st at))) has.1 (fits at)))
 
--- nobody asks
-pub quiet_served : (st : State) (cuts : CutList) (old : List (Option Device)) (active : ℕ) → HasDevices st old active → NoneAsks st → IsServing st cuts Quiet old
-quiet_served st cuts old active has none = record { serves = λ rest. (none, unchanged st old active has); word = refl; first = none; ended = tt; read = tt }
-
 -- the first request is turned down
 pub refused_served : (st : State) (cuts : CutList) (r : Request) (old : List (Option Device)) (active : ℕ) → HasDevices st old active → IsFirst st r → IsServing st cuts (Refused r) old
 refused_served st cuts r old active has first =

@@ -191,18 +191,3 @@ module _ {R A : Type 0} (address : R → ℕ) (value : R → A) where
   -- as many addresses as rows
   pub count-places : (rows : List R) → HasOwnAddresses address rows → count_by is_some (places address value rows) ≡ length rows
   count-places rows h = count_by_recursion rows h.distinct (recursion_from_All (λ row. address row < ADDRESSES) rows h.in_range)
-
--- a function of what stands at each address
-map_values : {R A B : Type 0} (value : R → A) (f : A → B) (o : Option R) → option_map f (option_map value o) ≡ option_map (λ row. f (value row)) o
-map_values value f None = refl
-map_values value f (Some row) = refl
-
-map_alike : {X A : Type 0} (f g : X → A) (xs : List X) → ((x : X) → f x ≡ g x) → map f xs ≡ map g xs
-map_alike f g [] same = refl
-map_alike f g (x ∷ xs) same = ap (λ y. y ∷ map f xs) (same x) ∙ ap (λ ys. g x ∷ ys) (map_alike f g xs same)
-
-pub map-places : {R A B : Type 0} (address : R → ℕ) (value : R → A) (f : A → B) (rows : List R) → map (option_map f) (places address value rows) ≡ places address (λ row. f (value row)) rows
-unfolding places
-map-places address value f rows =
-    map-map (option_map f) (λ a. option_map value (row_at address rows a)) (range_with_len 0 ADDRESSES)
-    ∙ map_alike (λ a. option_map f (option_map value (row_at address rows a))) (λ a. option_map (λ row. f (value row)) (row_at address rows a)) (range_with_len 0 ADDRESSES) (λ a. map_values value f (row_at address rows a))

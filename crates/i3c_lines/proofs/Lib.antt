@@ -1,8 +1,6 @@
 pub mod DecimalLaws
-pub mod HexLaws
 pub mod NameLaws
 pub mod PieceLaws
-pub mod HexTexts
 pub mod PairLaws
 pub mod Meanings
 pub mod LineLaws

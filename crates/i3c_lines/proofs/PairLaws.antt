@@ -10,11 +10,6 @@ pub none_taken : (n : ℕ) (xs : List ℕ) → n ≤ 0 → take n xs ≡ []
 none_taken zero xs h = refl
 none_taken (suc n) xs h = absurd (omega arith)
 
--- the first place is the first byte's
-pub one_taken : (n : ℕ) (x : ℕ) (xs : List ℕ) → 0 < n → take n (x ∷ xs) ≡ x ∷ take (n - 1) xs
-one_taken zero x xs h = absurd (omega arith)
-one_taken (suc n) x xs h = let same : suc n - 1 ≡ n = omega arith in ap (λ k. x ∷ take k xs) (sym same)
-
 -- no digits write nothing
 pub no_pairs : (n : ℕ) (had digits : List ℕ) → length digits ≡ 0 → had ≡ had ++ take n (pair_values digits)
 no_pairs zero had [] h = sym (append-nil had)

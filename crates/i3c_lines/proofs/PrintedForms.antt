@@ -11,7 +11,7 @@ use Rattle.i3c_step.specs.declared.events.Command.{Command as Frame}
 use Rattle.i3c_lines.specs.declared.command.Command.{Command}
 use Rattle.i3c_lines.specs.declared.names.Name.{Name}
 use Rattle.i3c_lines.specs.Forms.{AreAddress, AreByte, AreDevice, AreKinds, AreWritten, IsCommand, IsForm, IsPolicy, tokens, willing_words}
-use Rattle.i3c_lines.specs.Hex.{byte_text, bytes_text, hex_text}
+use Rattle.i3c_text.specs.Hex.{byte_text, bytes_text, hex_text}
 use Rattle.i3c_lines.specs.Naming.{letters}
 use Rattle.i3c_lines.specs.Printing.{AreKnown, HasLine, IsWithin, IsNamable, byte_words, command_text, command_words, device_words, spaced, verdicts_word, written_words}
 use Rattle.i3c_lines.proofs.Meanings.{as_meant}

@@ -11,9 +11,10 @@ use Rattle.std.specs.Char.{digit_value}
 use Rattle.std.specs.Fmt.{decimal, digit_glyph}
 use Rattle.std.specs.Str.Parse.{AllDigits, digits_value}
 use Rattle.i3c_lines.specs.Forms.{Writes, WritesBit, tokens}
-use Rattle.i3c_lines.specs.Hex.{byte_text, bytes_text, hex_text}
+use Rattle.i3c_text.specs.Hex.{byte_text, bytes_text, hex_text}
+use Rattle.i3c_text.proofs.DigitLaws.{hex_is, length-hex_text}
 use Rattle.i3c_lines.specs.Printing.{behind, spaced}
-use Rattle.i3c_lines.specs.Words.{AreBytes, IsDecimalDigit, IsHex, IsHexDigit, pair_values}
+use Rattle.i3c_lines.specs.Words.{AreBytes, IsDecimalDigit, pair_values}
 use Rattle.i3c_lines.proofs.LineLaws.{one_word}
 use Rattle.i3c_lines.proofs.SplitLaws.{HasNoSpace, joined_tokens}
 
@@ -22,36 +23,17 @@ pub behind_space : (old mid new word : List ℕ) → mid ≡ old ++ 32 ∷ [] �
 behind_space old mid new word first then =
     then ∙ ap (λ t. t ++ word) first ∙ append_assoc old (32 ∷ []) word ∙ ap (λ w. old ++ 32 ∷ w) (sym (append-nil word))
 
--- a digit below 16 is a hex digit of its worth
-glyph_is : (n : ℕ) → n < 16 → IsHexDigit (digit_glyph true n) × (digit_value (digit_glyph true n) ≡ n)
-glyph_is n h =
-    elim (eq-zero-or-pos (10 - n)) [
-      | inl z ↦ let is : digit_glyph true n ≡ 55 + n = grind arith in (inr (omega (arith, is, z), omega (arith, is, h)), grind arith)
-      | inr few ↦ let is : digit_glyph true n ≡ 48 + n = grind arith in (inl (omega (arith, is), omega (arith, is, few)), grind arith)
-    ]
-
-hex_is : (count n : ℕ) → n < 16 ^ count → IsHex count (hex_text count n) × (digits_value 16 (hex_text count n) ≡ n)
-hex_is zero n h = ((refl, λ k d within. absurd (omega (arith, within))), omega (arith, h))
-hex_is (suc count) n h =
-    let power : 16 ^ suc count ≡ 16 * 16 ^ count = rw pow-succ' in
-    let before = hex_is count (n / 16) (omega (arith, h, power)) in
-    let digit = glyph_is (n % 16) (omega arith) in
-    let long = length-append (hex_text count (n / 16)) (digit_glyph true (n % 16) ∷ []) in
-    let value = digits_value_push 16 (hex_text count (n / 16)) (digit_glyph true (n % 16)) in (
-      (omega (arith, long, before.0.0), All-push IsHexDigit (hex_text count (n / 16)) (digit_glyph true (n % 16)) before.0.1 digit.0),
-      omega (arith, value, before.1, digit.1),
-    )
-
 -- a byte's two digits
 pub byte_writes : (byte : ℕ) → byte < 256 → Writes 2 (byte_text byte) byte
+unfolding hex_text
 byte_writes byte h =
     let high : byte / 16 % 16 ≡ byte / 16 = omega arith in
     let same : hex_text 2 byte ≡ byte_text byte = λ i. digit_glyph true (high i) ∷ digit_glyph true (byte % 16) ∷ [] in
     let is = hex_is 2 byte (omega (arith, h)) in
-    subst (λ word. Writes 2 word byte) same (is.0, sym is.1)
+    subst (λ word. Writes 2 word byte) same ((length-hex_text 2 byte, is.0), sym is.1)
 
 pub pid_writes : (pid : ℕ) → pid < 2 ^ 48 → Writes 12 (hex_text 12 pid) pid
-pid_writes pid h = let is = hex_is 12 pid (omega (arith, h)) in (is.0, sym is.1)
+pid_writes pid h = let is = hex_is 12 pid (omega (arith, h)) in ((length-hex_text 12 pid, is.0), sym is.1)
 
 -- the pairs of some bytes
 pub pairs_are : (bytes : List ℕ) → All (λ byte. byte < 256) bytes → AreBytes (bytes_text bytes) × (pair_values (bytes_text bytes) ≡ bytes)

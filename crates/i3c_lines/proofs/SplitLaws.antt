@@ -5,7 +5,8 @@ use Rattle.std.proofs.lemmas.List.{drop-drop, drop_all, get_or-take, length-appe
 use Rattle.std.proofs.Math.Seq.{drop-append_seam, take-append_seam}
 use Rattle.i3c_lines.specs.Forms.{tokens, with_first}
 use Rattle.i3c_lines.specs.Parsing.{joined, words_of}
-use Rattle.i3c_lines.specs.Words.{AreBytes, IsHexDigit, IsName, IsNameLetter}
+use Rattle.i3c_text.specs.Digits.{IsHexDigit}
+use Rattle.i3c_lines.specs.Words.{AreBytes, IsName, IsNameLetter}
 use Rattle.i3c_lines.proofs.LineLaws.{first_word, one_word, some_word}
 
 pub take_joined : (word : List ℕ) (rest : Option (List ℕ)) → take (length word) (joined word rest) ≡ word

@@ -1,10 +1,11 @@
 pub mod Words
 pub mod Naming
 pub mod Policies
-pub mod Hex
 pub mod Refusing
 pub mod Gathering
 pub mod Forms
 pub mod Parsing
+pub mod Faults
+pub mod Namings
 pub mod Laws
 pub mod Printing

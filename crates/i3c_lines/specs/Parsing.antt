@@ -5,7 +5,7 @@ use Rattle.arrayvec.specs.ArrayVec.{ArrayVec}
 use Rattle.i3c_base.specs.declared.identity.Identity.{Identity}
 use Rattle.i3c_lines.specs.declared.command.Command.{Command}
 use Rattle.i3c_lines.specs.declared.names.Name.{Name}
-use Rattle.i3c_lines.specs.declared.words.Words.{Words}
+use Rattle.i3c_lines.specs.declared.tokens.Tokens.{Tokens}
 use Rattle.i3c_lines.specs.Forms.{AreWritten, IsForm, IsNamed, WritesIdentity, tokens, willing_words}
 
 -- the words of some bytes, or no words
@@ -19,7 +19,7 @@ joined word None = word
 joined word (Some rest) = word ++ 32 ∷ rest
 
 -- the words that were not read yet
-abbrev pub left_words : Words → List (List ℕ)
+abbrev pub left_words : Tokens → List (List ℕ)
 left_words words = words_of (option_copied words.rest)
 
 -- a value is read from words exactly if they have a value's form

@@ -10,7 +10,7 @@ use Rattle.i3c_step.specs.declared.events.Command.{Command as Frame}
 use Rattle.i3c_lines.specs.declared.command.Command.{Command}
 use Rattle.i3c_lines.specs.declared.names.Name.{Name}
 use Rattle.i3c_lines.specs.Forms.{IsPolicy, willing_words}
-use Rattle.i3c_lines.specs.Hex.{byte_text, bytes_text, hex_text}
+use Rattle.i3c_text.specs.Hex.{byte_text, bytes_text, hex_text}
 use Rattle.i3c_lines.specs.Naming.{letters}
 use Rattle.i3c_lines.specs.Words.{IsName}
 

@@ -3,7 +3,7 @@ use Rattle.std.specs.Prelude.{ℕ, List, [], ◌++◌, codes}
 use Rattle.i3c_step.specs.declared.replies.Refusal.{Refusal as BusRefusal}
 use Rattle.i3c_legacy.specs.declared.faults.LegacyFault.{LegacyFault}
 use Rattle.i3c_lines.specs.declared.refusals.Refusal.{Refusal}
-use Rattle.i3c_lines.specs.Hex.{byte_text}
+use Rattle.i3c_text.specs.Hex.{byte_text}
 
 -- the name of a refused declaration of a legacy target
 abbrev pub legacy_word : LegacyFault → List ℕ

@@ -2,10 +2,7 @@
 use Rattle.std.specs.Prelude.{◌≡◌, ℕ, ◌<◌, ◌≤◌, ◌⊎◌, ⊤, List, [], ◌∷◌, length, All}
 use Rattle.std.specs.Int.{IsInRange}
 use Rattle.std.specs.Str.Parse.{digits_value}
-
--- `0` to `9` or `A` to `F`
-abbrev pub IsHexDigit : ℕ → Type 0
-IsHexDigit byte = IsInRange 48 57 byte ⊎ IsInRange 65 70 byte
+use Rattle.i3c_text.specs.Digits.{IsHexDigit}
 
 -- `0` to `9`
 abbrev pub IsDecimalDigit : ℕ → Type 0

@@ -4,7 +4,7 @@ ghost use Rattle.i3c_lines.specs.Parsing.{AreKept, AreNamed, AreWilling, Becomes
 
 use crate::names::Name;
 use crate::policies::policy;
-use crate::words::{self, Words, after, is_word};
+use crate::tokens::{self, Tokens, after, is_word};
 use arrayvec::ArrayVec;
 use i3c_base::{Addr7, Bcr, Dcr, Fixed, Identity, Kinds, Lvr, Setup};
 use i3c_step::{Command as Frame, WRITE_KEPT};
@@ -121,30 +121,33 @@ pub enum Command {
     Symbols,
 }
 
+/// Names the reading of a line for a command of its own.
+struct Parsing;
+
 impl Command {
     /// The command of a line, if the line has a form. Its words are parted by exactly one space.
     pub fn parse(line: &[u8]) -> Option<Command>
         ensures { Reads IsForm (tokens line.now) result }
     {
         let mut command = Command::Show;
-        command.read(line)?;
+        command.read::<Parsing>(line)?;
         Some(command)
     }
 
     /// Becomes the command of a line, if the line has a form. Otherwise it is unchanged. So nothing of a command's size is
-    /// moved for each line.
-    pub fn read(&mut self, line: &[u8]) -> Option<()>
+    /// moved for each line. Whoever calls it is named by `K`, so that each caller has it in line.
+    pub fn read<K>(&mut self, line: &[u8]) -> Option<()>
         ensures { Becomes (tokens line.now) result self.old self.new }
     {
         let (first, tail) = line.split_first()?;
         match *first {
-            b'r' => self.read_r(tail),
-            b's' => self.read_s(tail),
-            b'e' => self.read_e(tail),
-            b'd' => self.read_d(tail, line),
-            b'l' => self.read_l(tail, line),
-            b'o' => self.read_o(tail),
-            b'w' => self.read_w(tail),
+            b'r' => self.read_r::<K>(tail),
+            b's' => self.read_s::<K>(tail),
+            b'e' => self.read_e::<K>(tail),
+            b'd' => self.read_d::<K>(tail, line),
+            b'l' => self.read_l::<K>(tail, line),
+            b'o' => self.read_o::<K>(tail),
+            b'w' => self.read_w::<K>(tail),
             _ => self.read_words(line),
         }
     }
@@ -158,14 +161,14 @@ impl Command {
     }
 
     /// Becomes a command whose first letter is an `r`, by the line behind that.
-    fn read_r(&mut self, tail: &[u8]) -> Option<()>
+    fn read_r<K>(&mut self, tail: &[u8]) -> Option<()>
         ensures { Becomes (tokens (114 ∷ tail.now)) result self.old self.new }
     {
         if let Some(line) = after(tail, RAISE) {
-            return self.read_raise(line);
+            return self.read_raise::<K>(line);
         }
         if let Some(word) = after(tail, READ) {
-            return self.read_read(word);
+            return self.read_read::<K>(word);
         }
         if is_word(tail, RESET) {
             return self.set(Command::Frame(Frame::Reset));
@@ -177,7 +180,7 @@ impl Command {
     }
 
     /// Becomes a command whose first letter is an `s`, by the line behind that.
-    fn read_s(&mut self, tail: &[u8]) -> Option<()>
+    fn read_s<K>(&mut self, tail: &[u8]) -> Option<()>
         ensures { Becomes (tokens (115 ∷ tail.now)) result self.old self.new }
     {
         if is_word(tail, SERVE) {
@@ -193,11 +196,11 @@ impl Command {
     }
 
     /// Becomes a command whose first letter is an `e`, by the line behind that.
-    fn read_e(&mut self, tail: &[u8]) -> Option<()>
+    fn read_e<K>(&mut self, tail: &[u8]) -> Option<()>
         ensures { Becomes (tokens (101 ∷ tail.now)) result self.old self.new }
     {
         if let Some(line) = after(tail, ENEC) {
-            return self.read_enec(line);
+            return self.read_enec::<K>(line);
         }
         if is_word(tail, END) {
             return self.set(Command::End);
@@ -206,12 +209,12 @@ impl Command {
     }
 
     /// Becomes a command whose first letter is a `d`, by the line behind that, or by the line.
-    fn read_d(&mut self, tail: &[u8], line: &[u8]) -> Option<()>
+    fn read_d<K>(&mut self, tail: &[u8], line: &[u8]) -> Option<()>
         requires { line.now ≡ 100 ∷ tail.now }
         ensures { Becomes (tokens line.now) result self.old self.new }
     {
         if let Some(line) = after(tail, DISEC) {
-            return self.read_disec(line);
+            return self.read_disec::<K>(line);
         }
         if is_word(tail, DAA) {
             return self.set(Command::Daa);
@@ -220,7 +223,7 @@ impl Command {
     }
 
     /// Becomes a command whose first letter is an `l`, by the line behind that, or by the line.
-    fn read_l(&mut self, tail: &[u8], line: &[u8]) -> Option<()>
+    fn read_l<K>(&mut self, tail: &[u8], line: &[u8]) -> Option<()>
         requires { line.now ≡ 108 ∷ tail.now }
         ensures { Becomes (tokens line.now) result self.old self.new }
     {
@@ -231,7 +234,7 @@ impl Command {
     }
 
     /// Becomes the command whose first letter is an `o`, by the line behind that.
-    fn read_o(&mut self, tail: &[u8]) -> Option<()>
+    fn read_o<K>(&mut self, tail: &[u8]) -> Option<()>
         ensures { Becomes (tokens (111 ∷ tail.now)) result self.old self.new }
     {
         if is_word(tail, OPEN) {
@@ -241,7 +244,7 @@ impl Command {
     }
 
     /// Becomes the command whose first letter is a `w`, by the line behind that.
-    fn read_w(&mut self, tail: &[u8]) -> Option<()>
+    fn read_w<K>(&mut self, tail: &[u8]) -> Option<()>
         ensures { Becomes (tokens (119 ∷ tail.now)) result self.old self.new }
     {
         if let Some(line) = after(tail, WRITE) {
@@ -251,7 +254,7 @@ impl Command {
     }
 
     /// Becomes a raise by the words behind its first: a name, and a byte if one is given.
-    fn read_raise(&mut self, line: &[u8]) -> Option<()>
+    fn read_raise<K>(&mut self, line: &[u8]) -> Option<()>
         ensures { Becomes (codes "raise" ∷ tokens line.now) result self.old self.new }
     {
         let (name, rest) = Name::split_from(line)?;
@@ -261,10 +264,10 @@ impl Command {
     }
 
     /// Becomes a private read by the word behind its first: an address.
-    fn read_read(&mut self, word: &[u8]) -> Option<()>
+    fn read_read<K>(&mut self, word: &[u8]) -> Option<()>
         ensures { Becomes (codes "read" ∷ tokens word.now) result self.old self.new }
     {
-        let at = words::address(word)?;
+        let at = tokens::address(word)?;
         *self = Command::Frame(Frame::ReadFrom(at));
         Some(())
     }
@@ -275,15 +278,15 @@ impl Command {
     fn read_write(&mut self, line: &[u8]) -> Option<()>
         ensures { Becomes (codes "write" ∷ tokens line.now) result self.old self.new }
     {
-        let (address, rest) = words::split_two(line)?;
-        let at = words::address(address)?;
+        let (address, rest) = tokens::split_two(line)?;
+        let at = tokens::address(address)?;
         let bytes = parse_written(rest)?;
         *self = Command::Frame(Frame::WriteTo(at, bytes));
         Some(())
     }
 
     /// Becomes the command that enables kinds of events, by the words behind its first.
-    fn read_enec(&mut self, line: &[u8]) -> Option<()>
+    fn read_enec<K>(&mut self, line: &[u8]) -> Option<()>
         ensures { Becomes (codes "enec" ∷ tokens line.now) result self.old self.new }
     {
         let (to, kinds) = parse_kinds(line)?;
@@ -292,7 +295,7 @@ impl Command {
     }
 
     /// Becomes the command that disables kinds of events, by the words behind its first.
-    fn read_disec(&mut self, line: &[u8]) -> Option<()>
+    fn read_disec<K>(&mut self, line: &[u8]) -> Option<()>
         ensures { Becomes (codes "disec" ∷ tokens line.now) result self.old self.new }
     {
         let (to, kinds) = parse_kinds(line)?;
@@ -306,13 +309,13 @@ impl Command {
     fn read_words(&mut self, line: &[u8]) -> Option<()>
         ensures { BecomesOther (tokens line.now) result self.old self.new }
     {
-        *self = parse_words(&mut Words::of(line))?;
+        *self = parse_words(&mut Tokens::of(line))?;
         Some(())
     }
 }
 
 /// The command of several words that has this first word, if the others have its form.
-fn parse_words(words: &mut Words<'_>) -> Option<Command>
+fn parse_words(words: &mut Tokens<'_>) -> Option<Command>
     ensures { Reads IsOtherForm (left_words words.old) result }
 {
     let word = words.next()?;
@@ -347,18 +350,18 @@ fn parse_words(words: &mut Words<'_>) -> Option<Command>
 }
 
 /// The words of `legacy`.
-fn parse_legacy(words: &mut Words<'_>) -> Option<Command>
+fn parse_legacy(words: &mut Tokens<'_>) -> Option<Command>
     ensures { Reads IsForm (codes "legacy" ∷ left_words words.old) result }
 {
     let name = parse_name(words)?;
-    let address = words::address(words.next()?)?;
+    let address = tokens::address(words.next()?)?;
     let lvr = Lvr(parse_byte(words)?);
     words.end()?;
     Some(Command::Legacy { name, address, lvr })
 }
 
 /// The words of `main`.
-fn parse_main(words: &mut Words<'_>) -> Option<Command>
+fn parse_main(words: &mut Tokens<'_>) -> Option<Command>
     ensures { Reads IsForm (codes "main" ∷ left_words words.old) result }
 {
     let (name, setup) = parse_device(words)?;
@@ -366,7 +369,7 @@ fn parse_main(words: &mut Words<'_>) -> Option<Command>
 }
 
 /// The words of `attach`.
-fn parse_attach(words: &mut Words<'_>) -> Option<Command>
+fn parse_attach(words: &mut Tokens<'_>) -> Option<Command>
     ensures { Reads IsForm (codes "attach" ∷ left_words words.old) result }
 {
     let (name, setup) = parse_device(words)?;
@@ -374,7 +377,7 @@ fn parse_attach(words: &mut Words<'_>) -> Option<Command>
 }
 
 /// The words of a device: its name and its identity, and `decline` if it doesn't take the controller role.
-fn parse_device(words: &mut Words<'_>) -> Option<(Name, Setup)>
+fn parse_device(words: &mut Tokens<'_>) -> Option<(Name, Setup)>
     ensures { Reads (λ words parts. AreDevice words parts.0 parts.1) (left_words words.old) result }
 {
     let name = parse_name(words)?;
@@ -384,17 +387,17 @@ fn parse_device(words: &mut Words<'_>) -> Option<(Name, Setup)>
 }
 
 /// Three words, which are an identity.
-fn parse_identity(words: &mut Words<'_>) -> Option<Identity>
+fn parse_identity(words: &mut Tokens<'_>) -> Option<Identity>
     ensures { TakesIdentity (left_words words.old) (left_words words.new) result }
 {
-    let pid = words::pid(words.next()?)?;
+    let pid = tokens::pid(words.next()?)?;
     let bcr = Bcr(parse_byte(words)?);
     let dcr = Dcr(parse_byte(words)?);
     Some(Identity { pid, bcr, dcr })
 }
 
 /// Whether a device takes the controller role: the last word of its line, if there is one.
-fn parse_willing(words: &mut Words<'_>) -> Option<bool>
+fn parse_willing(words: &mut Tokens<'_>) -> Option<bool>
     ensures { Reads AreWilling (left_words words.old) result }
 {
     match words.next() {
@@ -408,14 +411,14 @@ fn parse_willing(words: &mut Words<'_>) -> Option<bool>
 }
 
 /// The next word, which is a name.
-fn parse_name(words: &mut Words<'_>) -> Option<Name>
+fn parse_name(words: &mut Tokens<'_>) -> Option<Name>
     ensures { TakesWord IsNamed (left_words words.old) (left_words words.new) result }
 {
     Name::parse(words.next()?)
 }
 
 /// The last word, which is a name.
-fn parse_last_name(words: &mut Words<'_>) -> Option<Name>
+fn parse_last_name(words: &mut Tokens<'_>) -> Option<Name>
     ensures { Reads AreNamed (left_words words.old) result }
 {
     let name = parse_name(words)?;
@@ -424,14 +427,14 @@ fn parse_last_name(words: &mut Words<'_>) -> Option<Name>
 }
 
 /// The next word, which is a byte.
-fn parse_byte(words: &mut Words<'_>) -> Option<u8>
+fn parse_byte(words: &mut Tokens<'_>) -> Option<u8>
     ensures { TakesWord (Writes 2) (left_words words.old) (left_words words.new) result }
 {
-    words::byte(words.next()?)
+    tokens::byte(words.next()?)
 }
 
 /// The word of `drop`: a name.
-fn parse_drop(words: &mut Words<'_>) -> Option<Command>
+fn parse_drop(words: &mut Tokens<'_>) -> Option<Command>
     ensures { Reads IsForm (codes "drop" ∷ left_words words.old) result }
 {
     let name = parse_last_name(words)?;
@@ -439,7 +442,7 @@ fn parse_drop(words: &mut Words<'_>) -> Option<Command>
 }
 
 /// The word of `ask-join`: a name.
-fn parse_ask_join(words: &mut Words<'_>) -> Option<Command>
+fn parse_ask_join(words: &mut Tokens<'_>) -> Option<Command>
     ensures { Reads IsForm (codes "ask-join" ∷ left_words words.old) result }
 {
     let name = parse_last_name(words)?;
@@ -447,7 +450,7 @@ fn parse_ask_join(words: &mut Words<'_>) -> Option<Command>
 }
 
 /// The word of `ask-role`: a name.
-fn parse_ask_role(words: &mut Words<'_>) -> Option<Command>
+fn parse_ask_role(words: &mut Tokens<'_>) -> Option<Command>
     ensures { Reads IsForm (codes "ask-role" ∷ left_words words.old) result }
 {
     let name = parse_last_name(words)?;
@@ -455,16 +458,16 @@ fn parse_ask_role(words: &mut Words<'_>) -> Option<Command>
 }
 
 /// The word of `handover`: an address.
-fn parse_handover(words: &mut Words<'_>) -> Option<Command>
+fn parse_handover(words: &mut Tokens<'_>) -> Option<Command>
     ensures { Reads IsForm (codes "handover" ∷ left_words words.old) result }
 {
-    let to = words::address(words.next()?)?;
+    let to = tokens::address(words.next()?)?;
     words.end()?;
     Some(Command::HandOver { to })
 }
 
 /// The word of `policy`.
-fn parse_policy(words: &mut Words<'_>) -> Option<Command>
+fn parse_policy(words: &mut Tokens<'_>) -> Option<Command>
     ensures { Reads IsForm (codes "policy" ∷ left_words words.old) result }
 {
     let policy = policy(words.next()?)?;
@@ -473,11 +476,11 @@ fn parse_policy(words: &mut Words<'_>) -> Option<Command>
 }
 
 /// The words of `cut`: a name and a bit.
-fn parse_cut(words: &mut Words<'_>) -> Option<Command>
+fn parse_cut(words: &mut Tokens<'_>) -> Option<Command>
     ensures { Reads IsForm (codes "cut" ∷ left_words words.old) result }
 {
     let name = parse_name(words)?;
-    let bit = words::bit(words.next()?)?;
+    let bit = tokens::bit(words.next()?)?;
     words.end()?;
     Some(Command::Cut { name, bit })
 }
@@ -486,8 +489,8 @@ fn parse_cut(words: &mut Words<'_>) -> Option<Command>
 fn parse_kinds(line: &[u8]) -> Option<(Option<Addr7>, Kinds)>
     ensures { Reads (λ words parts. AreKinds words parts.0 parts.1) (tokens line.now) result }
 {
-    let (byte, rest) = words::split_two(line)?;
-    let kinds = words::kinds(byte)?;
+    let (byte, rest) = tokens::split_two(line)?;
+    let kinds = tokens::kinds(byte)?;
     let to = parse_to(rest)?;
     Some((to, kinds))
 }
@@ -500,7 +503,7 @@ fn parse_mandatory(rest: Option<&[u8]>) -> Option<Option<u8>>
     let Some(word) = rest else {
         return Some(None);
     };
-    let byte = words::byte(word)?;
+    let byte = tokens::byte(word)?;
     Some(Some(byte))
 }
 
@@ -512,7 +515,7 @@ fn parse_to(rest: Option<&[u8]>) -> Option<Option<Addr7>>
     let Some(word) = rest else {
         return Some(None);
     };
-    let at = words::address(word)?;
+    let at = tokens::address(word)?;
     Some(Some(at))
 }
 
@@ -527,5 +530,5 @@ fn parse_written(rest: Option<&[u8]>) -> Option<ArrayVec<u8, WRITE_KEPT>>
     if digits.is_empty() {
         return None;
     }
-    words::bytes(digits)
+    tokens::bytes(digits)
 }

@@ -1,22 +1,27 @@
 //! What a script's line says by itself: its words, its command, the names that it gives, and why it is refused.
 //!
-//! `words` reads one word, `command` a line of text, `line` a line of bytes, which may come in pieces. `names` keeps what the names of a script
-//! stand for. `policies` are the words that name a policy.
-//! `text` is what a line prints, and `numerals` prints numbers. `laws` are theorems over all lines.
+//! `tokens` reads one word, `command` a line of text, `line` a line of bytes, which may come in pieces. `names` keeps what the names of a script
+//! stand for, and `namings` which names a command gives and means. `policies` are the words that name a policy.
+//! `form_faults` says why a line has no form, by the `fields` and the `shapes` of the commands. `laws` are theorems over all
+//! lines.
 #![tactic(auto)]
 
 mod command;
+mod fields;
+mod form_faults;
 mod laws;
 mod line;
 mod names;
-mod numerals;
+mod namings;
 mod policies;
 mod printing;
 mod refusals;
-mod text;
-mod words;
+mod shapes;
+mod tokens;
 
 pub use command::Command;
+pub use fields::Field;
+pub use form_faults::{FormFault, form_fault, push_quoted};
 pub use laws::{
     lines_are_of_one_command, printed_commands_are_read, skipped_lines_are_no_commands,
 };
@@ -24,4 +29,3 @@ pub use line::{Line, is_skipped, read_line};
 pub use names::{Name, Names, Place};
 pub use policies::ACCEPT_ALL;
 pub use refusals::Refusal;
-pub use text::Text;

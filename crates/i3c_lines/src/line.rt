@@ -6,7 +6,7 @@ use crate::refusals::Refusal;
 use arrayvec::ArrayVec;
 
 /// How many bytes a line may have, without its line feed.
-const LINE_LENGTH: usize = 256;
+pub(crate) const LINE_LENGTH: usize = 256;
 
 /// How many of a line's first bytes tell what it is: one more than a line may have, since a longer one has no form.
 pub const TELLING_LENGTH: usize = LINE_LENGTH + 1;

@@ -4,7 +4,7 @@ ghost use Rattle.i3c_lines.specs.Words.{IsNameLetter};
 ghost use Rattle.i3c_lines.specs.declared.names.TheConstants.{NAME_LENGTH};
 
 use crate::refusals::Refusal;
-use crate::words::behind_space;
+use crate::tokens::behind_space;
 use i3c_base::{ADDRESSES, Addr7, SLOTS, Slot};
 use i3c_step::Refusal as BusRefusal;
 use indexmap::IndexMap;

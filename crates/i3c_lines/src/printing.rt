@@ -1,16 +1,16 @@
 ghost use Rattle.std.specs.Prelude.{◌≡◌, [], ◌∷◌, ◌++◌, OnOk, codes};
 ghost use Rattle.std.specs.Fmt.{decimal};
 ghost use Rattle.i3c_lines.specs.Forms.{willing_words};
-ghost use Rattle.i3c_lines.specs.Hex.{byte_text, hex_text};
+ghost use Rattle.i3c_text.specs.Hex.{byte_text, hex_text};
 ghost use Rattle.i3c_lines.specs.Naming.{letters};
 ghost use Rattle.i3c_lines.specs.Printing.{behind, byte_words, command_text, device_words, frame_words, spaced, verdicts_word, written_words};
 
 use crate::command::Command;
 use crate::names::Name;
-use crate::text::Text;
 use bitflags::Flags;
 use i3c_base::{Addr7, Fixed, Kinds, Lvr, Pid, Setup, Verdict};
 use i3c_step::Command as Frame;
+use i3c_text::Text;
 use std::alloc::AllocError;
 
 impl Command {

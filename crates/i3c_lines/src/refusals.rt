@@ -1,9 +1,9 @@
 ghost use Rattle.std.specs.Prelude.{◌≡◌, ◌++◌, OnOk};
 ghost use Rattle.i3c_lines.specs.Refusing.{bus_word, legacy_word};
 
-use crate::text::Text;
 use i3c_legacy::LegacyFault;
 use i3c_step::Refusal as BusRefusal;
+use i3c_text::Text;
 use std::alloc::AllocError;
 
 /// Why a line was refused. A refused line changes nothing but the cuts that wait, which a frame's line takes. It is

@@ -39,18 +39,6 @@ word_sent st policy bits is lost (WantsRole a) new h = is.1 (λ due. let e : Rol
 word_sent st policy bits is lost (Recorded place) new h = (h.at, h.first, is.0 h.at h.first h.accepted)
 word_sent st policy bits is lost Torn new h = is.0 h.at h.first h.accepted ∙ ap (λ b. if b then 9 else 0) h.due
 
--- nine bits where an interrupt at this address is accepted and its byte is due
-pub word_due : (st : State) (policy : Fixed) (at : ℕ) → IsFirst st (Interrupt at) → verdict st policy (Interrupt at) ≡ Accept → byte_due (entry_at st at) ≡ true → WordIs st policy 9
-word_due st policy at first accepted due = (
-  λ a other h. let same : Interrupt at ≡ Interrupt a = first_unique st (Interrupt at) (Interrupt a) first other in
-      let e : at ≡ a = cc in sym (ap (λ b. if byte_due (entry_at st b) then 9 else 0) (sym e) ∙ ap (λ b. if b then 9 else 0) due),
-  λ none. absurd (none (at, first, accepted)),
-)
-
--- none where no byte is due for an accepted interrupt
-pub word_undue : (st : State) (policy : Fixed) → ((a : ℕ) → IsFirst st (Interrupt a) → verdict st policy (Interrupt a) ≡ Accept → byte_due (entry_at st a) ≡ false) → WordIs st policy 0
-word_undue st policy undue = (λ a first accepted. sym (ap (λ b. if b then 9 else 0) (undue a first accepted)), λ none. refl)
-
 -- the header that goes on
 pub header_sent : (st : State) (r : Request) → IsFirst st r → (policy : Fixed) (lost : Lost) (served : Served) (new : State) → Serves st policy lost served new → 9 ≡ header_bits served
 header_sent st r first policy lost Quiet new h = absurd (somebody_asks st r h.0 first)
@@ -59,14 +47,6 @@ header_sent st r first policy lost Joining new h = refl
 header_sent st r first policy lost (WantsRole a) new h = refl
 header_sent st r first policy lost (Recorded place) new h = refl
 header_sent st r first policy lost Torn new h = refl
-
-pub header_none : (st : State) → NoneAsks st → (policy : Fixed) (lost : Lost) (served : Served) (new : State) → Serves st policy lost served new → 0 ≡ header_bits served
-header_none st none policy lost Quiet new h = refl
-header_none st none policy lost Refused new h = absurd (somebody_asks st h.0.0 none h.0.1)
-header_none st none policy lost Joining new h = absurd (somebody_asks st Join none h.0)
-header_none st none policy lost (WantsRole a) new h = absurd (somebody_asks st (Role a) none h.0)
-header_none st none policy lost (Recorded place) new h = absurd (somebody_asks st (Interrupt h.at) none h.first)
-header_none st none policy lost Torn new h = absurd (somebody_asks st (Interrupt h.at) none h.first)
 
 -- a frame that serves, does its own part, and loses whom it loses by its last bit
 pub frame_of : (old : State) (policy : Fixed) (cuts : CutList) (served : Served) (rest word last : ℕ) (Own : Lost → State → State → Type 0) (mid done new : State)

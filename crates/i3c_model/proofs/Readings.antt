@@ -69,13 +69,3 @@ front_there st s at d o driven there is = go d.waiting refl o is
     go : (ws : List Waiting) → d.waiting ≡ ws → (p : Option Waiting) → p ≡ slice_get ws 0 → MatchOption p (drives st (Interrupt at) s ≡ false) (λ w. (drives st (Interrupt at) s ≡ true) × IsFront st s w)
     go [] e p q = absurd (no_front d at e asked)
     go (w ∷ ws) e p q = subst (λ x. MatchOption x (drives st (Interrupt at) s ≡ false) (λ v. (drives st (Interrupt at) s ≡ true) × IsFront st s v)) (sym q) (driven, (d, ws, there, e))
-
--- the byte of a slot's front is driven exactly if the slot drives the interrupt and the front has it
-pub byte_front : (st : State) (at s : ℕ) (w : Waiting) → drives st (Interrupt at) s ≡ true → IsFront st s w → (v : ℕ) → (w.byte ≡ Some v) ↔ DrivesByte st (Interrupt at) s v
-byte_front st at s w driven f v = (
-  λ e. (driven, (w, f, e)),
-  λ d. ap (λ (x : Waiting). x.byte) (one_front st s w d.1.0 f d.1.1) ∙ d.1.2,
-)
-
-pub byte_none : (st : State) (at s : ℕ) → drives st (Interrupt at) s ≡ false → (v : ℕ) → (◌≡◌ {A = Option ℕ} None (Some v)) ↔ DrivesByte st (Interrupt at) s v
-byte_none st at s undriven v = (λ e. absurd (none-some v e), λ d. absurd (both_ways _ undriven d.0))

@@ -20,20 +20,6 @@ pub record FirstBelow (st : State) (n : ℕ) (r : Request) : Type 0 where
 abbrev pub IsFirstSoFar : State → ℕ → Option Request → Type 0
 IsFirstSoFar st n first = MatchOption first (NoneBelow st n) (FirstBelow st n)
 
--- one slot more, which drives nothing
-pub first_more_none : (st : State) (n : ℕ) (first : Option Request) → IsFirstSoFar st n first → ((q : Request) → drives st q n ≡ false) → IsFirstSoFar st (n + 1) first
-first_more_none st n None h none = λ s q l. elim (cases_eq s n) [
-  | inl e ↦ subst (λ k. drives st q k ≡ false) (sym e) (none q)
-  | inr ne ↦ h s q (omega arith)
-]
-first_more_none st n (Some r) h none = record {
-  driven = h.driven;
-  least = λ s q l d. elim (cases_eq s n) [
-    | inl e ↦ absurd (both_ways _ (none q) (subst (λ k. drives st q k ≡ true) e d))
-    | inr ne ↦ h.least s q (omega arith) d
-  ];
-}
-
 -- one slot more, which drives r, where f comes first of r and of what came first
 pub first_more : (st : State) (n : ℕ) (first : Option Request) (r f : Request) → IsFirstSoFar st n first → drives st r n ≡ true → ((q : Request) → drives st q n ≡ true → q ≡ r)
     → (f ≡ r) ⊎ (first ≡ Some f) → rank f ≤ rank r → MatchOption first ⊤ (λ g. rank f ≤ rank g) → FirstBelow st (n + 1) f

@@ -137,9 +137,6 @@ pub record AreTargetsBelow (lvrs : List (Option Lvr)) (n : ℕ) (m : BTreeMap �
   pub above : (a : ℕ) → n ≤ a → get nat_cmp m a ≡ None
   pub long : 0 < n → length lvrs ≡ ADDRESSES
 
-pub targets_none : (lvrs : List (Option Lvr)) (m : BTreeMap ℕ LegacyTarget) → m.entries ≡ [] → AreTargetsBelow lvrs 0 m
-targets_none lvrs m e = record { below = λ a l. absurd (omega arith); above = λ a l. ap (lookup (is_at (nat_cmp a))) e; long = λ l. absurd (omega arith) }
-
 pub targets_skip : (lvrs : List (Option Lvr)) (n a : ℕ) (m : BTreeMap ℕ LegacyTarget) → AreTargetsBelow lvrs n m → length lvrs ≡ ADDRESSES → a ≡ n → get_or lvrs a None ≡ None → AreTargetsBelow lvrs (n + 1) m
 targets_skip lvrs n a m h long same none = record {
   below = λ b l. elim (cases_eq b n) [

@@ -22,32 +22,6 @@ use Rattle.i3c_step.specs.Step.{Acts, Checks, IsShort, Step, checks, first_refus
 pub acts_there : (old : State) (event : Event) (reply : Reply) (new : State) → first_refusal (checks old event) ≡ None → Acts old event reply new → Step old event reply new
 acts_there old event reply new none acts = subst (λ o. MatchOption o (IsShort old event reply new ⊎ Acts old event reply new) (λ why. (reply ≡ Reply.Refused why) × (new ≡ old))) (sym none) (inr acts)
 
-pub refused_there : (old : State) (event : Event) (why : Refusal) → first_refusal (checks old event) ≡ Some why → Step old event (Reply.Refused why) old
-refused_there old event why some =
-    subst (λ o. MatchOption o (IsShort old event (Reply.Refused why) old ⊎ Acts old event (Reply.Refused why) old) (λ w. (Reply.Refused why ≡ Reply.Refused w) × (old ≡ old))) (sym some) (refl, refl)
-
--- what acts doesn't want memory
-pub acts_own : (old : State) (event : Event) (reply : Reply) (new : State) → Acts old event reply new → reply ≢ Reply.OutOfMemory
-acts_own old (Attach s setup) reply new h e = let x : Reply.Attached ≡ Reply.OutOfMemory = sym h.0 ∙ e in cc
-acts_own old (DropOff s) reply new h e = let x : Reply.Dropped ≡ Reply.OutOfMemory = sym h.0 ∙ e in cc
-acts_own old (Raise s byte) reply new h e = let x : Reply.Raised _ ≡ Reply.OutOfMemory = sym h.0 ∙ e in cc
-acts_own old (AskJoin s) reply new h e = let x : Reply.Asked ≡ Reply.OutOfMemory = sym h.0 ∙ e in cc
-acts_own old (AskRole s) reply new h e = let x : Reply.Asked ≡ Reply.OutOfMemory = sym h.0 ∙ e in cc
-acts_own old (Reset policy cuts) reply new h e = let x : Reply.Framed _ ≡ Reply.OutOfMemory = sym h.1 ∙ e in cc
-acts_own old (SendList policy cuts) reply new h e = let x : Reply.Framed _ ≡ Reply.OutOfMemory = sym h.1 ∙ e in cc
-acts_own old (HandOver to cuts) reply new h e = elim h [
-  | inl g ↦ let x : Reply.Handed g.0 ≡ Reply.OutOfMemory = sym g.1 ∙ e in cc
-  | inr d ↦ let x : Reply.Framed _ ≡ Reply.OutOfMemory = sym d.2 ∙ e in cc
-]
-acts_own old (Serve policy cuts) reply new h e = let x : Reply.Served h.0 ≡ Reply.OutOfMemory = sym h.1 ∙ e in cc
-acts_own old (Enec to kinds policy cuts) reply new h e = let x : Reply.Framed h.0 ≡ Reply.OutOfMemory = sym h.1 ∙ e in cc
-acts_own old (Disec to kinds policy cuts) reply new h e = let x : Reply.Framed h.0 ≡ Reply.OutOfMemory = sym h.1 ∙ e in cc
-acts_own old (ReadFrom a policy cuts) reply new h e = let x : Reply.Framed h.0 ≡ Reply.OutOfMemory = sym h.1 ∙ e in cc
-acts_own old (WriteTo a bytes policy cuts) reply new h e = let x : Reply.Framed h.0 ≡ Reply.OutOfMemory = sym h.1 ∙ e in cc
-acts_own old (OpenDaa cuts) reply new h e = let x : Reply.Opened h.0 ≡ Reply.OutOfMemory = sym h.1 ∙ e in cc
-acts_own old (Round cuts) reply new h e = let x : Reply.Round h.0 ≡ Reply.OutOfMemory = sym h.1 ∙ e in cc
-acts_own old EndDaa reply new h e = let x : Reply.Ended ≡ Reply.OutOfMemory = sym h.0 ∙ e in cc
-
 -- the kept address, or the pick where none is kept
 pub address_for : (st : State) (i : Identity) (pick : ℕ) (o : Option ℕ) (a : ℕ) → IsPick st pick → MatchOption o (IsUnknown st i) (IsKept st i) → a ≡ unwrap_or o pick → IsAddressFor st i a
 address_for st i pick None a picked unknown e = subst (IsAddressFor st i) (sym e) (inr (unknown, picked))

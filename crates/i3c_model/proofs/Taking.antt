@@ -69,11 +69,6 @@ pub follows : (Comes : Reply → State → Type 0) (choice : Choice) (reply : Re
 follows Comes choice reply h k of_request = h
 follows Comes choice reply h k of_own_part = k
 
--- nothing is open
-pub follows_settled : (Comes : Reply → State → Type 0) (choice : Choice) (reply : Reply) → stands_for of_request reply ≡ None → stands_for of_own_part reply ≡ None → Follows Comes choice reply
-follows_settled Comes choice reply h k = follows Comes choice reply
-    (subst (λ o. MatchOption o ⊤ (IsTaken (MayStandFor Comes of_request) choice)) (sym h) tt) (subst (λ o. MatchOption o ⊤ (IsTaken (MayStandFor Comes of_own_part) choice)) (sym k) tt)
-
 -- what an event that isn't refused may come to is what it does
 may_act : (old : State) (event : Event) (q : Question) (choice : Choice) → first_refusal (checks old event) ≡ None → MayStandFor (Step old event) q choice → MayStandFor (Acts old event) q choice
 may_act old event q choice allowed m = (m.0, m.1, elim step [ inl short ↦ absurd (settled q short.1) | inr acts ↦ acts ], m.3)

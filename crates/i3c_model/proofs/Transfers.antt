@@ -3,7 +3,7 @@ use Rattle.std.proofs.Common.{◌≡◌, ◌≢◌, ℕ, zero, suc, replicate, �
 use Rattle.std.specs.Prelude.{⊤}
 use Rattle.std.specs.Int.Bits.{bit_and}
 use Rattle.std.proofs.lemmas.Bool.{cases_lt, false≢true}
-use Rattle.std.proofs.lemmas.List.{get_or_past}
+use Rattle.std.proofs.lemmas.List.{get_or_default, get_or_past}
 use Rattle.std.proofs.lemmas.Option.{none-some, same_Some}
 use Rattle.i3c_base.specs.declared.answers.Answer.{Answer}
 use Rattle.i3c_base.specs.declared.device.LegacyTarget.{LegacyTarget}
@@ -107,8 +107,9 @@ read_in st new a lost bytes h r = elim r [
     h.legacy a ∙ x.0,
     (let t = h.to a x.1.0 x.1.1 x.1.2 in (x.1.0, t.0, t.1, x.1.3)),
     x.2,
+    x.3,
     λ left k l. and_alike (DrivesRegister st a k) (DrivesRegister new a k) (slice_index bytes k) (drives_in st new a k h) (drives_in new st a k (Stay-back st new h))
-        (x.3 (λ s d t. let y = h.to a s d t in left s y.0 y.1) k l),
+        (x.4 (λ s d t. let y = h.to a s d t in left s y.0 y.1) k l),
   )
 ]
 
@@ -172,16 +173,13 @@ pub together_all : (st : State) (a : ℕ) (lost : Lost) (n : ℕ) (both : List �
 together_all st a lost n both past h k l =
     and_whole (DrivesLeft st a lost k) n (slice_index both k) (λ s v d. let low = device_low st s d.0.0 d.0.1.0 in omega (arith, low, past)) (h.1 k l)
 
--- a read of a legacy target, and of devices of which some are left
-pub read_target : (st : State) (a : ℕ) (lost : Lost) (target : LegacyTarget) → legacy_target_at st a ≡ Some target → IsReadOf st a lost target.registers
-read_target st a lost target e = inl (target, e, refl)
-
 pub read_left : (st : State) (a : ℕ) (lost : Lost) (bytes : List ℕ) → legacy_target_at st a ≡ None → SomeLeftAt st a lost → length bytes ≡ 16
     → ((k : ℕ) → k < 16 → IsAnd (slice_index bytes k) (DrivesLeft st a lost k)) → IsReadOf st a lost bytes
 read_left st a lost bytes none some long together = inr (
   none,
   some,
   long,
+  λ k d l. subst (λ byte. byte < 256) (get_or_default bytes k 0 d l) (together k (subst (λ n. k < n) long l)).0,
   λ left k l. and_alike (DrivesLeft st a lost k) (DrivesRegister st a k) (slice_index bytes k) (λ s v d. d.0) (λ s v d. (d, left s d.0 d.1)) (together k l),
 )
 

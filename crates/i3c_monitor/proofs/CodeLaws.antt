@@ -2,8 +2,8 @@
 use Rattle.std.proofs.Common.{◌≡◌, ◌≤◌, ◌∙◌, ℕ, ◌+◌, List, [], ◌∷◌, ◌-◌, length, take, drop, Result, Ok, sym, ap, subst, arith}
 use Rattle.std.proofs.lemmas.List.{take_all}
 use Rattle.i3c_frame.specs.declared.symbols.Symbol.{Symbol}
-use Rattle.i3c_monitor.specs.declared.frames.Told.{Told}
-use Rattle.i3c_monitor.specs.declared.seen.Stop.{Stop}
+use Rattle.i3c_monitor.specs.declared.header.Told.{Told}
+use Rattle.i3c_monitor.specs.declared.decoded.Stop.{Stop}
 use Rattle.i3c_monitor.specs.Due.{Comes, go_on, written_byte}
 use Rattle.i3c_ccc.specs.declared.codes.Code.{Code}
 use Rattle.i3c_ccc.specs.Codes.{IsCodeOf, IsUnnamed}

@@ -1,4 +1,5 @@
 pub mod CodeLaws
 pub mod DueLaws
+pub mod LintLaws
 pub mod PieceLaws
 pub mod TraceLaws

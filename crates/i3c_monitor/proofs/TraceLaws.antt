@@ -4,11 +4,11 @@ use Rattle.std.proofs.lemmas.Grind.{common_steps}
 use Rattle.std.proofs.lemmas.List.Sums.{prefix_len-le-length}
 use Rattle.std.specs.Option.{option_to_list}
 use Rattle.i3c_frame.specs.declared.symbols.Symbol.{Symbol}
-use Rattle.i3c_monitor.specs.declared.frames.Header.{Header}
-use Rattle.i3c_monitor.specs.declared.frames.Mode.{Mode}
-use Rattle.i3c_monitor.specs.declared.frames.Told.{Told}
-use Rattle.i3c_monitor.specs.declared.seen.Fault.{Fault}
-use Rattle.i3c_monitor.specs.declared.seen.Seen.{Seen}
+use Rattle.i3c_monitor.specs.declared.header.Header.{Header}
+use Rattle.i3c_monitor.specs.declared.header.Mode.{Mode}
+use Rattle.i3c_monitor.specs.declared.header.Told.{Told}
+use Rattle.i3c_monitor.specs.declared.decoded.Fault.{Fault}
+use Rattle.i3c_monitor.specs.declared.decoded.Decoded.{Decoded}
 use Rattle.i3c_monitor.specs.Told.{told}
 use Rattle.i3c_monitor.specs.Trace.{and_on, behind, count_behind, ends, header_in, rest_told}
 
@@ -38,21 +38,21 @@ after_behind mode frames before count rest front back is front_is back_is =
     ∙ ap (λ n. rest_told mode frames (before + n) 0 back) (sym front_is)
 
 -- a header that tells something, or nothing
-pub goes_on : (outcome : Result Told Fault) (found : Told) (more : Mode → List Seen) (rest : List Seen) → outcome ≡ Ok found
-    → more found.mode ≡ rest → and_on outcome more ≡ option_to_list found.seen ++ rest
-goes_on outcome found more rest is same = ap (λ outcome. and_on outcome more) is ∙ ap (λ rest. option_to_list found.seen ++ rest) same
+pub goes_on : (outcome : Result Told Fault) (found : Told) (more : Mode → List Decoded) (rest : List Decoded) → outcome ≡ Ok found
+    → more found.mode ≡ rest → and_on outcome more ≡ option_to_list found.decoded ++ rest
+goes_on outcome found more rest is same = ap (λ outcome. and_on outcome more) is ∙ ap (λ rest. option_to_list found.decoded ++ rest) same
 
 -- the same told of what is to come
-pub told_too : {E : Type 0} → (r : Result (Option Seen) E) (a b rest : List Seen) → IfOk r (λ seen. b ≡ option_to_list seen ++ rest) → a ≡ b
-    → IfOk r (λ seen. a ≡ option_to_list seen ++ rest)
-told_too (Ok seen) a b rest tells same = same ∙ tells
+pub told_too : {E : Type 0} → (r : Result (Option Decoded) E) (a b rest : List Decoded) → IfOk r (λ decoded. b ≡ option_to_list decoded ++ rest) → a ≡ b
+    → IfOk r (λ decoded. a ≡ option_to_list decoded ++ rest)
+told_too (Ok decoded) a b rest tells same = same ∙ tells
 told_too (Err e) a b rest tells same = tt
 
 IsNothing : Option Header → Type 0
 IsNothing None = Unit {0}
 IsNothing (Some header) = ⊥
 
-unheaded : {A : Type 0} (header : Header) → None ≡ Some header → A
+pub unheaded : {A : Type 0} (header : Header) → None ≡ Some header → A
 unfolding IsNothing
 unheaded header e = absurd (subst IsNothing e tt)
 
@@ -61,7 +61,7 @@ or_this None other = other
 or_this (Some header) other = header
 
 -- what is told of a header, and then
-abbrev headed : Mode → ℕ → ℕ → Header → List Symbol → List Seen
+abbrev headed : Mode → ℕ → ℕ → Header → List Symbol → List Decoded
 headed mode frames before header rest =
     and_on (told mode header (behind rest) (before + 1)) (λ next. rest_told next frames (before + 1) (count_behind rest) rest)
 

@@ -6,8 +6,8 @@ use Rattle.i3c_frame.specs.declared.symbols.Symbol.{Symbol}
 use Rattle.i3c_deftgts.specs.declared.faults.ListFault.{ListFault}
 use Rattle.i3c_deftgts.specs.Layout.{bytes}
 use Rattle.i3c_deftgts.specs.Reading.{entries_in, first_fault}
-use Rattle.i3c_monitor.specs.declared.seen.Fault.{Fault}
-use Rattle.i3c_monitor.specs.declared.seen.Stop.{Stop}
+use Rattle.i3c_monitor.specs.declared.decoded.Fault.{Fault}
+use Rattle.i3c_monitor.specs.declared.decoded.Stop.{Stop}
 
 -- what comes of a part, and then of what needs it
 abbrev pub go_on : {A B : Type 0} → Result A Fault → (A → Result B Fault) → Result B Fault

@@ -1,4 +1,8 @@
 pub mod Due
+pub mod Known
 pub mod Lines
+pub mod Lint
+pub mod LintLines
+pub mod Linting
 pub mod Told
 pub mod Trace

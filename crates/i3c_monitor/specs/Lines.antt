@@ -4,11 +4,11 @@ use Rattle.std.specs.Fmt.{decimal}
 use Rattle.i3c_base.specs.declared.requests.Request.{Request}
 use Rattle.i3c_deftgts.specs.declared.faults.ListFault.{ListFault}
 use Rattle.i3c_frame.specs.declared.symbols.Symbol.{Symbol}
-use Rattle.i3c_lines.specs.Hex.{byte_text, hex_text}
-use Rattle.i3c_monitor.specs.declared.seen.Direct.{Direct}
-use Rattle.i3c_monitor.specs.declared.seen.Fault.{Fault}
-use Rattle.i3c_monitor.specs.declared.seen.Seen.{Seen}
-use Rattle.i3c_monitor.specs.declared.seen.Span.{Span}
+use Rattle.i3c_text.specs.Hex.{byte_text, hex_text}
+use Rattle.i3c_monitor.specs.declared.decoded.Direct.{Direct}
+use Rattle.i3c_monitor.specs.declared.decoded.Fault.{Fault}
+use Rattle.i3c_monitor.specs.declared.decoded.Decoded.{Decoded}
+use Rattle.i3c_monitor.specs.declared.decoded.Span.{Span}
 
 -- the symbols of a span of a trace
 abbrev pub symbols_of : Span → List Symbol → List Symbol
@@ -85,22 +85,22 @@ fault_text (Fault.List ListFault.Count) = codes "Count"
 fault_text (Fault.List (ListFault.Address number)) = number_text (codes "Address ") number
 fault_text (Fault.List ListFault.Twice) = codes "Twice"
 
--- what is seen, of this trace
-abbrev pub seen_text : List Symbol → Seen → List ℕ
-seen_text trace (Seen.Frame number) = number_text (codes "frame ") number
-seen_text trace (Seen.Request request accepted byte) = request_text request ++ (verdict_text accepted ++ byte_after byte)
-seen_text trace (Seen.Enec kinds) = words_text (codes "ENEC ") kinds
-seen_text trace (Seen.Disec kinds) = words_text (codes "DISEC ") kinds
-seen_text trace Seen.Rstdaa = codes "RSTDAA"
-seen_text trace Seen.Entdaa = codes "ENTDAA"
-seen_text trace (Seen.Deftgts count) = number_text (codes "DEFTGTS ") count ++ codes " entries"
-seen_text trace (Seen.Other byte) = words_text (codes "Other ") byte
-seen_text trace (Seen.Round identity byte taken) = codes "round " ++ (hex_text 16 identity ++ (words_text (codes " ") byte ++ taken_text taken))
-seen_text trace Seen.RoundsDone = codes "round done"
-seen_text trace (Seen.Single command address byte) = words_text (command_text command) address ++ answer_text byte
-seen_text trace (Seen.Transfer address read span) = words_text (transfer_text read) address ++ bytes_text span trace
-seen_text trace (Seen.Refused fault) = codes "refused " ++ fault_text fault
+-- what is decoded, of this trace
+abbrev pub decoded_text : List Symbol → Decoded → List ℕ
+decoded_text trace (Decoded.FrameStart number) = number_text (codes "frame ") number
+decoded_text trace (Decoded.Request request accepted byte) = request_text request ++ (verdict_text accepted ++ byte_after byte)
+decoded_text trace (Decoded.Enec kinds) = words_text (codes "ENEC ") kinds
+decoded_text trace (Decoded.Disec kinds) = words_text (codes "DISEC ") kinds
+decoded_text trace Decoded.Rstdaa = codes "RSTDAA"
+decoded_text trace Decoded.Entdaa = codes "ENTDAA"
+decoded_text trace (Decoded.Deftgts count) = number_text (codes "DEFTGTS ") count ++ codes " entries"
+decoded_text trace (Decoded.Other byte) = words_text (codes "Other ") byte
+decoded_text trace (Decoded.Round identity byte taken) = codes "round " ++ (hex_text 16 identity ++ (words_text (codes " ") byte ++ taken_text taken))
+decoded_text trace Decoded.RoundsDone = codes "round done"
+decoded_text trace (Decoded.Single command address byte) = words_text (command_text command) address ++ answer_text byte
+decoded_text trace (Decoded.Transfer address read span) = words_text (transfer_text read) address ++ bytes_text span trace
+decoded_text trace (Decoded.Refused fault) = codes "refused " ++ fault_text fault
 
 -- its line
-abbrev pub line_text : List Symbol → Seen → List ℕ
-line_text trace seen = seen_text trace seen ++ 10 ∷ []
+abbrev pub line_text : List Symbol → Decoded → List ℕ
+line_text trace decoded = decoded_text trace decoded ++ 10 ∷ []

@@ -3,21 +3,21 @@ use Rattle.std.specs.Prelude.{ℕ, ◌+◌, Bool, true, false, ◌==◌, ◌&&�
 use Rattle.i3c_base.specs.declared.requests.Request.{Request}
 use Rattle.i3c_ccc.specs.declared.codes.Code.{Code}
 use Rattle.i3c_frame.specs.declared.symbols.Symbol.{Symbol}
-use Rattle.i3c_monitor.specs.declared.frames.Header.{Header}
-use Rattle.i3c_monitor.specs.declared.frames.Mode.{Mode}
-use Rattle.i3c_monitor.specs.declared.frames.Told.{Told}
-use Rattle.i3c_monitor.specs.declared.seen.Direct.{Direct}
-use Rattle.i3c_monitor.specs.declared.seen.Fault.{Fault}
-use Rattle.i3c_monitor.specs.declared.seen.Seen.{Seen}
+use Rattle.i3c_monitor.specs.declared.header.Header.{Header}
+use Rattle.i3c_monitor.specs.declared.header.Mode.{Mode}
+use Rattle.i3c_monitor.specs.declared.header.Told.{Told}
+use Rattle.i3c_monitor.specs.declared.decoded.Direct.{Direct}
+use Rattle.i3c_monitor.specs.declared.decoded.Fault.{Fault}
+use Rattle.i3c_monitor.specs.declared.decoded.Decoded.{Decoded}
 use Rattle.i3c_monitor.specs.Due.{due_word, entries_told, go_on, written_byte}
 
 -- nothing is told, and the frame stands so
 abbrev pub nothing : Mode → Told
-nothing mode = record { seen = None; mode = mode }
+nothing mode = record { decoded = None; mode = mode }
 
 -- this is told, and the frame stands so
-abbrev pub one : Mode → Seen → Result Told Fault
-one mode seen = Ok (record { seen = Some seen; mode = mode })
+abbrev pub one : Mode → Decoded → Result Told Fault
+one mode decoded = Ok (record { decoded = Some decoded; mode = mode })
 
 -- the request that a frame's first header is
 abbrev pub request_at : ℕ → Bool → Request
@@ -30,14 +30,14 @@ next_byte (Symbol.Word word ∷ rest) = Some word.byte
 next_byte _ = None
 
 -- a frame's first header: the byte behind it is an interrupt's that was accepted
-abbrev pub request_of : Header → List Symbol → Seen
+abbrev pub request_of : Header → List Symbol → Decoded
 request_of header symbols =
-    Seen.Request (request_at header.address header.read) header.ack (if header.read && header.ack then next_byte symbols else None)
+    Decoded.Request (request_at header.address header.read) header.ack (if header.read && header.ack then next_byte symbols else None)
 
 -- a private transfer, of so many symbols
-abbrev pub transfer_of : Header → ℕ → ℕ → Seen
+abbrev pub transfer_of : Header → ℕ → ℕ → Decoded
 transfer_of header count before =
-    Seen.Transfer header.address header.read (if header.ack then Some (record { before = before; count = count }) else None)
+    Decoded.Transfer header.address header.read (if header.ack then Some (record { before = before; count = count }) else None)
 
 -- the byte behind a header of a command to single targets: of one that a target sent, T doesn't count
 abbrev pub single_byte : Direct → List Symbol → ℕ → Result ℕ Fault
@@ -46,32 +46,32 @@ single_byte Direct.Disec symbols before = written_byte symbols before
 single_byte Direct.Getacccr symbols before = go_on (due_word symbols before) (λ word. Ok word.byte)
 
 -- a header of such a command
-abbrev pub single_of : Direct → Header → List Symbol → ℕ → Result Seen Fault
+abbrev pub single_of : Direct → Header → List Symbol → ℕ → Result Decoded Fault
 single_of command header symbols before =
-    if header.ack then go_on (single_byte command symbols before) (λ byte. Ok (Seen.Single command header.address (Some byte)))
-    else Ok (Seen.Single command header.address None)
+    if header.ack then go_on (single_byte command symbols before) (λ byte. Ok (Decoded.Single command header.address (Some byte)))
+    else Ok (Decoded.Single command header.address None)
 
 -- a round that somebody takes part in
-abbrev pub round_in : List Symbol → ℕ → Result Seen Fault
-round_in (Symbol.Identity identity ∷ Symbol.AddressByte byte ack ∷ rest) before = Ok (Seen.Round identity byte ack)
+abbrev pub round_in : List Symbol → ℕ → Result Decoded Fault
+round_in (Symbol.Identity identity ∷ Symbol.AddressByte byte ack ∷ rest) before = Ok (Decoded.Round identity byte ack)
 round_in (Symbol.Identity identity ∷ rest) before = Err (Fault.Truncated (before + 2))
 round_in _ before = Err (Fault.Truncated (before + 1))
 
 -- a round
-abbrev pub round_of : Header → List Symbol → ℕ → Result Seen Fault
-round_of header symbols before = if header.ack then round_in symbols before else Ok Seen.RoundsDone
+abbrev pub round_of : Header → List Symbol → ℕ → Result Decoded Fault
+round_of header symbols before = if header.ack then round_in symbols before else Ok Decoded.RoundsDone
 
 -- a command, of whose code this is what follows
 abbrev pub command_of : Code → List Symbol → ℕ → Result Told Fault
-command_of Code.Enec symbols before = go_on (written_byte symbols before) (λ kinds. one Mode.Plain (Seen.Enec kinds))
-command_of Code.Disec symbols before = go_on (written_byte symbols before) (λ kinds. one Mode.Plain (Seen.Disec kinds))
-command_of Code.Rstdaa symbols before = one Mode.Plain Seen.Rstdaa
-command_of Code.Entdaa symbols before = one Mode.Rounds Seen.Entdaa
-command_of Code.Deftgts symbols before = go_on (entries_told symbols before) (λ count. one Mode.Plain (Seen.Deftgts count))
+command_of Code.Enec symbols before = go_on (written_byte symbols before) (λ kinds. one Mode.Plain (Decoded.Enec kinds))
+command_of Code.Disec symbols before = go_on (written_byte symbols before) (λ kinds. one Mode.Plain (Decoded.Disec kinds))
+command_of Code.Rstdaa symbols before = one Mode.Plain Decoded.Rstdaa
+command_of Code.Entdaa symbols before = one Mode.Rounds Decoded.Entdaa
+command_of Code.Deftgts symbols before = go_on (entries_told symbols before) (λ count. one Mode.Plain (Decoded.Deftgts count))
 command_of Code.EnecDirect symbols before = Ok (nothing (Mode.Single Direct.Enec))
 command_of Code.DisecDirect symbols before = Ok (nothing (Mode.Single Direct.Disec))
 command_of Code.Getacccr symbols before = Ok (nothing (Mode.Single Direct.Getacccr))
-command_of (Code.Other byte) symbols before = one Mode.Skipped (Seen.Other byte)
+command_of (Code.Other byte) symbols before = one Mode.Skipped (Decoded.Other byte)
 
 -- the code of a byte
 abbrev pub code_at : ℕ → Code

@@ -3,12 +3,12 @@ use Rattle.std.specs.Prelude.{ℕ, zero, suc, ◌+◌, Bool, true, false, List, 
 use Rattle.std.specs.List.{before_first, position_or_len}
 use Rattle.std.specs.Option.{option_to_list}
 use Rattle.i3c_frame.specs.declared.symbols.Symbol.{Symbol}
-use Rattle.i3c_monitor.specs.declared.frames.Header.{Header}
-use Rattle.i3c_monitor.specs.declared.frames.Mode.{Mode}
-use Rattle.i3c_monitor.specs.declared.frames.Told.{Told}
+use Rattle.i3c_monitor.specs.declared.header.Header.{Header}
+use Rattle.i3c_monitor.specs.declared.header.Mode.{Mode}
+use Rattle.i3c_monitor.specs.declared.header.Told.{Told}
 use Rattle.i3c_monitor.specs.declared.monitor.Monitor.{Monitor}
-use Rattle.i3c_monitor.specs.declared.seen.Fault.{Fault}
-use Rattle.i3c_monitor.specs.declared.seen.Seen.{Seen}
+use Rattle.i3c_monitor.specs.declared.decoded.Fault.{Fault}
+use Rattle.i3c_monitor.specs.declared.decoded.Decoded.{Decoded}
 use Rattle.i3c_monitor.specs.Told.{told}
 
 -- the header that a symbol is, if it is one
@@ -32,31 +32,31 @@ abbrev pub behind : List Symbol → List Symbol
 behind symbols = before_first ends symbols
 
 -- after what a header tells the rest is told, but after a fault nothing is
-abbrev pub and_on : Result Told Fault → (Mode → List Seen) → List Seen
-and_on (Ok told) rest = option_to_list told.seen ++ rest told.mode
-and_on (Err fault) rest = Seen.Refused fault ∷ []
+abbrev pub and_on : Result Told Fault → (Mode → List Decoded) → List Decoded
+and_on (Ok told) rest = option_to_list told.decoded ++ rest told.mode
+and_on (Err fault) rest = Decoded.Refused fault ∷ []
 
 -- what the rest of a trace tells, of which so many symbols stand behind a header that was told. So many frames and symbols
 -- came before
-abbrev pub rest_told : Mode → ℕ → ℕ → ℕ → List Symbol → List Seen
+abbrev pub rest_told : Mode → ℕ → ℕ → ℕ → List Symbol → List Decoded
 rest_told mode frames before skip [] = []
 rest_told mode frames before (suc skip) (symbol ∷ rest) = rest_told mode frames (before + 1) skip rest
-rest_told mode frames before zero (Symbol.Start ∷ rest) = Seen.Frame (frames + 1) ∷ rest_told Mode.First (frames + 1) (before + 1) zero rest
+rest_told mode frames before zero (Symbol.Start ∷ rest) = Decoded.FrameStart (frames + 1) ∷ rest_told Mode.First (frames + 1) (before + 1) zero rest
 rest_told mode frames before zero (Symbol.Header address read ack ∷ rest) =
     and_on (told mode (record { address = address; read = read; ack = ack }) (behind rest) (before + 1))
     (λ next. rest_told next frames (before + 1) (count_behind rest) rest)
 rest_told mode frames before zero (symbol ∷ rest) = rest_told mode frames (before + 1) zero rest
 
 -- what a trace tells
-abbrev pub trace_told : List Symbol → List Seen
+abbrev pub trace_told : List Symbol → List Decoded
 trace_told symbols = rest_told Mode.Skipped 0 0 0 symbols
 
 -- what a monitor is still to tell
-abbrev pub to_come : Monitor → List Seen
+abbrev pub to_come : Monitor → List Decoded
 to_come monitor = rest_told monitor.mode monitor.frames monitor.before 0 monitor.rest.now
 
 -- the same of one who has just taken this header
-abbrev pub header_told : Monitor → Header → List Seen
+abbrev pub header_told : Monitor → Header → List Decoded
 header_told monitor header =
     let rest = monitor.rest.now in
     and_on (told monitor.mode header (behind rest) monitor.before)

@@ -4,6 +4,7 @@ ghost use Rattle.i3c_monitor.specs.Trace.{count_behind, ends};
 use i3c_frame::Symbol;
 
 /// How many symbols stand behind a header: those up to the next START, repeated START or STOP.
+#[inline(always)]
 pub(crate) fn count_behind(symbols: &[Symbol]) -> usize
     ensures { result ≡ count_behind symbols.now }
 {
@@ -11,6 +12,7 @@ pub(crate) fn count_behind(symbols: &[Symbol]) -> usize
 }
 
 /// Where the first symbol stands that ends them, if there is one.
+#[inline(always)]
 fn first_end(symbols: &[Symbol]) -> Option<usize>
     ensures { result ≡ position ends symbols.now }
 {
@@ -18,6 +20,7 @@ fn first_end(symbols: &[Symbol]) -> Option<usize>
 }
 
 /// Whether a symbol ends what stands behind a header.
+#[inline(always)]
 fn ends(symbol: &Symbol) -> bool
     ensures { result ≡ ends symbol.now }
 {

@@ -2,8 +2,8 @@ ghost use Rattle.std.specs.Prelude.{◌+◌, ◌<◌, length};
 ghost use Rattle.i3c_monitor.specs.Due.{Comes};
 ghost use Rattle.i3c_monitor.specs.Told.{code_of as code_told, command_of};
 
-use crate::frames::{Mode, Told};
-use crate::seen::{Direct, Seen, Stop};
+use crate::decoded::{Decoded, Direct, Stop};
+use crate::header::{Mode, Told};
 use crate::words::{read_entries, written_byte};
 use i3c_ccc::{Code, code_of};
 use i3c_frame::Symbol;
@@ -11,6 +11,7 @@ use std::alloc::Global;
 
 /// What follows `7E`/W: the code of a command, and what is read with it (I3C Basic 5.1.9.1). No symbol is no command.
 /// So many symbols of the trace come before.
+#[inline(always)]
 pub(crate) fn read_code(alloc: Global, symbols: &[Symbol], before: usize) -> Result<Told, Stop>
     requires { before + length symbols.now < usize.MAX }
     ensures { Comes (code_told symbols.now before) result }
@@ -23,26 +24,27 @@ pub(crate) fn read_code(alloc: Global, symbols: &[Symbol], before: usize) -> Res
 }
 
 /// A command, of whose code this is what follows.
+#[inline(always)]
 fn read_command(alloc: Global, code: Code, symbols: &[Symbol], before: usize) -> Result<Told, Stop>
     requires { before + length symbols.now < usize.MAX }
     ensures { Comes (command_of code symbols.now before) result }
 {
-    let (seen, mode) = match code {
-        Code::Enec => (Seen::Enec(written_byte(symbols, before)?), Mode::Plain),
-        Code::Disec => (Seen::Disec(written_byte(symbols, before)?), Mode::Plain),
-        Code::Rstdaa => (Seen::Rstdaa, Mode::Plain),
-        Code::Entdaa => (Seen::Entdaa, Mode::Rounds),
+    let (decoded, mode) = match code {
+        Code::Enec => (Decoded::Enec(written_byte(symbols, before)?), Mode::Plain),
+        Code::Disec => (Decoded::Disec(written_byte(symbols, before)?), Mode::Plain),
+        Code::Rstdaa => (Decoded::Rstdaa, Mode::Plain),
+        Code::Entdaa => (Decoded::Entdaa, Mode::Rounds),
         Code::Deftgts => (
-            Seen::Deftgts(read_entries(alloc, symbols, before)?),
+            Decoded::Deftgts(read_entries(alloc, symbols, before)?),
             Mode::Plain,
         ),
         Code::EnecDirect => return Ok(Told::nothing(Mode::Single(Direct::Enec))),
         Code::DisecDirect => return Ok(Told::nothing(Mode::Single(Direct::Disec))),
         Code::Getacccr => return Ok(Told::nothing(Mode::Single(Direct::Getacccr))),
-        Code::Other(byte) => (Seen::Other(byte), Mode::Skipped),
+        Code::Other(byte) => (Decoded::Other(byte), Mode::Skipped),
     };
     Ok(Told {
-        seen: Some(seen),
+        decoded: Some(decoded),
         mode,
     })
 }

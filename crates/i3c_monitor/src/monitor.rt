@@ -1,8 +1,8 @@
 ghost use Rattle.std.specs.Prelude.{◌+◌, ◌^◌, ◌<◌, ◌≤◌, length};
 
 use crate::behind::count_behind;
-use crate::frames::{Header, Mode, read_header};
-use crate::seen::{Seen, Stop};
+use crate::decoded::{Decoded, Stop};
+use crate::header::{Header, Mode, read_header};
 use i3c_frame::Symbol;
 use std::alloc::{AllocError, Global};
 
@@ -41,23 +41,23 @@ impl<'a> Monitor<'a> {
 
     /// What comes next, or `None` at the end. After a fault it is the end. Symbols that don't follow one another as
     /// those of a trace do are passed over.
-    pub fn next(&mut self) -> Result<Option<Seen>, AllocError>
-        ensures told { IfOk result (λ seen. to_come self.old ≡ option_to_list seen ++ to_come self.new) }
+    pub fn next(&mut self) -> Result<Option<Decoded>, AllocError>
+        ensures told { IfOk result (λ decoded. to_come self.old ≡ option_to_list decoded ++ to_come self.new) }
         ensures ended { result ≡ Ok None → to_come self.old ≡ [] }
     {
         while let [symbol, rest @ ..] = self.rest {
-            let seen = self.take(symbol, rest)?;
-            if seen.is_some() {
-                return Ok(seen);
+            let decoded = self.take(symbol, rest)?;
+            if decoded.is_some() {
+                return Ok(decoded);
             }
         }
         Ok(None)
     }
 
     /// Takes the next symbol, with all behind it if it is a header, and tells what it is.
-    fn take(&mut self, symbol: &Symbol, rest: &'a [Symbol]) -> Result<Option<Seen>, AllocError>
+    fn take(&mut self, symbol: &Symbol, rest: &'a [Symbol]) -> Result<Option<Decoded>, AllocError>
         requires { self.old.rest.now ≡ symbol.now ∷ rest.now }
-        ensures told { IfOk result (λ seen. to_come self.old ≡ option_to_list seen ++ to_come self.new) }
+        ensures told { IfOk result (λ decoded. to_come self.old ≡ option_to_list decoded ++ to_come self.new) }
         ensures shorter { length self.new.rest.now ≤ length rest.now }
     {
         self.rest = rest;
@@ -65,7 +65,7 @@ impl<'a> Monitor<'a> {
         if let Symbol::Start = symbol {
             self.frames += 1;
             self.mode = Mode::First;
-            return Ok(Some(Seen::Frame(self.frames)));
+            return Ok(Some(Decoded::FrameStart(self.frames)));
         }
         match Header::of(symbol) {
             Some(header) => self.take_behind(&header),
@@ -74,8 +74,8 @@ impl<'a> Monitor<'a> {
     }
 
     /// Takes the symbols behind a header, and tells what they are.
-    fn take_behind(&mut self, header: &Header) -> Result<Option<Seen>, AllocError>
-        ensures told { IfOk result (λ seen. header_told self.old header.now ≡ option_to_list seen ++ to_come self.new) }
+    fn take_behind(&mut self, header: &Header) -> Result<Option<Decoded>, AllocError>
+        ensures told { IfOk result (λ decoded. header_told self.old header.now ≡ option_to_list decoded ++ to_come self.new) }
         ensures shorter { length self.new.rest.now ≤ length self.old.rest.now }
     {
         let (symbols, after) = self.rest.split_at(count_behind(self.rest));
@@ -85,11 +85,11 @@ impl<'a> Monitor<'a> {
         match read_header(self.alloc, &self.mode, header, symbols, before) {
             Ok(told) => {
                 self.mode = told.mode;
-                Ok(told.seen)
+                Ok(told.decoded)
             }
             Err(Stop::Refused(fault)) => {
                 self.rest = &[];
-                Ok(Some(Seen::Refused(fault)))
+                Ok(Some(Decoded::Refused(fault)))
             }
             Err(Stop::Memory) => Err(AllocError),
         }

@@ -1,19 +1,20 @@
 ghost use Rattle.std.specs.Prelude.{◌≡◌, ◌++◌, OnOk, codes};
 ghost use Rattle.i3c_monitor.specs.Lines.{answer_text, byte_after, byte_of, bytes_text, command_text, data_text, fault_text, number_text, request_text, taken_text, transfer_text, verdict_text, words_text};
-ghost use Rattle.i3c_lines.specs.Hex.{hex_text};
+ghost use Rattle.i3c_text.specs.Hex.{hex_text};
 
-use crate::seen::{Direct, Fault, Seen, Span};
+use crate::decoded::{Decoded, Direct, Fault, Span};
 use i3c_base::{Addr7, Request};
 use i3c_deftgts::ListFault;
 use i3c_frame::Symbol;
-use i3c_lines::Text;
+use i3c_text::Text;
 use std::alloc::AllocError;
 
-impl Seen {
+impl Decoded {
     ghost use Rattle.std.specs.Prelude.{◌≡◌, ◌++◌, OnOk};
-    ghost use Rattle.i3c_monitor.specs.Lines.{line_text, seen_text};
+    ghost use Rattle.i3c_monitor.specs.Lines.{line_text, decoded_text};
 
     /// Appends its line to a text, of this trace.
+    #[inline(always)]
     pub fn push(&self, trace: &[Symbol], text: &mut Text) -> Result<(), AllocError>
         ensures { OnOk result (text.new ≡ text.old ++ line_text trace.now self.now) }
     {
@@ -22,34 +23,35 @@ impl Seen {
     }
 
     /// Appends it without a line's end.
+    #[inline(always)]
     fn push_words(&self, trace: &[Symbol], text: &mut Text) -> Result<(), AllocError>
-        ensures { OnOk result (text.new ≡ text.old ++ seen_text trace.now self.now) }
+        ensures { OnOk result (text.new ≡ text.old ++ decoded_text trace.now self.now) }
     {
         match self {
-            Seen::Frame(number) => push_number(b"frame ", *number, text),
-            Seen::Request {
+            Decoded::FrameStart(number) => push_number(b"frame ", *number, text),
+            Decoded::Request {
                 request,
                 accepted,
                 byte,
             } => push_request(request, *accepted, *byte, text),
-            Seen::Enec(kinds) => push_byte(b"ENEC ", *kinds, text),
-            Seen::Disec(kinds) => push_byte(b"DISEC ", *kinds, text),
-            Seen::Rstdaa => text.push(b"RSTDAA"),
-            Seen::Entdaa => text.push(b"ENTDAA"),
-            Seen::Deftgts(entries) => push_list(*entries, text),
-            Seen::Other(byte) => push_byte(b"Other ", *byte, text),
-            Seen::Round {
+            Decoded::Enec(kinds) => push_byte(b"ENEC ", *kinds, text),
+            Decoded::Disec(kinds) => push_byte(b"DISEC ", *kinds, text),
+            Decoded::Rstdaa => text.push(b"RSTDAA"),
+            Decoded::Entdaa => text.push(b"ENTDAA"),
+            Decoded::Deftgts(entries) => push_list(*entries, text),
+            Decoded::Other(byte) => push_byte(b"Other ", *byte, text),
+            Decoded::Round {
                 identity,
                 byte,
                 taken,
             } => push_round(*identity, *byte, *taken, text),
-            Seen::RoundsDone => text.push(b"round done"),
-            Seen::Single {
+            Decoded::RoundsDone => text.push(b"round done"),
+            Decoded::Single {
                 command,
                 address,
                 byte,
             } => push_single(command, *address, *byte, text),
-            Seen::Transfer {
+            Decoded::Transfer {
                 address,
                 read,
                 span,
@@ -57,13 +59,14 @@ impl Seen {
                 push_address(transfer_words(*read), *address, text)?;
                 push_bytes(span, trace, text)
             }
-            Seen::Refused(fault) => push_refusal(fault, text),
+            Decoded::Refused(fault) => push_refusal(fault, text),
         }
     }
 }
 
 /// Appends some words and a number.
-fn push_number(words: &[u8], number: usize, text: &mut Text) -> Result<(), AllocError>
+#[inline(always)]
+pub(crate) fn push_number(words: &[u8], number: usize, text: &mut Text) -> Result<(), AllocError>
     ensures { OnOk result (text.new ≡ text.old ++ number_text words.now number) }
 {
     text.push(words)?;
@@ -71,6 +74,7 @@ fn push_number(words: &[u8], number: usize, text: &mut Text) -> Result<(), Alloc
 }
 
 /// Appends some words and a byte.
+#[inline(always)]
 fn push_byte(words: &[u8], byte: u8, text: &mut Text) -> Result<(), AllocError>
     ensures { OnOk result (text.new ≡ text.old ++ words_text words.now byte) }
 {
@@ -79,13 +83,15 @@ fn push_byte(words: &[u8], byte: u8, text: &mut Text) -> Result<(), AllocError>
 }
 
 /// Appends some words and an address.
-fn push_address(words: &[u8], address: Addr7, text: &mut Text) -> Result<(), AllocError>
+#[inline(always)]
+pub(crate) fn push_address(words: &[u8], address: Addr7, text: &mut Text) -> Result<(), AllocError>
     ensures { OnOk result (text.new ≡ text.old ++ words_text words.now address) }
 {
     push_byte(words, address.get(), text)
 }
 
 /// Appends how many entries a list has.
+#[inline(always)]
 fn push_list(entries: usize, text: &mut Text) -> Result<(), AllocError>
     ensures { OnOk result (text.new ≡ text.old ++ (number_text (codes "DEFTGTS ") entries ++ codes " entries")) }
 {
@@ -94,6 +100,7 @@ fn push_list(entries: usize, text: &mut Text) -> Result<(), AllocError>
 }
 
 /// Appends a request and the controller's answer to it.
+#[inline(always)]
 fn push_request(
     request: &Request,
     accepted: bool,
@@ -108,6 +115,7 @@ fn push_request(
 }
 
 /// Appends a request.
+#[inline(always)]
 fn push_asked(request: &Request, text: &mut Text) -> Result<(), AllocError>
     ensures { OnOk result (text.new ≡ text.old ++ request_text request.now) }
 {
@@ -119,6 +127,7 @@ fn push_asked(request: &Request, text: &mut Text) -> Result<(), AllocError>
 }
 
 /// The words for the controller's answer to a request.
+#[inline(always)]
 fn verdict_words(accepted: bool) -> &'static [u8]
     ensures { result.now ≡ verdict_text accepted }
 {
@@ -130,6 +139,7 @@ fn verdict_words(accepted: bool) -> &'static [u8]
 }
 
 /// Appends a round, and whether somebody took the address.
+#[inline(always)]
 fn push_round(identity: u64, byte: u8, taken: bool, text: &mut Text) -> Result<(), AllocError>
     ensures { OnOk result (text.new ≡ text.old ++ (codes "round " ++ (hex_text 16 identity ++ (words_text (codes " ") byte ++ taken_text taken)))) }
 {
@@ -140,6 +150,7 @@ fn push_round(identity: u64, byte: u8, taken: bool, text: &mut Text) -> Result<(
 }
 
 /// The words for whether somebody took the address of a round.
+#[inline(always)]
 fn taken_words(taken: bool) -> &'static [u8]
     ensures { result.now ≡ taken_text taken }
 {
@@ -147,6 +158,7 @@ fn taken_words(taken: bool) -> &'static [u8]
 }
 
 /// Appends a command to single targets, and the byte behind its header.
+#[inline(always)]
 fn push_single(
     command: &Direct,
     address: Addr7,
@@ -160,6 +172,7 @@ fn push_single(
 }
 
 /// The words for a command to single targets.
+#[inline(always)]
 fn command_words(command: &Direct) -> &'static [u8]
     ensures { result.now ≡ command_text command.now }
 {
@@ -171,6 +184,7 @@ fn command_words(command: &Direct) -> &'static [u8]
 }
 
 /// Appends the byte behind a header of such a command.
+#[inline(always)]
 fn push_answer(byte: Option<u8>, text: &mut Text) -> Result<(), AllocError>
     ensures { OnOk result (text.new ≡ text.old ++ answer_text byte) }
 {
@@ -181,6 +195,7 @@ fn push_answer(byte: Option<u8>, text: &mut Text) -> Result<(), AllocError>
 }
 
 /// The words for the direction of a private transfer.
+#[inline(always)]
 fn transfer_words(read: bool) -> &'static [u8]
     ensures { result.now ≡ transfer_text read }
 {
@@ -188,6 +203,7 @@ fn transfer_words(read: bool) -> &'static [u8]
 }
 
 /// Appends the bytes of a private transfer.
+#[inline(always)]
 fn push_bytes(span: &Option<Span>, trace: &[Symbol], text: &mut Text) -> Result<(), AllocError>
     ensures { OnOk result (text.new ≡ text.old ++ bytes_text span.now trace.now) }
 {
@@ -198,6 +214,7 @@ fn push_bytes(span: &Option<Span>, trace: &[Symbol], text: &mut Text) -> Result<
 }
 
 /// Appends the bytes of the words among symbols.
+#[inline(always)]
 fn push_data(symbols: &[Symbol], text: &mut Text) -> Result<(), AllocError>
     ensures { OnOk result (text.new ≡ text.old ++ data_text symbols.now) }
 {
@@ -210,6 +227,7 @@ fn push_data(symbols: &[Symbol], text: &mut Text) -> Result<(), AllocError>
 }
 
 /// The byte of a word, with a T bit or of a legacy target.
+#[inline(always)]
 fn byte_of(symbol: &Symbol) -> Option<u8>
     ensures { result ≡ byte_of symbol.now }
 {
@@ -221,6 +239,7 @@ fn byte_of(symbol: &Symbol) -> Option<u8>
 }
 
 /// Appends a byte after a space, if there is one.
+#[inline(always)]
 fn push_after(byte: Option<u8>, text: &mut Text) -> Result<(), AllocError>
     ensures { OnOk result (text.new ≡ text.old ++ byte_after byte) }
 {
@@ -231,6 +250,8 @@ fn push_after(byte: Option<u8>, text: &mut Text) -> Result<(), AllocError>
 }
 
 /// Appends that a trace is refused, and its fault.
+#[cold]
+#[inline(never)]
 fn push_refusal(fault: &Fault, text: &mut Text) -> Result<(), AllocError>
     ensures { OnOk result (text.new ≡ text.old ++ (codes "refused " ++ fault_text fault.now)) }
 {

@@ -2,7 +2,7 @@ ghost use Rattle.std.specs.Prelude.{◌≡◌, ◌+◌, ◌<◌, IfOk, length};
 ghost use Rattle.i3c_deftgts.specs.Reading.{first_fault};
 ghost use Rattle.i3c_monitor.specs.Due.{Comes, broken, due_word, entries_told, words_in, written_byte};
 
-use crate::seen::{Fault, Stop};
+use crate::decoded::{Fault, Stop};
 use i3c_deftgts::{ListFault, read_list};
 use i3c_frame::Symbol;
 use i3c_word::{Word, read_word};
@@ -10,6 +10,7 @@ use std::alloc::{AllocError, Global};
 
 /// The byte of a word that a controller writes, which is due as the first of these symbols. So many symbols of the
 /// trace come before them.
+#[inline(always)]
 pub(crate) fn written_byte(symbols: &[Symbol], before: usize) -> Result<u8, Fault>
     requires { before < usize.MAX }
     ensures { result ≡ written_byte symbols.now before }
@@ -21,6 +22,7 @@ pub(crate) fn written_byte(symbols: &[Symbol], before: usize) -> Result<u8, Faul
 }
 
 /// The word that is due as the first of these symbols, whatever its T bit is.
+#[inline(always)]
 pub(crate) fn due_word(symbols: &[Symbol], before: usize) -> Result<Word, Fault>
     requires { before < usize.MAX }
     ensures { result ≡ due_word symbols.now before }
@@ -33,6 +35,7 @@ pub(crate) fn due_word(symbols: &[Symbol], before: usize) -> Result<Word, Fault>
 }
 
 /// How many entries the list has that these symbols are (I3C Basic 5.1.9.3.7).
+#[inline(always)]
 pub(crate) fn read_entries(alloc: Global, symbols: &[Symbol], before: usize) -> Result<usize, Stop>
     requires { before + length symbols.now < usize.MAX }
     ensures { Comes (entries_told symbols.now before) result }
@@ -49,7 +52,8 @@ pub(crate) fn read_entries(alloc: Global, symbols: &[Symbol], before: usize) -> 
 }
 
 /// The words that come before any other symbol.
-fn leading_words(alloc: Global, symbols: &[Symbol]) -> Result<Vec<Word>, AllocError>
+#[inline(always)]
+pub(crate) fn leading_words(alloc: Global, symbols: &[Symbol]) -> Result<Vec<Word>, AllocError>
     ensures { IfOk result (λ words. words.items ≡ words_in symbols.now) }
 {
     let mut words = Vec::with_capacity(alloc, symbols.len())?;
@@ -62,6 +66,8 @@ fn leading_words(alloc: Global, symbols: &[Symbol]) -> Result<Vec<Word>, AllocEr
 }
 
 /// The fault of a list that the symbol of this number interrupts, which is no word: a wrong T bit before it comes first.
+#[cold]
+#[inline(never)]
 fn broken_list(words: &[Word], number: usize) -> Fault
     ensures { result ≡ broken (first_fault words.now) number }
 {

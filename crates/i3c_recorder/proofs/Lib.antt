@@ -1,4 +1,3 @@
 mod Widened
-mod Terms
 pub mod Leading
 mod Starting

@@ -5,7 +5,7 @@ use Rattle.std.proofs.lemmas.List.{get_or_append_left}
 use Rattle.std.proofs.Math.Seq.{get_or-append_seam}
 use Rattle.std.proofs.lemmas.List.Elements.{All-head, All-tail}
 use Rattle.i3c_recorder.specs.declared.entry.Entry.{Entry}
-use Rattle.i3c_recorder.specs.declared.packing.Brief.{Brief}
+use Rattle.i3c_recorder.specs.declared.packing.ShortEntry.{ShortEntry}
 use Rattle.i3c_recorder.specs.declared.packing.Said.{Said}
 use Rattle.i3c_recorder.specs.declared.packing.Packed.{Packed}
 use Rattle.i3c_recorder.specs.declared.packing.Packed.TheVariants.{Short, Wide}
@@ -24,10 +24,6 @@ still_all wide more (p ∷ packed) h =
 one_more : (wide : List Entry) (packed : List Packed) (p : Packed) → entries_in wide (packed ++ p ∷ []) ≡ entries_in wide packed ++ entry_in wide p ∷ []
 one_more wide [] p = refl
 one_more wide (q ∷ packed) p = ap (λ es. entry_in wide q ∷ es) (one_more wide packed p)
-
--- a run that goes on by an entry in short
-pub shortened : (wide : List Entry) (packed : List Packed) (e : Entry) (brief : Brief) (said : Said) → IsShort (brief, said) e → entries_in wide (packed ++ Short brief said ∷ []) ≡ entries_in wide packed ++ e ∷ []
-shortened wide packed e brief said is = one_more wide packed (Short brief said) ∙ ap (λ x. entries_in wide packed ++ x ∷ []) (sym is)
 
 -- and by a wide one
 pub widened : (wide : List Entry) (packed : List Packed) (e : Entry) (at : ℕ) → at ≡ length wide → All (IsWithin (length wide)) packed

@@ -1,12 +1,11 @@
 -- Runs as they are kept: a list of events with their replies.
-use Rattle.std.specs.Prelude.{ℕ, ◌+◌, List, [], ◌∷◌, map, Option, if◌then◌else◌}
+use Rattle.std.specs.Prelude.{List, map, Option}
 use Rattle.i3c_base.specs.declared.device.Setup.{Setup}
 use Rattle.i3c_base.specs.declared.device.LegacyTarget.{LegacyTarget}
 use Rattle.i3c_base.specs.State.{IsStart, State}
 use Rattle.i3c_step.specs.declared.events.Event.{Event}
 use Rattle.i3c_step.specs.declared.replies.Reply.{Reply}
 use Rattle.i3c_step.specs.Runs.{IsLegalRun, IsRun}
-use Rattle.i3c_step.specs.Slots.{is_handed}
 use Rattle.i3c_recorder.specs.declared.entry.Entry.{Entry}
 
 abbrev pub events_of : List Entry → List Event
@@ -26,12 +25,3 @@ IsBegun start = (main : Setup) × (legacy : List (Option LegacyTarget)) × IsSta
 -- the run is legal from some start, and leads to this state
 abbrev pub IsLegalTo : List Entry → State → Type 0
 IsLegalTo run new = (main : Setup) × (legacy : List (Option LegacyTarget)) × IsLegalRun main legacy (events_of run) (replies_of run) new
-
--- 1 where a handover was granted
-abbrev pub term_of : Reply → ℕ
-term_of reply = if is_handed reply then 1 else 0
-
--- how many handovers were granted in a run
-abbrev pub terms_of : List Entry → ℕ
-terms_of [] = 0
-terms_of (e ∷ run) = term_of e.reply + terms_of run

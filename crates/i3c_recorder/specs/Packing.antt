@@ -5,27 +5,27 @@ use Rattle.i3c_base.specs.Cutting.{no_cuts}
 use Rattle.i3c_step.specs.declared.events.Event.{Event}
 use Rattle.i3c_step.specs.declared.replies.Reply.{Reply}
 use Rattle.i3c_recorder.specs.declared.entry.Entry.{Entry}
-use Rattle.i3c_recorder.specs.declared.packing.Brief.{Brief}
+use Rattle.i3c_recorder.specs.declared.packing.ShortEntry.{ShortEntry}
 use Rattle.i3c_recorder.specs.declared.packing.Said.{Said}
 use Rattle.i3c_recorder.specs.declared.packing.Packed.{Packed}
 
 -- the event that is kept in short
-abbrev pub event_in : Brief → Event
-event_in (Brief.Attach s pid bcr dcr willing) = Event.Attach s (record { identity = record { pid = pid; bcr = bcr; dcr = dcr }; willing = willing })
-event_in (Brief.DropOff s) = Event.DropOff s
-event_in (Brief.Raise s byte) = Event.Raise s byte
-event_in (Brief.AskJoin s) = Event.AskJoin s
-event_in (Brief.AskRole s) = Event.AskRole s
-event_in (Brief.Serve policy) = Event.Serve policy no_cuts
-event_in (Brief.Enec to kinds policy) = Event.Enec to kinds policy no_cuts
-event_in (Brief.Disec to kinds policy) = Event.Disec to kinds policy no_cuts
-event_in (Brief.Reset policy) = Event.Reset policy no_cuts
-event_in (Brief.SendList policy) = Event.SendList policy no_cuts
-event_in (Brief.ReadFrom a policy) = Event.ReadFrom a policy no_cuts
-event_in (Brief.HandOver to) = Event.HandOver to no_cuts
-event_in Brief.OpenDaa = Event.OpenDaa no_cuts
-event_in Brief.Round = Event.Round no_cuts
-event_in Brief.EndDaa = Event.EndDaa
+abbrev pub event_in : ShortEntry → Event
+event_in (ShortEntry.Attach s pid bcr dcr willing) = Event.Attach s (record { identity = record { pid = pid; bcr = bcr; dcr = dcr }; willing = willing })
+event_in (ShortEntry.DropOff s) = Event.DropOff s
+event_in (ShortEntry.Raise s byte) = Event.Raise s byte
+event_in (ShortEntry.AskJoin s) = Event.AskJoin s
+event_in (ShortEntry.AskRole s) = Event.AskRole s
+event_in (ShortEntry.Serve policy) = Event.Serve policy no_cuts
+event_in (ShortEntry.Enec to kinds policy) = Event.Enec to kinds policy no_cuts
+event_in (ShortEntry.Disec to kinds policy) = Event.Disec to kinds policy no_cuts
+event_in (ShortEntry.Reset policy) = Event.Reset policy no_cuts
+event_in (ShortEntry.SendList policy) = Event.SendList policy no_cuts
+event_in (ShortEntry.ReadFrom a policy) = Event.ReadFrom a policy no_cuts
+event_in (ShortEntry.HandOver to) = Event.HandOver to no_cuts
+event_in ShortEntry.OpenDaa = Event.OpenDaa no_cuts
+event_in ShortEntry.Round = Event.Round no_cuts
+event_in ShortEntry.EndDaa = Event.EndDaa
 
 -- the reply that is kept in short
 abbrev pub reply_in : Said → Reply
@@ -61,5 +61,5 @@ IsWithin count (Packed.Short brief said) = ⊤
 IsWithin count (Packed.Wide at) = at < count
 
 -- the entry is this one in short
-abbrev pub IsShort : Brief × Said → Entry → Type 0
+abbrev pub IsShort : ShortEntry × Said → Entry → Type 0
 IsShort short entry = entry ≡ record { event = event_in short.0; reply = reply_in short.1 }

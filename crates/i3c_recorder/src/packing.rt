@@ -11,7 +11,7 @@ use std::mem::size_of;
 
 /// An event that cuts nobody and writes nothing, without its cuts.
 #[derive(Clone, Copy)]
-pub(crate) enum Brief {
+pub(crate) enum ShortEntry {
     /// The slot, and its device's setup: PID, BCR, DCR, and whether it is willing.
     Attach(Slot, Pid, Bcr, Dcr, bool),
     DropOff(Slot),
@@ -51,7 +51,7 @@ pub(crate) enum Said {
 /// How a run keeps an entry: in short, or as the wide entry of this place.
 #[derive(Clone, Copy)]
 pub(crate) enum Packed {
-    Short(Brief, Said),
+    Short(ShortEntry, Said),
     Wide(usize),
 }
 
@@ -59,44 +59,44 @@ pub(crate) enum Packed {
 const _: () = prove!(size_of::<Packed>() <= 64);
 
 /// The event in short, where it cuts nobody and writes nothing.
-pub(crate) fn brief_of(event: &Event) -> Option<Brief>
+pub(crate) fn brief_of(event: &Event) -> Option<ShortEntry>
     ensures { MatchOption result ⊤ (λ brief. event.now ≡ event_in brief) }
 {
     match event {
         Event::Attach(slot, setup) => {
             let Identity { pid, bcr, dcr } = setup.identity;
-            Some(Brief::Attach(*slot, pid, bcr, dcr, setup.willing))
+            Some(ShortEntry::Attach(*slot, pid, bcr, dcr, setup.willing))
         }
-        Event::DropOff(slot) => Some(Brief::DropOff(*slot)),
-        Event::Raise(slot, byte) => Some(Brief::Raise(*slot, *byte)),
-        Event::AskJoin(slot) => Some(Brief::AskJoin(*slot)),
-        Event::AskRole(slot) => Some(Brief::AskRole(*slot)),
+        Event::DropOff(slot) => Some(ShortEntry::DropOff(*slot)),
+        Event::Raise(slot, byte) => Some(ShortEntry::Raise(*slot, *byte)),
+        Event::AskJoin(slot) => Some(ShortEntry::AskJoin(*slot)),
+        Event::AskRole(slot) => Some(ShortEntry::AskRole(*slot)),
         Event::WriteTo(_, _, _, _) => None,
-        Event::EndDaa => Some(Brief::EndDaa),
+        Event::EndDaa => Some(ShortEntry::EndDaa),
         _ => brief_frame(event),
     }
 }
 
 /// The same, of a frame with cuts that writes nothing.
-fn brief_frame(event: &Event) -> Option<Brief>
+fn brief_frame(event: &Event) -> Option<ShortEntry>
     ensures { MatchOption result ⊤ (λ brief. event.now ≡ event_in brief) }
 {
     match event {
-        Event::Serve(policy, cuts) if cuts.is_empty() => Some(Brief::Serve(*policy)),
+        Event::Serve(policy, cuts) if cuts.is_empty() => Some(ShortEntry::Serve(*policy)),
         Event::Enec(to, kinds, policy, cuts) if cuts.is_empty() => {
-            Some(Brief::Enec(*to, *kinds, *policy))
+            Some(ShortEntry::Enec(*to, *kinds, *policy))
         }
         Event::Disec(to, kinds, policy, cuts) if cuts.is_empty() => {
-            Some(Brief::Disec(*to, *kinds, *policy))
+            Some(ShortEntry::Disec(*to, *kinds, *policy))
         }
-        Event::Reset(policy, cuts) if cuts.is_empty() => Some(Brief::Reset(*policy)),
-        Event::SendList(policy, cuts) if cuts.is_empty() => Some(Brief::SendList(*policy)),
+        Event::Reset(policy, cuts) if cuts.is_empty() => Some(ShortEntry::Reset(*policy)),
+        Event::SendList(policy, cuts) if cuts.is_empty() => Some(ShortEntry::SendList(*policy)),
         Event::ReadFrom(from, policy, cuts) if cuts.is_empty() => {
-            Some(Brief::ReadFrom(*from, *policy))
+            Some(ShortEntry::ReadFrom(*from, *policy))
         }
-        Event::HandOver(to, cuts) if cuts.is_empty() => Some(Brief::HandOver(*to)),
-        Event::OpenDaa(cuts) if cuts.is_empty() => Some(Brief::OpenDaa),
-        Event::Round(cuts) if cuts.is_empty() => Some(Brief::Round),
+        Event::HandOver(to, cuts) if cuts.is_empty() => Some(ShortEntry::HandOver(*to)),
+        Event::OpenDaa(cuts) if cuts.is_empty() => Some(ShortEntry::OpenDaa),
+        Event::Round(cuts) if cuts.is_empty() => Some(ShortEntry::Round),
         _ => None,
     }
 }
@@ -126,7 +126,7 @@ pub(crate) fn said_of(reply: &Reply) -> Option<Said>
 }
 
 /// The entry in short, where it can be kept so.
-pub(crate) fn in_short(entry: &Entry) -> Option<(Brief, Said)>
+pub(crate) fn in_short(entry: &Entry) -> Option<(ShortEntry, Said)>
     ensures { MatchOption result ⊤ (λ short. IsShort short entry.now) }
 {
     let brief = brief_of(&entry.event)?;
@@ -135,12 +135,12 @@ pub(crate) fn in_short(entry: &Entry) -> Option<(Brief, Said)>
 }
 
 /// The event that was kept in short.
-pub(crate) fn event_in(brief: &Brief) -> Event
+pub(crate) fn event_in(brief: &ShortEntry) -> Event
     ensures { result ≡ event_in brief.now }
 {
     let cuts = Cuts::new();
     match brief {
-        Brief::Attach(slot, pid, bcr, dcr, willing) => {
+        ShortEntry::Attach(slot, pid, bcr, dcr, willing) => {
             let identity = Identity {
                 pid: *pid,
                 bcr: *bcr,
@@ -154,20 +154,20 @@ pub(crate) fn event_in(brief: &Brief) -> Event
                 },
             )
         }
-        Brief::DropOff(slot) => Event::DropOff(*slot),
-        Brief::Raise(slot, byte) => Event::Raise(*slot, *byte),
-        Brief::AskJoin(slot) => Event::AskJoin(*slot),
-        Brief::AskRole(slot) => Event::AskRole(*slot),
-        Brief::Serve(policy) => Event::Serve(*policy, cuts),
-        Brief::Enec(to, kinds, policy) => Event::Enec(*to, *kinds, *policy, cuts),
-        Brief::Disec(to, kinds, policy) => Event::Disec(*to, *kinds, *policy, cuts),
-        Brief::Reset(policy) => Event::Reset(*policy, cuts),
-        Brief::SendList(policy) => Event::SendList(*policy, cuts),
-        Brief::ReadFrom(from, policy) => Event::ReadFrom(*from, *policy, cuts),
-        Brief::HandOver(to) => Event::HandOver(*to, cuts),
-        Brief::OpenDaa => Event::OpenDaa(cuts),
-        Brief::Round => Event::Round(cuts),
-        Brief::EndDaa => Event::EndDaa,
+        ShortEntry::DropOff(slot) => Event::DropOff(*slot),
+        ShortEntry::Raise(slot, byte) => Event::Raise(*slot, *byte),
+        ShortEntry::AskJoin(slot) => Event::AskJoin(*slot),
+        ShortEntry::AskRole(slot) => Event::AskRole(*slot),
+        ShortEntry::Serve(policy) => Event::Serve(*policy, cuts),
+        ShortEntry::Enec(to, kinds, policy) => Event::Enec(*to, *kinds, *policy, cuts),
+        ShortEntry::Disec(to, kinds, policy) => Event::Disec(*to, *kinds, *policy, cuts),
+        ShortEntry::Reset(policy) => Event::Reset(*policy, cuts),
+        ShortEntry::SendList(policy) => Event::SendList(*policy, cuts),
+        ShortEntry::ReadFrom(from, policy) => Event::ReadFrom(*from, *policy, cuts),
+        ShortEntry::HandOver(to) => Event::HandOver(*to, cuts),
+        ShortEntry::OpenDaa => Event::OpenDaa(cuts),
+        ShortEntry::Round => Event::Round(cuts),
+        ShortEntry::EndDaa => Event::EndDaa,
     }
 }
 

@@ -1,4 +1,4 @@
-ghost use Rattle.std.specs.Prelude.{◌≡◌, ◌≢◌, ◌+◌, ◌<◌, ◌≤◌, ◌++◌, ◌∷◌, [], true, None, OnOk};
+ghost use Rattle.std.specs.Prelude.{◌≡◌, ◌≢◌, ◌+◌, ◌<◌, ◌≤◌, ◌++◌, ◌∷◌, [], length, true, None, OnOk};
 ghost use Rattle.i3c_step.specs.Commands.{event_of};
 ghost use Rattle.i3c_step.specs.Giving.{given_by};
 
@@ -83,7 +83,7 @@ impl Recorder {
     ghost use Rattle.i3c_step.specs.Serving.{recorded_at};
     ghost use Rattle.i3c_step.specs.Step.{Step};
     ghost use Rattle.i3c_step.specs.declared.replies.Reply.{Reply as ReplyValue};
-    ghost use Rattle.i3c_recorder.specs.KeptRuns.{IsBegun, IsLegalTo, Leads, terms_of};
+    ghost use Rattle.i3c_recorder.specs.KeptRuns.{IsBegun, IsLegalTo, Leads};
 
     /// A bus with its main controller, and an empty run.
     pub fn new(alloc: Global, main: Setup, legacies: Legacies) -> Result<Recorder, StartFault>
@@ -194,11 +194,11 @@ impl Recorder {
         self.bus.in_session()
     }
 
-    /// How many handovers were granted.
-    pub fn terms(&self) -> u64
-        ensures { result ≡ terms_of self.now.run }
+    /// How many events have happened.
+    pub fn events(&self) -> usize
+        ensures { result ≡ length self.now.run }
     {
-        self.run.terms()
+        self.run.len()
     }
 
     /// The run is legal, and leads to the bus.

@@ -1,4 +1,3 @@
-ghost use Rattle.i3c_recorder.specs.KeptRuns.{term_of};
 ghost use Rattle.std.specs.Prelude.{◌≡◌, ◌+◌, ◌-◌, ◌<◌, ◌≤◌, ◌++◌, ◌∷◌, [], length, nat_eq, option_map, slice_get, IfOk, OnOk, vec_len, vec_capacity};
 
 use crate::entry::Entry;
@@ -14,13 +13,10 @@ use std::marker::Model;
 pub struct Run {
     packed: Vec<Packed>,
     wide: Vec<Entry>,
-    // how many handovers were granted
-    terms: u64,
 }
 
 impl Model for Run {
     ghost use Rattle.std.specs.Prelude.{◌≡◌, ◌-◌, min, length, All, vec_len, vec_capacity};
-    ghost use Rattle.i3c_recorder.specs.KeptRuns.{terms_of};
     ghost use Rattle.i3c_recorder.specs.Packing.{IsWithin, entries_in};
     ghost use Rattle.i3c_recorder.specs.Values.{Story};
 
@@ -31,15 +27,10 @@ impl Model for Run {
       spare = min (vec_capacity r.packed - vec_len r.packed) (vec_capacity r.wide - vec_len r.wide);
     } };
 
-    ghost invariant = { λ r. record {
-      within : All (IsWithin (length r.wide.items)) r.packed.items;
-      terms : r.terms ≡ terms_of (entries_in r.wide.items r.packed.items);
-    } };
+    ghost invariant = { λ r. All (IsWithin (length r.wide.items)) r.packed.items };
 }
 
 impl Run {
-    ghost use Rattle.i3c_recorder.specs.KeptRuns.{terms_of};
-
     /// A run in which nothing has happened.
     pub fn new(alloc: Global) -> Run
         ensures { result.entries ≡ [] }
@@ -47,7 +38,6 @@ impl Run {
         Run {
             packed: Vec::new(alloc),
             wide: Vec::new(alloc),
-            terms: 0,
         }
     }
 
@@ -100,13 +90,6 @@ impl Run {
         }
     }
 
-    /// How many handovers were granted.
-    pub(crate) fn terms(&self) -> u64
-        ensures { result ≡ terms_of self.now.entries }
-    {
-        self.terms
-    }
-
     /// Makes room for so many entries more.
     pub(crate) fn reserve(&mut self, more: usize) -> Result<(), OutOfMemory>
         ensures entries { self.new.entries ≡ self.old.entries }
@@ -128,7 +111,6 @@ impl Run {
         ensures entries { self.new.entries ≡ self.old.entries ++ entry ∷ [] }
         ensures spare { self.old.spare ≤ self.new.spare + 1 }
     {
-        self.terms += term(&entry.reply);
         match in_short(&entry) {
             Some((brief, said)) => {
                 self.packed.push_reserved(Packed::Short(brief, said));
@@ -139,15 +121,5 @@ impl Run {
                 self.packed.push_reserved(Packed::Wide(at));
             }
         }
-    }
-}
-
-/// 1 where a handover was granted.
-fn term(reply: &Reply) -> u64
-    ensures { result ≡ term_of reply.now }
-{
-    match reply {
-        Reply::Handed(_) => 1,
-        _ => 0,
     }
 }

@@ -10,7 +10,7 @@ nothing_out None = tt
 nothing_out (Some xs) = sym (append-nil xs)
 
 -- what is written of some texts, one behind the other
-some_after : (a b c : Option (List ℕ)) (first text : List ℕ) → Appends a b first → AppendsSome b c text → AppendsSome a c (first ++ text)
+pub some_after : (a b c : Option (List ℕ)) (first text : List ℕ) → Appends a b first → AppendsSome b c text → AppendsSome a c (first ++ text)
 some_after a b c first text all some = subst (λ t. AppendsSome a c (first ++ t)) (append-nil text) (some_out a b c first text [] all some)
 
 -- nothing is put behind

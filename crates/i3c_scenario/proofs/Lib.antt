@@ -2,6 +2,8 @@ pub mod Written
 pub mod TraceWritten
 pub mod TraceRead
 pub mod TraceOut
+pub mod LintWritten
+pub mod Explained
 pub mod Feeds
 pub mod Gathered
 pub mod ScriptRuns
@@ -9,3 +11,7 @@ pub mod ScriptRead
 pub mod AsciiLaws
 mod Counted
 mod Reaching
+mod Reported
+pub mod LinesRead
+pub mod CheckRuns
+pub mod WatchRuns

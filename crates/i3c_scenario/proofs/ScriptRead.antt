@@ -14,12 +14,12 @@ use Rattle.i3c_scenario.proofs.ScriptRuns.{no_feed_in_none, no_line, runs_both, 
 use Rattle.i3c_scenario.proofs.TraceRead.{more_read, none_read}
 
 -- the known bytes that are left
-unread : Option (List ℕ) → List ℕ
+pub unread : Option (List ℕ) → List ℕ
 unread None = []
 unread (Some bytes) = bytes
 
 -- what was read, with what is left and a last feed, is the script
-script_is : (known left : Option (List ℕ)) (read front rest : List ℕ) → Consumes known left read → read ≡ front ++ rest → IfSome known (λ script. front ++ (rest ++ (unread left ++ 10 ∷ [])) ≡ script ++ 10 ∷ [])
+pub script_is : (known left : Option (List ℕ)) (read front rest : List ℕ) → Consumes known left read → read ≡ front ++ rest → IfSome known (λ script. front ++ (rest ++ (unread left ++ 10 ∷ [])) ≡ script ++ 10 ∷ [])
 unfolding unread
 script_is None left read front rest consumed same = tt
 script_is (Some xs) None read front rest consumed same = absurd consumed
@@ -27,7 +27,7 @@ script_is (Some xs) (Some ys) read front rest consumed same =
     sym (append_assoc front rest (ys ++ 10 ∷ [])) ∙ ap (λ bytes. bytes ++ (ys ++ 10 ∷ [])) (sym same) ∙ sym (append_assoc read ys (10 ∷ [])) ∙ ap (λ bytes. bytes ++ 10 ∷ []) (sym consumed)
 
 -- the same where nothing is left
-ended_is : (known left : Option (List ℕ)) (read bytes : List ℕ) → Consumes known left read → IsAtEnd left → read ++ 10 ∷ [] ≡ bytes → IfSome known (λ script. bytes ≡ script ++ 10 ∷ [])
+pub ended_is : (known left : Option (List ℕ)) (read bytes : List ℕ) → Consumes known left read → IsAtEnd left → read ++ 10 ∷ [] ≡ bytes → IfSome known (λ script. bytes ≡ script ++ 10 ∷ [])
 ended_is None left read bytes consumed end same = tt
 ended_is (Some xs) None read bytes consumed end same = absurd consumed
 ended_is (Some xs) (Some ys) read bytes consumed end same =

@@ -7,7 +7,6 @@ use Rattle.i3c_lines.specs.declared.refusals.Refusal.{Refusal}
 use Rattle.i3c_scenario.specs.declared.faults.ScriptFault.{ScriptFault}
 use Rattle.i3c_script.specs.declared.faults.Stop.{Stop}
 use Rattle.std.specs.Io.KnownBytes.{Appends}
-use Rattle.i3c_lines.specs.declared.command.Command.{Command}
 use Rattle.i3c_lines.specs.Forms.{HasNoForm, IsCommand, IsSkipped}
 use Rattle.i3c_script.specs.Obeying.{ScriptState}
 use Rattle.i3c_scenario.specs.Outcomes.{AppendsSome, GoesLast, HasNoFeed, Output, Puts, PutsOrFails, PutsSome, written}

@@ -1,6 +1,7 @@
 -- What was read of a trace, chunk by chunk.
-use Rattle.std.proofs.Common.{◌≡◌, ◌<◌, ◌∙◌, ℕ, ◌+◌, List, [], ◌++◌, length, arith, Option, Some, None, IfSome, ap, append_assoc, append-nil, length-append, subst, sym}
+use Rattle.std.proofs.Common.{◌≡◌, ◌<◌, ◌∙◌, ℕ, ◌+◌, List, [], ◌++◌, length, arith, Option, Some, None, IfSome, ap, append_assoc, append-nil, length-append, map, subst, sym}
 use Rattle.std.specs.Io.KnownBytes.{Consumes, IsAtEnd}
+use Rattle.i3c_scenario.specs.Traces.{ascii}
 
 pub none_read : (a : Option (List ℕ)) (items : List ℕ) → items ≡ [] → Consumes a a items
 none_read None items none = tt
@@ -33,3 +34,8 @@ read_on None b c items one two = tt
 read_on (Some xs) None c items one two = absurd one
 read_on (Some xs) (Some ys) None items one two = absurd two
 read_on (Some xs) (Some ys) (Some zs) items one two = one ∙ ap (λ bytes. items ++ bytes) two
+
+-- the same text, borrowed
+pub read_as : (known : Option (List ℕ)) (items text : List ℕ) → text ≡ items → IfSome known (λ bytes. items ≡ map ascii bytes) → IfSome known (λ bytes. text ≡ map ascii bytes)
+read_as None items text same read = tt
+read_as (Some bytes) items text same read = same ∙ read

@@ -9,7 +9,7 @@ appends_both (Some xs) None c first last one two = absurd one
 appends_both (Some xs) (Some ys) None first last one two = absurd two
 appends_both (Some xs) (Some ys) (Some zs) first last one two = two ∙ ap (λ bytes. bytes ++ last) one ∙ append_assoc xs first last
 
-take_more : (n m : ℕ) (text : List ℕ) → take n text ++ take m (drop n text) ≡ take (n + m) text
+pub take_more : (n m : ℕ) (text : List ℕ) → take n text ++ take m (drop n text) ≡ take (n + m) text
 take_more zero m text = let e : m ≡ zero + m = omega arith in ap (λ k. take k text) e
 take_more (suc n) m [] = take_all m [] (omega arith) ∙ sym (take_all (suc n + m) [] (omega arith))
 take_more (suc n) m (x ∷ text) = let e : suc (n + m) ≡ suc n + m = omega arith in ap (λ xs. x ∷ xs) (take_more n m text) ∙ ap (λ k. take k (x ∷ text)) e

@@ -2,9 +2,13 @@ pub mod Reading
 pub mod Outcomes
 pub mod Faults
 pub mod Traces
+pub mod Linted
 pub mod Scripts
 pub mod ScriptSteps
 pub mod Legal
+pub mod Lines
+pub mod Checks
+pub mod Watched
 pub mod Counting
 pub mod Agreeing
 pub mod Reporting

@@ -6,7 +6,7 @@ use Rattle.i3c_frame.specs.declared.traces.TraceFault.{TraceFault}
 use Rattle.i3c_frame.specs.Parts.{parts}
 use Rattle.i3c_frame.specs.Texts.{IsInRange, text_of}
 use Rattle.i3c_frame.specs.Traces.{IsFirstFault, IsTrace}
-use Rattle.i3c_monitor.specs.declared.seen.Seen.{Seen}
+use Rattle.i3c_monitor.specs.declared.decoded.Decoded.{Decoded}
 use Rattle.i3c_monitor.specs.Lines.{line_text}
 use Rattle.i3c_monitor.specs.Trace.{trace_told}
 use Rattle.i3c_scenario.specs.declared.faults.ScriptFault.{ScriptFault}
@@ -17,23 +17,23 @@ use Rattle.i3c_scenario.specs.Outcomes.{AppendsSome}
 abbrev pub ascii : ℕ → ℕ
 ascii byte = if nat_lt byte 128 then byte else 63
 
--- the lines of what is seen in a trace
-abbrev pub lines_text : List Symbol → List Seen → List ℕ
-lines_text trace seen = flat_map (line_text trace) seen
+-- the lines of what is decoded in a trace
+abbrev pub lines_text : List Symbol → List Decoded → List ℕ
+lines_text trace decoded = flat_map (line_text trace) decoded
 
 -- the lines of a trace
 abbrev pub trace_text : List Symbol → List ℕ
 trace_text trace = lines_text trace (trace_told trace)
 
 -- how many refusals one line is
-abbrev pub refusals_in : Seen → ℕ
-refusals_in (Seen.Refused fault) = 1
+abbrev pub refusals_in : Decoded → ℕ
+refusals_in (Decoded.Refused fault) = 1
 refusals_in _ = 0
 
 -- how many refusals several are
-abbrev pub refused_in : List Seen → ℕ
+abbrev pub refused_in : List Decoded → ℕ
 refused_in [] = 0
-refused_in (seen ∷ rest) = refusals_in seen + refused_in rest
+refused_in (decoded ∷ rest) = refusals_in decoded + refused_in rest
 
 -- the line of a text that is no trace: want of memory has none
 abbrev pub fault_line : TraceFault → List ℕ

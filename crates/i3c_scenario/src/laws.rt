@@ -1,6 +1,12 @@
 ghost use Rattle.i3c_scenario.specs.Legal.{LinesAreLegalRuns};
+ghost use Rattle.i3c_scenario.specs.Watched.{WatchedLinesPrintTheSame};
 
 /// The steps of a script's lines are a legal run, whatever these lines are.
 pub fn lines_are_legal_runs()
     ensures { LinesAreLegalRuns }
+{}
+
+/// A watched run that neither numbers lines nor has them go out themselves prints what any run of these lines prints.
+pub fn watched_lines_print_the_same()
+    ensures { WatchedLinesPrintTheSame }
 {}

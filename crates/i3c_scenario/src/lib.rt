@@ -1,24 +1,36 @@
 //! What a user runs: a script, whose lines are read, run in order, and print what came of them; a trace, told in lines; and
 //! devices that post from threads of their own.
 //!
-//! `script` parts the bytes of a script into lines and counts the refusals, `trace` tells what a trace says. Both read by
-//! `reading` and write by `output`. `party` sets a bus with its devices up and closes it, `stressing` lets them post, and
-//! `report` counts the closed bus's run. `laws` says that the lines of a script make a legal run.
+//! `script` parts the bytes of a script into lines and counts the refusals, `check` tells its lines without a form by
+//! `script_lines`, which reads one line after another, and `watched` runs a script and shows more of it, with the `reasons` of
+//! refusals. `trace` tells what a trace says, `linting` its faults too, and `explaining` why its lines are refused. They read
+//! by `reading` and write by `output`. `stress_bus` sets a bus with its devices up and closes it, `stressing` lets them post,
+//! and `report` counts the closed bus's run. `laws` says that the lines of a script make a legal run.
 #![tactic(auto)]
 
+mod check;
+mod explaining;
 mod faults;
 mod laws;
+mod linting;
 mod output;
-mod party;
 mod reading;
+mod reasons;
 mod report;
 mod script;
+mod script_lines;
+mod stress_bus;
 mod stressing;
 mod trace;
+mod watched;
 
+pub use check::check_script;
+pub use explaining::run_explained;
 pub use faults::ScriptFault;
-pub use laws::lines_are_legal_runs;
+pub use laws::{lines_are_legal_runs, watched_lines_print_the_same};
+pub use linting::run_lint;
 pub use report::{StressFault, StressReport};
 pub use script::{Tally, run_script};
 pub use stressing::{Gate, MOST_DEVICES, MOST_POSTS, Watch, stress, stress_watched};
 pub use trace::run_trace;
+pub use watched::{WatchFault, Watching, Witness, run_watched};

@@ -5,7 +5,8 @@ ghost use Rattle.memchr.specs.Find.{IsFirstByte, is_byte};
 ghost use Rattle.i3c_scenario.specs.Outcomes.{AppendsSome, GoesLast, HasNoFeed, PutsOrFails, WritesFront, output};
 
 use crate::faults::ScriptFault;
-use i3c_lines::{Refusal, Text};
+use i3c_lines::Refusal;
+use i3c_text::Text;
 use memchr::memchr_iter;
 use std::alloc::AllocError;
 use std::io::{ErrorKind, Write};

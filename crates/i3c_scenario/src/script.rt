@@ -12,8 +12,9 @@ ghost use Rattle.i3c_script.specs.Stops.{refusals};
 use crate::faults::ScriptFault;
 use crate::output::{gather, position_of_feed, show_refusal, write_last};
 use crate::reading::{CHUNK, MOST_BYTES, Piece, read_piece};
-use i3c_lines::{Command, Line, Names, Refusal, Text, is_skipped};
+use i3c_lines::{Command, Line, Names, Refusal, is_skipped};
 use i3c_script::{Stage, Stop};
+use i3c_text::Text;
 use std::alloc::Global;
 use std::io::{Read, Write};
 use std::mem;
@@ -56,22 +57,26 @@ pub fn run_script<R: Read, W: Write>(
     }
 }
 
+/// Names the run of a script that isn't watched.
+struct Plain;
+
 /// The state of a running script: its bus and names, the partial line, the current command, that command's output, and
 /// output not yet written.
-struct Script {
-    alloc: Global,
-    stage: Stage,
-    names: Names,
+pub(crate) struct Script {
+    pub(crate) alloc: Global,
+    pub(crate) stage: Stage,
+    pub(crate) names: Names,
     line: Line,
-    command: Command,
-    text: Text,
+    // the last that was read
+    pub(crate) command: Command,
+    pub(crate) text: Text,
     gathered: Text,
     refused: u64,
 }
 
 impl Script {
     /// A script of which nothing was read.
-    fn new(alloc: Global) -> Script
+    pub(crate) fn new(alloc: Global) -> Script
         ensures held { gathered result.line ≡ [] }
         ensures refused { result.refused ≡ 0 }
         ensures begun { IsBegun (state result) }
@@ -205,13 +210,13 @@ impl Script {
         ensures ends { LineEnds line.now (output (W.contents out.old) self.old.gathered) (output (W.contents out.new) self.new.gathered) (progress self.old) (progress self.new) result }
     {
         self.text.clear();
-        let outcome = self.obey(line);
-        self.settle(outcome)?;
+        let outcome = self.obey::<Plain>(line);
+        self.settle::<Plain>(outcome)?;
         gather(self.text.as_bytes(), &mut self.gathered, out)
     }
 
-    /// Obeys a line, if it has a command.
-    fn obey(&mut self, line: &[u8]) -> Result<(), Stop>
+    /// Obeys a line, if it has a command. Whoever calls it is named by `K`, so that each caller has it in line.
+    pub(crate) fn obey<K>(&mut self, line: &[u8]) -> Result<(), Stop>
         ensures held { self.new.line ≡ self.old.line }
         ensures gathered { self.new.gathered ≡ self.old.gathered }
         ensures refused { self.new.refused ≡ self.old.refused }
@@ -222,17 +227,17 @@ impl Script {
             Ok(false) => {}
             Err(refusal) => return Err(Stop::Refused(refusal)),
         }
-        match self.command.read(line) {
+        match self.command.read::<K>(line) {
             Some(()) => {
                 self.stage
-                    .obey(self.alloc, &mut self.names, &self.command, &mut self.text)
+                    .obey::<K>(self.alloc, &mut self.names, &self.command, &mut self.text)
             }
             None => Err(Stop::Refused(Refusal::BadLine)),
         }
     }
 
     /// What a line comes to: a refusal is printed and counted, and want of memory ends the run.
-    fn settle(&mut self, outcome: Result<(), Stop>) -> Result<(), ScriptFault>
+    pub(crate) fn settle<K>(&mut self, outcome: Result<(), Stop>) -> Result<(), ScriptFault>
         ensures fault { IfErr result (λ fault. fault ≡ ScriptFault.Memory) }
         ensures memory { outcome ≡ Err Stop.Memory → result ≡ Err ScriptFault.Memory }
         ensures told { OnOk result (self.new.text ≡ self.old.text ++ end_text outcome) }
@@ -256,7 +261,7 @@ impl Script {
     }
 
     /// Takes the script apart, with its bus, and tells how many lines were refused.
-    fn retire(self) -> u64
+    pub(crate) fn retire(self) -> u64
         ensures { result ≡ self.refused }
     {
         let Script {

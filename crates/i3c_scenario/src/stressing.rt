@@ -1,15 +1,17 @@
-ghost use Rattle.std.specs.Prelude.{◌≡◌, ◌+◌, ◌*◌, ◌≤◌, IfOk};
+ghost use Rattle.std.specs.Prelude.{◌≡◌, ◌+◌, ◌*◌, ◌≤◌, IfOk, IsTrue};
 ghost use Rattle.i3c_scenario.specs.Reporting.{CountsBus};
 ghost use Rattle.i3c_scenario.specs.declared.stressing.TheConstants.{MOST_DEVICES, MOST_POSTS};
 
-use crate::party::{Party, begin, end};
 use crate::report::{StressFault, StressReport, count, report};
+use crate::stress_bus::{StressBus, begin, end};
 use i3c_base::{Cuts, Slot};
 use i3c_bus::Policy;
 use i3c_frame::Silent;
 use i3c_shared::{Closed, HeldRole, Port, SharedBus};
 use i3c_step::{Command, Reply};
 use std::alloc::Global;
+use std::marker::Brand;
+use std::sync::ledger::{Blank, Ledger};
 use std::sync::{Mutex, Wait};
 use std::thread;
 use std::thread::{JoinHandle, Threads};
@@ -90,12 +92,48 @@ pub fn stress_watched<R: Threads + Wait + Sync, P: Policy, W: Watch + Sync>(
     ensures balanced { IfOk result (λ r. r.posted ≡ r.turned_away + r.recorded + r.waiting) }
     ensures counted { IfOk result CountsBus }
 {
+    let (active, session, frames) = (Blank::new(1), Blank::new(1), Blank::new(1));
+    stress_with::<Brand, Brand, Brand, R, P, W>(
+        rt, alloc, active, session, frames, devices, posts, policy, watch,
+    )
+}
+
+/// The same on a bus with ledgers that are opened from these blanks.
+fn stress_with<
+    L: Ledger + Send + Sync,
+    M: Ledger + Send + Sync,
+    N: Ledger + Send + Sync,
+    R: Threads + Wait + Sync,
+    P: Policy,
+    W: Watch + Sync,
+>(
+    rt: &R,
+    alloc: Global,
+    active: Blank,
+    session: Blank,
+    frames: Blank,
+    devices: u8,
+    posts: u64,
+    policy: &mut P,
+    watch: &W,
+) -> Result<StressReport, StressFault>
+    requires active { (active.name ≡ L.name) × (active.parts ≡ L.parts) × (active.parts ≡ 1) }
+    requires session { (session.name ≡ M.name) × (session.parts ≡ M.parts) × (session.parts ≡ 1) }
+    requires frames { (frames.name ≡ N.name) × (frames.parts ≡ N.parts) × (frames.parts ≡ 1) }
+    requires devices { (1 ≤ devices) × (devices ≤ MOST_DEVICES) }
+    requires posts { (1 ≤ posts) × (posts ≤ MOST_POSTS) }
+    ensures tried { IfOk result (λ r. r.tried ≡ devices * posts) }
+    ensures posted { IfOk result (λ r. r.posted ≤ r.tried) }
+    ensures balanced { IfOk result (λ r. r.posted ≡ r.turned_away + r.recorded + r.waiting) }
+    ensures counted { IfOk result CountsBus }
+{
     let tried = u64::from(devices) * posts;
-    let Party {
+    let StressBus {
         bus,
         mut role,
         mut ports,
-    } = begin(rt, alloc, devices)?;
+    } = begin::<L, M, N, R>(rt, alloc, active, session, frames, devices)?;
+    let before = role.frames();
     // nobody else takes this lock: it lends the server to the threads' scope
     let server = Mutex::new(Server {
         role: &mut role,
@@ -103,11 +141,22 @@ pub fn stress_watched<R: Threads + Wait + Sync, P: Policy, W: Watch + Sync>(
     });
     let posted = post_and_serve(rt, alloc, &bus, &server, &mut ports, tried, posts, watch);
     drop(server);
-    let closed = end(Party { bus, role, ports })?;
+    let after = role.frames();
+    let closed = end(StressBus { bus, role, ports })?;
     watch.closed(&closed);
     let counted = count(&closed)?;
     let posted = posted?;
+    if !is_served(before, after, tried) {
+        return Err(StressFault::NotBalanced);
+    }
     report(tried, posted, counted)
+}
+
+/// Whether each try was served: the role counts a frame more for each.
+fn is_served(before: u64, after: u64, tried: u64) -> bool
+    ensures { IsTrue result → after ≡ before + tried }
+{
+    after.checked_sub(before) == Some(tried)
 }
 
 /// A device's tries, with bytes that count from 0. It answers how many were posted.
@@ -126,11 +175,18 @@ fn post_all<W: Watch>(port: &mut Port, watch: &W, posts: u64) -> u64
 }
 
 /// Starts a thread for each device, serves on this one, and joins them all. It answers how many tries were posted.
-fn post_and_serve<R: Threads + Wait + Sync, P: Policy, W: Watch + Sync>(
+fn post_and_serve<
+    L: Ledger + Send + Sync,
+    M: Ledger + Send + Sync,
+    N: Ledger + Send + Sync,
+    R: Threads + Wait + Sync,
+    P: Policy,
+    W: Watch + Sync,
+>(
     rt: &R,
     alloc: Global,
-    bus: &SharedBus,
-    server: &Mutex<Server<'_, P>>,
+    bus: &SharedBus<L, M, N>,
+    server: &Mutex<Server<'_, L, M, N, P>>,
     ports: &mut Vec<Port>,
     tried: u64,
     posts: u64,
@@ -173,17 +229,17 @@ fn post_and_serve<R: Threads + Wait + Sync, P: Policy, W: Watch + Sync>(
 
 /// The role and the policy that requests are served with.
 #[derive(Drop)]
-struct Server<'a, P> {
-    role: &'a mut HeldRole,
+struct Server<'a, L: Ledger, M: Ledger, N: Ledger, P> {
+    role: &'a mut HeldRole<L, M, N>,
     policy: &'a mut P,
 }
 
-impl<'a, P: Policy> Server<'a, P> {
+impl<'a, L: Ledger, M: Ledger, N: Ledger, P: Policy> Server<'a, L, M, N, P> {
     /// Serves so many times.
     fn serve_all<R: Threads + Wait + Sync, W: Watch>(
         &mut self,
         rt: &R,
-        bus: &SharedBus,
+        bus: &SharedBus<L, M, N>,
         times: u64,
         watch: &W,
     ) -> Result<(), StressFault> {
@@ -198,8 +254,8 @@ impl<'a, P: Policy> Server<'a, P> {
                 Cuts::new(),
             );
             match reply {
-                Ok(Reply::Served(_)) => {}
-                Ok(Reply::OutOfMemory) => return Err(StressFault::Memory),
+                Reply::Served(_) => {}
+                Reply::OutOfMemory => return Err(StressFault::Memory),
                 _ => return Err(StressFault::NotBalanced),
             }
         }

@@ -11,15 +11,15 @@ use crate::output::{write_gathered, write_out};
 use crate::reading::{CHUNK, MOST_BYTES, Piece, read_piece};
 use crate::script::Tally;
 use i3c_frame::{Symbol, TraceFault, read_trace_bytes};
-use i3c_lines::Text;
-use i3c_monitor::{Monitor, Seen};
+use i3c_monitor::{Decoded, Monitor};
+use i3c_text::Text;
 use std::alloc::{AllocError, Global};
 use std::io::{Read, Write};
 
 /// What stands for a byte that isn't ASCII. No symbol has it.
 const UNKNOWN: u8 = b'?';
 
-/// Tells what a trace says: a line for each frame, and below it a line for each thing that was seen in it; or one line
+/// Tells what a trace says: a line for each frame, and below it a line for each thing that was decoded in it; or one line
 /// with the trace's first fault. A trace is read whole, and has at most 1,048,576 bytes.
 pub fn run_trace<R: Read, W: Write>(
     alloc: Global,
@@ -32,15 +32,26 @@ pub fn run_trace<R: Read, W: Write>(
     ensures large { result ≡ Err ScriptFault.TooLarge → IfSome (R.remaining reader.old) (λ bytes. MOST_BYTES < length bytes) }
     ensures lines { GoesOut (R.remaining reader.old) (W.contents writer.old) (W.contents writer.new) result }
 {
+    let text = read_text(alloc, reader)?;
+    match read_trace_bytes(alloc, &text) {
+        Ok(symbols) => tell_trace(alloc, &symbols, writer),
+        Err(fault) => tell_fault(alloc, &fault, writer),
+    }
+}
+
+/// Reads an input to its end, with a question mark in place of each byte that isn't ASCII.
+pub(crate) fn read_text<R: Read>(alloc: Global, reader: &mut R) -> Result<Vec<u8>, ScriptFault>
+    ensures whole { OnOk result (IsAtEnd (R.remaining reader.new)) }
+    ensures text { IfOk result (λ text. IfSome (R.remaining reader.old) (λ bytes. text.items ≡ map ascii bytes)) }
+    ensures fits { OnOk result (IfSome (R.remaining reader.old) (λ bytes. length bytes ≤ MOST_BYTES)) }
+    ensures large { result ≡ Err ScriptFault.TooLarge → IfSome (R.remaining reader.old) (λ bytes. MOST_BYTES < length bytes) }
+{
     let Ok(mut chunk) = vec![in alloc; 0u8; CHUNK] else {
         return Err(ScriptFault::Memory);
     };
     let mut bytes = read_whole(alloc, reader, &mut chunk)?;
     mark_unknown(&mut bytes);
-    match read_trace_bytes(alloc, &bytes) {
-        Ok(symbols) => tell_trace(alloc, &symbols, writer),
-        Err(fault) => tell_fault(alloc, &fault, writer),
-    }
+    Ok(bytes)
 }
 
 /// Reads an input to its end, by chunks.
@@ -100,9 +111,9 @@ fn tell_trace<W: Write>(alloc: Global, trace: &[Symbol], out: &mut W) -> Result<
     let mut monitor = Monitor::new(alloc, trace);
     let mut text = Text::new(alloc);
     let mut refused: u64 = 0;
-    while let Some(seen) = next_seen(&mut monitor)? {
-        push_seen(&seen, trace, &mut text)?;
-        refused = refused.saturating_add(refusals(&seen));
+    while let Some(decoded) = next_decoded(&mut monitor)? {
+        push_decoded(&decoded, trace, &mut text)?;
+        refused = refused.saturating_add(refusals(&decoded));
         write_gathered(&mut text, out)?;
     }
     write_out(text.as_bytes(), out)?;
@@ -110,33 +121,33 @@ fn tell_trace<W: Write>(alloc: Global, trace: &[Symbol], out: &mut W) -> Result<
 }
 
 /// What comes next in a trace.
-fn next_seen(monitor: &mut Monitor<'_>) -> Result<Option<Seen>, ScriptFault>
-    ensures told { IfOk result (λ seen. to_come monitor.old ≡ option_to_list seen ++ to_come monitor.new) }
+fn next_decoded(monitor: &mut Monitor<'_>) -> Result<Option<Decoded>, ScriptFault>
+    ensures told { IfOk result (λ decoded. to_come monitor.old ≡ option_to_list decoded ++ to_come monitor.new) }
     ensures ended { result ≡ Ok None → to_come monitor.old ≡ [] }
     ensures memory { IfErr result (λ fault. fault ≡ ScriptFault.Memory) }
 {
     match monitor.next() {
-        Ok(seen) => Ok(seen),
+        Ok(decoded) => Ok(decoded),
         Err(_) => Err(ScriptFault::Memory),
     }
 }
 
 /// How many refusals it is.
-fn refusals(seen: &Seen) -> u64
-    ensures { result ≡ refusals_in seen.now }
+fn refusals(decoded: &Decoded) -> u64
+    ensures { result ≡ refusals_in decoded.now }
 {
-    match seen {
-        Seen::Refused(_) => 1,
+    match decoded {
+        Decoded::Refused(_) => 1,
         _ => 0,
     }
 }
 
-/// Appends the line of what was seen.
-fn push_seen(seen: &Seen, trace: &[Symbol], text: &mut Text) -> Result<(), ScriptFault>
-    ensures { MatchResult result (λ _. text.new ≡ text.old ++ line_text trace.now seen.now)
+/// Appends the line of what was decoded.
+fn push_decoded(decoded: &Decoded, trace: &[Symbol], text: &mut Text) -> Result<(), ScriptFault>
+    ensures { MatchResult result (λ _. text.new ≡ text.old ++ line_text trace.now decoded.now)
         (λ fault. fault ≡ ScriptFault.Memory) }
 {
-    match seen.push(trace, text) {
+    match decoded.push(trace, text) {
         Ok(()) => Ok(()),
         Err(_) => Err(ScriptFault::Memory),
     }

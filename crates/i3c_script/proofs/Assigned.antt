@@ -59,9 +59,6 @@ pub record SoFar (old now : Ran) (before after : List ℕ) (count : ℕ) : Type 
   pub many : length answers ≡ count
   pub text : after ≡ before ++ rounds_text answers
 
-pub none_yet : (old : Ran) (text : List ℕ) → SoFar old old text text 0
-none_yet old text = record { answers = []; rounds = refl; on = tt; many = refl; text = sym (append-nil text) }
-
 longer : (before now new texts text : List ℕ) → now ≡ before ++ texts → new ≡ now ++ text → new ≡ before ++ (texts ++ text)
 longer before now new texts text e f = f ∙ ap (λ l. l ++ text) e ∙ append_assoc before texts text
 

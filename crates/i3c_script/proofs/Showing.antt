@@ -80,14 +80,6 @@ left_more n symbols within =
     ap (left_text n) rest ∙ left_first n symbol (drop (suc n) symbols) ∙ ap (λ one. nth_text n one ++ spaced (drop (suc n) symbols)) (sym at)
     ∙ ap (λ m. nth_text n (slice_get symbols n) ++ left_text m (drop m symbols)) (sym (after n))
 
--- all of them are printed
-nothing_left : (n : ℕ) → left_text n [] ≡ []
-nothing_left zero = refl
-nothing_left (suc n) = refl
-
-pub left_none : (n : ℕ) (symbols : List Symbol) → length symbols ≡ n → left_text n (drop n symbols) ≡ []
-left_none n symbols all = at_drop_all (left_text n) symbols n (omega (arith, all)) ∙ nothing_left n
-
 -- two parts are printed, and then what is told of the rest holds of the whole
 pub told_behind : {E : Type 0} (r : Result (Unit {0}) E) (before one two new a b rest : List ℕ) → one ≡ before ++ a → two ≡ one ++ b → OnOk r (new ≡ two ++ rest) → OnOk r (new ≡ before ++ (a ++ (b ++ rest)))
 told_behind (Ok done) before one two new a b rest e f g = printed_more before one new a (b ++ rest) e (printed_more one two new b rest f g)

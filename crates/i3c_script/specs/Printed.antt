@@ -17,7 +17,7 @@ use Rattle.i3c_step.specs.declared.replies.Reply.{Reply}
 use Rattle.i3c_bus.specs.Readings.{address_of}
 use Rattle.i3c_lines.specs.declared.names.Name.{Name}
 use Rattle.i3c_lines.specs.declared.names.Names.{Names}
-use Rattle.i3c_lines.specs.Hex.{byte_text, bytes_text, hex_text}
+use Rattle.i3c_text.specs.Hex.{byte_text, bytes_text, hex_text}
 use Rattle.i3c_lines.specs.Naming.{legacy_names, letters, slot_names}
 use Rattle.i3c_lines.specs.Refusing.{refusal_text}
 use Rattle.i3c_script.specs.declared.faults.Stop.{Stop}

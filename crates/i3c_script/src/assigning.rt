@@ -15,7 +15,8 @@ use crate::telling::{show_request, show_round};
 use crate::wires::Wires;
 use i3c_base::{Cuts, RoundReply, SLOTS};
 use i3c_bus::{ActiveStays, Bus, Hand, Refusal as BusRefusal, Session};
-use i3c_lines::{Refusal, Text};
+use i3c_lines::Refusal;
+use i3c_text::Text;
 use std::alloc::AllocError;
 
 /// `daa`: opens a session, in which these are cut, runs its rounds and ends it. Whoever asks while it is opened is turned

@@ -10,7 +10,8 @@ use crate::wires::Wires;
 use i3c_base::{Addr7, Cuts, Fixed, Setup};
 use i3c_bus::{Bus, Command as Frame, Event, Hand, Reply};
 use i3c_legacy::Legacies;
-use i3c_lines::{ACCEPT_ALL, Command, Name, Names, Refusal, Text};
+use i3c_lines::{ACCEPT_ALL, Command, Name, Names, Refusal};
+use i3c_text::Text;
 use std::alloc::Global;
 use std::marker::Model;
 use std::mem;
@@ -77,14 +78,21 @@ impl Running {
     }
 
     /// The bus.
-    pub(crate) fn bus(&self) -> &Bus
+    pub fn bus(&self) -> &Bus
         ensures { result.now.state ≡ self.now.state }
     {
         &self.bus
     }
 
-    /// Obeys a line, and prints what came of it.
-    pub(crate) fn obey(
+    /// The cuts that wait for the next frame.
+    pub fn cuts(&self) -> &Cuts
+        ensures { result.now ≡ self.now.cuts }
+    {
+        &self.cuts
+    }
+
+    /// Obeys a line, and prints what came of it. Whoever calls it is named by `K`, so that each caller has it in line.
+    pub(crate) fn obey<K>(
         &mut self,
         names: &mut Names,
         command: &Command,
@@ -93,8 +101,8 @@ impl Running {
         ensures { Prints (λ said refused. ObeysOn self.old names.old command.now said refused self.new names.new) text.old text.new result }
     {
         match command {
-            Command::Raise { name, byte } => self.raise(names, name, *byte, text),
-            Command::Frame(frame) => self.send(names, frame, text),
+            Command::Raise { name, byte } => self.raise::<K>(names, name, *byte, text),
+            Command::Frame(frame) => self.send::<K>(names, frame, text),
             Command::Attach { name, setup } => self.attach(names, name, *setup, text),
             Command::DropOff { name } => self.drop_off(names, name, text),
             Command::AskJoin { name } => self.ask_join(names, name, text),
@@ -116,7 +124,7 @@ impl Running {
     }
 
     /// `raise`, which sends no frame.
-    fn raise(
+    fn raise<K>(
         &mut self,
         names: &Names,
         name: &Name,
@@ -135,7 +143,7 @@ impl Running {
     }
 
     /// A line that sends a frame under the role. The frame takes the cuts that wait.
-    fn send(&mut self, names: &Names, frame: &Frame, text: &mut Text) -> Result<(), Stop>
+    fn send<K>(&mut self, names: &Names, frame: &Frame, text: &mut Text) -> Result<(), Stop>
         ensures { Prints (λ said refused. Answers self.old names.now (event_of frame.now self.old.policy self.old.cuts) said refused self.new) text.old text.new result }
     {
         let Some(hand) = &self.hand else {

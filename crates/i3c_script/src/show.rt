@@ -8,7 +8,8 @@ ghost use Rattle.i3c_script.specs.Printed.{byte_or_none, declared_text, device_t
 
 use i3c_base::{ADDRESSES, Addr7, Record, SLOTS, Slot};
 use i3c_bus::Bus;
-use i3c_lines::{Name, Names, Text};
+use i3c_lines::{Name, Names};
+use i3c_text::Text;
 use std::alloc::AllocError;
 
 /// What is printed for an address or a byte that isn't there.

@@ -10,7 +10,8 @@ use crate::wires::Wires;
 use i3c_base::{Addr7, Bcr, Lvr, Setup, Slot};
 use i3c_bus::Refusal as BusRefusal;
 use i3c_legacy::Legacies;
-use i3c_lines::{Command, Name, Names, Refusal, Text};
+use i3c_lines::{Command, Name, Names, Refusal};
+use i3c_text::Text;
 use std::alloc::Global;
 use std::mem;
 
@@ -33,8 +34,8 @@ impl Stage {
         Stage::Before(Legacies::new())
     }
 
-    /// Obeys a line, and prints what came of it.
-    pub fn obey(
+    /// Obeys a line, and prints what came of it. Whoever calls it is named by `K`, so that each caller has it in line.
+    pub fn obey<K>(
         &mut self,
         alloc: Global,
         names: &mut Names,
@@ -44,7 +45,7 @@ impl Stage {
         ensures obeys { IsObeyed (script self.old names.old) command.now text.old text.new result (script self.new names.new) }
     {
         match self {
-            Stage::Running(running) => running.obey(names, command, text),
+            Stage::Running(running) => running.obey::<K>(names, command, text),
             Stage::Before(legacies) => match command {
                 Command::Legacy { name, address, lvr } => {
                     declare(legacies, names, name, *address, *lvr, text)

@@ -9,7 +9,8 @@ ghost use Rattle.i3c_script.specs.Telling.{IsTold, Prints};
 use crate::faults::{Stop, outcome_of};
 use i3c_base::{Addr7, Answer, Identity, RaiseRefusal, RoundReply, Served, Slot};
 use i3c_bus::{Event, Framed, Reply};
-use i3c_lines::{Names, Refusal, Text};
+use i3c_lines::{Names, Refusal};
+use i3c_text::Text;
 use std::alloc::AllocError;
 
 /// The part of an event that its printed reply mentions.

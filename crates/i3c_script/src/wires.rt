@@ -6,7 +6,7 @@ ghost use Rattle.i3c_script.specs.declared.wires.TheConstants.{SYMBOLS};
 
 use circular_buffer::HeapCircularBuffer;
 use i3c_frame::{Symbol, Tap};
-use i3c_lines::Text;
+use i3c_text::Text;
 use std::alloc::{AllocError, Global};
 use std::fmt::Write;
 use std::marker::Model;

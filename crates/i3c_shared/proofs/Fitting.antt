@@ -98,20 +98,10 @@ drained_some : (o : Option Reading) (d : Reading) → HasDrained o (Some d) → 
 drained_some None d h = cc
 drained_some (Some c) d h = (c, refl, h)
 
-looked_some : (o : Option Reading) (d : Reading) → HasLooked o (Some d) → (c : Reading) × (o ≡ Some c) × HasLooked (Some c) (Some d)
-looked_some None d h = cc
-looked_some (Some c) d h = (c, refl, h)
-
 within : (cs : Rings) (s : ℕ) (c : Reading) → ring_at cs s ≡ Some c → s < length cs
 within [] s c is = cc
 within (o ∷ cs) zero c is = omega arith
 within (o ∷ cs) (suc s) c is = let p = within cs s c is in omega arith
-
-pub fits_looked : (cs looked : Rings) (run : List Entry) → Fits cs run → AllLooked cs looked → Fits looked run
-fits_looked cs looked run fits look s d is =
-    let q = looked_some (ring_at cs s) d (subst (λ o. HasLooked (ring_at cs s) o) is (look.1 s)) in
-    let f = fits s q.0 q.1 in
-    (q.2.1 ∙ f.0, q.2.0.1 ∙ f.1)
 
 pub fits_drained : (looked drained : Rings) (old mid added : List Entry) → Fits looked old → AllDrained looked drained → mid ≡ old ++ added → events_of added ≡ raises_in looked → Fits drained mid
 fits_drained looked drained old mid added fits drain run same s d is =
@@ -196,7 +186,3 @@ taken_at cs run y s d true is fits at =
 taken_at cs run y s d false is fits at =
     let other : s ≡ y → ⊥ = grind (arith, nat_tests) in
     fits s d (sym (get_or-set_other cs y s None None other) ∙ at)
-
--- a ring that is taken away is looked at no more
-pub fits_taken_in : (cs : Rings) (run : List Entry) (y : ℕ) → Fits cs run → Fits (taken_in y cs) run
-fits_taken_in cs run y fits s d at = taken_at cs run y s d (y == s) refl fits at

@@ -48,13 +48,5 @@ puts_no log s ring reply is = rw is refl
 pub puts_out_is : (s : ℕ) (ring : Reading) (reply : Reply) (old new : Log) → PutsOut s ring reply old new → reply ≡ Reply.Attached → new ≡ record old { rings = put_out s ring old.rings }
 puts_out_is s ring reply old new h is = subst (λ (r : Reply). PutsOut s ring r old new) is h
 
-pub puts_out_not : (s : ℕ) (ring : Reading) (reply : Reply) (old new : Log) → PutsOut s ring reply old new → reply ≡ Reply.Refused Refusal.SlotTaken → new ≡ old
-puts_out_not s ring reply old new h is = subst (λ (r : Reply). PutsOut s ring r old new) is h
-
--- an attachment that is refused is the event alone
-pub refused_put : (s : ℕ) (ring : Reading) (reply : Reply) (event : Event) (old taken new : Log) → Grows old event reply taken → PutsOut s ring reply taken new → reply ≡ Reply.Refused Refusal.SlotTaken → Grows old event (Reply.Refused Refusal.SlotTaken) new
-refused_put s ring reply event old taken new g h is =
-    subst (λ (l : Log). Grows old event (Reply.Refused Refusal.SlotTaken) l) (sym (puts_out_not s ring reply taken new h is)) (subst (λ (r : Reply). Grows old event r taken) is g)
-
 pub with_reply : (old new : Log) (event : Event) (reply other : Reply) → reply ≡ other → Grows old event reply new → Grows old event other new
 with_reply old new event reply other is g = subst (λ (r : Reply). Grows old event r new) is g

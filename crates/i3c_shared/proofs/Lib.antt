@@ -11,3 +11,6 @@ mod Growing
 mod Missing
 mod Started
 mod Balanced
+mod Steady
+mod Booked
+mod Unmet

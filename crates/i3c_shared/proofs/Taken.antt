@@ -12,10 +12,6 @@ use Rattle.i3c_shared.specs.Rings.{known_of, raises_at, raises_below, ring_at}
 use Rattle.i3c_shared.specs.Taking.{Adds}
 use Rattle.i3c_shared.specs.Values.{Reading, Rings}
 
--- nothing is added
-pub adds_none : (old : Recorded) → Adds old [] old
-adds_none old = record { added = []; same = refl; leads = refl; run = sym (append-nil old.run); start = refl }
-
 pub adds_more : (old mid new : Recorded) (es fs : List Event) → Adds old es mid → Adds mid fs new → Adds old (es ++ fs) new
 adds_more old mid new es fs a b = record {
   added = a.added ++ b.added;

@@ -14,7 +14,7 @@ use Rattle.i3c_recorder.specs.KeptRuns.{events_of, replies_of}
 use Rattle.i3c_shared.specs.Ports.{IsAt}
 use Rattle.i3c_shared.specs.Raises.{raised_at}
 use Rattle.i3c_shared.specs.Rings.{IsEndOf, ring_at}
-use Rattle.i3c_shared.specs.Values.{KeptValue, PortValue}
+use Rattle.i3c_shared.specs.Values.{HeldValue, KeptValue, PortValue}
 
 -- the byte of a raise at the slot that was not accepted, if the entry is one
 abbrev pub refused_at : ℕ → Entry → List (Option ℕ)
@@ -46,7 +46,7 @@ pub record IsHistoryOf (run : List Entry) (new start : State) (h : History) : Ty
 -- of each port handed in to a close, if its ring was here and its device is still there: its posts are the refused raises,
 -- those that were recorded in the device's stay, and those that wait
 abbrev pub PostsAreAccountedFor : Type 0
-PostsAreAccountedFor = (old : KeptValue) (role : Option ℕ) (ports : List PortValue) (run : List Entry) (records : List Record) (waiting : List ℕ) (closes : Closes old role ports run records waiting)
+PostsAreAccountedFor = (old : KeptValue) (role : Option HeldValue) (ports : List PortValue) (run : List Entry) (records : List Record) (waiting : List ℕ) (closes : Closes old role ports run records waiting)
     → (start : State) (h : History) → IsHistoryOf run closes.takes.end.state start h
     → (k : ℕ) (p : PortValue) (d : Device) → IsAt ports k p → IsEndOf p (ring_at old.log.rings p.slot) → device_at closes.takes.end.state p.slot ≡ Some d
     → length (sent p.producer) ≡ length (refused_of p.slot run) + length (recorded_in_stay start h p.slot) + length d.waiting

@@ -1,19 +1,19 @@
 -- A bus that was just made.
-use Rattle.std.specs.Prelude.{◌≡◌, ℕ, [], List, replicate, Option, None}
+use Rattle.std.specs.Prelude.{◌≡◌, [], List, replicate, Option, None}
 use Rattle.rtrb.specs.Ring.{IsPair, sent}
 use Rattle.i3c_base.specs.declared.range.TheConstants.{SLOTS}
 use Rattle.i3c_base.specs.declared.device.LegacyTarget.{LegacyTarget}
 use Rattle.i3c_base.specs.declared.device.Setup.{Setup}
 use Rattle.i3c_base.specs.State.{IsStart}
 use Rattle.i3c_shared.specs.Rings.{put_out}
-use Rattle.i3c_shared.specs.Values.{KeptValue, PortValue, Reading, Rings}
+use Rattle.i3c_shared.specs.Values.{HeldValue, KeptValue, PortValue, Reading, Rings}
 
 -- no port is out
 unfoldable pub no_rings : Rings
 no_rings = replicate SLOTS None
 
 -- the main controller's port is out, with the other end of the ring and nothing posted, its role is held, and the run is empty
-pub record IsMade (main : Setup) (legacy : List (Option LegacyTarget)) (kept : KeptValue) (holder : ℕ) (port : PortValue) : Type 0 where
+pub record IsMade (main : Setup) (legacy : List (Option LegacyTarget)) (kept : KeptValue) (role : HeldValue) (port : PortValue) : Type 0 where
   pub start : IsStart main legacy kept.log.start
   pub state : kept.log.state ≡ kept.log.start
   pub run : kept.log.run ≡ []
@@ -22,5 +22,5 @@ pub record IsMade (main : Setup) (legacy : List (Option LegacyTarget)) (kept : K
   pub pair : IsPair port.producer ring
   pub slot : port.slot ≡ 0
   pub fresh : sent port.producer ≡ []
-  pub role : holder ≡ 0
+  pub held : role ≡ record { holder = 0; frames = 0 }
   pub parked : kept.parked ≡ None

@@ -1,5 +1,5 @@
 -- What each call does to what lies under the lock, by its answer.
-use Rattle.std.specs.Prelude.{◌≡◌, ◌≢◌, ℕ, Bool, true, false, not, ◌&&◌, [], Option, Some, None, ◌⊎◌, is_some, Result, Ok, Err}
+use Rattle.std.specs.Prelude.{◌≡◌, ◌≢◌, ℕ, ◌+◌, ⊤, MatchOption, Bool, true, false, not, ◌&&◌, [], Option, Some, None, ◌⊎◌, is_some, Result, Ok, Err}
 use Rattle.rtrb.specs.Ring.{IsPair, sent}
 use Rattle.i3c_base.specs.declared.answers.Answer.{Answer}
 use Rattle.i3c_base.specs.declared.answers.RoundReply.{RoundReply}
@@ -16,19 +16,16 @@ use Rattle.i3c_step.specs.declared.replies.Reply.{Reply}
 use Rattle.i3c_step.specs.Commands.{event_of}
 use Rattle.i3c_step.specs.Giving.{given_by}
 use Rattle.i3c_bus.specs.Asking.{Asks}
-use Rattle.i3c_shared.specs.declared.faults.AskFault.{AskFault}
+use Rattle.i3c_shared.specs.declared.faults.CallFault.{CallFault}
 use Rattle.i3c_shared.specs.declared.faults.AttachFault.{AttachFault}
 use Rattle.i3c_shared.specs.declared.faults.DropFault.{DropFault}
 use Rattle.i3c_shared.specs.declared.faults.HandOverFault.{HandOverFault}
 use Rattle.i3c_shared.specs.declared.faults.Left.{Left}
-use Rattle.i3c_shared.specs.declared.faults.OpenFault.{OpenFault}
-use Rattle.i3c_shared.specs.declared.faults.SessionFault.{SessionFault}
-use Rattle.i3c_shared.specs.declared.faults.StaleRole.{StaleRole}
-use Rattle.i3c_recorder.specs.KeptRuns.{terms_of}
+use Rattle.i3c_shared.specs.Books.{IsHeld}
 use Rattle.i3c_shared.specs.Ports.{SamePort}
 use Rattle.i3c_shared.specs.Rings.{is_out, put_out, taken_in}
 use Rattle.i3c_shared.specs.Taking.{Grows, Stays}
-use Rattle.i3c_shared.specs.Values.{KeptValue, Log, PortValue, Reading}
+use Rattle.i3c_shared.specs.Values.{HeldValue, KeptValue, Log, PortValue, Reading}
 
 -- posts are taken up, and then comes this event with this reply
 abbrev pub Does : KeptValue → Event → Reply → KeptValue → Type 0
@@ -82,14 +79,10 @@ Drops old new port (Ok left) = DropsWith old new port.slot (left_reply left)
 Drops old new port (Err refused) = SamePort port refused.0 × DropsNot old new port.slot refused.1
 
 -- a wish
-abbrev pub AsksFor : KeptValue → KeptValue → Event → Result (Unit {0}) AskFault → Type 0
+abbrev pub AsksFor : KeptValue → KeptValue → Event → Result (Unit {0}) CallFault → Type 0
 AsksFor old new event (Ok done) = Does old event Reply.Asked new
-AsksFor old new event (Err (AskFault.Refused why)) = Does old event (Reply.Refused why) new
-AsksFor old new event (Err AskFault.OutOfMemory) = DoesNothing old new
-
--- the role isn't the active controller's: the answer is the number of handovers granted so far, and nothing changes
-abbrev pub IsStale : KeptValue → KeptValue → ℕ → StaleRole → Type 0
-IsStale old new role stale = (role ≢ old.log.state.active) × (stale.0 ≡ terms_of old.log.run) × (new ≡ old)
+AsksFor old new event (Err (CallFault.Refused why)) = Does old event (Reply.Refused why) new
+AsksFor old new event (Err CallFault.OutOfMemory) = DoesNothing old new
 
 -- a frame that isn't short of memory is kept with the verdicts that its policy gave when the posts were taken up
 abbrev pub Sends : {P : Type 0} → (P → Request → Verdict → P → Type 0) → P → P → KeptValue → KeptValue → Command → CutList → Reply → Type 0
@@ -98,53 +91,45 @@ Sends gives p q old new command cuts reply =
     × ((g : Grows old.log (event_of command (given_by reply) cuts) reply new.log) × Asks gives p q g.mid.state reply) × (new.parked ≡ old.parked)
 
 -- a frame under the role by its answer: the policy is asked only where it is sent
-abbrev pub Commands : {P : Type 0} → (P → Request → Verdict → P → Type 0) → P → P → KeptValue → KeptValue → ℕ → Command → CutList → Result Reply StaleRole → Type 0
-Commands gives p q old new role command cuts (Ok reply) =
-    (role ≡ old.log.state.active)
-    × (((reply ≡ Reply.OutOfMemory) × (q ≡ p) × DoesNothing old new) ⊎ Sends gives p q old new command cuts reply)
-Commands gives p q old new role command cuts (Err stale) = IsStale old new role stale × (q ≡ p)
+abbrev pub Commands : {P : Type 0} → (P → Request → Verdict → P → Type 0) → P → P → KeptValue → KeptValue → Command → CutList → Reply → Type 0
+Commands gives p q old new command cuts reply =
+    ((reply ≡ Reply.OutOfMemory) × (q ≡ p) × DoesNothing old new) ⊎ Sends gives p q old new command cuts reply
 
--- an opening that is refused: no event where the role is stale or memory was short
-abbrev pub OpensNot : KeptValue → KeptValue → ℕ → CutList → OpenFault → Type 0
-OpensNot old new role cuts (OpenFault.StaleRole stale) = IsStale old new role stale
-OpensNot old new role cuts OpenFault.OutOfMemory = (role ≡ old.log.state.active) × DoesNothing old new
-OpensNot old new role cuts (OpenFault.Refused why) = (role ≡ old.log.state.active) × Does old (Event.OpenDaa cuts) (Reply.Refused why) new
-
--- the held role comes back as a session, or as it was
-abbrev pub Opens : KeptValue → KeptValue → ℕ → CutList → Result (ℕ × Served) (ℕ × OpenFault) → Type 0
-Opens old new role cuts (Ok opened) = (opened.0 ≡ role) × (role ≡ old.log.state.active) × Does old (Event.OpenDaa cuts) (Reply.Opened opened.1) new
-Opens old new role cuts (Err refused) = (refused.0 ≡ role) × OpensNot old new role cuts refused.1
+-- an opening by its answer: it is an event unless memory was short
+abbrev pub Opens : KeptValue → KeptValue → CutList → Result (HeldValue × Served) (HeldValue × CallFault) → Type 0
+Opens old new cuts (Ok opened) = Does old (Event.OpenDaa cuts) (Reply.Opened opened.1) new
+Opens old new cuts (Err (role, CallFault.OutOfMemory)) = DoesNothing old new
+Opens old new cuts (Err (role, CallFault.Refused why)) = Does old (Event.OpenDaa cuts) (Reply.Refused why) new
 
 -- a round or an end that is refused: it is an event unless memory was short
-abbrev pub Fails : KeptValue → KeptValue → Event → SessionFault → Type 0
-Fails old new event (SessionFault.Refused why) = Does old event (Reply.Refused why) new
-Fails old new event SessionFault.OutOfMemory = DoesNothing old new
+abbrev pub Fails : KeptValue → KeptValue → Event → CallFault → Type 0
+Fails old new event (CallFault.Refused why) = Does old event (Reply.Refused why) new
+Fails old new event CallFault.OutOfMemory = DoesNothing old new
 
 -- a round by its answer
-abbrev pub Rounds : KeptValue → KeptValue → CutList → Result RoundReply SessionFault → Type 0
+abbrev pub Rounds : KeptValue → KeptValue → CutList → Result RoundReply CallFault → Type 0
 Rounds old new cuts (Ok answer) = Does old (Event.Round cuts) (Reply.Round answer) new
 Rounds old new cuts (Err fault) = Fails old new (Event.Round cuts) fault
 
--- the held session comes back as the role, or as it was
-abbrev pub Ends : KeptValue → KeptValue → ℕ → Result ℕ (ℕ × SessionFault) → Type 0
-Ends old new session (Ok role) = (role ≡ session) × Does old Event.EndDaa Reply.Ended new
-Ends old new session (Err refused) = (refused.0 ≡ session) × Fails old new Event.EndDaa refused.1
+-- an end by its answer
+abbrev pub Ends : KeptValue → KeptValue → Result HeldValue (HeldValue × CallFault) → Type 0
+Ends old new (Ok role) = Does old Event.EndDaa Reply.Ended new
+Ends old new (Err refused) = Fails old new Event.EndDaa refused.1
 
--- a handover that the role comes back from: no event where it is stale or memory was short
-abbrev pub HandsNot : KeptValue → KeptValue → ℕ → ℕ → CutList → HandOverFault → Type 0
-HandsNot old new role to cuts (HandOverFault.StaleRole stale) = IsStale old new role stale
-HandsNot old new role to cuts HandOverFault.OutOfMemory = (role ≡ old.log.state.active) × DoesNothing old new
-HandsNot old new role to cuts (HandOverFault.Refused why) = (role ≡ old.log.state.active) × Does old (Event.HandOver to cuts) (Reply.Refused why) new
-HandsNot old new role to cuts (HandOverFault.NoAnswer served a) =
-    (role ≡ old.log.state.active) × Does old (Event.HandOver to cuts) (Reply.Framed (record { served = served; answer = Answer.NoAnswer a })) new
+-- a handover that the role comes back from: it is an event unless memory was short
+abbrev pub HandsNot : KeptValue → KeptValue → ℕ → CutList → HandOverFault → Type 0
+HandsNot old new to cuts HandOverFault.OutOfMemory = DoesNothing old new
+HandsNot old new to cuts (HandOverFault.Refused why) = Does old (Event.HandOver to cuts) (Reply.Refused why) new
+HandsNot old new to cuts (HandOverFault.NoAnswer served a) =
+    Does old (Event.HandOver to cuts) (Reply.Framed (record { served = served; answer = Answer.NoAnswer a })) new
 
--- the role is parked for the slot that is active then, or comes back as it was
-abbrev pub Hands : KeptValue → KeptValue → ℕ → ℕ → CutList → Result Served (ℕ × HandOverFault) → Type 0
+-- a handover by its answer: the role is parked for the slot that is active then, and counts the handover
+abbrev pub Hands : KeptValue → KeptValue → HeldValue → ℕ → CutList → Result Served (HeldValue × HandOverFault) → Type 0
 Hands old new role to cuts (Ok served) =
-    (role ≡ old.log.state.active) × Grows old.log (Event.HandOver to cuts) (Reply.Handed served) new.log × (new.parked ≡ Some new.log.state.active)
-Hands old new role to cuts (Err refused) = (refused.0 ≡ role) × HandsNot old new role to cuts refused.1
+    Grows old.log (Event.HandOver to cuts) (Reply.Handed served) new.log × (new.parked ≡ Some (record { holder = new.log.state.active; frames = role.frames + 1 }))
+Hands old new role to cuts (Err refused) = HandsNot old new to cuts refused.1
 
--- the role that is parked for the port's slot is taken, and no event happens
-abbrev pub TakesRole : KeptValue → KeptValue → ℕ → Option ℕ → Type 0
-TakesRole old new s (Some role) = (role ≡ s) × (old.parked ≡ Some s) × (new ≡ record old { parked = None })
-TakesRole old new s None = (old.parked ≢ Some s) × (new ≡ old)
+-- the role that is parked for the port's slot is taken, and no event happens: it is the active controller's
+abbrev pub TakesRole : KeptValue → KeptValue → ℕ → Option HeldValue → Type 0
+TakesRole old new s (Some role) = (role.holder ≡ s) × (old.parked ≡ Some role) × IsHeld old.log false role × (new ≡ record old { parked = None })
+TakesRole old new s None = MatchOption old.parked ⊤ (λ role. role.holder ≢ s) × (new ≡ old)

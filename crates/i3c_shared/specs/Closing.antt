@@ -1,5 +1,5 @@
 -- When a bus may be closed, and what it was.
-use Rattle.std.specs.Prelude.{◌≡◌, ℕ, ◌<◌, Bool, true, false, ◌||◌, ◌&&◌, List, length, slice_index, Option, is_none}
+use Rattle.std.specs.Prelude.{◌≡◌, ℕ, ◌<◌, Bool, true, false, ◌||◌, ◌&&◌, List, length, slice_index, Option, is_none, MatchOption, ⊤}
 use Rattle.i3c_base.specs.declared.range.TheConstants.{SLOTS}
 use Rattle.i3c_base.specs.declared.requests.Record.{Record}
 use Rattle.i3c_base.specs.State.{State, device_at}
@@ -7,13 +7,14 @@ use Rattle.i3c_bus.specs.Readings.{waiting_of}
 use Rattle.i3c_recorder.specs.declared.entry.Entry.{Entry}
 use Rattle.i3c_shared.specs.declared.faults.CloseFault.{CloseFault}
 use Rattle.i3c_recorder.specs.KeptRuns.{IsLegalTo}
+use Rattle.i3c_shared.specs.Books.{frames_in}
 use Rattle.i3c_shared.specs.Ports.{AllPosted, IsFirstMissing, NoneMissing}
 use Rattle.i3c_shared.specs.Rings.{AllLooked}
 use Rattle.i3c_shared.specs.Taking.{Stays, TakesUp}
-use Rattle.i3c_shared.specs.Values.{KeptValue, Log, PortValue, Rings}
+use Rattle.i3c_shared.specs.Values.{HeldValue, KeptValue, Log, PortValue, Rings}
 
 -- nobody handed a role in and none is parked, or it is away in an open session
-abbrev pub is_role_out : KeptValue → Option ℕ → Bool
+abbrev pub is_role_out : KeptValue → Option HeldValue → Bool
 is_role_out k role = k.log.state.in_session || (is_none role && is_none k.parked)
 
 -- so many interrupts wait on the bus, by slot
@@ -32,15 +33,21 @@ pub record TakesLast (old : Log) (run : List Entry) (records : List Record) (wai
   pub recorded : records ≡ end.state.records
   pub waits : AreWaiting waiting end.state
 
--- a close that is accepted: of each port handed in whose ring was here, the raises are all that it posted
-pub record Closes (old : KeptValue) (role : Option ℕ) (ports : List PortValue) (run : List Entry) (records : List Record) (waiting : List ℕ) : Type 0 where
+-- the run leads to this state, in which the role that was handed in is the active controller's, and it counts the run's frames
+abbrev pub IsCounted : Option HeldValue → List Entry → State → Type 0
+IsCounted role run end = MatchOption role ⊤ (λ held. (held.holder ≡ end.active) × (held.frames ≡ frames_in run))
+
+-- a close that is accepted: a role that was handed in is this bus's, and of each port handed in whose ring was here, the raises
+-- are all that it posted
+pub record Closes (old : KeptValue) (role : Option HeldValue) (ports : List PortValue) (run : List Entry) (records : List Record) (waiting : List ℕ) : Type 0 where
   pub role_in : is_role_out old role ≡ false
   pub ports_in : NoneMissing old.log.rings ports
   pub takes : TakesLast old.log run records waiting
+  pub held : IsCounted role run takes.end.state
   pub all : AllPosted old.log.rings ports run
 
 -- why it is refused, and that nothing changed
-abbrev pub RefusesClose : KeptValue → Option ℕ → List PortValue → CloseFault → KeptValue → Type 0
+abbrev pub RefusesClose : KeptValue → Option HeldValue → List PortValue → CloseFault → KeptValue → Type 0
 RefusesClose old role ports CloseFault.RoleOut new = (is_role_out old role ≡ true) × (new ≡ old)
 RefusesClose old role ports (CloseFault.PortOut s) new =
     (is_role_out old role ≡ false) × IsFirstMissing old.log.rings ports s × (new ≡ old)

@@ -3,6 +3,7 @@ pub mod Raises
 pub mod Rings
 pub mod Ends
 pub mod Ports
+pub mod Books
 pub mod Taking
 pub mod Telling
 pub mod Calls

@@ -58,5 +58,4 @@ is_hand_reply _ = false
 abbrev pub IsUnhanded : HandOverFault → Reply → Type 0
 IsUnhanded (HandOverFault.Refused why) reply = reply ≡ Reply.Refused why
 IsUnhanded (HandOverFault.NoAnswer served a) reply = reply ≡ Reply.Framed (record { served = served; answer = Answer.NoAnswer a })
-IsUnhanded (HandOverFault.StaleRole stale) reply = ⊥
 IsUnhanded HandOverFault.OutOfMemory reply = ⊥

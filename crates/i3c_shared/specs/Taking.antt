@@ -11,7 +11,8 @@ use Rattle.i3c_recorder.specs.KeptRuns.{IsBegun, Leads, events_of}
 use Rattle.i3c_step.specs.Stays.{is_attached}
 use Rattle.i3c_shared.specs.Rings.{AllDrained, AllFew, AllLooked, Fits, put_out, raises_in}
 use Rattle.i3c_recorder.specs.Values.{Recorded}
-use Rattle.i3c_shared.specs.Values.{IntakeValue, Log, Reading, Rings}
+use Rattle.i3c_shared.specs.Values.{BooksValue, IntakeValue, Log, Reading, Rings}
+use Rattle.i3c_shared.specs.Books.{books_of}
 
 -- the run grows by these events, and leads on
 pub record Adds (old : Recorded) (events : List Event) (new : Recorded) : Type 0 where
@@ -67,8 +68,10 @@ IsOther event = Unit {0}
 abbrev pub PutsOut : ℕ → Reading → Reply → Log → Log → Type 0
 PutsOut s ring reply old new = new ≡ record old { rings = if is_attached reply then put_out s ring old.rings else old.rings }
 
--- the run is legal and leads to the bus, and what was received from the ring of each port that is out are the bytes of its raises
-pub record IsKept (log : Log) : Type 0 where
+-- the run is legal and leads to the bus, what was received from the ring of each port that is out are the bytes of its raises,
+-- and the books are the active slot, 1 while a session is open, and the number of frame events in the run
+pub record IsKept (log : Log) (books : BooksValue) : Type 0 where
   pub begun : IsBegun log.start
   pub leads : Leads log.start log.run log.state
   pub fits : Fits log.rings log.run
+  pub booked : books ≡ books_of log

@@ -31,10 +31,23 @@ pub record IntakeValue : Type 0 where
   pub room : Bool
   pub spare : ℕ
 
--- what lies under the lock: the same log, and the holder of the parked role
+-- what the books of the three ledgers come to, or all shares of them: the active slot, 1 while a session is open, and the
+-- number of frame events
+pub record BooksValue : Type 0 where
+  pub active : ℕ
+  pub session : ℕ
+  pub frames : ℕ
+
+-- a role or session in hand: the slot that holds it, and the number of frame events in its bus's run
+pub record HeldValue : Type 0 where
+  pub holder : ℕ
+  pub frames : ℕ
+
+-- what lies under the lock: the log, the books, and the parked role
 pub record KeptValue : Type 0 where
   pub log : Log
-  pub parked : Option ℕ
+  pub books : BooksValue
+  pub parked : Option HeldValue
 
 -- a port: its slot, and its end of its ring
 pub record PortValue : Type 0 where

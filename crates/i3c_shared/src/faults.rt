@@ -2,11 +2,6 @@ use i3c_base::{Addr7, Served, Slot};
 use i3c_step::Refusal;
 use thiserror::Error;
 
-/// The held role isn't the active controller's. The number of handovers granted so far.
-#[derive(Clone, Copy, Debug, PartialEq, Eq, Drop, Error)]
-#[error("the role was handed over")]
-pub struct StaleRole(pub u64);
-
 /// Why a bus can't start.
 #[derive(Clone, Copy, Debug, PartialEq, Eq, Drop, Error)]
 pub enum StartFault {
@@ -49,48 +44,20 @@ pub enum DropFault {
     OutOfMemory,
 }
 
-/// Why a device doesn't wish what it was asked to.
+/// Why a wish, an opening, a round or the end of a session isn't carried out.
 #[derive(Clone, Copy, Debug, PartialEq, Eq, Drop, Error)]
-pub enum AskFault {
+pub enum CallFault {
     /// There was no memory. Nothing changed.
     #[error("out of memory")]
     OutOfMemory,
     /// The bus refused it.
-    #[error("the wish is refused")]
-    Refused(Refusal),
-}
-
-/// Why no session is opened.
-#[derive(Clone, Copy, Debug, PartialEq, Eq, Drop, Error)]
-pub enum OpenFault {
-    /// The held role isn't the active controller's.
-    #[error("the role was handed over")]
-    StaleRole(StaleRole),
-    /// There was no memory. Nothing changed.
-    #[error("out of memory")]
-    OutOfMemory,
-    /// The bus refused it.
-    #[error("the session is refused")]
-    Refused(Refusal),
-}
-
-/// Why a session's round or end isn't carried out.
-#[derive(Clone, Copy, Debug, PartialEq, Eq, Drop, Error)]
-pub enum SessionFault {
-    /// There was no memory. Nothing changed.
-    #[error("out of memory")]
-    OutOfMemory,
-    /// The bus refused it.
-    #[error("the session's frame is refused")]
+    #[error("the call is refused")]
     Refused(Refusal),
 }
 
 /// Why the role isn't handed over.
 #[derive(Clone, Copy, Debug, PartialEq, Eq, Drop, Error)]
 pub enum HandOverFault {
-    /// The held role isn't the active controller's.
-    #[error("the role was handed over")]
-    StaleRole(StaleRole),
     /// There was no memory. Nothing changed.
     #[error("out of memory")]
     OutOfMemory,

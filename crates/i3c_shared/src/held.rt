@@ -1,66 +1,92 @@
+use crate::books::Shares;
 use i3c_base::Slot;
 use std::marker::Model;
+use std::sync::ledger::Ledger;
 
-/// The role of active controller, held outside the lock. It is seen as the slot that holds it, and must be spent.
-pub struct HeldRole {
-    pub(crate) holder: Slot,
+/// The role of active controller, held outside the lock. It is the only one of its bus, and must be spent. It is seen as
+/// the slot that holds it, and as the number of frame events in its bus's run.
+pub struct HeldRole<L: Ledger, M: Ledger, N: Ledger> {
+    pub(crate) shares: Shares<L, M, N>,
 }
 
-impl Model for HeldRole {
-    ghost use Rattle.std.specs.Prelude.{ℕ};
+impl<L: Ledger, M: Ledger, N: Ledger> Model for HeldRole<L, M, N> {
+    ghost use Rattle.std.specs.Prelude.{◌≡◌};
+    ghost use Rattle.i3c_shared.specs.Values.{HeldValue};
 
-    ghost Value = { ℕ };
+    ghost Value = { HeldValue };
 
-    ghost view = { λ r. r.holder };
+    ghost view = { λ r. record { holder = r.shares.active; frames = r.shares.frames } };
+
+    ghost invariant = { λ r. r.shares.session ≡ 0 };
 }
 
-impl HeldRole {
+impl<L: Ledger, M: Ledger, N: Ledger> HeldRole<L, M, N> {
     ghost use Rattle.std.specs.Prelude.{◌≡◌};
 
-    /// The slot that holds it.
+    /// The slot that holds it: the active controller's.
     pub fn holder(&self) -> Slot
-        ensures { result ≡ self.now }
+        ensures { result ≡ self.now.holder }
     {
-        self.holder
+        self.shares.holder
+    }
+
+    /// How many frame events its bus's run has, rounds, ends and refused frames among them: no lock, no memory.
+    pub fn frames(&self) -> u64
+        ensures { result ≡ self.now.frames }
+    {
+        self.shares.count
     }
 
     /// Spends it: no event, no lock, no memory.
     pub fn let_go(self) {
-        let HeldRole { holder: _ } = self;
+        let HeldRole { shares } = self;
+        shares.let_go();
     }
 }
 
-/// The role while a session is open, held outside the lock. It is seen as the slot that holds it, and must be spent.
-pub struct HeldSession {
-    pub(crate) holder: Slot,
+/// The role while a session is open, held outside the lock. It is the only one of its bus, and must be spent. It is seen
+/// as a role is.
+pub struct HeldSession<L: Ledger, M: Ledger, N: Ledger> {
+    pub(crate) shares: Shares<L, M, N>,
 }
 
-impl Model for HeldSession {
-    ghost use Rattle.std.specs.Prelude.{ℕ};
+impl<L: Ledger, M: Ledger, N: Ledger> Model for HeldSession<L, M, N> {
+    ghost use Rattle.std.specs.Prelude.{◌≡◌};
+    ghost use Rattle.i3c_shared.specs.Values.{HeldValue};
 
-    ghost Value = { ℕ };
+    ghost Value = { HeldValue };
 
-    ghost view = { λ s. s.holder };
+    ghost view = { λ s. record { holder = s.shares.active; frames = s.shares.frames } };
+
+    ghost invariant = { λ s. s.shares.session ≡ 1 };
 }
 
-impl HeldSession {
+impl<L: Ledger, M: Ledger, N: Ledger> HeldSession<L, M, N> {
     ghost use Rattle.std.specs.Prelude.{◌≡◌};
 
-    /// The slot that holds it.
+    /// The slot that holds it: the active controller's.
     pub fn holder(&self) -> Slot
-        ensures { result ≡ self.now }
+        ensures { result ≡ self.now.holder }
     {
-        self.holder
+        self.shares.holder
+    }
+
+    /// How many frame events its bus's run has, rounds, ends and refused frames among them: no lock, no memory.
+    pub fn frames(&self) -> u64
+        ensures { result ≡ self.now.frames }
+    {
+        self.shares.count
     }
 
     /// Spends it: no event, no lock, no memory.
     pub fn let_go(self) {
-        let HeldSession { holder: _ } = self;
+        let HeldSession { shares } = self;
+        shares.let_go();
     }
 }
 
 /// Spends the role, if there is one.
-pub(crate) fn spend_role(role: Option<HeldRole>) {
+pub(crate) fn spend_role<L: Ledger, M: Ledger, N: Ledger>(role: Option<HeldRole<L, M, N>>) {
     if let Some(role) = role {
         role.let_go();
     }

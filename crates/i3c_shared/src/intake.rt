@@ -62,12 +62,12 @@ impl Intake {
     ghost use Rattle.i3c_step.specs.declared.events.Event.{Event as EventValue};
     ghost use Rattle.i3c_step.specs.declared.replies.Reply.{Reply as ReplyValue};
     ghost use Rattle.i3c_shared.specs.Calls.{is_awaited};
-    ghost use Rattle.i3c_recorder.specs.KeptRuns.{IsLegalTo, terms_of};
+    ghost use Rattle.i3c_recorder.specs.KeptRuns.{IsBegun as IsBegunAt, IsLegalTo, Leads};
     ghost use Rattle.i3c_shared.specs.Closing.{AreWaiting};
     ghost use Rattle.i3c_shared.specs.Ports.{AllPosted, AllPostedFirst, AllWhole, IsFirstMissing, IsMissing, NoneMissing};
     ghost use Rattle.i3c_shared.specs.Raises.{raises_of};
     ghost use Rattle.i3c_shared.specs.Rings.{Fits, is_out};
-    ghost use Rattle.i3c_shared.specs.Taking.{Grows, IsKept, IsOther, IsReady, Makes, PutsOut, Stays, TakesUp};
+    ghost use Rattle.i3c_shared.specs.Taking.{Grows, IsOther, IsReady, Makes, PutsOut, Stays, TakesUp};
     ghost use Rattle.i3c_shared.specs.Telling.{TellsOf};
     ghost use Rattle.i3c_shared.specs.Values.{Log, Rings as Seen};
 
@@ -101,11 +101,11 @@ impl Intake {
         self.recorder.in_session()
     }
 
-    /// How many handovers were granted.
-    pub(crate) fn terms(&self) -> u64
-        ensures { result ≡ terms_of self.now.log.run }
+    /// How many events the run has.
+    pub(crate) fn events(&self) -> usize
+        ensures { result ≡ length self.now.log.run }
     {
-        self.recorder.terms()
+        self.recorder.events()
     }
 
     /// Whether a slot's port is out.
@@ -307,7 +307,9 @@ impl Intake {
     /// The run is legal and leads to the bus, and what was received from the ring of each port that is out are the bytes
     /// of its raises.
     pub(crate) fn keeps(&self)
-        ensures { IsKept self.now.log }
+        ensures begun { IsBegunAt self.now.log.start }
+        ensures leads { Leads self.now.log.start self.now.log.run self.now.log.state }
+        ensures fits { Fits self.now.log.rings self.now.log.run }
     {
         self.recorder.keeps();
     }

@@ -1,7 +1,7 @@
+use crate::books::Books;
 use crate::closed::Closed;
 use crate::faults::{
-    AskFault, AttachFault, CloseFault, DropFault, HandOverFault, Left, OpenFault, SessionFault,
-    StaleRole, StartFault,
+    AttachFault, CallFault, CloseFault, DropFault, HandOverFault, Left, StartFault,
 };
 use crate::held::{HeldRole, HeldSession, spend_role};
 use crate::intake::{Intake, first_rings};
@@ -12,60 +12,74 @@ use i3c_bus::Policy;
 use i3c_frame::Tap;
 use i3c_legacy::Legacies;
 use i3c_recorder::Recorder;
-use i3c_step::{Command, Event, Reply};
+use i3c_step::{Command, Event, OutOfMemory, Reply};
 use rtrb::RingBuffer;
 use std::alloc::Global;
 use std::marker::Model;
 use std::mem;
+use std::sync::ledger::{Blank, Ledger};
 
-/// What lies under the lock: the bus with its run, the rings of the ports that are out, and the parked role.
+/// What lies under the lock: the bus with its run, the rings of the ports that are out, the books of three ledgers, and
+/// the parked role.
 ///
 /// Each call first takes up what its devices posted, at most eight posts of each port, in the order of the slots, each
-/// as one raise; then comes its own event. Calls that answer `StaleRole`, or `SlotTaken` for an empty slot, take up
-/// nothing and are no events; nor is one that answers `OutOfMemory`, before which nothing is taken.
-pub struct Kept {
+/// as one raise; then comes its own event. A call that answers `SlotTaken` for an empty slot takes up nothing and is no
+/// event; nor is one that answers `OutOfMemory`, before which nothing is taken.
+///
+/// All shares of the ledgers are in the one role or session of the bus, in a thread's hand or parked. So what a thread
+/// holds is the active controller's, is a session just while one is open, and counts each frame event of the run.
+pub struct Kept<L: Ledger, M: Ledger, N: Ledger> {
     alloc: Global,
     intake: Intake,
-    parked: Option<HeldRole>,
+    books: Books<L, M, N>,
+    parked: Option<HeldRole<L, M, N>>,
 }
 
-impl Model for Kept {
+impl<L: Ledger, M: Ledger, N: Ledger> Model for Kept<L, M, N> {
+    ghost use Rattle.std.specs.Prelude.{◌≡◌};
+    ghost use Rattle.i3c_shared.specs.Books.{books_of};
     ghost use Rattle.i3c_shared.specs.Values.{KeptValue};
 
     ghost Value = { KeptValue };
 
-    ghost view = { λ k. record { log = k.intake.log; parked = k.parked } };
+    ghost view = { λ k. record { log = k.intake.log; books = k.books; parked = k.parked } };
+
+    ghost invariant = { λ k. k.books ≡ books_of k.intake.log };
 }
 
 /// What a refused close hands back.
-pub struct Unclosed<B> {
+pub struct Unclosed<B, R> {
     /// The bus, as it was.
     pub bus: B,
     /// The role, if one was given.
-    pub role: Option<HeldRole>,
+    pub role: Option<R>,
     /// The ports that were given.
     pub ports: Vec<Port>,
     /// Why the bus stays open.
     pub fault: CloseFault,
 }
 
-impl Kept {
-    ghost use Rattle.std.specs.Prelude.{◌≡◌, ◌≢◌, ◌↔◌, true, false, IfOk, IfErr, IsErrOf, MatchResult, OnOk, Err};
+impl<L: Ledger, M: Ledger, N: Ledger> Kept<L, M, N> {
+    ghost use Rattle.std.specs.Prelude.{◌≡◌, ◌≢◌, ◌+◌, ◌↔◌, true, false, IfOk, IfErr, IsErrOf, MatchResult, OnOk, Err};
     ghost use mathlib.Core.List.{IsPrefix};
     ghost use Rattle.rtrb.specs.Ring.{sent};
     ghost use Rattle.i3c_base.specs.Numbers.{is_capable};
     ghost use Rattle.i3c_base.specs.State.{legacy_targets_of};
     ghost use Rattle.i3c_step.specs.declared.events.Event.{Event as EventValue};
-    ghost use Rattle.i3c_shared.specs.declared.faults.AskFault.{AskFault as AskFaultValue};
+    ghost use Rattle.i3c_step.specs.declared.replies.Refusal.{Refusal as RefusalValue};
+    ghost use Rattle.i3c_step.specs.declared.replies.Reply.{Reply as ReplyValue};
+    ghost use Rattle.i3c_shared.specs.declared.faults.CallFault.{CallFault as CallFaultValue};
     ghost use Rattle.i3c_shared.specs.declared.faults.DropFault.{DropFault as DropFaultValue};
+    ghost use Rattle.i3c_shared.specs.declared.faults.HandOverFault.{HandOverFault as HandOverFaultValue};
     ghost use Rattle.i3c_shared.specs.declared.faults.StartFault.{StartFault as StartFaultValue};
     ghost use Rattle.i3c_shared.specs.Beginning.{IsMade};
+    ghost use Rattle.i3c_shared.specs.Books.{IsHeld, counted, is_frame, unended, unhanded, unopened};
     ghost use Rattle.i3c_shared.specs.Calls.{AsksFor, Attaches, Commands, Drops, Ends, Hands, Opens, Rounds, TakesRole};
     ghost use Rattle.i3c_shared.specs.Closing.{Closes, RefusesClose, is_role_out};
     ghost use Rattle.i3c_shared.specs.Ports.{AllPostedFirst, NoneMissing, SamePort, SamePorts};
     ghost use Rattle.i3c_shared.specs.Raises.{raises_of};
     ghost use Rattle.i3c_shared.specs.Rings.{IsEndOf, ring_at};
-    ghost use Rattle.i3c_shared.specs.Taking.{IsKept};
+    ghost use Rattle.i3c_shared.specs.Taking.{Grows, IsKept, IsOther, Stays};
     ghost use Rattle.i3c_shared.specs.Telling.{TellsFrame, TellsIf, ending_reply, handing_reply, opening_reply, round_reply};
 
     /// A bus with its main controller in slot 0, whose role and port are out, and an empty run. It answers `NotCapable`
@@ -74,7 +88,13 @@ impl Kept {
         alloc: Global,
         main: Setup,
         legacies: Legacies,
-    ) -> Result<(Kept, HeldRole, Port), StartFault>
+        active: Blank,
+        session: Blank,
+        frames: Blank,
+    ) -> Result<(Kept<L, M, N>, HeldRole<L, M, N>, Port), StartFault>
+        requires active { (active.name ≡ L.name) × (active.parts ≡ L.parts) × (active.parts ≡ 1) }
+        requires session { (session.name ≡ M.name) × (session.parts ≡ M.parts) × (session.parts ≡ 1) }
+        requires frames { (frames.name ≡ N.name) × (frames.parts ≡ N.parts) × (frames.parts ≡ 1) }
         ensures capable { IsErrOf result StartFaultValue.NotCapable ↔ (is_capable main.identity.bcr ≡ false) }
         ensures made { IfOk result (λ made. IsMade main (legacy_targets_of legacies) made.0 made.1 made.2) }
     {
@@ -89,13 +109,18 @@ impl Kept {
             recorder.let_go();
             return Err(StartFault::OutOfMemory);
         };
+        let (books, shares) = Books::open(active, session, frames);
         let kept = Kept {
             alloc,
             intake: Intake::new(recorder, rings),
+            books,
             parked: None,
         };
-        let holder = Slot::default();
-        Ok((kept, HeldRole { holder }, Port::new(holder, producer)))
+        Ok((
+            kept,
+            HeldRole { shares },
+            Port::new(Slot::default(), producer),
+        ))
     }
 
     /// A device enters a slot (no address), and its port goes out. It answers `SlotTaken` where the slot holds a device,
@@ -118,6 +143,19 @@ impl Kept {
         Ok(Port::new(slot, producer))
     }
 
+    /// An event of a port's device, which is no frame.
+    fn carry_for(&mut self, event: Event, port: &mut Port) -> Result<Reply, OutOfMemory>
+        requires other { IsOther event }
+        requires local { is_frame event ≡ false }
+        ensures kept { (self.new.books ≡ self.old.books) × (self.new.parked ≡ self.old.parked) }
+        ensures port { SamePort port.old port.new }
+        ensures grows { MatchResult result (λ reply. (reply ≢ ReplyValue.OutOfMemory) × Grows self.old.log event reply self.new.log) (λ _. Stays self.old.log self.new.log) }
+        ensures prefix { IsEndOf port.old (ring_at self.old.log.rings port.old.slot) → IsPrefix (raises_of port.old.slot self.new.log.run) (sent port.new.producer) }
+        ensures all { OnOk result (IsEndOf port.old (ring_at self.old.log.rings port.old.slot) → raises_of port.old.slot self.new.log.run ≡ sent port.new.producer) }
+    {
+        self.intake.carry_for(event, port)
+    }
+
     /// The port's device drops off, and the port is spent: `WasGone` where a cut had taken the device away. The active
     /// controller stays, and its port comes back.
     pub fn drop_off(&mut self, port: Port) -> Result<Left, (Port, DropFault)>
@@ -128,7 +166,7 @@ impl Kept {
     {
         let mut port = port;
         let slot = port.slot();
-        let Ok(reply) = self.intake.carry_for(Event::DropOff(slot), &mut port) else {
+        let Ok(reply) = self.carry_for(Event::DropOff(slot), &mut port) else {
             return Err((port, DropFault::OutOfMemory));
         };
         match dropped(reply) {
@@ -142,125 +180,142 @@ impl Kept {
     }
 
     /// The port's device wishes for the controller role (I3C Basic 5.1.7.1).
-    pub fn ask_role(&mut self, port: &mut Port) -> Result<(), AskFault>
+    pub fn ask_role(&mut self, port: &mut Port) -> Result<(), CallFault>
         ensures asks { AsksFor self.old self.new (EventValue.AskRole port.old.slot) result }
         ensures port { SamePort port.old port.new }
         ensures prefix { IsEndOf port.old (ring_at self.old.log.rings port.old.slot) → IsPrefix (raises_of port.old.slot self.new.log.run) (sent port.new.producer) }
-        ensures all { (result ≢ Err AskFaultValue.OutOfMemory) → IsEndOf port.old (ring_at self.old.log.rings port.old.slot) → raises_of port.old.slot self.new.log.run ≡ sent port.new.producer }
+        ensures all { (result ≢ Err CallFaultValue.OutOfMemory) → IsEndOf port.old (ring_at self.old.log.rings port.old.slot) → raises_of port.old.slot self.new.log.run ≡ sent port.new.producer }
     {
         let event = Event::AskRole(port.slot());
-        let Ok(reply) = self.intake.carry_for(event, port) else {
-            return Err(AskFault::OutOfMemory);
+        let Ok(reply) = self.carry_for(event, port) else {
+            return Err(CallFault::OutOfMemory);
         };
         match asked(reply) {
             Ok(()) => Ok(()),
-            Err(why) => Err(AskFault::Refused(why)),
+            Err(why) => Err(CallFault::Refused(why)),
         }
     }
 
     /// The port's device wishes to join (Hot-Join, I3C Basic 5.1.5).
-    pub fn ask_join(&mut self, port: &mut Port) -> Result<(), AskFault>
+    pub fn ask_join(&mut self, port: &mut Port) -> Result<(), CallFault>
         ensures asks { AsksFor self.old self.new (EventValue.AskJoin port.old.slot) result }
         ensures port { SamePort port.old port.new }
         ensures prefix { IsEndOf port.old (ring_at self.old.log.rings port.old.slot) → IsPrefix (raises_of port.old.slot self.new.log.run) (sent port.new.producer) }
-        ensures all { (result ≢ Err AskFaultValue.OutOfMemory) → IsEndOf port.old (ring_at self.old.log.rings port.old.slot) → raises_of port.old.slot self.new.log.run ≡ sent port.new.producer }
+        ensures all { (result ≢ Err CallFaultValue.OutOfMemory) → IsEndOf port.old (ring_at self.old.log.rings port.old.slot) → raises_of port.old.slot self.new.log.run ≡ sent port.new.producer }
     {
         let event = Event::AskJoin(port.slot());
-        let Ok(reply) = self.intake.carry_for(event, port) else {
-            return Err(AskFault::OutOfMemory);
+        let Ok(reply) = self.carry_for(event, port) else {
+            return Err(CallFault::OutOfMemory);
         };
         match asked(reply) {
             Ok(()) => Ok(()),
-            Err(why) => Err(AskFault::Refused(why)),
+            Err(why) => Err(CallFault::Refused(why)),
         }
     }
 
     /// A frame under the role.
     pub fn command<P: Policy, T: Tap>(
         &mut self,
-        role: &mut HeldRole,
+        role: &mut HeldRole<L, M, N>,
         command: Command,
         policy: &mut P,
         tap: &mut T,
         cuts: Cuts,
-    ) -> Result<Reply, StaleRole>
-        ensures role { role.new ≡ role.old }
-        ensures sent { Commands P.verdict_gives policy.old policy.new self.old self.new role.old command cuts result }
+    ) -> Reply
+        ensures held { IsHeld self.old.log false role.old }
+        ensures counts { result ≢ ReplyValue.OutOfMemory → role.new ≡ counted role.old }
+        ensures memory { result ≡ ReplyValue.OutOfMemory → role.new ≡ role.old }
+        ensures never { result ≢ ReplyValue.Refused RefusalValue.SessionOpen }
+        ensures sent { Commands P.verdict_gives policy.old policy.new self.old self.new command cuts result }
         ensures told { TellsFrame T.note_gives tap.old tap.new self.old.log command cuts result self.new.log }
     {
-        if role.holder != self.intake.active() {
-            return Err(StaleRole(self.intake.terms()));
-        }
+        self.books.audit(&mut role.shares);
         let Ok(reply) = self.intake.command(command, policy, tap, cuts) else {
-            return Ok(Reply::OutOfMemory);
+            return Reply::OutOfMemory;
         };
-        Ok(reply)
+        self.books.count(&self.intake, &mut role.shares);
+        reply
     }
 
     /// Opens a session of dynamic address assignment (ENTDAA, I3C Basic 5.1.4.2): the role becomes its session, or comes
     /// back.
     pub fn open_daa<T: Tap>(
         &mut self,
-        role: HeldRole,
+        role: HeldRole<L, M, N>,
         tap: &mut T,
         cuts: Cuts,
-    ) -> Result<(HeldSession, Served), (HeldRole, OpenFault)>
-        ensures opens { Opens self.old self.new role cuts result }
+    ) -> Result<(HeldSession<L, M, N>, Served), (HeldRole<L, M, N>, CallFault)>
+        ensures held { IsHeld self.old.log false role }
+        ensures opened { IfOk result (λ opened. opened.0 ≡ counted role) }
+        ensures back { IfErr result (λ refused. refused.0 ≡ unopened refused.1 role) }
+        ensures never { IfErr result (λ refused. refused.1 ≢ CallFaultValue.Refused RefusalValue.SessionOpen) }
+        ensures opens { Opens self.old self.new cuts result }
         ensures told { TellsIf T.note_gives tap.old tap.new self.old.log (EventValue.OpenDaa cuts) (opening_reply result) self.new.log }
     {
-        if role.holder != self.intake.active() {
-            return Err((role, OpenFault::StaleRole(StaleRole(self.intake.terms()))));
-        }
+        let HeldRole { mut shares } = role;
+        self.books.audit(&mut shares);
         let Ok(reply) = self.intake.carry(Event::OpenDaa(cuts), tap) else {
-            return Err((role, OpenFault::OutOfMemory));
+            return Err((HeldRole { shares }, CallFault::OutOfMemory));
         };
+        self.books.count(&self.intake, &mut shares);
         match opened(reply) {
             Ok(served) => {
-                let HeldRole { holder } = role;
-                Ok((HeldSession { holder }, served))
+                self.books.open_session(&mut shares);
+                Ok((HeldSession { shares }, served))
             }
-            Err(why) => Err((role, OpenFault::Refused(why))),
+            Err(why) => Err((HeldRole { shares }, CallFault::Refused(why))),
         }
     }
 
     /// One round of the open session.
     pub fn round<T: Tap>(
         &mut self,
-        _session: &mut HeldSession,
+        session: &mut HeldSession<L, M, N>,
         tap: &mut T,
         cuts: Cuts,
-    ) -> Result<RoundReply, SessionFault>
-        ensures session { _session.new ≡ _session.old }
+    ) -> Result<RoundReply, CallFault>
+        ensures held { IsHeld self.old.log true session.old }
+        ensures session { MatchResult result (λ _. session.new ≡ counted session.old) (λ why. session.new ≡ unended why session.old) }
+        ensures never { result ≢ Err (CallFaultValue.Refused RefusalValue.NoSession) }
         ensures rounds { Rounds self.old self.new cuts result }
         ensures told { TellsIf T.note_gives tap.old tap.new self.old.log (EventValue.Round cuts) (round_reply result) self.new.log }
     {
+        self.books.audit(&mut session.shares);
         let Ok(reply) = self.intake.carry(Event::Round(cuts), tap) else {
-            return Err(SessionFault::OutOfMemory);
+            return Err(CallFault::OutOfMemory);
         };
+        self.books.count(&self.intake, &mut session.shares);
         match rounded(reply) {
             Ok(answer) => Ok(answer),
-            Err(why) => Err(SessionFault::Refused(why)),
+            Err(why) => Err(CallFault::Refused(why)),
         }
     }
 
     /// The session ends with STOP: it becomes the role again, or comes back.
     pub fn end<T: Tap>(
         &mut self,
-        session: HeldSession,
+        session: HeldSession<L, M, N>,
         tap: &mut T,
-    ) -> Result<HeldRole, (HeldSession, SessionFault)>
-        ensures ends { Ends self.old self.new session result }
+    ) -> Result<HeldRole<L, M, N>, (HeldSession<L, M, N>, CallFault)>
+        ensures held { IsHeld self.old.log true session }
+        ensures ended { IfOk result (λ role. role ≡ counted session) }
+        ensures back { IfErr result (λ refused. refused.0 ≡ unended refused.1 session) }
+        ensures never { IfErr result (λ refused. refused.1 ≢ CallFaultValue.Refused RefusalValue.NoSession) }
+        ensures ends { Ends self.old self.new result }
         ensures told { TellsIf T.note_gives tap.old tap.new self.old.log EventValue.EndDaa (ending_reply result) self.new.log }
     {
+        let HeldSession { mut shares } = session;
+        self.books.audit(&mut shares);
         let Ok(reply) = self.intake.carry(Event::EndDaa, tap) else {
-            return Err((session, SessionFault::OutOfMemory));
+            return Err((HeldSession { shares }, CallFault::OutOfMemory));
         };
+        self.books.count(&self.intake, &mut shares);
         match ended(reply) {
             Ok(()) => {
-                let HeldSession { holder } = session;
-                Ok(HeldRole { holder })
+                self.books.end_session(&mut shares);
+                Ok(HeldRole { shares })
             }
-            Err(why) => Err((session, SessionFault::Refused(why))),
+            Err(why) => Err((HeldSession { shares }, CallFault::Refused(why))),
         }
     }
 
@@ -268,47 +323,53 @@ impl Kept {
     /// for whoever took it, or comes back.
     pub fn hand_over<T: Tap>(
         &mut self,
-        role: HeldRole,
+        role: HeldRole<L, M, N>,
         to: Addr7,
         tap: &mut T,
         cuts: Cuts,
-    ) -> Result<Served, (HeldRole, HandOverFault)>
+    ) -> Result<Served, (HeldRole<L, M, N>, HandOverFault)>
+        ensures held { IsHeld self.old.log false role }
+        ensures back { IfErr result (λ refused. refused.0 ≡ unhanded refused.1 role) }
+        ensures never { IfErr result (λ refused. refused.1 ≢ HandOverFaultValue.Refused RefusalValue.SessionOpen) }
         ensures hands { Hands self.old self.new role to cuts result }
         ensures told { TellsIf T.note_gives tap.old tap.new self.old.log (EventValue.HandOver to cuts) (handing_reply result) self.new.log }
     {
-        if role.holder != self.intake.active() {
-            return Err((
-                role,
-                HandOverFault::StaleRole(StaleRole(self.intake.terms())),
-            ));
-        }
+        let HeldRole { mut shares } = role;
+        self.books.audit(&mut shares);
         let Ok(reply) = self.intake.carry(Event::HandOver(to, cuts), tap) else {
-            return Err((role, HandOverFault::OutOfMemory));
+            return Err((HeldRole { shares }, HandOverFault::OutOfMemory));
         };
+        self.books.count(&self.intake, &mut shares);
         match handed(reply) {
             Ok(served) => {
-                role.let_go();
-                let holder = self.intake.active();
-                spend_role(mem::replace(&mut self.parked, Some(HeldRole { holder })));
+                self.books.move_to(&mut shares, self.intake.active());
+                spend_role(mem::replace(&mut self.parked, Some(HeldRole { shares })));
                 Ok(served)
             }
-            Err(why) => Err((role, why)),
+            Err(why) => Err((HeldRole { shares }, why)),
         }
     }
 
-    /// The role that is parked for the port's slot. It is no event.
-    pub fn take_role(&mut self, port: &Port) -> Option<HeldRole>
+    /// The role that is parked for the port's slot, which is the active controller's. It is no event.
+    pub fn take_role(&mut self, port: &Port) -> Option<HeldRole<L, M, N>>
         ensures { TakesRole self.old self.new port.now.slot result }
     {
         match &self.parked {
-            Some(role) if role.holder == port.slot() => self.parked.take(),
-            _ => None,
+            Some(role) if role.holder() == port.slot() => {}
+            _ => return None,
         }
+        let mut taken = self.parked.take();
+        self.books.audit_role(&mut taken);
+        taken
     }
 
     /// Ends the bus. Its role has to be handed in or parked, with no session open, and each port that is out handed in;
     /// else all comes back.
-    pub fn close(self, role: Option<HeldRole>, ports: Vec<Port>) -> Result<Closed, Unclosed<Kept>>
+    pub fn close(
+        self,
+        role: Option<HeldRole<L, M, N>>,
+        ports: Vec<Port>,
+    ) -> Result<Closed, Unclosed<Kept<L, M, N>, HeldRole<L, M, N>>>
         ensures closed { IfOk result (λ c. Closes self role ports.items c.run.entries c.records c.waiting) }
         ensures refused { IfErr result (λ u. RefusesClose self role ports.items u.fault u.bus) }
         ensures back { IfErr result (λ u. (u.role ≡ role) × SamePorts ports.items u.ports.items) }
@@ -324,7 +385,12 @@ impl Kept {
     }
 
     /// All comes back as it was, with this fault.
-    fn refused(self, role: Option<HeldRole>, ports: Vec<Port>, fault: CloseFault) -> Unclosed<Kept>
+    fn refused(
+        self,
+        role: Option<HeldRole<L, M, N>>,
+        ports: Vec<Port>,
+        fault: CloseFault,
+    ) -> Unclosed<Kept<L, M, N>, HeldRole<L, M, N>>
         ensures same { (result.bus ≡ self) × (result.role ≡ role) × (result.fault ≡ fault) }
         ensures ports { SamePorts ports.items result.ports.items }
         ensures prefix { AllPostedFirst self.log.rings ports.items self.log.run }
@@ -341,14 +407,18 @@ impl Kept {
     }
 
     /// Whether a session is open, or no role is handed in and none is parked.
-    fn is_role_out(&self, role: &Option<HeldRole>) -> bool
+    fn is_role_out(&self, role: &Option<HeldRole<L, M, N>>) -> bool
         ensures { result ≡ is_role_out self.now role.now }
     {
         self.intake.in_session() || role.is_none() && self.parked.is_none()
     }
 
     /// The same, where nothing is out.
-    fn close_all(self, role: Option<HeldRole>, ports: Vec<Port>) -> Result<Closed, Unclosed<Kept>>
+    fn close_all(
+        self,
+        role: Option<HeldRole<L, M, N>>,
+        ports: Vec<Port>,
+    ) -> Result<Closed, Unclosed<Kept<L, M, N>, HeldRole<L, M, N>>>
         requires role_in { is_role_out self role ≡ false }
         requires ports_in { NoneMissing self.log.rings ports.items }
         ensures closed { IfOk result (λ c. Closes self role ports.items c.run.entries c.records c.waiting) }
@@ -359,9 +429,11 @@ impl Kept {
         let Kept {
             alloc,
             intake,
+            mut books,
             parked,
         } = self;
-        let mut ports = ports;
+        let (mut role, mut ports) = (role, ports);
+        books.audit_role(&mut role);
         match intake.retire(&mut ports) {
             Ok(closed) => {
                 spend_role(role);
@@ -373,6 +445,7 @@ impl Kept {
                 bus: Kept {
                     alloc,
                     intake,
+                    books,
                     parked,
                 },
                 role,
@@ -382,10 +455,11 @@ impl Kept {
         }
     }
 
-    /// The run is legal and leads to the bus, and what was received from the ring of each port that is out are the bytes
-    /// of its raises.
+    /// The run is legal and leads to the bus, what was received from the ring of each port that is out are the bytes of
+    /// its raises, and the books are the active controller's slot, 1 while a session is open, and the number of frame
+    /// events in the run.
     pub fn keeps(&self)
-        ensures { IsKept self.now.log }
+        ensures { IsKept self.now.log self.now.books }
     {
         self.intake.keeps();
     }
@@ -395,6 +469,7 @@ impl Kept {
         let Kept {
             alloc: _,
             intake,
+            books: _,
             parked,
         } = self;
         intake.let_go();

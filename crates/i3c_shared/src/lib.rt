@@ -1,6 +1,7 @@
 //! The bus that threads share: one lock, and under it the bus with the run that led to it.
 #![tactic(auto)]
 
+mod books;
 mod closed;
 mod compare;
 mod faults;
@@ -13,10 +14,7 @@ mod replying;
 mod shared;
 
 pub use closed::Closed;
-pub use faults::{
-    AskFault, AttachFault, CloseFault, DropFault, HandOverFault, Left, OpenFault, SessionFault,
-    StaleRole, StartFault,
-};
+pub use faults::{AttachFault, CallFault, CloseFault, DropFault, HandOverFault, Left, StartFault};
 pub use held::{HeldRole, HeldSession};
 pub use i3c_recorder::{Entry, Recorder, Run};
 pub use kept::{Kept, Unclosed};

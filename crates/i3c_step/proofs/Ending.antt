@@ -23,7 +23,7 @@ use Rattle.i3c_step.specs.declared.events.Event.TheVariants.{Attach, DropOff, Ra
 use Rattle.i3c_step.specs.declared.replies.Reply.{Reply}
 use Rattle.i3c_step.specs.declared.replies.Refusal.{Refusal}
 use Rattle.i3c_step.specs.Runs.{IsLegalRun, IsRun}
-use Rattle.i3c_step.specs.Sessions.{IsInSession, IsLastRound, is_round}
+use Rattle.i3c_step.specs.Sessions.{IsInSession, IsLastRound, hearers, is_round}
 use Rattle.i3c_step.specs.Sound.{HasActive}
 use Rattle.i3c_step.specs.Step.{Acts, IsShort, Step, checks, cuts_active, first_refusal}
 use Rattle.i3c_step.proofs.Follows.{Came-step, Follows-round}
@@ -39,11 +39,6 @@ hears_at place = in_slot (λ d. d.hearing) place
 
 abbrev one_if : Bool → ℕ
 one_if b = if b then 1 else 0
-
--- how many of these hear it
-hearers : List (Option Device) → ℕ
-hearers [] = 0
-hearers (place ∷ places) = one_if (hears_at place) + hearers places
 
 one_more : (a b : Bool) → (a ≡ true → b ≡ true) → one_if a ≤ one_if b
 one_more true b h = subst (λ c. 1 ≤ one_if c) (sym (h refl)) (omega arith)
@@ -84,13 +79,13 @@ at_most_one : (b : Bool) → one_if b ≤ 1
 at_most_one true = omega arith
 at_most_one false = omega arith
 
-at_most : (xs : List (Option Device)) → hearers xs ≤ length xs
+pub at_most : (xs : List (Option Device)) → hearers xs ≤ length xs
 unfolding hearers
 at_most [] = omega arith
 at_most (x ∷ xs) = omega (arith, at_most_one (hears_at x), at_most xs)
 
 -- where a device doesn't hear, not each place does
-not_all : (xs : List (Option Device)) (j : ℕ) (d : Device) → get_or xs j None ≡ Some d → d.hearing ≡ false → hearers xs < length xs
+pub not_all : (xs : List (Option Device)) (j : ℕ) (d : Device) → get_or xs j None ≡ Some d → d.hearing ≡ false → hearers xs < length xs
 unfolding hearers
 not_all [] j d p deaf = absurd (none-some d p)
 not_all (x ∷ xs) zero d p deaf =
@@ -147,22 +142,31 @@ record Goes (old : State) (reply : Reply) (new : State) : Type 0 where
 lost_none : {P : Type 0} (cuts : CutList) → IsUncut cuts → (last s : ℕ) → lost_by cuts last s ≡ true → P
 lost_none cuts uncut last s h = absurd (both_ways _ (unlost cuts uncut last s) h)
 
-goes_on : (old : State) (cuts : CutList) (reply : Reply) (new : State) → IsUncut cuts → old.in_session ≡ true → (answer : RoundReply) → reply ≡ Reply.Round answer → Rounds old cuts answer new
-    → IsLastRound reply ⊎ Goes old reply new
-goes_on old cuts reply new uncut busy RoundReply.NoAddress e h = inl (inr e)
-goes_on old cuts reply new uncut busy RoundReply.Done e h = inl (inl e)
-goes_on old cuts reply new uncut busy RoundReply.Nobody e h = elim h.2 [
+-- in a round without cuts somebody acknowledges the address byte
+pub uncut_is_acknowledged : {P : Type 0} (old : State) (cuts : CutList) (new : State) → IsUncut cuts → Rounds old cuts RoundReply.Nobody new → P
+uncut_is_acknowledged old cuts new uncut h = elim h.2 [
   | inl lost ↦ lost_none cuts uncut 73 h.1.0 (lost h.1.0 h.1.1 h.1.2)
   | inr beaten ↦ lost_none cuts uncut 73 beaten.0 beaten.3
 ]
-goes_on old cuts reply new uncut busy (RoundReply.Assigned a i) e h =
+
+-- who gets an address hears no more
+pub one_fewer : (old : State) (cuts : CutList) (a : ℕ) (i : Identity) (new : State) → Rounds old cuts (RoundReply.Assigned a i) new → hearers new.devices < hearers old.devices
+one_fewer old cuts a i new h =
     let lost : Lost = lost_by cuts 73 in
     let after : State = emptied lost (assigned lost i a old) in
     let c = h.1.0 in
     let long : length after.devices ≡ length old.devices = ap (λ (st : State). length st.devices) (sym h.3) ∙ (Follows-round old cuts (RoundReply.Assigned a i) new h).long in
     let less : hearers after.devices < hearers old.devices =
     fewer after.devices old.devices c.0 long (within_assigned lost i a old) (ap hears_at c.2.0 ∙ c.2.1) (winner_deaf lost i a old c.0 c.1 c.2.0 c.2.1 c.3 c.4) in
-    inr (record { less = subst (λ (st : State). hearers st.devices < hearers old.devices) (sym h.3) less; session = ap (λ (st : State). st.in_session) h.3 ∙ busy })
+    subst (λ (st : State). hearers st.devices < hearers old.devices) (sym h.3) less
+
+goes_on : (old : State) (cuts : CutList) (reply : Reply) (new : State) → IsUncut cuts → old.in_session ≡ true → (answer : RoundReply) → reply ≡ Reply.Round answer → Rounds old cuts answer new
+    → IsLastRound reply ⊎ Goes old reply new
+goes_on old cuts reply new uncut busy RoundReply.NoAddress e h = inl (inr e)
+goes_on old cuts reply new uncut busy RoundReply.Done e h = inl (inl e)
+goes_on old cuts reply new uncut busy RoundReply.Nobody e h = uncut_is_acknowledged old cuts new uncut h
+goes_on old cuts reply new uncut busy (RoundReply.Assigned a i) e h =
+    inr (record { less = one_fewer old cuts a i new h; session = ap (λ (st : State). st.in_session) h.3 ∙ busy })
 
 -- an uncut round of a session isn't refused
 round_goes : (old : State) (cuts : CutList) (reply : Reply) (new : State) → IsUncut cuts → old.in_session ≡ true → Step old (Event.Round cuts) reply new → IsLastRound reply ⊎ Goes old reply new

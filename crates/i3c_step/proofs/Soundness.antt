@@ -223,13 +223,6 @@ sound_written a bytes st sound = record {
   fitting = AllFit-written a bytes st sound.fitting;
 }
 
-pub sound_reads : (a : ℕ) (answer : Answer) (lost : Lost) (mid done : State) → Reads a answer lost mid done → IsSound mid → IsSound done
-sound_reads a answer lost mid done h sound = reads_keep (λ st next. IsSound st → IsSound next) (λ st same. same) a answer lost mid done h sound
-
-pub sound_writes : (a : ℕ) (bytes : List ℕ) (answer : Answer) (lost : Lost) (mid done : State) → Writes a bytes answer lost mid done → IsSound mid → IsSound done
-sound_writes a bytes answer lost mid done h sound =
-    writes_keep (λ st next. IsSound st → IsSound next) a bytes (λ st same. same) (sound_written a bytes) answer lost mid done h sound
-
 -- so does a device that changes and keeps its identity and its address
 sound_changed : (s : ℕ) (f : Device → Device) (st : State) → ((d : Device) → IsSteady (f d) d) → ((d : Device) → ((f d).address ≡ d.address) × ((f d).hearing ≡ d.hearing))
     → ((d : Device) → IsFitting d → IsFitting (f d)) → IsSound st → IsSound (change s f st)

@@ -40,7 +40,7 @@ bytes_unique st a bytes others h k = elim h [
     | inl y ↦ absurd (none-some y.0 (sym x.0 ∙ y.1))
     | inr y ↦ same_number_lists bytes others (x.2 ∙ sym y.2) (λ i l.
         let low : i < 16 = subst (λ n. i < n) x.2 l in
-        and_unique _ _ (DrivesRegister st a i) (x.3 (λ s d t. refl) i low) (y.3 (λ s d t. refl) i low))
+        and_unique _ _ (DrivesRegister st a i) (x.4 (λ s d t. refl) i low) (y.4 (λ s d t. refl) i low))
   ]
 ]
 

@@ -1,7 +1,8 @@
 -- What happens in a session that nobody is cut in.
-use Rattle.std.specs.Prelude.{◌≡◌, ◌⊎◌, ⊤, Bool, true, false}
+use Rattle.std.specs.Prelude.{◌≡◌, ◌⊎◌, ⊤, ℕ, ◌+◌, Bool, true, false, List, [], ◌∷◌, Option, if◌then◌else◌}
 use Rattle.i3c_base.specs.declared.answers.RoundReply.{RoundReply}
 use Rattle.i3c_base.specs.Cutting.{IsUncut}
+use Rattle.i3c_base.specs.State.{Device, in_slot}
 use Rattle.i3c_step.specs.declared.events.Event.{Event}
 use Rattle.i3c_step.specs.declared.replies.Reply.{Reply}
 
@@ -19,3 +20,8 @@ is_round _ = false
 -- the last of a session's answers: nobody hears any more, or no address is left
 abbrev pub IsLastRound : Reply → Type 0
 IsLastRound answer = (answer ≡ Reply.Round RoundReply.Done) ⊎ (answer ≡ Reply.Round RoundReply.NoAddress)
+
+-- how many of these devices hear the open session
+unfoldable pub hearers : List (Option Device) → ℕ
+hearers [] = 0
+hearers (place ∷ places) = (if in_slot (λ d. d.hearing) place then 1 else 0) + hearers places

@@ -12,6 +12,7 @@ use Rattle.i3c_base.specs.Cutting.{CutList, IsUncut, Lost, cut_of}
 use Rattle.i3c_base.specs.Local.{ask_join, ask_role, attach, drop_off, raise}
 use Rattle.i3c_base.specs.Serve.{Frame, header_bits, refuse_all}
 use Rattle.i3c_base.specs.Frames.{Hands, IsRefusedBits, KeepsRole, Reads, Rekinds, Writes, active_has, changed_kinds, kinds_bits, list, list_bits, read_bits, reset, write_bits}
+use Rattle.i3c_base.specs.Refusing.{Tests, first_of, join_tests, renamed, role_tests}
 use Rattle.i3c_base.specs.Round.{Rounds, ended, opened}
 use Rattle.i3c_step.specs.declared.events.Event.{Event}
 use Rattle.i3c_step.specs.declared.events.Event.TheVariants.{Attach, DropOff, Raise, AskJoin, AskRole, Serve, Enec, Disec, Reset, SendList, ReadFrom, WriteTo, OpenDaa, Round, EndDaa, HandOver}
@@ -20,15 +21,15 @@ use Rattle.i3c_step.specs.declared.replies.Framed.{Framed}
 use Rattle.i3c_step.specs.declared.replies.Refusal.{Refusal}
 use Rattle.i3c_step.specs.declared.replies.Refusal.TheVariants.{SessionOpen, NoSession, ActiveStays, SlotTaken, NoDevice, IsActive, NoAddress, HasAddress, NotCapable, ByteMismatch, Masked, Full, ListStale, NoAnswer, TooLong}
 use Rattle.i3c_step.specs.declared.replies.Reply.{Reply}
+use Rattle.i3c_step.specs.Replies.{join_refusal, role_refusal}
 
 -- tests with the refusal that each stands for, in order
 abbrev pub Checks : Type 0
-Checks = List (Bool × Refusal)
+Checks = Tests Refusal
 
 -- the refusal of the first test that holds
 abbrev pub first_refusal : Checks → Option Refusal
-first_refusal [] = None
-first_refusal (check ∷ rest) = if check.0 then Some check.1 else first_refusal rest
+first_refusal checks = first_of checks
 
 -- the cuts name the active controller's slot
 abbrev pub cuts_active : State → CutList → Bool
@@ -83,14 +84,8 @@ checks st (Raise s byte) =
     ∷ (in_slot (λ d. not (same_bool (has_byte d.identity.bcr) (is_some byte))) (device_at st s), ByteMismatch)
     ∷ (in_slot (λ d. not d.kinds.interrupt) (device_at st s), Masked)
     ∷ (in_slot (λ d. nat_le WAITING (length d.waiting) || nat_le (2 ^ 64 - 1) (raised_at st s)) (device_at st s), Full) ∷ []
-checks st (AskJoin s) =
-    (is_none (device_at st s), NoDevice) ∷ (in_slot (λ d. is_some d.address) (device_at st s), HasAddress)
-    ∷ (in_slot (λ d. not d.kinds.join) (device_at st s), Masked) ∷ []
-checks st (AskRole s) =
-    (is_none (device_at st s), NoDevice) ∷ (s == st.active, IsActive)
-    ∷ (in_slot (λ d. is_none d.address) (device_at st s), NoAddress)
-    ∷ (in_slot (λ d. not (is_capable d.identity.bcr)) (device_at st s), NotCapable)
-    ∷ (in_slot (λ d. not d.kinds.role) (device_at st s), Masked) ∷ []
+checks st (AskJoin s) = renamed join_refusal (join_tests (device_at st s))
+checks st (AskRole s) = renamed role_refusal (role_tests st.active s (device_at st s))
 checks st (Serve policy cuts) = frame_checks st cuts
 checks st (Reset policy cuts) = frame_checks st cuts
 checks st (SendList policy cuts) = frame_checks st cuts

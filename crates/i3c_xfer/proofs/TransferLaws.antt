@@ -49,15 +49,6 @@ pub some_legacy : (st : State) (a : ℕ) (o : Option LegacyTarget) → legacy_ta
 some_legacy st a None e t = absurd (both_ways _ refl t)
 some_legacy st a (Some target) e t = (target, e)
 
-pub no_legacy : (st : State) (a : ℕ) (o : Option LegacyTarget) → legacy_target_at st a ≡ o → is_some o ≡ false → legacy_target_at st a ≡ None
-no_legacy st a None e f = e
-no_legacy st a (Some target) e f = absurd (both_ways _ f refl)
-
--- nobody answers where no legacy target stands and nobody is left
-pub none_answers : (st : State) (a : ℕ) (lost : Lost) → legacy_target_at st a ≡ None → ¬ SomeLeftAt st a lost → ¬ AnyAnswers st a lost
-none_answers st a lost free none (inl there) = none-some there.0 (sym free ∙ there.1)
-none_answers st a lost free none (inr some) = none some
-
 -- what the devices drive
 pub driven_there : (st : State) (a : ℕ) (cuts : CutList) (first : ℕ) (devices : List (Option Device)) (active : ℕ) (bytes : List ℕ) → HasDevices st devices active → AreReadOf active a cuts first devices bytes → AreDriven st a cuts first bytes
 driven_there st a cuts first devices active bytes has read k j l m =

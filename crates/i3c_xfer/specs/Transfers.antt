@@ -1,5 +1,5 @@
 -- What a private transfer with an address comes to.
-use Rattle.std.specs.Prelude.{◌≡◌, ℕ, ◌+◌, ◌-◌, ◌*◌, ◌<◌, ◌↔◌, ◌⊎◌, Bool, true, false, ⊤, List, Some, None, length, slice_index}
+use Rattle.std.specs.Prelude.{◌≡◌, ℕ, ◌+◌, ◌-◌, ◌*◌, ◌<◌, ◌↔◌, ◌⊎◌, Bool, true, false, ⊤, List, All, Some, None, length, slice_index}
 use Rattle.std.specs.Int.{bit_at}
 use Rattle.i3c_base.specs.declared.answers.Answer.{Answer}
 use Rattle.i3c_base.specs.declared.device.LegacyTarget.{LegacyTarget}
@@ -56,8 +56,8 @@ AreDriven st a cuts first bytes =
 abbrev pub IsReadAs : State → ℕ → CutList → ℕ → Read → Type 0
 IsReadAs st a cuts first Read.Nobody = ⊤
 IsReadAs st a cuts first (Read.Legacy bytes) = (target : LegacyTarget) × (legacy_target_at st a ≡ Some target) × (bytes ≡ target.registers)
-IsReadAs st a cuts first (Read.Ended bytes) = (legacy_target_at st a ≡ None) × AreDriven st a cuts first bytes × (length bytes ≡ REGISTERS)
-IsReadAs st a cuts first (Read.Torn bytes) = (legacy_target_at st a ≡ None) × AreDriven st a cuts first bytes × (length bytes ≡ REGISTERS)
+IsReadAs st a cuts first (Read.Ended bytes) = (legacy_target_at st a ≡ None) × AreDriven st a cuts first bytes × (length bytes ≡ REGISTERS) × All (λ byte. byte < 256) bytes
+IsReadAs st a cuts first (Read.Torn bytes) = (legacy_target_at st a ≡ None) × AreDriven st a cuts first bytes × (length bytes ≡ REGISTERS) × All (λ byte. byte < 256) bytes
 
 -- who took the bytes of a write: a legacy target, or where none stands devices
 abbrev pub IsWrittenBy : State → ℕ → Write → Type 0

@@ -25,6 +25,8 @@ IsOfWords Fault.Read = ⊥
 IsOfWords Fault.Write = ⊥
 IsOfWords Fault.TooLarge = ⊥
 IsOfWords Fault.NotBalanced = ⊥
+IsOfWords Fault.Legacy = ⊥
+IsOfWords (Fault.NoForm reason) = ⊥
 
 -- a script's own fault comes first; output that isn't taken to its end is lost
 abbrev pub ending : Result Tally ScriptFault → Bool → Result Tally Fault

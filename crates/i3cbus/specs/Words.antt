@@ -7,3 +7,4 @@ use Rattle.i3cbus.specs.declared.words.Work.{Work}
 abbrev pub RunsInput : Task → Type 0
 RunsInput (Task.File work file) = (work ≡ Work.Run) × (file.now ≡ codes "-")
 RunsInput (Task.Stress stress) = ⊥
+RunsInput Task.Version = ⊥

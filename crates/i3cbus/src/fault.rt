@@ -18,6 +18,11 @@ pub(crate) enum Fault {
     Memory,
     #[error("i3cbus: not balanced\n")]
     NotBalanced,
+    #[error("i3cbus: --legacy takes an address of two capital hex digits, 08 to 77\n")]
+    Legacy,
+    /// A line has no form: its number, and why.
+    #[error("i3cbus: line {0}\n")]
+    NoForm(String),
 }
 
 impl From<ScriptFault> for Fault {

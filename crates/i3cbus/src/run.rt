@@ -1,13 +1,20 @@
 use crate::fault::Fault;
 use crate::status::{came_to, status_of};
 use crate::stressing::run_stress;
+use crate::version::print_version;
+use crate::witness::Errors;
 use crate::words::{STANDARD_INPUT, Task, Work, task_named};
-use i3c_scenario::{Tally, run_script, run_trace};
+use i3c_base::Addresses;
+use i3c_scenario::{
+    ScriptFault, Tally, WatchFault, Watching, check_script, run_explained, run_lint, run_script,
+    run_trace, run_watched,
+};
+use std::alloc::Global;
 use std::io::{ErrorKind, Read, Write};
 use std::rt::{Env, Files};
 use std::sync::Wait;
 use std::thread::Threads;
-use std::{env, fs, io};
+use std::{env, fs, io, str};
 
 /// Runs the program, tells standard error why it gave up, if it did, and gives its exit status. Somebody may watch
 /// standard error on a terminal.
@@ -31,13 +38,14 @@ where
     match task_named(rt.alloc(), &words)? {
         Task::File(work, file) => run_file(rt, work, file),
         Task::Stress(stress) => run_stress(rt, &stress, is_watched),
+        Task::Version => print_version(rt),
     }
 }
 
 /// Does this with a file, or with standard input.
 fn run_file<R>(rt: &R, work: Work, file: &str) -> Result<Tally, Fault>
 where
-    R: Files + Input + Print + AllocGlobal,
+    R: Files + Input + Print + Eprint + AllocGlobal,
 {
     if file == STANDARD_INPUT {
         return run_from(rt, work, &mut rt.reader());
@@ -64,18 +72,61 @@ fn reading_fault(error: &io::Error) -> Fault {
     }
 }
 
-/// Runs the script, or reads the trace, of a reader. What was printed is written out on a fault too, and the first fault
-/// is told.
-fn run_from<R: Print + AllocGlobal, S: Read>(
+/// Runs or checks the script, or reads the trace, of a reader. What was printed is written out on a fault too, and the
+/// first fault is told.
+fn run_from<R: Print + Eprint + AllocGlobal, S: Read>(
     rt: &R,
     work: Work,
     input: &mut S,
 ) -> Result<Tally, Fault> {
     let mut printed = io::writer(rt);
     let outcome = match work {
+        Work::Watch(watching) => return watch_from(rt, watching, input),
         Work::Run => run_script(rt.alloc(), input, &mut printed),
+        Work::Check => check_script(rt.alloc(), input, &mut printed),
         Work::Trace => run_trace(rt.alloc(), input, &mut printed),
+        Work::Lint(legacies) => run_lint(rt.alloc(), legacies, input, &mut printed),
+        Work::Explain(legacies) => explain_from(rt, legacies, input, &mut printed),
     };
     let flushed = printed.flush().is_ok();
     came_to(outcome, flushed)
+}
+
+/// Tells the trace of a reader, and standard error why its lines are refused that are.
+fn explain_from<R: Eprint + AllocGlobal, S: Read, W: Write>(
+    rt: &R,
+    legacies: Option<Addresses>,
+    input: &mut S,
+    printed: &mut W,
+) -> Result<Tally, ScriptFault> {
+    let mut notes = String::new(rt.alloc());
+    let outcome = run_explained(rt.alloc(), legacies, input, printed, &mut notes);
+    // what can't be told isn't missed
+    let _ = rt.eprint(notes);
+    outcome
+}
+
+/// Runs the script of a reader, and shows more of it.
+fn watch_from<R: Print + Eprint + AllocGlobal, S: Read>(
+    rt: &R,
+    watching: Watching,
+    input: &mut S,
+) -> Result<Tally, Fault> {
+    let mut printed = io::writer(rt);
+    let mut errors = Errors::new(rt);
+    let outcome = run_watched(rt.alloc(), input, &mut printed, &mut errors, watching);
+    let flushed = printed.flush().is_ok();
+    match outcome {
+        Ok(tally) => came_to(Ok(tally), flushed),
+        Err(WatchFault::Script(fault)) => came_to(Err(fault), flushed),
+        Err(WatchFault::NoForm(reason)) => Err(Fault::NoForm(said(rt.alloc(), reason.as_bytes())?)),
+    }
+}
+
+/// A text of the run's own.
+fn said(alloc: Global, text: &[u8]) -> Result<String, Fault> {
+    match str::from_utf8(text) {
+        Ok(text) => Ok(text.to_string(alloc)?),
+        Err(_) => Ok(String::new(alloc)),
+    }
 }

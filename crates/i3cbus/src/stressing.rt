@@ -1,7 +1,8 @@
 use crate::fault::Fault;
 use crate::words::Stress;
 use i3c_base::{Fixed, Slot, Verdict};
-use i3c_scenario::{Gate, MOST_DEVICES, MOST_POSTS, StressFault, Tally, stress};
+use i3c_scenario::{Gate, MOST_DEVICES, MOST_POSTS, StressFault, StressReport, Tally, stress};
+use std::io;
 use std::sync::Wait;
 use std::thread::Threads;
 
@@ -33,7 +34,11 @@ pub(crate) fn run_stress<R: Threads + Wait + Sync + Print + Eprint + AllocGlobal
     asked: &Stress,
     is_watched: bool,
 ) -> Result<Tally, Fault> {
-    let Stress { devices, posts } = *asked;
+    let Stress {
+        devices,
+        posts,
+        totals,
+    } = *asked;
     // the parser's limits
     if devices < 1 || devices > MOST_DEVICES || posts < 1 || posts > u64::from(MOST_POSTS) {
         return Err(Fault::NotBalanced);
@@ -49,11 +54,28 @@ pub(crate) fn run_stress<R: Threads + Wait + Sync + Print + Eprint + AllocGlobal
         posts,
     };
     let report = stress(rt, rt.alloc(), devices, posts, &mut policy, &gate)?;
-    let tried = report.tried;
-    match println!(rt; "devices {devices}\ntried {tried}\nbalanced") {
+    match print_report(rt, devices, &report, totals) {
         Ok(()) => Ok(Tally { refused: 0 }),
         Err(_) => Err(Fault::Write),
     }
+}
+
+/// Prints a report, and what became of the posts if that is asked for.
+fn print_report<R: Print>(
+    rt: &R,
+    devices: u8,
+    report: &StressReport,
+    totals: bool,
+) -> io::Result<()> {
+    let tried = report.tried;
+    println!(rt; "devices {devices}\ntried {tried}\nbalanced")?;
+    if totals {
+        let turned_away = report.turned_away;
+        let recorded = report.recorded;
+        let waiting = report.waiting;
+        println!(rt; "turned away {turned_away}\nrecorded {recorded}\nwaiting {waiting}")?;
+    }
+    Ok(())
 }
 
 impl From<StressFault> for Fault {

@@ -1,9 +1,11 @@
-ghost use Rattle.std.specs.Prelude.{◌≡◌, length, IsOkAnd};
+ghost use Rattle.std.specs.Prelude.{◌≡◌, ◌<◌, length, IsOkAnd};
 ghost use Rattle.i3cbus.specs.Words.{RunsInput};
 
 use crate::fault::Fault;
-use clap::{Arg, ArgMatches, Command, value_parser};
-use i3c_scenario::{MOST_DEVICES, MOST_POSTS};
+use clap::{Arg, ArgAction, ArgMatches, Command, value_parser};
+use i3c_base::{Addr7, Addresses};
+use i3c_scenario::{MOST_DEVICES, MOST_POSTS, Watching};
+use i3c_text::read_byte;
 use std::alloc::Global;
 
 /// The program's name.
@@ -15,8 +17,31 @@ pub(crate) const STANDARD_INPUT: &str = "-";
 /// The command that runs a script.
 const RUN: &str = "run";
 
+/// Its options: the run ends at a line without a form; lines are numbered, go out themselves, and are explained.
+const STRICT: &str = "strict";
+
+const NUMBERS: &str = "numbers";
+
+const ECHO: &str = "echo";
+
+const EXPLAIN: &str = "explain";
+
+/// The command that checks a script without running it.
+const CHECK: &str = "check";
+
 /// The command that reads a trace.
 const TRACE: &str = "trace";
+
+/// Its flag that asks for faults too.
+const LINT: &str = "lint";
+
+/// Its option that names the address of a legacy target.
+const LEGACY: &str = "legacy";
+
+/// The least and the most address of a legacy target.
+const LEAST_LEGACY: u8 = 0x08;
+
+const MOST_LEGACY: u8 = 0x77;
 
 /// The command that lets devices post from threads of their own.
 const STRESS: &str = "stress";
@@ -26,7 +51,13 @@ const DEVICES: &str = "devices";
 
 const POSTS: &str = "posts";
 
-/// The argument of the first two.
+/// Its option: what became of the posts is printed too.
+const TOTALS: &str = "totals";
+
+/// The word that asks which program this is.
+const VERSION: &str = "--version";
+
+/// The argument of those that read a file.
 const FILE: &str = "FILE";
 
 /// What `--help` says below the list of commands.
@@ -45,12 +76,15 @@ A script says what happens on the bus, one line for each event, and each line pr
   show                          who is there, at which addresses, and what was recorded
   symbols                       the last symbols of the wire
 
+'check' runs nothing, and tells each line of a script that has no form, and why.
 'trace' reads such symbols, and tells the requests, commands, rounds and transfers of each frame.
 
 Exit status:
   0  each line was done
-  1  a line was refused, and printed 'refused' and why
+  1  a line was refused, and printed 'refused' and why; or 'check' told a line
   2  the script was not run, or the trace not read, to its end, and standard error says why
+
+'i3cbus --version' prints which program this is.
 
 docs/FORMATS.md has every line of a script, what it prints and when it is refused; examples/ has scripts.";
 
@@ -61,6 +95,8 @@ pub(crate) enum Task<'a> {
     File(Work, &'a str),
     /// Lets devices post from threads of their own.
     Stress(Stress),
+    /// Prints which program this is.
+    Version,
 }
 
 /// What the program does with a file.
@@ -68,8 +104,16 @@ pub(crate) enum Task<'a> {
 pub(crate) enum Work {
     /// Runs it as a script.
     Run,
+    /// Runs it as a script, and shows more of it.
+    Watch(Watching),
+    /// Checks it as a script, and doesn't run it.
+    Check,
     /// Tells it as a trace.
     Trace,
+    /// Tells it as a trace with its faults. Legacy targets have these addresses.
+    Lint(Addresses),
+    /// Tells it as a trace, with its faults if there are addresses of legacy targets, and says why lines are refused.
+    Explain(Option<Addresses>),
 }
 
 /// How many devices post, and how often each tries to.
@@ -77,6 +121,8 @@ pub(crate) enum Work {
 pub(crate) struct Stress {
     pub devices: u8,
     pub posts: u64,
+    /// Whether what became of the posts is printed too.
+    pub totals: bool,
 }
 
 /// What the command line's words ask for, which come without the program's. No words at all mean `run -`.
@@ -86,7 +132,18 @@ pub(crate) fn task_named<'a>(alloc: Global, words: &'a [String]) -> Result<Task<
     if words.is_empty() {
         return Ok(Task::File(Work::Run, STANDARD_INPUT));
     }
-    Ok(task_given(&parsed(alloc, words)?))
+    if is_version(words) {
+        return Ok(Task::Version);
+    }
+    task_given(&parsed(alloc, words)?)
+}
+
+/// Whether the words ask which program this is, and nothing else.
+fn is_version(words: &[String]) -> bool {
+    match words {
+        [only] => only.as_str() == VERSION,
+        _ => false,
+    }
 }
 
 /// The words, as the parser reads them.
@@ -95,16 +152,73 @@ fn parsed<'a>(alloc: Global, words: &'a [String]) -> Result<ArgMatches<'a>, Faul
 }
 
 /// The task that was given. The parser requires a command, and its arguments.
-fn task_given<'a>(matches: &ArgMatches<'a>) -> Task<'a> {
+fn task_given<'a>(matches: &ArgMatches<'a>) -> Result<Task<'a>, Fault> {
     if let Some(stress) = stress_given(matches) {
-        return Task::Stress(stress);
+        return Ok(Task::Stress(stress));
     }
-    match file_given(matches, TRACE) {
-        Some(trace) => Task::File(Work::Trace, trace),
-        None => Task::File(
-            Work::Run,
+    if let Some(script) = file_given(matches, CHECK) {
+        return Ok(Task::File(Work::Check, script));
+    }
+    match matches.subcommand_matches(TRACE) {
+        Some(trace) => trace_given(trace),
+        None => Ok(Task::File(
+            run_given(matches),
             file_given(matches, RUN).unwrap_or(STANDARD_INPUT),
-        ),
+        )),
+    }
+}
+
+/// The trace that was given, and whether its faults are asked for.
+fn trace_given<'a>(matches: &ArgMatches<'a>) -> Result<Task<'a>, Fault> {
+    let file = matches.get_str(FILE).unwrap_or(STANDARD_INPUT);
+    let legacies = if matches.get_flag(LINT) {
+        Some(legacies_given(matches.get_strs(LEGACY).unwrap_or(&[]))?)
+    } else {
+        None
+    };
+    let work = match legacies {
+        legacies if matches.get_flag(EXPLAIN) => Work::Explain(legacies),
+        Some(legacies) => Work::Lint(legacies),
+        None => Work::Trace,
+    };
+    Ok(Task::File(work, file))
+}
+
+/// The addresses of legacy targets that were given.
+fn legacies_given(texts: &[&str]) -> Result<Addresses, Fault> {
+    let mut legacies = Addresses::new();
+    for text in texts {
+        legacies = legacies.with(legacy_address(text.as_bytes())?);
+    }
+    Ok(legacies)
+}
+
+/// The address of two hex digits, if a legacy target may have it.
+fn legacy_address(digits: &[u8]) -> Result<Addr7, Fault> {
+    let [high, low] = digits else {
+        return Err(Fault::Legacy);
+    };
+    match read_byte(*high, *low) {
+        Some(number @ LEAST_LEGACY..=MOST_LEGACY) => Addr7::new(number).or(Err(Fault::Legacy)),
+        _ => Err(Fault::Legacy),
+    }
+}
+
+/// How a script is to be run.
+fn run_given(matches: &ArgMatches<'_>) -> Work {
+    let Some(given) = matches.subcommand_matches(RUN) else {
+        return Work::Run;
+    };
+    let watching = Watching {
+        numbers: given.get_flag(NUMBERS),
+        echo: given.get_flag(ECHO),
+        explain: given.get_flag(EXPLAIN),
+        strict: given.get_flag(STRICT),
+    };
+    if watching.is_plain() {
+        Work::Run
+    } else {
+        Work::Watch(watching)
     }
 }
 
@@ -115,6 +229,7 @@ fn stress_given(matches: &ArgMatches<'_>) -> Option<Stress> {
         (Some(devices), Some(posts)) => Some(Stress {
             devices,
             posts: u64::from(posts),
+            totals: given.get_flag(TOTALS),
         }),
         _ => None,
     }
@@ -128,6 +243,7 @@ fn file_given<'a>(matches: &ArgMatches<'a>, command: &str) -> Option<&'a str> {
 /// What the command line may ask for.
 fn commands<'a>(alloc: Global) -> Result<Command<'a>, Fault> {
     let program = with(program(alloc)?, run_command(alloc))?;
+    let program = with(program, check_command(alloc))?;
     let program = with(program, trace_command(alloc))?;
     with(program, stress_command(alloc))
 }
@@ -157,7 +273,41 @@ fn run_command<'a>(alloc: Global) -> Result<Command<'a>, Fault> {
     let run = Command::new(alloc, RUN)
         .about("Runs a script")
         .after_help(TEACHING);
-    run.arg(file_argument(alloc, "The script, or - for standard input"))
+    run.arg(file_argument(alloc, "The script, or - for standard input"))?
+        .arg(flag(
+            alloc,
+            STRICT,
+            "Ends with status 2 at the first line that has no form",
+        ))?
+        .arg(flag(
+            alloc,
+            NUMBERS,
+            "Begins each printed line with its line's number",
+        ))?
+        .arg(flag(alloc, ECHO, "Prints each line before what it prints"))?
+        .arg(flag(
+            alloc,
+            EXPLAIN,
+            "Tells on standard error why lines are refused",
+        ))
+        .or(Err(Fault::Memory))
+}
+
+/// An option without a value.
+fn flag<'a>(alloc: Global, name: &'a str, help: &'a str) -> Arg<'a> {
+    Arg::new(alloc, name)
+        .long(name)
+        .action(ArgAction::SetTrue)
+        .help(help)
+}
+
+/// The command that checks a script.
+fn check_command<'a>(alloc: Global) -> Result<Command<'a>, Fault> {
+    let check = Command::new(alloc, CHECK).about(
+        "Tells the lines of a script that have no form, and the names that no line gives, and runs nothing",
+    );
+    check
+        .arg(file_argument(alloc, "The script, or - for standard input"))
         .or(Err(Fault::Memory))
 }
 
@@ -167,8 +317,39 @@ fn trace_command<'a>(alloc: Global) -> Result<Command<'a>, Fault> {
         "Tells what a trace says: symbols as the line 'symbols' of a script prints them",
     );
     trace
+        .arg(lint_argument(alloc))?
+        .arg(explain_argument(alloc))?
+        .arg(legacy_argument(alloc)?)?
         .arg(file_argument(alloc, "The trace, or - for standard input"))
         .or(Err(Fault::Memory))
+}
+
+/// Whether faults are asked for.
+fn lint_argument<'a>(alloc: Global) -> Arg<'a> {
+    Arg::new(alloc, LINT)
+        .long(LINT)
+        .action(ArgAction::SetTrue)
+        .help("Tells the faults of each frame too")
+}
+
+/// Whether standard error is told why lines are refused.
+fn explain_argument<'a>(alloc: Global) -> Arg<'a> {
+    Arg::new(alloc, EXPLAIN)
+        .long(EXPLAIN)
+        .action(ArgAction::SetTrue)
+        .help("Says on standard error why each refused line is, and where")
+}
+
+/// The address of a legacy target.
+fn legacy_argument<'a>(alloc: Global) -> Result<Arg<'a>, Fault> {
+    Ok(
+        Arg::new(alloc, LEGACY)
+            .long(LEGACY)
+            .action(ArgAction::Append)
+            .value_name("ADDR")
+            .help("An I2C target is at ADDR, 08 to 77; as often as you like")
+            .requires_arg(LINT)?,
+    )
 }
 
 /// The command with threads.
@@ -178,7 +359,12 @@ fn stress_command<'a>(alloc: Global) -> Result<Command<'a>, Fault> {
     );
     stress
         .arg(devices_argument(alloc))?
-        .arg(posts_argument(alloc))
+        .arg(posts_argument(alloc))?
+        .arg(flag(
+            alloc,
+            TOTALS,
+            "Prints what became of the posts: turned away, recorded, waiting",
+        ))
         .or(Err(Fault::Memory))
 }
 

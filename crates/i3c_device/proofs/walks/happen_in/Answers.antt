@@ -8,7 +8,7 @@ pub returns-then-concerns-clause-changed : goal.returns-then-concerns-clause-cha
 returns-then-concerns-clause-changed g c = c.happen.ensures
 
 pub returns-then-concerns-clause-marked : goal.returns-then-concerns-clause-marked
-returns-then-concerns-clause-marked g c places long are is = c.noted.ensures places long are (c.happen.ensures ∙ ap (g.H.Happening.after c.args.happening.now c.args.index) (sym is))
+returns-then-concerns-clause-marked g c places long are is = c.noted.ensures places long are (c.happen.ensures ∙ ap (g.H.SlotUpdate.after c.args.happening.now c.args.index) (sym is))
 
 pub returns-else-concerns-clause-changed : goal.returns-else-concerns-clause-changed
 returns-else-concerns-clause-changed g c = sym (c.concerns.ensures c.if-concerns.false)

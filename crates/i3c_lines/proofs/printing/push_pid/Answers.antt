@@ -1,5 +1,5 @@
 use Rattle.std.proofs.lemmas.Result.{on_ok_weaker}
-use Rattle.i3c_lines.specs.Hex.{hex_text}
+use Rattle.i3c_text.specs.Hex.{hex_text}
 use Rattle.i3c_lines.proofs.PrintedLines.{behind_space}
 use Rattle.i3c_lines.proofs.printing.push_pid.Goals as goal
 

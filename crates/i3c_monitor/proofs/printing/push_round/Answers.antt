@@ -1,5 +1,5 @@
 use Rattle.std.proofs.Common.{◌≡◌, ◌++◌, OnOk, codes, subst}
-use Rattle.i3c_lines.specs.Hex.{hex_text}
+use Rattle.i3c_text.specs.Hex.{hex_text}
 use Rattle.i3c_monitor.specs.Lines.{taken_text, words_text}
 use Rattle.i3c_monitor.proofs.PieceLaws.{four}
 use Rattle.i3c_monitor.proofs.printing.push_round.Goals as goal

@@ -1,5 +1,5 @@
 use Rattle.std.proofs.Common.{◌≡◌, [], ◌∷◌, ◌++◌, codes, subst}
-use Rattle.i3c_lines.specs.Hex.{byte_text}
+use Rattle.i3c_text.specs.Hex.{byte_text}
 use Rattle.i3c_script.specs.Printed.{byte_or_none}
 use Rattle.i3c_script.proofs.Showing.{told_behind}
 use Rattle.i3c_script.proofs.show.show_recorded.Goals as goal

@@ -46,6 +46,7 @@ returns-then-is_heard-clause-reads c st has e =
         free at.After-is_heard st e,
         left_there st c.args.to (lost_by c.args.cuts.now (c.args.begun + 153)) c.args.devices.now c.args.active has (c.is_heard-2.ensures.0 c.if-is_heard.true),
         long at.After-read-bytes,
+        at.After-read-bytes.read-bytes.ensures.bytes,
         λ left. and_there st c.args.to c.args.cuts.now (c.args.begun + 10) (c.args.begun + 153) c.read-bytes.result (omega arith) (driven at.After-read-bytes st has) (small at.After-read-bytes) left,
       ),
       refl,
@@ -67,8 +68,8 @@ returns-else-is_heard-clause-acknowledged c st has e = (λ _. inr (heard (goal.a
 
 pub returns-else-is_heard-clause-read : goal.returns-else-is_heard-clause-read
 returns-else-is_heard-clause-read c st has e =
-    let at = goal.at.returns-else-is_heard-clause-read c in (free at.After-is_heard st e, driven at.After-read-bytes st has, long at.After-read-bytes)
+    let at = goal.at.returns-else-is_heard-clause-read c in (free at.After-is_heard st e, driven at.After-read-bytes st has, long at.After-read-bytes, at.After-read-bytes.read-bytes.ensures.bytes)
 
 pub returns-then-is_heard-clause-read : goal.returns-then-is_heard-clause-read
 returns-then-is_heard-clause-read c st has e =
-    let at = goal.at.returns-then-is_heard-clause-read c in (free at.After-is_heard st e, driven at.After-read-bytes st has, long at.After-read-bytes)
+    let at = goal.at.returns-then-is_heard-clause-read c in (free at.After-is_heard st e, driven at.After-read-bytes st has, long at.After-read-bytes, at.After-read-bytes.read-bytes.ensures.bytes)

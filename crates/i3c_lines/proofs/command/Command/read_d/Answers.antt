@@ -5,7 +5,7 @@ use Rattle.i3c_lines.proofs.Beginnings.{becomes_other, only_d}
 use Rattle.i3c_lines.proofs.command.Command.read_d.Goals as goal
 
 pub returns : goal.returns
-returns c =
+returns g c =
     becomes_other _ _ _ _ (λ command form.
     elim (only_d c.args.tail.now command (subst (λ line. IsForm (tokens line) command) c.requires form)) [
       | inl disec ↦ absurd (c.in_default.ensures disec.0 disec.1)

@@ -4,7 +4,7 @@ use Rattle.i3c_lines.proofs.Beginnings.{only_e}
 use Rattle.i3c_lines.proofs.command.Command.read_e.Goals as goal
 
 pub returns : goal.returns
-returns c = (
+returns g c = (
   λ command form.
       elim (only_e c.args.tail.now command form) [
         | inl enec ↦ c.in_default.ensures enec.0 enec.1

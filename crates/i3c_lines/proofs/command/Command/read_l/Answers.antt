@@ -5,7 +5,7 @@ use Rattle.i3c_lines.proofs.Beginnings.{becomes_other, only_l}
 use Rattle.i3c_lines.proofs.command.Command.read_l.Goals as goal
 
 pub returns : goal.returns
-returns c =
+returns g c =
     becomes_other _ _ _ _ (λ command form.
     elim (only_l c.args.tail.now command (subst (λ line. IsForm (tokens line) command) c.requires form)) [
       | inl list ↦ absurd (false≢true (c.if-is_word.ensures.1 list))

@@ -4,7 +4,7 @@ use Rattle.i3c_lines.proofs.Beginnings.{only_r}
 use Rattle.i3c_lines.proofs.command.Command.read_r.Goals as goal
 
 pub returns : goal.returns
-returns c = (
+returns g c = (
   λ command form.
       elim (only_r c.args.tail.now command form) [
         | inl raise ↦ c.in_default.ensures raise.0 raise.1

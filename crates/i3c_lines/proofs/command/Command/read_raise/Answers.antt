@@ -9,12 +9,12 @@ use Rattle.i3c_lines.proofs.SplitLaws.{joined_tokens, name_no_space, split_token
 use Rattle.i3c_lines.proofs.command.Command.read_raise.Goals as goal
 
 pub returns-in_err-name : goal.returns-in_err-name
-returns-in_err-name c =
+returns-in_err-name g c =
     rw c.from_residual.ensures
     (λ command form. let f = raise_args _ command form in let split = split_tokens _ _ _ f.4 in c.in_err-name.ensures.none refl f.2 split.0 f.5.0 split.1, refl)
 
 pub returns-in_err-byte : goal.returns-in_err-byte
-returns-in_err-byte c =
+returns-in_err-byte g c =
     rw c.from_residual-in_err-byte.ensures (
       λ command form.
           let f = raise_args _ command form in
@@ -25,7 +25,7 @@ returns-in_err-byte c =
     )
 
 pub returns : goal.returns
-returns c =
+returns g c =
     let name = letters c.in_ok-name.name in
     let words = ap tokens c.in_ok-name.ensures.split ∙ joined_tokens name (option_copied c.in_ok-name.rest) (name_no_space name c.in_ok-name.ensures.name) in
     (name, words_of (option_copied c.in_ok-name.rest), ap (λ ws. codes "raise" ∷ ws) words, (c.in_ok-name.ensures.name, refl), c.in_ok-byte.ensures)

@@ -6,12 +6,12 @@ use Rattle.i3c_lines.proofs.SplitLaws.{hex_no_space}
 use Rattle.i3c_lines.proofs.command.Command.read_read.Goals as goal
 
 pub returns-in_err-at : goal.returns-in_err-at
-returns-in_err-at c =
+returns-in_err-at g c =
     rw c.from_residual.ensures
     (λ command form. let f = read_args _ command form in no_address c.args.word.now c.in_err-at.ensures.form.1 f.0 (subst (λ w. WritesAddress w f.0) (sym (only_word c.args.word.now f.1 f.2)) f.3), refl)
 
 pub returns : goal.returns
-returns c =
+returns g c =
     let word = c.args.word.now in
     let is = c.in_ok-at.ensures.form.0 refl in
     (word, ap (λ ws. codes "read" ∷ ws) (one_word word (hex_no_space word is.0.1)), address_written word _ is c.in_ok-at.ensures.value)

@@ -4,7 +4,7 @@ use Rattle.i3c_lines.proofs.Beginnings.{only_s}
 use Rattle.i3c_lines.proofs.command.Command.read_s.Goals as goal
 
 pub returns : goal.returns
-returns c = (
+returns g c = (
   λ command form.
       elim (only_s c.args.tail.now command form) [
         | inl serve ↦ false≢true (c.if-is_word.ensures.1 serve)

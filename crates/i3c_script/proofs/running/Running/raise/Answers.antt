@@ -6,7 +6,7 @@ use Rattle.i3c_script.proofs.Moving.{answered, in_slot, raised_still, unsent}
 use Rattle.i3c_script.proofs.running.Running.raise.Goals as goal
 
 pub returns-in-Ok : goal.returns-in-Ok
-returns-in-Ok c =
+returns-in-Ok g c =
     let at = c.self.inside in
     let names = c.args.names.now in
     let event = Event.Raise c.in-Ok.slot c.args.byte in

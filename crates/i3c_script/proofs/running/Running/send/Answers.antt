@@ -4,7 +4,7 @@ use Rattle.i3c_script.proofs.Moving.{sent}
 use Rattle.i3c_script.proofs.running.Running.send.Goals as goal
 
 pub returns : goal.returns
-returns c =
+returns g c =
     let at = c.self.inside in
     let reply = c.command-reply.result in
     let carried = carried_asked c.args.frame.now at.bus c.command-reply.new.self at.policy c.command-reply.new.policy at.cuts reply c.in-Some.hand _ c.command-reply.ensures.asks c.command-reply.ensures.carried in

@@ -2,4 +2,4 @@ use Rattle.i3c_shared.proofs.Replies.{ask_role_replies}
 use Rattle.i3c_shared.proofs.kept.Kept.ask_role.Goals as goal
 
 pub asked-requires : goal.asked-requires
-asked-requires c = ask_role_replies _ c.slot.result _ _ c.in-Ok.ensures.grows.1.makes.step
+asked-requires g c = ask_role_replies _ c.slot.result _ _ c.in-Ok.ensures.grows.1.makes.step

@@ -1,0 +1,60 @@
+//! A sensor hub of one's own on this library: a bus with a controller and a sensor, whose alarms are served as a policy
+//! says that is written here, and whose wire a tap counts that is written here too.
+//!
+//! `alarm` is what the hub does, `policy` whose requests it accepts, `tap` what it hears of the wire, and `fault` why it
+//! gives up.
+#![tactic(auto)]
+
+mod alarm;
+mod fault;
+mod policy;
+mod tap;
+
+use crate::alarm::{AlarmReport, alarm};
+use crate::fault::HubFault;
+use std::process::ExitCode;
+
+/// Prints what the alarm came to, or why there was none.
+fn main(rt: HostRuntime) -> ExitCode {
+    match tell(&rt) {
+        Ok(()) => ExitCode::SUCCESS,
+        Err(fault) => {
+            let _ = rt.eprint(&fault);
+            ExitCode::FAILURE
+        }
+    }
+}
+
+/// Prints each record of the alarm, and how many symbols its wire had.
+fn tell<R: Print + AllocGlobal>(rt: &R) -> Result<(), HubFault> {
+    let AlarmReport {
+        records,
+        symbols,
+        refused,
+    } = alarm(rt.alloc())?;
+    for record in records.as_slice() {
+        let (slot, number) = (record.slot.index(), record.number);
+        let (at, byte) = (record.at.get(), record.byte.unwrap_or(0));
+        println!(rt; "slot {slot}, raise {number}, at {at:02X}: byte {byte:02X}")?;
+    }
+    println!(rt; "symbols {symbols}, refused {refused}")?;
+    Ok(())
+}
+
+#[cfg(test)]
+mod tests {
+    use super::alarm::alarm;
+    use std::test::Fail;
+
+    // one alarm is accepted, the second is beyond the quota
+    #[test]
+    fn the_first_alarm_is_recorded(rt: HostRuntime) -> Result<(), Fail> {
+        let alarm = alarm(rt.alloc())?;
+        assert!(rt; alarm.records.as_slice().len() == 1);
+        assert!(rt; alarm.refused == 1);
+        let record = alarm.records.as_slice().first().ok_or("a record")?;
+        assert!(rt; record.slot.index() == 1 && record.number == 1);
+        assert!(rt; record.at.get() == 0x09 && record.byte == Some(0x11));
+        Ok(())
+    }
+}

@@ -1,5 +1,0 @@
-use Rattle.std.proofs.Common.{rules}
-use Rattle.i3c_bus.proofs.parts.Bus.copy.Goals as goal
-
-pub returns-then-keeps : goal.returns-then-keeps
-returns-then-keeps c = search rules

@@ -1,5 +1,0 @@
-use Rattle.std.proofs.Common.{rules}
-use Rattle.i3c_bus.proofs.parts.Bus.enec.Goals as goal
-
-pub returns-clause-carried : goal.returns-clause-carried
-returns-clause-carried g c = search rules

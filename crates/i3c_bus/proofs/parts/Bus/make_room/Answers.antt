@@ -1,5 +1,0 @@
-use Rattle.std.proofs.Common.{rules}
-use Rattle.i3c_bus.proofs.parts.Bus.make_room.Goals as goal
-
-pub returns-clause-made : goal.returns-clause-made
-returns-clause-made c = search rules

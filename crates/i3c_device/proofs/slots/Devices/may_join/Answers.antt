@@ -1,9 +1,0 @@
-use Rattle.std.proofs.Common.{◌∙◌, ap}
-use Rattle.i3c_device.specs.Sets.{has}
-use Rattle.i3c_device.proofs.SeenWalks.{kinds_now}
-use Rattle.i3c_device.proofs.slots.Devices.may_join.Goals as goal
-
-pub returns : goal.returns
-returns c d there =
-    c.has.ensures
-    ∙ (ap (has c.self.inside.enabled.joins) c.index.ensures.same ∙ ap (λ kinds. kinds.join) (kinds_now c.self.inside.enabled c.self.inside.occupants c.args.self.now c.args.slot d c.self.view_is there))

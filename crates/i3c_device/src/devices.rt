@@ -1,0 +1,377 @@
+use crate::device::Device;
+use crate::driven::{requests_in, slots_with};
+use crate::enabled::Enabled;
+use crate::kinds::named;
+use crate::occupants::Occupants;
+use crate::places::{address_in, byte_in, front_in, identity_in, waiting_in};
+use crate::sets::{SlotSet, lost_slots};
+use crate::walks::{
+    Accepted, Ended, FrontLost, JoinWished, Lost, Opened, Reset, RoleLost, RoleWished, SlotUpdate,
+    Willing, Won, Written,
+};
+use i3c_base::{
+    Addr7, Change, Cuts, Identity, Kinds, REGISTERS, RaiseRefusal, Request, Slot, Waiting,
+};
+use i3c_ccc::Code;
+use i3c_header::arbitrate;
+use i3c_word::{WORD_BITS, Word};
+use std::marker::Model;
+
+/// The devices of a bus in their slots.
+///
+/// Clauses see a place for each slot. Which slot is the active controller's is told to the calls that depend on it.
+#[derive(Drop)]
+pub struct Devices {
+    occupants: Occupants,
+    // a word for each kind, so that a command to all changes three words
+    enabled: Enabled,
+}
+
+impl Model for Devices {
+    ghost use Rattle.std.specs.Prelude.{List, Option};
+    ghost use Rattle.i3c_base.specs.State.{Device as DeviceState};
+    ghost use Rattle.i3c_device.specs.Enabling.{seen};
+
+    ghost Value = { List (Option DeviceState) };
+
+    ghost view = { λ d. seen d.enabled d.occupants };
+}
+
+impl Devices {
+    ghost use Rattle.i3c_base.specs.declared.device.TheConstants.{REGISTERS as REGISTER_COUNT};
+    ghost use Rattle.i3c_base.specs.declared.range.TheConstants.{SLOTS as SLOT_COUNT};
+    ghost use Rattle.i3c_base.specs.Cutting.{lost_by};
+    ghost use Rattle.i3c_base.specs.Frames.{changed_kinds};
+    ghost use Rattle.i3c_base.specs.Places.{changed};
+    ghost use Rattle.i3c_device.specs.Holding.{address_in, byte_in, front_in, identity_in, waiting_in};
+    ghost use Rattle.i3c_device.specs.Walks.{accepted_at, heard_at, left_at, taken_at, AreDrivers, AreHearers, AreReached, AreWillingLost, IsFirstDriven, IsLowestWilling, NobodyDrives, SomeReached, rekinded_at, written_at};
+    ghost use Rattle.i3c_device.specs.Reading.{AreReadOf, IsRegisterOf};
+    ghost use Rattle.i3c_device.specs.Sets.{has};
+    ghost use Rattle.i3c_device.specs.Wishing.{asks_some};
+    ghost use Rattle.std.specs.Prelude.{◌≡◌, ◌≤◌, ◌<◌, ◌+◌, ◌^◌, ◌↔◌, ◌&&◌, ◌==◌, ℕ, not, All, length, Option, IsTrue, is_some, suc, Some, None, option_map, slice_index_or, slice_set, MatchOption, MatchResult, OnOk, OnErr};
+    ghost use Rattle.i3c_base.specs.Round.{hears, unhearing};
+    ghost use Rattle.i3c_base.specs.Serve.{without_role};
+    ghost use Rattle.i3c_base.specs.State.{Device as DeviceState, in_slot, no_devices};
+    ghost use Rattle.i3c_device.specs.Raising.{next_fault, with_raise, wishing_join, wishing_role};
+
+    /// Empty slots.
+    pub fn new() -> Devices
+        ensures { result ≡ no_devices }
+    {
+        Devices {
+            occupants: Occupants::new(),
+            enabled: Enabled::new(),
+        }
+    }
+
+    /// How many slots there are.
+    pub fn slots(&self) -> usize
+        ensures count { result ≡ SLOT_COUNT }
+        ensures slots { length self.now ≡ SLOT_COUNT }
+    {
+        self.occupants.slots()
+    }
+
+    /// The device in a slot, as it is now. It is copied: what is done to the copy isn't done to the slot's device.
+    pub fn get(&self, slot: Slot) -> Option<Device>
+        ensures device { result ≡ slice_index_or self.now slot None }
+        ensures slots { length self.now ≡ SLOT_COUNT }
+    {
+        match self.occupants.at(slot) {
+            Some(attached) => Some(Device {
+                attached: attached.copied(),
+                kinds: self.enabled.at(slot.index()),
+            }),
+            None => None,
+        }
+    }
+
+    /// Whether a slot holds a device.
+    pub fn holds(&self, slot: Slot) -> bool
+        ensures { result ≡ is_some (slice_index_or self.now slot None) }
+    {
+        self.occupants.marks().present.has(slot.index())
+    }
+
+    /// What a slot's device is, if there is one.
+    pub fn identity(&self, slot: Slot) -> Option<Identity>
+        ensures { result ≡ identity_in (slice_index_or self.now slot None) }
+    {
+        identity_in(self.occupants.at(slot))
+    }
+
+    /// The dynamic address of a slot's device, if there is a device and it has one.
+    pub fn address(&self, slot: Slot) -> Option<Addr7>
+        ensures { result ≡ address_in (slice_index_or self.now slot None) }
+    {
+        address_in(self.occupants.at(slot))
+    }
+
+    /// How many interrupts of a slot's device wait.
+    pub fn waiting(&self, slot: Slot) -> usize
+        ensures { result ≡ waiting_in (slice_index_or self.now slot None) }
+    {
+        waiting_in(self.occupants.at(slot))
+    }
+
+    /// The interrupt that waits at the front of a slot's device.
+    pub fn front(&self, slot: Slot) -> Option<Waiting>
+        ensures { result ≡ front_in (slice_index_or self.now slot None) }
+    {
+        front_in(self.occupants.at(slot))
+    }
+
+    /// The mandatory byte that a slot's device answers with when its interrupt is accepted, if one is due.
+    pub fn answer_byte(&self, slot: Slot) -> Option<u8>
+        ensures { result ≡ byte_in (slice_index_or self.now slot None) }
+    {
+        byte_in(self.occupants.at(slot))
+    }
+
+    /// Whether interrupts of the slot's device are enabled.
+    pub fn may_interrupt(&self, slot: Slot) -> bool
+        ensures { (d : DeviceState) → slice_index_or self.now slot None ≡ Some d → result ≡ d.kinds.interrupt }
+    {
+        self.enabled.interrupts.has(slot.index())
+    }
+
+    /// Whether joins of the slot's device are enabled.
+    pub fn may_join(&self, slot: Slot) -> bool
+        ensures { (d : DeviceState) → slice_index_or self.now slot None ≡ Some d → result ≡ d.kinds.join }
+    {
+        self.enabled.joins.has(slot.index())
+    }
+
+    /// Whether role requests of the slot's device are enabled.
+    pub fn may_ask_role(&self, slot: Slot) -> bool
+        ensures { (d : DeviceState) → slice_index_or self.now slot None ≡ Some d → result ≡ d.kinds.role }
+    {
+        self.enabled.roles.has(slot.index())
+    }
+
+    /// A device enters a slot.
+    pub fn put(&mut self, slot: Slot, device: Device)
+        ensures { self.new ≡ slice_set self.old slot (Some device) }
+    {
+        let Device { attached, kinds } = device;
+        self.occupants.put(slot, Some(attached));
+        self.enabled = self.enabled.renewed(slot.index(), kinds);
+    }
+
+    /// A slot's device is gone.
+    pub fn remove(&mut self, slot: Slot)
+        ensures { self.new ≡ slice_set self.old slot None }
+    {
+        self.occupants.put(slot, None);
+    }
+
+    /// The slot's device, if there is one, wishes to join.
+    pub fn wish_join(&mut self, slot: Slot)
+        ensures { self.new ≡ slice_set self.old slot (option_map wishing_join (slice_index_or self.old slot None)) }
+    {
+        self.occupants.happen(slot, &JoinWished);
+    }
+
+    /// The slot's device, if there is one, wishes for the controller role.
+    pub fn wish_role(&mut self, slot: Slot)
+        ensures { self.new ≡ slice_set self.old slot (option_map wishing_role (slice_index_or self.old slot None)) }
+    {
+        self.occupants.happen(slot, &RoleWished);
+    }
+
+    /// The slot's device, if there is one, loses its wish for the role.
+    pub fn lose_role_wish(&mut self, slot: Slot)
+        ensures { self.new ≡ slice_set self.old slot (option_map without_role (slice_index_or self.old slot None)) }
+    {
+        self.occupants.happen(slot, &RoleLost);
+    }
+
+    /// The slot's device raises the interrupt after this many of its slot, and answers its number. The first fault
+    /// refuses it, and changes nothing.
+    pub fn raise(&mut self, slot: Slot, raised: u64, byte: Option<u8>) -> Result<u64, RaiseRefusal>
+        requires { (d : DeviceState) × (slice_index_or self.old slot None ≡ Some d) }
+        ensures fault { (d : DeviceState) → slice_index_or self.old slot None ≡ Some d → MatchResult result (λ number. (number ≡ suc raised) × (next_fault d byte raised ≡ None)) (λ fault. next_fault d byte raised ≡ Some fault) }
+        ensures raised { OnOk result (self.new ≡ slice_set self.old slot (option_map (with_raise (suc raised) byte) (slice_index_or self.old slot None))) }
+        ensures unchanged { OnErr result (self.new ≡ self.old) }
+    {
+        let enabled = self.enabled.interrupts.has(slot.index());
+        self.occupants.raise(slot, raised, byte, enabled)
+    }
+
+    /// The request that wins the header into which the devices drive theirs at once, and the slots that drive it (I3C Basic
+    /// 5.1.2.2.1). The active controller drives none.
+    pub fn first_request(&self, active: Slot) -> Option<(Request, SlotSet)>
+        ensures first { MatchOption result (NobodyDrives active self.now) (IsFirstDriven active self.now) }
+        ensures slots { length self.now ≡ SLOT_COUNT }
+    {
+        let driving = self.driving(active);
+        let keys = self.occupants.marks().keys;
+        let requests = requests_in(driving, &keys);
+        let winner = arbitrate(&requests)?;
+        let drivers = slots_with(driving, &keys, &winner);
+        Some((winner, drivers))
+    }
+
+    /// The slots whose device drives a request. The active controller drives none.
+    fn driving(&self, active: Slot) -> SlotSet
+        ensures asking { (s : ℕ) → s < SLOT_COUNT → has result s ≡ (not (s == active) && in_slot asks_some (slice_index_or self.now s None)) }
+        ensures slots { length self.now ≡ SLOT_COUNT }
+    {
+        let marks = self.occupants.marks();
+        let joins = marks.joining.and(self.enabled.joins);
+        let roles = marks.asking.and(self.enabled.roles);
+        let interrupts = marks.interrupting.and(self.enabled.interrupts);
+        joins.or(roles.or(interrupts)).but(active)
+    }
+
+    /// The request was accepted: these slots, its drivers, lose the wish or the front of what waits.
+    #[inline(always)]
+    pub fn accept(&mut self, drivers: SlotSet, request: &Request)
+        ensures { (active : ℕ) → AreDrivers active request.now self.old drivers → self.new ≡ changed (accepted_at active request.now) self.old }
+    {
+        match request {
+            // which changes less than a wish
+            Request::Interrupt(_) => self.occupants.each(drivers, &FrontLost),
+            _ => self.occupants.each(drivers, &Accepted { request }),
+        }
+    }
+
+    /// Whether a command, to all or to one address, reaches a device that isn't lost by this bit: it acknowledges.
+    pub fn is_heard(&self, active: Slot, to: &Option<Addr7>, cuts: &Cuts, last: u16) -> bool
+        ensures { IsTrue result ↔ SomeReached active to.now (lost_by cuts.now last) self.now }
+    {
+        self.reached(active, to).outlasts(cuts, last)
+    }
+
+    /// The lowest slot with a device that would take the role that is offered to this address, of those that aren't lost
+    /// by this bit. The active controller is none of them.
+    pub fn lowest_willing(
+        &self,
+        active: Slot,
+        address: Addr7,
+        cuts: &Cuts,
+        last: u16,
+    ) -> Option<Slot>
+        ensures { MatchOption result (AreWillingLost active address (lost_by cuts.now last) self.now) (IsLowestWilling active address (lost_by cuts.now last) self.now) }
+    {
+        let present = self.occupants.marks().present;
+        let left = present.without(lost_slots(cuts, last));
+        self.occupants.lowest(left, &Willing { active, address })
+    }
+
+    /// A private write to an address: these bytes go into the first registers of each device there but the active
+    /// controller.
+    pub fn write(&mut self, active: Slot, address: Addr7, bytes: &[u8])
+        requires { length bytes.now ≤ REGISTER_COUNT }
+        ensures { self.new ≡ changed (written_at active address bytes.now) self.old }
+    {
+        let present = self.occupants.marks().present;
+        self.occupants.each(
+            present,
+            &Written {
+                active,
+                address,
+                bytes,
+            },
+        );
+    }
+
+    /// The registers of the devices at an address, as the lines give them in a private read whose first data bit is
+    /// this bit of its frame: eight bits for each, and a T. All who have the address drive theirs, but the active
+    /// controller and, from their cuts on, those who are cut.
+    pub fn read(&self, active: Slot, address: Addr7, cuts: &Cuts, first: u16) -> [u8; REGISTERS]
+        requires { first + 144 ≤ 2 ^ 16 }
+        ensures read { AreReadOf active address cuts.now first self.now result }
+        ensures long { length result ≡ REGISTER_COUNT }
+        ensures bytes { All (λ byte. byte < 256) result }
+    {
+        let targets = self.occupants.targets(active, address);
+        let mut bytes = [0; REGISTERS];
+        for (index, byte) in bytes.iter_mut().enumerate() {
+            *byte = self
+                .occupants
+                .register_of(targets, index, cuts, first + WORD_BITS * index as u16);
+        }
+        bytes
+    }
+
+    /// The slots of the devices that a command reaches, all but the active controller or those of them at one address.
+    pub fn reached(&self, active: Slot, to: &Option<Addr7>) -> SlotSet
+        ensures reached { AreReached active to.now result self.now }
+        ensures slots { length self.now ≡ SLOT_COUNT }
+    {
+        match to {
+            None => self.occupants.marks().present.but(active),
+            Some(address) => self.occupants.targets(active, *address),
+        }
+    }
+
+    /// The devices that a command reaches, all but the active controller or those of them at one address, hear it and
+    /// its words (I3C Basic 5.1.9.3). What they keep of a list (DEFTGTS) isn't part of it: the bus has that.
+    pub fn hear(&mut self, active: Slot, to: &Option<Addr7>, code: Code, words: &[Word])
+        ensures { self.new ≡ changed (heard_at active to.now code words.now) self.old }
+    {
+        let reached = self.reached(active, to);
+        match code {
+            Code::Enec | Code::EnecDirect => {
+                self.enabled = self.enabled.with(named(words), reached);
+            }
+            Code::Disec | Code::DisecDirect => {
+                self.enabled = self.enabled.without(named(words), reached);
+            }
+            Code::Entdaa => self.occupants.each(reached, &Opened),
+            Code::Rstdaa => self.occupants.each(reached, &Reset),
+            Code::Deftgts | Code::Getacccr | Code::Other(_) => {}
+        }
+    }
+
+    /// Kinds of events are enabled or disabled for the devices that a command reaches, which are in these slots.
+    pub fn change_kinds(&mut self, reached: SlotSet, change: Change, kinds: Kinds)
+        requires { length self.old ≡ SLOT_COUNT }
+        ensures { (active : ℕ) (to : Option ℕ) → AreReached active to reached self.old → self.new ≡ changed (rekinded_at active to (changed_kinds change kinds)) self.old }
+    {
+        self.enabled = match change {
+            Change::Enable => self.enabled.with(kinds, reached),
+            Change::Disable => self.enabled.without(kinds, reached),
+        };
+    }
+
+    /// A session is opened: each device without an address hears it.
+    pub fn open(&mut self)
+        ensures { self.new ≡ changed (λ s place. option_map hears place) self.old }
+    {
+        let unaddressed = self.occupants.marks().unaddressed;
+        self.occupants.each(unaddressed, &Opened);
+    }
+
+    /// The session ends: nobody hears any more.
+    pub fn silence(&mut self)
+        ensures { self.new ≡ changed (λ s place. option_map unhearing place) self.old }
+    {
+        let hearing = self.occupants.marks().hearing;
+        self.occupants.each(hearing, &Ended);
+    }
+
+    /// The slots whose device hears the open session.
+    pub fn hearers(&self) -> SlotSet
+        ensures hearing { AreHearers result self.now }
+        ensures slots { length self.now ≡ SLOT_COUNT }
+    {
+        self.occupants.marks().hearing
+    }
+
+    /// The devices in these slots won a round: each takes the address (I3C Basic 5.1.4.2).
+    pub fn take_address(&mut self, winners: SlotSet, address: Addr7)
+        requires { 8 ≤ address }
+        ensures { self.new ≡ changed (taken_at winners address) self.old }
+    {
+        self.occupants.each(winners, &Won { address });
+    }
+
+    /// A frame ends: the devices lost by this bit are gone.
+    pub fn drop_lost(&mut self, cuts: &Cuts, last: u16)
+        ensures { self.new ≡ changed (left_at (lost_by cuts.now last)) self.old }
+    {
+        self.occupants.each(lost_slots(cuts, last), &Lost);
+    }
+}

@@ -1,7 +1,0 @@
-use Rattle.std.proofs.Common.{◌∙◌, ap}
-use Rattle.i3c_lines.specs.Hex.{bytes_text}
-use Rattle.i3c_lines.proofs.HexTexts.{sixteen_digits}
-use Rattle.i3c_lines.proofs.numerals.hex_digits.Goals as goal
-
-pub returns : goal.returns
-returns c = c.write_pairs.ensures ∙ ap bytes_text c.to_be_bytes.ensures ∙ sixteen_digits c.args.number

@@ -1,0 +1,102 @@
+ghost use Rattle.std.specs.Prelude.{◌≡◌, ◌↔◌, IsTrue};
+
+use crate::names::Name;
+use crate::policies::policy;
+use crate::tokens::{self, is_word};
+
+/// The last word of a device that doesn't take the controller role.
+const DECLINE: &[u8] = b"decline";
+
+/// A place of a line behind its command, by what stands there.
+#[derive(Clone, Copy, Debug, PartialEq, Eq)]
+pub enum Field {
+    /// The name of a device or a legacy target.
+    Name,
+    /// A provisioned ID.
+    Pid,
+    /// A bus characteristics register.
+    Bcr,
+    /// A device characteristics register.
+    Dcr,
+    /// A legacy virtual register.
+    Lvr,
+    /// A 7-bit address.
+    Addr,
+    /// A byte.
+    Byte,
+    /// The bytes of a private write.
+    Bytes,
+    /// A bit of a frame.
+    Bit,
+    /// The name of a policy.
+    Policy,
+    /// The word of a device that doesn't take the controller role.
+    Decline,
+}
+
+impl Field {
+    ghost use Rattle.i3c_lines.specs.Faults.{IsField};
+
+    /// Whether a word has this field's form.
+    pub(crate) fn fits(self, word: &[u8]) -> bool
+        ensures { IsTrue result ↔ IsField self word.now }
+    {
+        match self {
+            Field::Name => Name::parse(word).is_some(),
+            Field::Pid => tokens::pid(word).is_some(),
+            Field::Bcr | Field::Dcr | Field::Lvr | Field::Byte => tokens::byte(word).is_some(),
+            Field::Addr => tokens::address(word).is_some(),
+            Field::Bytes => !word.is_empty() && tokens::bytes(word).is_some(),
+            Field::Bit => tokens::bit(word).is_some(),
+            Field::Policy => policy(word).is_some(),
+            Field::Decline => is_word(word, DECLINE),
+        }
+    }
+
+    /// What the documents call it. A word that can only be one or be left out is called nothing.
+    pub(crate) fn label(self) -> &'static str {
+        match self {
+            Field::Name => "NAME",
+            Field::Pid => "PID",
+            Field::Bcr => "BCR",
+            Field::Dcr => "DCR",
+            Field::Lvr => "LVR",
+            Field::Addr => "ADDR",
+            Field::Byte => "BYTE",
+            Field::Bytes => "BYTES",
+            Field::Bit => "BIT",
+            Field::Policy => "POLICY",
+            Field::Decline => "",
+        }
+    }
+
+    /// What is expected there.
+    pub(crate) fn expected(self) -> &'static str {
+        match self {
+            Field::Name => "1 to 16 small letters and digits",
+            Field::Pid => "12 hexadecimal digits in capitals",
+            Field::Bcr | Field::Dcr | Field::Lvr | Field::Byte => {
+                "two hexadecimal digits in capitals"
+            }
+            Field::Addr => "two hexadecimal digits in capitals, up to 7F",
+            Field::Bytes => "two hexadecimal digits in capitals for each byte",
+            Field::Bit => "decimal digits, up to 65535",
+            Field::Policy => "all, none, joins, roles or interrupts",
+            Field::Decline => "'decline' or nothing",
+        }
+    }
+
+    /// Whether its numbers are hexadecimal.
+    pub(crate) fn is_hexadecimal(self) -> bool {
+        match self {
+            Field::Pid
+            | Field::Bcr
+            | Field::Dcr
+            | Field::Lvr
+            | Field::Addr
+            | Field::Byte
+            | Field::Bytes => true,
+            Field::Name | Field::Bit | Field::Policy | Field::Decline => false,
+        }
+    }
+}

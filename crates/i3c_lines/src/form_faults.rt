@@ -1,0 +1,244 @@
+ghost use Rattle.std.specs.Prelude.{◌≡◌, ◌<◌, ℕ, List, MatchOption, IfSome, length};
+ghost use Rattle.i3c_lines.specs.Forms.{HasNoForm};
+ghost use Rattle.i3c_lines.specs.Faults.{IsSo};
+
+use crate::fields::Field;
+use crate::line::{LINE_LENGTH, read_line};
+use crate::shapes::{Shape, nearest, shape_of};
+use crate::tokens::{SPACE, Tokens, after};
+use i3c_text::Text;
+use std::alloc::{AllocError, Global};
+
+/// What some editors put in front of a text.
+const MARK: &[u8] = b"\xEF\xBB\xBF";
+
+/// What some editors put before a line feed.
+const RETURN: u8 = b'\r';
+
+/// A tab, which parts no words.
+const TAB: u8 = b'\t';
+
+/// What stands for a byte that doesn't print.
+const UNKNOWN: u8 = b'?';
+
+/// Why a line has no form.
+#[derive(Clone, Copy)]
+pub enum FormFault<'a> {
+    /// It has more than 256 bytes.
+    TooLong,
+    /// It begins with a byte-order mark.
+    Mark,
+    /// It ends in a carriage return.
+    Return,
+    /// It has a tab.
+    Tab,
+    /// It begins with a space.
+    FirstSpace,
+    /// It has two spaces in a row.
+    TwoSpaces,
+    /// It ends in a space.
+    LastSpace,
+    /// No command begins with this word.
+    Unknown(&'a [u8]),
+    /// No word is left for this field.
+    Missing(Field),
+    /// This word hasn't its field's form.
+    Misfit(Field, &'a [u8]),
+    /// This word is one too many.
+    Surplus(&'a [u8]),
+}
+
+/// Why a line has no form, if it has none. A line that is empty or a comment has one.
+pub fn form_fault(line: &[u8]) -> Option<FormFault<'_>>
+    ensures told { MatchOption result (HasNoForm line.now → ⊥) (λ fault. HasNoForm line.now) }
+    ensures so { IfSome result (λ fault. IsSo line.now fault) }
+{
+    match read_line(line) {
+        Ok(_) => None,
+        Err(_) => Some(diagnose(line)),
+    }
+}
+
+/// Why a line that has no form has none.
+fn diagnose(line: &[u8]) -> FormFault<'_>
+    ensures { IsSo line.now result }
+{
+    if line.len() > LINE_LENGTH {
+        return FormFault::TooLong;
+    }
+    if let Some(fault) = stray_byte(line) {
+        return fault;
+    }
+    let mut words = Tokens::of(line);
+    let Some(first) = words.next() else {
+        unreachable!()
+    };
+    match shape_of(first) {
+        Some(shape) => misfit(first, shape, &mut words),
+        None => FormFault::Unknown(first),
+    }
+}
+
+/// A byte that stands where no line has it, if there is one.
+fn stray_byte(line: &[u8]) -> Option<FormFault<'_>>
+    ensures { IfSome result (λ fault. IsSo line.now fault) }
+{
+    if after(line, MARK).is_some() {
+        return Some(FormFault::Mark);
+    }
+    match line.last() {
+        Some(&RETURN) => return Some(FormFault::Return),
+        Some(&SPACE) => return Some(FormFault::LastSpace),
+        _ => {}
+    }
+    if line.contains(&TAB) {
+        return Some(FormFault::Tab);
+    }
+    match line.first() {
+        Some(&SPACE) => Some(FormFault::FirstSpace),
+        _ => None,
+    }
+}
+
+/// The first of the words behind a command's first that isn't as its shape has it.
+fn misfit<'a>(first: &'a [u8], shape: &Shape, words: &mut Tokens<'a>) -> FormFault<'a>
+    ensures { (line : List ℕ) → IsSo line result }
+{
+    for field in shape.needed {
+        let Some(word) = words.next() else {
+            return FormFault::Missing(*field);
+        };
+        if let Some(fault) = misfit_at(*field, word) {
+            return fault;
+        }
+    }
+    last_misfit(first, shape.further, words)
+}
+
+/// The first of the words behind those that a command needs that isn't as its shape has it.
+fn last_misfit<'a>(first: &'a [u8], further: Option<Field>, words: &mut Tokens<'a>) -> FormFault<'a>
+    ensures { (line : List ℕ) → IsSo line result }
+{
+    // where each word is as its shape has it, the line has a form, and nobody asks
+    let Some(word) = words.next() else {
+        return FormFault::Unknown(first);
+    };
+    let Some(field) = further else {
+        return surplus(word);
+    };
+    if let Some(fault) = misfit_at(field, word) {
+        return fault;
+    }
+    match words.next() {
+        Some(word) => surplus(word),
+        None => FormFault::Unknown(first),
+    }
+}
+
+/// What is wrong with a field's word, if anything is.
+fn misfit_at(field: Field, word: &[u8]) -> Option<FormFault<'_>>
+    ensures { IfSome result (λ fault. (line : List ℕ) → IsSo line fault) }
+{
+    if word.is_empty() {
+        return Some(FormFault::TwoSpaces);
+    }
+    if field.fits(word) {
+        return None;
+    }
+    Some(FormFault::Misfit(field, word))
+}
+
+/// A word that is one too many.
+fn surplus(word: &[u8]) -> FormFault<'_>
+    ensures { (line : List ℕ) → IsSo line result }
+{
+    if word.is_empty() {
+        FormFault::TwoSpaces
+    } else {
+        FormFault::Surplus(word)
+    }
+}
+
+impl FormFault<'_> {
+    /// Appends it to a text: the word, and what was expected there.
+    pub fn push(&self, alloc: Global, text: &mut Text) -> Result<(), AllocError> {
+        match self {
+            FormFault::TooLong => text.push(b"longer than 256 bytes"),
+            FormFault::Mark => text.push(b"begins with a byte-order mark"),
+            FormFault::Return => text.push(b"ends in a carriage return"),
+            FormFault::Tab => text.push(b"has a tab, where one space parts words"),
+            FormFault::FirstSpace => text.push(b"begins with a space"),
+            FormFault::TwoSpaces => text.push(b"has two spaces in a row, where one parts words"),
+            FormFault::LastSpace => text.push(b"ends in a space"),
+            FormFault::Unknown(word) => push_unknown(alloc, word, text),
+            FormFault::Missing(field) => push_missing(*field, text),
+            FormFault::Misfit(field, word) => push_misfit(*field, word, text),
+            FormFault::Surplus(word) => {
+                push_quoted(word, text)?;
+                text.push(b": a word too many")
+            }
+        }
+    }
+}
+
+/// Appends that no command has this word, and the nearest that one has.
+fn push_unknown(alloc: Global, word: &[u8], text: &mut Text) -> Result<(), AllocError> {
+    push_quoted(word, text)?;
+    text.push(b": no command")?;
+    match nearest(alloc, word)? {
+        Some(near) => {
+            text.push(b"; the nearest is ")?;
+            push_quoted(near.as_bytes(), text)
+        }
+        None => Ok(()),
+    }
+}
+
+/// Appends that a field's word is missing.
+fn push_missing(field: Field, text: &mut Text) -> Result<(), AllocError> {
+    text.push(field.label().as_bytes())?;
+    text.push(b" is missing: ")?;
+    text.push(field.expected().as_bytes())
+}
+
+/// Appends a field's word, and what was expected in its place.
+fn push_misfit(field: Field, word: &[u8], text: &mut Text) -> Result<(), AllocError> {
+    let label = field.label();
+    if !label.is_empty() {
+        text.push(label.as_bytes())?;
+        text.push(b" ")?;
+    }
+    push_quoted(word, text)?;
+    text.push(b": ")?;
+    text.push(lesson(field, word).as_bytes())
+}
+
+/// What is to be learned of a word that hasn't its field's form.
+fn lesson(field: Field, word: &[u8]) -> &'static str {
+    if field.is_hexadecimal() && word.starts_with(b"0x") {
+        return "hexadecimal digits in capitals, without 0x";
+    }
+    match field {
+        Field::Name if word.len() > 16 => "longer than 16 letters",
+        Field::Addr if Field::Byte.fits(word) => "above 7F",
+        Field::Bit if word.iter().all(u8::is_ascii_digit) => "above 65535",
+        _ => field.expected(),
+    }
+}
+
+/// Appends a word between quotes. What doesn't print is a question mark.
+pub fn push_quoted(word: &[u8], text: &mut Text) -> Result<(), AllocError> {
+    text.push(b"'")?;
+    for byte in word {
+        text.push(&[printed(*byte)])?;
+    }
+    text.push(b"'")
+}
+
+/// A byte as it is printed.
+fn printed(byte: u8) -> u8 {
+    match byte {
+        b' '..=b'~' => byte,
+        _ => UNKNOWN,
+    }
+}

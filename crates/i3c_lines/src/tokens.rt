@@ -1,0 +1,237 @@
+ghost use Rattle.std.specs.Prelude.{ℕ, List, MatchOption, Option, IsNone, option_copied, ◌≡◌, ◌<◌, ◌^◌, ◌≤◌, ◌↔◌, ◌++◌, ◌∷◌, [], ◌-◌, All, IsTrue, IsSome, IfSome, ◌==◌, bit_and, length, position, take};
+ghost use Rattle.std.specs.Str.Parse.{digits_value};
+ghost use Rattle.i3c_lines.specs.Words.{AreBytes, IsDecimal, IsDecimalDigit, IsHex, pair_values};
+ghost use Rattle.i3c_lines.specs.Parsing.{joined};
+
+use arrayvec::ArrayVec;
+use bitflags::Flags;
+use i3c_base::{Addr7, Kinds, Pid};
+use i3c_step::WRITE_KEPT;
+use i3c_text::{PID_DIGITS, digit, read_byte, read_digits};
+use std::str;
+
+/// What parts the words of a line.
+pub(crate) const SPACE: u8 = b' ';
+
+/// Numbers are written in hex.
+const RADIX: u64 = 16;
+
+/// Bits of frames are written in decimal.
+const BIT_RADIX: u32 = 10;
+
+/// Bits 0, 1 and 3 of a byte: interrupts, role requests and Hot-Join.
+const KNOWN_KINDS: u8 = 0x0B;
+
+/// How many digits a byte has: an address, a BCR, a DCR or an LVR.
+const BYTE_DIGITS: usize = 2;
+
+/// The words of a line, which are parted by exactly one space: those that weren't read yet.
+#[derive(Clone, Copy)]
+pub(crate) struct Tokens<'a> {
+    rest: Option<&'a [u8]>,
+}
+
+impl<'a> Tokens<'a> {
+    ghost use Rattle.std.specs.Prelude.{◌≡◌, ◌∷◌, ◌↔◌, [], IsSome, MatchOption};
+    ghost use Rattle.i3c_lines.specs.Forms.{tokens};
+    ghost use Rattle.i3c_lines.specs.Parsing.{left_words};
+
+    /// All words of a line. Without a space it is one word, and so is a line of no bytes.
+    pub fn of(line: &'a [u8]) -> Tokens<'a>
+        ensures { left_words result ≡ tokens line.now }
+    {
+        Tokens { rest: Some(line) }
+    }
+
+    /// The next word, if there is one.
+    pub fn next(&mut self) -> Option<&'a [u8]>
+        ensures { MatchOption result (left_words self.old ≡ []) (λ word. left_words self.old ≡ word.now ∷ left_words self.new) }
+    {
+        let rest = self.rest?;
+        match first_space(rest) {
+            Some(end) => {
+                self.rest = Some(&rest[end + 1..]);
+                Some(&rest[..end])
+            }
+            None => {
+                self.rest = None;
+                Some(rest)
+            }
+        }
+    }
+
+    /// Nothing, if each word was read.
+    pub fn end(&self) -> Option<()>
+        ensures { IsSome result ↔ (left_words self.now ≡ []) }
+    {
+        match self.rest {
+            None => Some(()),
+            Some(_) => None,
+        }
+    }
+}
+
+/// What stands behind these letters, if a text begins with them.
+#[inline(always)]
+pub(crate) fn after<'a>(text: &'a [u8], start: &[u8]) -> Option<&'a [u8]>
+    ensures { MatchOption result ((rest : List ℕ) → text.now ≡ start.now ++ rest → ⊥) (λ rest. text.now ≡ start.now ++ rest.now) }
+{
+    if text.starts_with(start) {
+        Some(&text[start.len()..])
+    } else {
+        None
+    }
+}
+
+/// Whether a text is these letters.
+#[inline(always)]
+pub(crate) fn is_word(text: &[u8], word: &[u8]) -> bool
+    ensures { IsTrue result ↔ (text.now ≡ word.now) }
+{
+    text.len() == word.len() && text.starts_with(word)
+}
+
+/// A first word of two bytes, and the line behind its space if there is one.
+#[inline(always)]
+pub(crate) fn split_two(line: &[u8]) -> Option<(&[u8], Option<&[u8]>)>
+    ensures none { IsNone result → (word : List ℕ) (rest : Option (List ℕ)) → length word ≡ 2 → line.now ≡ joined word rest → ⊥ }
+    ensures split { IfSome result (λ parts. (length parts.0.now ≡ 2) × (line.now ≡ joined parts.0.now (option_copied parts.1))) }
+{
+    let (word, rest) = line.split_at_checked(2)?;
+    let rest = behind_space(rest)?;
+    Some((word, rest))
+}
+
+/// The line behind a space, or nothing at a line's end.
+#[inline(always)]
+pub(crate) fn behind_space(line: &[u8]) -> Option<Option<&[u8]>>
+    ensures { MatchOption result ((rest : Option (List ℕ)) → line.now ≡ joined [] rest → ⊥) (λ rest. line.now ≡ joined [] (option_copied rest)) }
+{
+    match line {
+        [] => Some(None),
+        [b' ', rest @ ..] => Some(Some(rest)),
+        _ => None,
+    }
+}
+
+/// The place of the first space, if there is one.
+fn first_space(bytes: &[u8]) -> Option<usize>
+    ensures { result ≡ position (λ byte. byte == SPACE) bytes.now }
+{
+    bytes.iter().position(|byte| *byte == SPACE)
+}
+
+/// The number that a word writes, if it has so many hex digits.
+fn number(word: &[u8], digits: usize) -> Option<u64>
+    requires { digits ≤ 16 }
+    ensures form { IsSome result ↔ IsHex digits word.now }
+    ensures value { IfSome result (λ n. n ≡ digits_value RADIX word.now) }
+    ensures bound { IfSome result (λ n. n < 16 ^ digits) }
+{
+    if word.len() != digits {
+        return None;
+    }
+    read_digits(word)
+}
+
+/// A byte: two hex digits.
+pub(crate) fn byte(word: &[u8]) -> Option<u8>
+    ensures form { IsSome result ↔ IsHex BYTE_DIGITS word.now }
+    ensures value { IfSome result (λ b. b ≡ digits_value RADIX word.now) }
+{
+    match word {
+        [high, low] => read_byte(*high, *low),
+        _ => None,
+    }
+}
+
+/// A 7-bit address: two hex digits. One above `7F` has no form.
+pub(crate) fn address(word: &[u8]) -> Option<Addr7>
+    ensures form { IsSome result ↔ (IsHex BYTE_DIGITS word.now × (digits_value RADIX word.now < 128)) }
+    ensures value { IfSome result (λ a. a ≡ digits_value RADIX word.now) }
+{
+    let number = byte(word)?;
+    Addr7::new(number).ok()
+}
+
+/// Whether a word is of decimal digits alone.
+fn is_decimal(word: &[u8]) -> bool
+    ensures { IsTrue result ↔ All IsDecimalDigit word.now }
+{
+    word.iter().all(|byte| matches!(*byte, b'0'..=b'9'))
+}
+
+/// A bit of a frame: decimal digits, up to 65535. Zeros may lead them, and a sign may not.
+pub(crate) fn bit(word: &[u8]) -> Option<u16>
+    ensures form { IsSome result ↔ (IsDecimal word.now × (digits_value BIT_RADIX word.now < 2 ^ 16)) }
+    ensures value { IfSome result (λ b. b ≡ digits_value BIT_RADIX word.now) }
+{
+    if word.is_empty() || !is_decimal(word) {
+        return None;
+    }
+    let Ok(text) = str::from_utf8(word) else {
+        unreachable!();
+    };
+    u16::from_str_radix(text, BIT_RADIX).ok()
+}
+
+/// Kinds of events: two hex digits, of which bit 0 names interrupts, bit 1 role requests and bit 3 Hot-Join. Other bits
+/// are dropped.
+pub(crate) fn kinds(word: &[u8]) -> Option<Kinds>
+    ensures form { IsSome result ↔ IsHex BYTE_DIGITS word.now }
+    ensures value { IfSome result (λ kinds. kinds.0 ≡ bit_and (digits_value RADIX word.now) KNOWN_KINDS) }
+{
+    let byte = byte(word)?;
+    Some(Kinds::from_bits_retain(byte & KNOWN_KINDS))
+}
+
+/// A provisioned ID: twelve hex digits.
+pub(crate) fn pid(word: &[u8]) -> Option<Pid>
+    ensures form { IsSome result ↔ IsHex PID_DIGITS word.now }
+    ensures value { IfSome result (λ p. p ≡ digits_value RADIX word.now) }
+{
+    let number = number(word, PID_DIGITS)?;
+    Pid::new(number).ok()
+}
+
+/// The bytes of a write: two hex digits for each. Of more than are kept the first ones are given.
+pub(crate) fn bytes(word: &[u8]) -> Option<ArrayVec<u8, WRITE_KEPT>>
+    ensures form { IsSome result ↔ AreBytes word.now }
+    ensures value { IfSome result (λ bytes. bytes.items ≡ take WRITE_KEPT (pair_values word.now)) }
+{
+    let mut bytes = ArrayVec::new();
+    push_pairs(word, &mut bytes)?;
+    Some(bytes)
+}
+
+/// Appends the bytes that pairs of hex digits write, as long as there is a place.
+fn push_pairs(digits: &[u8], bytes: &mut ArrayVec<u8, WRITE_KEPT>) -> Option<()>
+    ensures form { IsSome result ↔ AreBytes digits.now }
+    ensures value { IfSome result (λ _. bytes.new.items ≡ bytes.old.items ++ take (WRITE_KEPT - length bytes.old.items) (pair_values digits.now)) }
+{
+    let Some((high, rest)) = digits.split_first() else {
+        return Some(());
+    };
+    let (low, rest) = rest.split_first()?;
+    let byte = read_byte(*high, *low)?;
+    if bytes.is_full() {
+        return check_pairs(rest);
+    }
+    bytes.push(byte);
+    push_pairs(rest, bytes)
+}
+
+/// Nothing, if a word is of pairs of hex digits.
+#[cold]
+#[inline(never)]
+fn check_pairs(digits: &[u8]) -> Option<()>
+    ensures { IsSome result ↔ AreBytes digits.now }
+{
+    let Some((high, rest)) = digits.split_first() else {
+        return Some(());
+    };
+    let (low, rest) = rest.split_first()?;
+    digit(*high)?;
+    digit(*low)?;
+    check_pairs(rest)
+}

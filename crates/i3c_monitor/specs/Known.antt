@@ -1,0 +1,127 @@
+-- What a trace shows of addresses: who has each, and who didn't answer.
+use Rattle.std.specs.Prelude.{ℕ, ◌/◌, ◌==◌, ◌||◌, Bool, true, false, List, [], ◌∷◌, drop, Option, Some, None, replicate, slice_get, slice_set, if◌then◌else◌}
+use Rattle.i3c_base.specs.declared.requests.Request.{Request}
+use Rattle.i3c_deftgts.specs.declared.entries.Entry.{Entry}
+use Rattle.i3c_deftgts.specs.declared.faults.ListFault.{ListFault}
+use Rattle.i3c_deftgts.specs.Entries.{address_of}
+use Rattle.i3c_deftgts.specs.Layout.{bytes}
+use Rattle.i3c_deftgts.specs.Reading.{entries_in, first_fault}
+use Rattle.i3c_frame.specs.declared.symbols.Symbol.{Symbol}
+use Rattle.i3c_monitor.specs.declared.decoded.Decoded.{Decoded}
+use Rattle.i3c_monitor.specs.declared.decoded.Direct.{Direct}
+use Rattle.i3c_monitor.specs.declared.known.Known.{Known}
+use Rattle.i3c_monitor.specs.declared.known.Owner.{Owner}
+use Rattle.i3c_monitor.specs.declared.known.Status.{Status}
+use Rattle.i3c_monitor.specs.Due.{words_in}
+
+-- an address of which nothing is known
+abbrev pub nobodys : Status
+nobodys = record { owner = Owner.Nobody; silent = None }
+
+-- as many of them as there are addresses
+unfoldable pub all_nobodys : List Status
+all_nobodys = replicate 128 nobodys
+
+-- the trace doesn't show who has an address
+abbrev pub forgotten : Known
+forgotten = record { shown = false; statuses = all_nobodys }
+
+-- it shows that nobody has one
+abbrev pub cleared : Known
+cleared = record { shown = true; statuses = all_nobodys }
+
+-- the status, where there is one
+abbrev pub status_in : Option Status → Status
+status_in None = nobodys
+status_in (Some status) = status
+
+-- what is known of an address
+abbrev pub status_of : ℕ → Known → Status
+status_of a known = status_in (slice_get known.statuses a)
+
+-- this is known of it from here on
+abbrev pub with_status : ℕ → Status → Known → Known
+with_status a status known = record { shown = known.shown; statuses = slice_set known.statuses a status }
+
+-- a round gave the address to this identity
+abbrev pub given : ℕ → ℕ → Known → Known
+given a identity known = with_status a (record { owner = Owner.Given identity; silent = None }) known
+
+-- the address didn't answer, by the header of this number
+abbrev pub silenced : ℕ → ℕ → Known → Known
+silenced a symbol known = with_status a (record { owner = (status_of a known).owner; silent = Some symbol }) known
+
+-- the address answered, or asked
+abbrev pub heard : ℕ → Known → Known
+heard a known = with_status a (record { owner = (status_of a known).owner; silent = None }) known
+
+-- whoever was given the address has it, whatever a list says
+abbrev pub listed_owner : Owner → Owner
+listed_owner Owner.Nobody = Owner.Listed
+listed_owner Owner.Listed = Owner.Listed
+listed_owner (Owner.Given identity) = Owner.Given identity
+
+-- a list names the address
+abbrev pub listed : ℕ → Known → Known
+listed a known = with_status a (record { owner = listed_owner (status_of a known).owner; silent = (status_of a known).silent }) known
+
+-- a list has these entries
+abbrev pub all_listed : List (Option Entry) → Known → Known
+all_listed [] known = known
+all_listed (None ∷ rest) known = all_listed rest known
+all_listed (Some entry ∷ rest) known = all_listed rest (listed (address_of entry) known)
+
+-- a list without a fault names all that have an address
+abbrev pub list_read : Option ListFault → List (Option Entry) → Known → Known
+list_read None entries known = all_listed entries (record { shown = true; statuses = known.statuses })
+list_read (Some fault) entries known = known
+
+-- the words behind a code are a list
+abbrev pub list_shown : List Symbol → Known → Known
+list_shown symbols known =
+    let words = words_in (drop 1 symbols) in
+    list_read (first_fault words) (entries_in (bytes words)) known
+
+-- the codes of SETAASA, RSTACT, RSTDAA to one target, SETDASA, SETNEWDA, SETBRGTGT and SETGRPA, after which addresses may be others'
+abbrev pub moves_addresses : ℕ → Bool
+moves_addresses byte =
+    (byte == 0x29) || (byte == 0x2A) || (byte == 0x86) || (byte == 0x87) || (byte == 0x88) || (byte == 0x93) || (byte == 0x9A) || (byte == 0x9B)
+
+-- the address of a target that answered, or asked
+abbrev pub present : Decoded → Option ℕ
+present (Decoded.Transfer a read (Some span)) = Some a
+present (Decoded.Single command a (Some byte)) = Some a
+present (Decoded.Request (Request.Interrupt a) accepted byte) = Some a
+present (Decoded.Request (Request.Role a) accepted byte) = Some a
+present _ = None
+
+-- the address of a target that had to answer and didn't: whoever declines the role need not
+abbrev pub absent : Decoded → Option ℕ
+absent (Decoded.Transfer a read None) = Some a
+absent (Decoded.Single Direct.Enec a None) = Some a
+absent (Decoded.Single Direct.Disec a None) = Some a
+absent _ = None
+
+-- what is known after an address answered
+abbrev pub after_present : Option ℕ → Known → Known
+after_present None known = known
+after_present (Some a) known = heard a known
+
+-- and after one didn't
+abbrev pub after_absent : ℕ → Option ℕ → Known → Known
+after_absent symbol None known = known
+after_absent symbol (Some a) known = silenced a symbol known
+
+-- what is known after a header, of this number, with these symbols behind it. What a refused frame did isn't known
+abbrev pub learned : ℕ → List Symbol → Decoded → Known → Known
+learned symbol behind Decoded.Rstdaa known = cleared
+learned symbol behind (Decoded.Deftgts count) known = list_shown behind known
+learned symbol behind (Decoded.Other byte) known = if moves_addresses byte then forgotten else known
+learned symbol behind (Decoded.Refused fault) known = forgotten
+learned symbol behind (Decoded.Round identity byte true) known = given (byte / 2) identity known
+learned symbol behind decoded known = after_absent symbol (absent decoded) (after_present (present decoded) known)
+
+-- the same, where nothing was told
+abbrev pub learned_of : ℕ → List Symbol → Option Decoded → Known → Known
+learned_of symbol behind None known = known
+learned_of symbol behind (Some decoded) known = learned symbol behind decoded known

@@ -1,0 +1,189 @@
+ghost use Rattle.std.specs.Prelude.{◌≡◌};
+ghost use Rattle.i3c_monitor.specs.declared.decoded.Stop.TheVariants.{Refused as StopRefused, Memory};
+
+use i3c_base::{Addr7, Request};
+use i3c_deftgts::ListFault;
+use i3c_frame::Symbol;
+use std::alloc::AllocError;
+use thiserror::Error;
+
+/// A command to single targets, each of which has a header of its own (I3C Basic 5.1.9.1).
+#[derive(Clone, Copy, Debug, PartialEq, Eq)]
+pub enum Direct {
+    /// Enable events.
+    Enec,
+    /// Disable events.
+    Disec,
+    /// Get accept controller role.
+    Getacccr,
+}
+
+/// Symbols of a trace that follow one another: how many come before them, and how many they are.
+#[derive(Clone, Copy, Debug, PartialEq, Eq)]
+pub struct Span {
+    /// How many symbols stand before it.
+    pub before: usize,
+    /// How many symbols it has.
+    pub count: usize,
+}
+
+impl Span {
+    ghost use Rattle.std.specs.Prelude.{◌≡◌};
+    ghost use Rattle.i3c_monitor.specs.Lines.{symbols_of};
+
+    /// These symbols of a trace, as many as it has.
+    #[inline(always)]
+    pub fn of(self, trace: &[Symbol]) -> &[Symbol]
+        ensures { result.now ≡ symbols_of self trace.now }
+    {
+        let (_, rest) = trace.split_at(self.before.min(trace.len()));
+        let (symbols, _) = rest.split_at(self.count.min(rest.len()));
+        symbols
+    }
+}
+
+/// What a trace has next. Bytes are as they are on the wire.
+#[derive(Clone, Copy, Debug, PartialEq, Eq)]
+pub enum Decoded {
+    /// The frame of this number begins, counted from 1 (I3C Basic 5.1.2).
+    FrameStart(usize),
+    /// A request won the frame's first header (I3C Basic 5.1.2.2). The byte is the one that follows an interrupt that
+    /// was accepted.
+    Request {
+        request: Request,
+        accepted: bool,
+        byte: Option<u8>,
+    },
+    /// ENEC to all, with its byte of kinds (I3C Basic 5.1.9.3.1).
+    Enec(u8),
+    /// DISEC to all, with its byte of kinds.
+    Disec(u8),
+    /// RSTDAA (I3C Basic 5.1.9.3.3).
+    Rstdaa,
+    /// ENTDAA (I3C Basic 5.1.9.3.4).
+    Entdaa,
+    /// DEFTGTS, with a list of so many entries (I3C Basic 5.1.9.3.7).
+    Deftgts(usize),
+    /// A code that this engine doesn't use.
+    Other(u8),
+    /// A round: the identity that was read, the address byte, and whether it was acknowledged (I3C Basic 5.1.4.2).
+    Round {
+        identity: u64,
+        byte: u8,
+        taken: bool,
+    },
+    /// Nobody takes part in a further round.
+    RoundsDone,
+    /// A header of a command to single targets, and the byte behind it: `None` where nobody answered.
+    Single {
+        command: Direct,
+        address: Addr7,
+        byte: Option<u8>,
+    },
+    /// A private transfer, and the symbols behind its header, of which words are its bytes: `None` where nobody answered
+    /// (I3C Basic 5.1.2).
+    Transfer {
+        address: Addr7,
+        read: bool,
+        span: Option<Span>,
+    },
+    /// The trace breaks a rule, and isn't read further.
+    Refused(Fault),
+}
+
+impl Decoded {
+    ghost use Rattle.std.specs.Prelude.{◌≡◌};
+    ghost use Rattle.i3c_monitor.specs.Known.{absent, present};
+    ghost use Rattle.i3c_monitor.specs.Lint.{spoken_to};
+
+    /// The address of a single target to which a header speaks.
+    pub(crate) fn spoken_to(&self) -> Option<Addr7>
+        ensures { result ≡ spoken_to self.now }
+    {
+        match self {
+            Decoded::Transfer { address, .. } | Decoded::Single { address, .. } => Some(*address),
+            _ => None,
+        }
+    }
+
+    /// The address of a target that answered, or asked.
+    pub(crate) fn present(&self) -> Option<Addr7>
+        ensures { result ≡ present self.now }
+    {
+        match self {
+            Decoded::Transfer {
+                address,
+                span: Some(_),
+                ..
+            }
+            | Decoded::Single {
+                address,
+                byte: Some(_),
+                ..
+            }
+            | Decoded::Request {
+                request: Request::Interrupt(address) | Request::Role(address),
+                ..
+            } => Some(*address),
+            _ => None,
+        }
+    }
+
+    /// The address of a target that had to answer and didn't. Whoever declines the role need not.
+    pub(crate) fn absent(&self) -> Option<Addr7>
+        ensures { result ≡ absent self.now }
+    {
+        match self {
+            Decoded::Transfer {
+                address,
+                span: None,
+                ..
+            }
+            | Decoded::Single {
+                command: Direct::Enec | Direct::Disec,
+                address,
+                byte: None,
+            } => Some(*address),
+            _ => None,
+        }
+    }
+}
+
+/// Which rule a trace breaks. Symbols are counted from 1, over the whole trace.
+#[derive(Clone, Copy, Debug, PartialEq, Eq, Drop, Error)]
+pub enum Fault {
+    /// Where a word with a good T bit is due, this symbol is another.
+    #[error("symbol {0} is no word with a right T (docs/FORMATS.md, What `trace` prints)")]
+    Parity(usize),
+    /// What is due doesn't come: this symbol stands in its place, or the trace ends before it.
+    #[error("a word, an identity or an address byte is missing at symbol {0} (docs/FORMATS.md, What `trace` prints)")]
+    Truncated(usize),
+    /// The words of a list are none.
+    #[error("{0} (docs/FORMATS.md, The list of DEFTGTS)")]
+    List(ListFault),
+}
+
+/// Why a part of a trace isn't told.
+#[derive(Clone, Copy, Drop)]
+pub(crate) enum Stop {
+    /// It breaks a rule.
+    Refused(Fault),
+    /// There was no memory for the words of a list.
+    Memory,
+}
+
+impl From<Fault> for Stop {
+    ghost from_gives = { λ fault stop. stop ≡ StopRefused fault };
+
+    fn from(fault: Fault) -> Stop {
+        Stop::Refused(fault)
+    }
+}
+
+impl From<AllocError> for Stop {
+    ghost from_gives = { λ _ stop. stop ≡ Memory };
+
+    fn from(_error: AllocError) -> Stop {
+        Stop::Memory
+    }
+}

@@ -1,0 +1,240 @@
+ghost use Rattle.std.specs.Prelude.{◌≡◌, ◌+◌, ◌<◌, length, IfOk};
+ghost use Rattle.i3c_monitor.specs.Due.{Comes};
+ghost use Rattle.i3c_monitor.specs.Lint.{settled};
+ghost use Rattle.i3c_monitor.specs.Told.{request_of, round_of, single_byte, single_of, told, transfer_of};
+
+use crate::commands::read_code;
+use crate::decoded::{Decoded, Direct, Fault, Span, Stop};
+use crate::words::{due_word, written_byte};
+use i3c_base::{Addr7, Request};
+use i3c_frame::Symbol;
+use std::alloc::{AllocError, Global};
+
+/// The address that every I3C device hears (I3C Basic 5.1.2.2.1).
+pub(crate) const BROADCAST: u8 = 0x7E;
+
+/// The address of a Hot-Join (I3C Basic 5.1.5).
+const HOT_JOIN: u8 = 0x02;
+
+/// Where a frame stands before its next header.
+#[derive(Clone, Copy)]
+pub(crate) enum Mode {
+    /// At its start.
+    First,
+    /// In no command that takes further headers.
+    Plain,
+    /// In a command to single targets.
+    Single(Direct),
+    /// In the rounds of ENTDAA.
+    Rounds,
+    /// After a code that isn't known, where nothing is read.
+    Skipped,
+}
+
+/// What a header and the symbols behind it tell, and where the frame stands then.
+#[derive(Clone, Copy)]
+pub(crate) struct Told {
+    pub decoded: Option<Decoded>,
+    pub mode: Mode,
+}
+
+impl Told {
+    ghost use Rattle.std.specs.Prelude.{◌≡◌, Some, None};
+
+    /// Nothing is told.
+    #[inline(always)]
+    pub fn nothing(mode: Mode) -> Told
+        ensures { (result.decoded ≡ None) × (result.mode ≡ mode) }
+    {
+        Told {
+            decoded: None,
+            mode,
+        }
+    }
+
+    /// This is told.
+    #[inline(always)]
+    pub fn one(decoded: Decoded, mode: Mode) -> Told
+        ensures { (result.decoded ≡ Some decoded) × (result.mode ≡ mode) }
+    {
+        Told {
+            decoded: Some(decoded),
+            mode,
+        }
+    }
+}
+
+/// A header (I3C Basic 5.1.2.2).
+#[derive(Clone, Copy)]
+pub(crate) struct Header {
+    pub address: Addr7,
+    pub read: bool,
+    pub ack: bool,
+}
+
+impl Header {
+    ghost use Rattle.std.specs.Prelude.{◌≡◌};
+    ghost use Rattle.i3c_monitor.specs.Trace.{header_in};
+
+    /// The header that a symbol is, if it is one.
+    #[inline(always)]
+    pub fn of(symbol: &Symbol) -> Option<Header>
+        ensures { result ≡ header_in symbol.now }
+    {
+        match symbol {
+            Symbol::Header { address, read, ack } => Some(Header {
+                address: *address,
+                read: *read,
+                ack: *ack,
+            }),
+            _ => None,
+        }
+    }
+}
+
+/// What a header is where the frame stands, with the symbols behind it, before which the trace has so many.
+#[inline(always)]
+pub(crate) fn read_header(
+    alloc: Global,
+    mode: &Mode,
+    header: &Header,
+    symbols: &[Symbol],
+    before: usize,
+) -> Result<Told, Stop>
+    requires { before + length symbols.now < usize.MAX }
+    ensures { Comes (told mode.now header.now symbols.now before) result }
+{
+    let is_broadcast = header.address.get() == BROADCAST;
+    match mode {
+        Mode::Skipped => Ok(Told::nothing(Mode::Skipped)),
+        _ if is_broadcast && !header.read => read_code(alloc, symbols, before),
+        Mode::First => Ok(Told::one(request_of(header, symbols), Mode::Plain)),
+        Mode::Plain => Ok(Told::one(transfer_of(header, symbols.len(), before), Mode::Plain)),
+        Mode::Single(command) => {
+            let decoded = read_single(command, header, symbols, before)?;
+            Ok(Told::one(decoded, Mode::Single(*command)))
+        }
+        Mode::Rounds if is_broadcast => {
+            let decoded = read_round(header, symbols, before)?;
+            Ok(Told::one(decoded, Mode::Rounds))
+        }
+        Mode::Rounds => Ok(Told::one(transfer_of(header, symbols.len(), before), Mode::Rounds)),
+    }
+}
+
+/// The same, where a refusal is told too: the rest of its frame is skipped.
+pub(crate) fn settled_header(
+    alloc: Global,
+    mode: &Mode,
+    header: &Header,
+    symbols: &[Symbol],
+    before: usize,
+) -> Result<Told, AllocError>
+    requires { before + length symbols.now < usize.MAX }
+    ensures { IfOk result (λ found. found ≡ settled (told mode.now header.now symbols.now before)) }
+{
+    match read_header(alloc, mode, header, symbols, before) {
+        Ok(told) => Ok(told),
+        Err(Stop::Refused(fault)) => Ok(Told::one(Decoded::Refused(fault), Mode::Skipped)),
+        Err(Stop::Memory) => Err(AllocError),
+    }
+}
+
+/// The request that a frame's first header is (I3C Basic 5.1.2.2).
+#[inline(always)]
+fn request_of(header: &Header, symbols: &[Symbol]) -> Decoded
+    ensures { result ≡ request_of header.now symbols.now }
+{
+    let request = if header.read {
+        Request::Interrupt(header.address)
+    } else if header.address.get() == HOT_JOIN {
+        Request::Join
+    } else {
+        Request::Role(header.address)
+    };
+    let byte = match symbols.first() {
+        Some(Symbol::Word(word)) if header.read && header.ack => Some(word.byte),
+        _ => None,
+    };
+    Decoded::Request {
+        request,
+        accepted: header.ack,
+        byte,
+    }
+}
+
+/// A private transfer.
+#[inline(always)]
+fn transfer_of(header: &Header, count: usize, before: usize) -> Decoded
+    ensures { result ≡ transfer_of header.now count before }
+{
+    let span = if header.ack {
+        Some(Span { before, count })
+    } else {
+        None
+    };
+    Decoded::Transfer {
+        address: header.address,
+        read: header.read,
+        span,
+    }
+}
+
+/// A header of a command to single targets, whichever its direction. A byte from the target may have any T bit.
+#[inline(always)]
+fn read_single(
+    command: &Direct,
+    header: &Header,
+    symbols: &[Symbol],
+    before: usize,
+) -> Result<Decoded, Fault>
+    requires { before + length symbols.now < usize.MAX }
+    ensures { result ≡ single_of command.now header.now symbols.now before }
+{
+    let byte = if header.ack {
+        Some(single_byte(command, symbols, before)?)
+    } else {
+        None
+    };
+    Ok(Decoded::Single {
+        command: *command,
+        address: header.address,
+        byte,
+    })
+}
+
+/// The byte behind such a header.
+#[inline(always)]
+fn single_byte(command: &Direct, symbols: &[Symbol], before: usize) -> Result<u8, Fault>
+    requires { before < usize.MAX }
+    ensures { result ≡ single_byte command.now symbols.now before }
+{
+    match command {
+        Direct::Enec | Direct::Disec => written_byte(symbols, before),
+        Direct::Getacccr => Ok(due_word(symbols, before)?.byte),
+    }
+}
+
+/// A round of ENTDAA (I3C Basic 5.1.4.2).
+#[inline(always)]
+fn read_round(header: &Header, symbols: &[Symbol], before: usize) -> Result<Decoded, Fault>
+    requires { before + length symbols.now < usize.MAX }
+    ensures { result ≡ round_of header.now symbols.now before }
+{
+    if !header.ack {
+        return Ok(Decoded::RoundsDone);
+    }
+    match symbols {
+        [
+            Symbol::Identity(identity),
+            Symbol::AddressByte { byte, ack },
+            ..
+        ] => Ok(Decoded::Round {
+            identity: *identity,
+            byte: *byte,
+            taken: *ack,
+        }),
+        [Symbol::Identity(_), ..] => Err(Fault::Truncated(before + 2)),
+        _ => Err(Fault::Truncated(before + 1)),
+    }
+}

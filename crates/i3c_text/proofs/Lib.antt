@@ -1,0 +1,4 @@
+pub mod DecimalLaws
+pub mod DigitLaws
+pub mod HexLaws
+pub mod HexTexts

@@ -1,0 +1,372 @@
+use crate::faults::Fault;
+use crate::script::{KNOWN, Script, legacies_of};
+use i3c_base::{Addr7, Cuts, Fixed, Lvr, RoundReply, SLOTS, Setup, Slot};
+use i3c_bus::{Command as Frame, Event, Reply};
+use i3c_legacy::Legacies;
+use i3c_lines::{ACCEPT_ALL, Command, Name, Names, Place, read_line};
+use i3c_model::{Choice, Plain};
+use i3c_step::copy_of;
+use std::alloc::Global;
+use std::{mem, str};
+
+/// A bus as its script's lines are read: the plain machine says which slots are free, and how many rounds a whole
+/// assignment has.
+#[derive(Drop)]
+struct Running {
+    plain: Plain,
+    policy: Fixed,
+    cuts: Cuts,
+    // what a comment says of the next event
+    choice: Option<Choice>,
+    script: Script,
+}
+
+/// The script of a text, if it has a bus. Lines that ask for no event are passed over.
+pub(crate) fn read_script(alloc: Global, text: &[u8]) -> Result<Option<Script>, Fault> {
+    let mut reading = Reading::new(alloc);
+    reading.read_lines(text)?;
+    reading.end()
+}
+
+/// A text that is read line by line.
+#[derive(Drop)]
+struct Reading {
+    alloc: Global,
+    names: Names,
+    // the legacy targets that came before the bus
+    declared: Vec<(Addr7, Lvr)>,
+    running: Option<Running>,
+}
+
+impl Reading {
+    fn new(alloc: Global) -> Reading {
+        Reading {
+            alloc,
+            names: Names::new(alloc),
+            declared: Vec::new(alloc),
+            running: None,
+        }
+    }
+
+    fn read_lines(&mut self, text: &[u8]) -> Result<(), Fault> {
+        for line in text.split(|byte| *byte == b'\n') {
+            self.read(line)?;
+        }
+        Ok(())
+    }
+
+    fn read(&mut self, line: &[u8]) -> Result<(), Fault> {
+        let Ok(Some(command)) = read_line(line) else {
+            Running::note(&mut self.running, line);
+            return Ok(());
+        };
+        self.obey(&command)
+    }
+
+    fn obey(&mut self, command: &Command) -> Result<(), Fault> {
+        match &mut self.running {
+            Some(bus) => bus.obey(&mut self.names, command),
+            None => {
+                self.running = begin(self.alloc, &mut self.names, &mut self.declared, command)?;
+                Ok(())
+            }
+        }
+    }
+
+    // What was read, and then what shows more of it.
+    fn end(self) -> Result<Option<Script>, Fault> {
+        let Reading { alloc, running, .. } = self;
+        match running {
+            Some(bus) => Ok(Some(bus.end(alloc)?)),
+            None => Ok(None),
+        }
+    }
+}
+
+/// A line before the bus: a legacy target, or the start.
+fn begin(
+    alloc: Global,
+    names: &mut Names,
+    declared: &mut Vec<(Addr7, Lvr)>,
+    command: &Command,
+) -> Result<Option<Running>, Fault> {
+    let _ = KNOWN;
+    match command {
+        Command::Legacy { name, address, lvr } => {
+            declare(names, declared, name, *address, *lvr)?;
+            Ok(None)
+        }
+        Command::Main { name, setup } => {
+            if names.place_of(name).is_some() || !setup.identity.bcr.capable() {
+                return Ok(None);
+            }
+            names.give_slot(name, Slot::default())?;
+            let declared = mem::replace(declared, Vec::new(alloc));
+            Ok(Some(Running::new(alloc, setup, declared)?))
+        }
+        _ => Ok(None),
+    }
+}
+
+/// A legacy target, unless its name or its address is another's.
+fn declare(
+    names: &mut Names,
+    declared: &mut Vec<(Addr7, Lvr)>,
+    name: &Name,
+    address: Addr7,
+    lvr: Lvr,
+) -> Result<(), Fault> {
+    let mut legacies = legacies_of(declared);
+    if names.place_of(name).is_none() && legacies.add(address, lvr).is_ok() {
+        declared.push((address, lvr))?;
+        names.give_address(name, address)?;
+    }
+    Ok(())
+}
+
+/// What a reply says of a whole assignment.
+#[derive(Clone, Copy, PartialEq, Eq)]
+enum Session {
+    /// It has begun.
+    Opened,
+    /// Another round comes.
+    GoesOn,
+    /// Neither.
+    Other,
+}
+
+impl Session {
+    fn after(reply: &Reply) -> Session {
+        match reply {
+            Reply::Opened(_) => Session::Opened,
+            Reply::Round(RoundReply::Assigned(..) | RoundReply::Nobody) => Session::GoesOn,
+            _ => Session::Other,
+        }
+    }
+}
+
+impl Running {
+    // A bus that starts, beside these legacy targets.
+    fn new(alloc: Global, main: &Setup, declared: Vec<(Addr7, Lvr)>) -> Result<Running, Fault> {
+        let plain = Plain::new(alloc, *main, legacies_of(&declared))?;
+        Ok(Running {
+            plain,
+            policy: ACCEPT_ALL,
+            cuts: Cuts::new(),
+            choice: None,
+            script: Script::new(alloc, main, declared),
+        })
+    }
+
+    // A line that asks for nothing: a comment may say the choice of the next event.
+    fn note(running: &mut Option<Running>, line: &[u8]) {
+        if let (Some(bus), Some(choice)) = (running, choice_named(line)) {
+            bus.choice = Some(choice);
+        }
+    }
+
+    fn obey(&mut self, names: &mut Names, command: &Command) -> Result<(), Fault> {
+        let _ = KNOWN;
+        match command {
+            Command::Frame(frame) => {
+                let event = self.sent(frame);
+                let _ = self.happen(event)?;
+                Ok(())
+            }
+            Command::Policy(policy) => {
+                self.policy = *policy;
+                Ok(())
+            }
+            Command::Cut { name, bit } => {
+                if let Ok(slot) = names.slot_of(name) {
+                    self.cuts.add(slot, *bit);
+                }
+                Ok(())
+            }
+            Command::Daa => self.assign(),
+            _ => self.obey_alone(names, command),
+        }
+    }
+
+    // A line that is one event and no frame under the role, or that asks for nothing.
+    fn obey_alone(&mut self, names: &mut Names, command: &Command) -> Result<(), Fault> {
+        if let Some(event) = self.event_of(names, command) {
+            if let (Command::Attach { name, .. }, Event::Attach(slot, _)) = (command, &event) {
+                names.give_slot(name, *slot)?;
+            }
+            let _ = self.happen(event)?;
+        }
+        Ok(())
+    }
+
+    // An event, with the choice that was said for it, if one was.
+    fn happen(&mut self, event: Event) -> Result<Session, Fault> {
+        let _ = KNOWN;
+        let (is_said, choice) = self.said();
+        let reply = self.plain.step(&event, choice)?;
+        self.script.events.push(event)?;
+        let session = Session::after(&reply);
+        self.script.said.push(is_said)?;
+        self.script.replies.push(reply)?;
+        Ok(session)
+    }
+
+    // Whether a choice was said for the next event, and which. The event after it has none.
+    fn said(&mut self) -> (bool, Choice) {
+        match mem::replace(&mut self.choice, None) {
+            Some(choice) => (true, choice),
+            None => (false, Choice::Heard),
+        }
+    }
+
+    // A whole session.
+    fn assign(&mut self) -> Result<(), Fault> {
+        let _ = KNOWN;
+        let cuts = self.take();
+        if self.happen(Event::OpenDaa(cuts))? != Session::Opened {
+            return Ok(());
+        }
+        for _ in 0..SLOTS {
+            if self.happen(Event::Round(Cuts::new()))? != Session::GoesOn {
+                break;
+            }
+        }
+        let _ = self.happen(Event::EndDaa)?;
+        Ok(())
+    }
+
+    // What happened to it, and then what shows more of it.
+    fn end(mut self, alloc: Global) -> Result<Script, Fault> {
+        self.ask_on(alloc)?;
+        Ok(self.script)
+    }
+
+    // What shows wishes, enabled kinds and kept addresses that nothing tells of: whoever asks is served, each device
+    // comes again, is assigned, and interrupts.
+    fn ask_on(&mut self, alloc: Global) -> Result<(), Fault> {
+        self.script.own = self.script.events.len();
+        let came = self.script.attached(alloc)?;
+        self.come_again(&came)
+    }
+
+    fn come_again(&mut self, came: &[(Slot, Setup)]) -> Result<(), Fault> {
+        self.serve_twice()?;
+        self.attach_each(came)?;
+        let _ = self.happen(Event::EndDaa)?;
+        self.policy = ACCEPT_ALL;
+        self.assign()?;
+        self.raise_each(came)?;
+        self.serve_twice()
+    }
+
+    fn attach_each(&mut self, devices: &[(Slot, Setup)]) -> Result<(), Fault> {
+        let _ = KNOWN;
+        for (slot, setup) in devices {
+            let _ = self.happen(Event::Attach(*slot, *setup))?;
+        }
+        Ok(())
+    }
+
+    fn raise_each(&mut self, devices: &[(Slot, Setup)]) -> Result<(), Fault> {
+        let _ = KNOWN;
+        for (slot, setup) in devices {
+            let byte = if setup.identity.bcr.has_byte() {
+                Some(0x5A)
+            } else {
+                None
+            };
+            let _ = self.happen(Event::Raise(*slot, byte))?;
+        }
+        Ok(())
+    }
+
+    fn serve_twice(&mut self) -> Result<(), Fault> {
+        let _ = KNOWN;
+        for _ in 0..2 {
+            let _ = self.happen(Event::Serve(ACCEPT_ALL, Cuts::new()))?;
+        }
+        Ok(())
+    }
+
+    fn take(&mut self) -> Cuts {
+        mem::replace(&mut self.cuts, Cuts::new())
+    }
+
+    // The event that a line asks for, if it asks for one.
+    fn event_of(&mut self, names: &Names, command: &Command) -> Option<Event> {
+        match command {
+            Command::Attach { name, setup } => Some(Event::Attach(self.seat(names, name)?, *setup)),
+            Command::DropOff { name } => Some(Event::DropOff(slot_of(names, name)?)),
+            Command::Raise { name, byte } => Some(Event::Raise(slot_of(names, name)?, *byte)),
+            Command::AskJoin { name } => Some(Event::AskJoin(slot_of(names, name)?)),
+            Command::AskRole { name } => Some(Event::AskRole(slot_of(names, name)?)),
+            Command::HandOver { to } => Some(Event::HandOver(*to, self.take())),
+            Command::Open => Some(Event::OpenDaa(self.take())),
+            Command::Round => Some(Event::Round(self.take())),
+            Command::End => Some(Event::EndDaa),
+            _ => None,
+        }
+    }
+
+    // A frame under the role: with the policy, and with the cuts that were noted for it.
+    fn sent(&mut self, frame: &Frame) -> Event {
+        let (policy, cuts) = (self.policy, self.take());
+        match frame {
+            Frame::Serve => Event::Serve(policy, cuts),
+            Frame::Enec(to, kinds) => Event::Enec(*to, *kinds, policy, cuts),
+            Frame::Disec(to, kinds) => Event::Disec(*to, *kinds, policy, cuts),
+            Frame::Reset => Event::Reset(policy, cuts),
+            Frame::SendList => Event::SendList(policy, cuts),
+            Frame::ReadFrom(at) => Event::ReadFrom(*at, policy, cuts),
+            Frame::WriteTo(at, bytes) => Event::WriteTo(*at, copy_of(bytes), policy, cuts),
+        }
+    }
+
+    // The slot that a device enters: the lowest free one. Where one of its name is there still, it is that one's slot, and
+    // the bus refuses it, unless a cut has made room.
+    fn seat(&self, names: &Names, name: &Name) -> Option<Slot> {
+        let Some(place) = names.place_of(name) else {
+            return self.free_slot();
+        };
+        match place {
+            Place::Legacy(_) => None,
+            Place::Gone => self.free_slot(),
+            Place::Slot(slot) => {
+                if self.plain.present(slot) {
+                    Some(slot)
+                } else {
+                    self.free_slot()
+                }
+            }
+        }
+    }
+
+    // The lowest slot without a device.
+    fn free_slot(&self) -> Option<Slot> {
+        for number in 0..SLOTS as u8 {
+            let slot = Slot::new(number).ok()?;
+            if !self.plain.present(slot) {
+                return Some(slot);
+            }
+        }
+        None
+    }
+}
+
+/// The slot that a name stands for, if its device is there.
+fn slot_of(names: &Names, name: &Name) -> Option<Slot> {
+    match names.slot_of(name) {
+        Ok(slot) => Some(slot),
+        Err(_) => None,
+    }
+}
+
+/// The choice that a comment says.
+fn choice_named(line: &[u8]) -> Option<Choice> {
+    match str::from_utf8(line).ok()?.strip_prefix("# choose ")? {
+        "heard" => Some(Choice::Heard),
+        "lost" => Some(Choice::Lost),
+        "silent" => Some(Choice::Silent),
+        _ => None,
+    }
+}

@@ -1,0 +1,30 @@
+use crate::checks::same;
+use i3c_base::Cuts;
+use i3c_bus::{Bus, Event, Reply};
+use std::mem::size_of;
+
+// Runs are kept by the million. A cut is a bit for each slot, and a mark whether it is cut.
+#[test]
+fn cuts_are_34_bytes(rt: HostRuntime) {
+    same(&rt, size_of::<Cuts>(), 34);
+}
+
+// The largest event is a write: its address and policy, seventeen bytes with their number, which takes eight, and cuts.
+#[test]
+fn an_event_is_80_bytes(rt: HostRuntime) {
+    same(&rt, size_of::<Event>(), 80);
+}
+
+// The largest reply is that of a read: what was served, with a record's number of eight bytes, and sixteen bytes.
+#[test]
+fn a_reply_is_48_bytes(rt: HostRuntime) {
+    same(&rt, size_of::<Reply>(), 48);
+}
+
+// A bus has sixteen devices with eight waiting interrupts each, and nine marks and a key for each slot. Its table has eleven
+// bytes for each address, one of them for the order of known identities, and three sets of addresses. It has a list of all
+// addresses, and legacy targets with sixteen registers. All is inline, so that a frame wants no memory but for a record.
+#[test]
+fn a_bus_is_5872_bytes(rt: HostRuntime) {
+    same(&rt, size_of::<Bus>(), 5872);
+}

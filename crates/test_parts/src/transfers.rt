@@ -1,0 +1,144 @@
+ghost use Rattle.std.specs.Prelude.{◌≤◌, length};
+
+use crate::events::MOST_BEGUN;
+use crate::faults::Fault;
+use crate::setting::Setting;
+use crate::taps::Told;
+use crate::told::{Answer, told, told_hex, told_text, told_trace};
+use crate::words::Words;
+use i3c_base::{Addr7, REGISTERS};
+use i3c_xfer::{Read, Write, read, read_bits, tell_read, tell_write, write, write_bits};
+use std::alloc::Global;
+
+/// What a write comes to.
+const WRITES: [(&str, Write); 3] = [
+    ("nobody", Write::Nobody),
+    ("legacy", Write::Legacy),
+    ("devices", Write::Devices),
+];
+
+/// The calls on private transfers.
+pub(crate) fn call(setting: &mut Setting, call: &str, words: &mut Words<'_>) -> Answer {
+    match call {
+        "read" | "read-answer" | "read-bits" => of_read(setting, call, words),
+        "write" | "write-answer" | "write-bits" => of_write(setting, call, words),
+        "legacy-registers" => legacy_registers(setting, words),
+        "tell-read" => trace_of_read(setting.alloc, words),
+        "tell-write" => trace_of_write(setting.alloc, words),
+        _ => Err(Fault::Unknown),
+    }
+}
+
+/// A read: what it came to, its answer, or its bits.
+fn of_read(setting: &Setting, call: &str, words: &mut Words<'_>) -> Answer {
+    let alloc = setting.alloc;
+    let to = words.address()?;
+    let came = came(setting, to)?;
+    match call {
+        "read" => told_hex(alloc, &came),
+        "read-answer" => told_hex(alloc, &came.answer(to)),
+        _ => told(alloc, &read_bits(&came.answer(to))),
+    }
+}
+
+/// What a read comes to.
+fn came(setting: &Setting, to: Addr7) -> Result<Read, Fault> {
+    let begun = setting.begun;
+    if begun > MOST_BEGUN {
+        return Err(Fault::Unknown);
+    }
+    Ok(read(
+        &setting.devices,
+        &setting.targets,
+        setting.active,
+        to,
+        &setting.cuts,
+        begun,
+    ))
+}
+
+/// A write: what it came to, its answer, or its bits.
+fn of_write(setting: &mut Setting, call: &str, words: &mut Words<'_>) -> Answer {
+    let alloc = setting.alloc;
+    let to = words.address()?;
+    let bytes = words.bytes(alloc)?;
+    if bytes.len() > REGISTERS {
+        return Err(Fault::Unknown);
+    }
+    let wrote = wrote(setting, to, &bytes)?;
+    match call {
+        "write" => told_hex(alloc, &wrote),
+        "write-answer" => told_hex(alloc, &wrote.answer(to)),
+        _ => told(alloc, &write_bits(&bytes, &wrote.answer(to))),
+    }
+}
+
+/// What a write comes to.
+fn wrote(setting: &mut Setting, to: Addr7, bytes: &[u8]) -> Result<Write, Fault>
+    requires { length bytes.now ≤ 16 }
+{
+    let begun = setting.begun;
+    if begun > MOST_BEGUN {
+        return Err(Fault::Unknown);
+    }
+    Ok(write(
+        &mut setting.devices,
+        &mut setting.targets,
+        setting.active,
+        to,
+        bytes,
+        &setting.cuts,
+        begun,
+    ))
+}
+
+/// The registers of the legacy target at an address, if there is one.
+fn legacy_registers(setting: &Setting, words: &mut Words<'_>) -> Answer {
+    match setting.targets.get(words.address()?) {
+        Some(target) => told_hex(setting.alloc, &Some(target.registers)),
+        None => told_text(setting.alloc, "None"),
+    }
+}
+
+/// How a read is told after the header of its frame.
+fn trace_of_read(alloc: Global, words: &mut Words<'_>) -> Answer {
+    let to = words.address()?;
+    let came = read_named(words)?;
+    let mut told = Told::begun(alloc);
+    tell_read(&mut told, to, &came);
+    told_trace(alloc, &told.symbols)
+}
+
+/// What a read came to.
+fn read_named(words: &mut Words<'_>) -> Result<Read, Fault> {
+    let name = words.word()?;
+    if name == "nobody" {
+        return Ok(Read::Nobody);
+    }
+    let registers = registers(words)?;
+    match name {
+        "legacy" => Ok(Read::Legacy(registers)),
+        "ended" => Ok(Read::Ended(registers)),
+        "torn" => Ok(Read::Torn(registers)),
+        _ => Err(Fault::Unknown),
+    }
+}
+
+/// A byte for each register.
+fn registers(words: &mut Words<'_>) -> Result<[u8; REGISTERS], Fault> {
+    let mut bytes = [0; REGISTERS];
+    for byte in bytes.iter_mut() {
+        *byte = words.byte()?;
+    }
+    Ok(bytes)
+}
+
+/// How a write is told after the header of its frame.
+fn trace_of_write(alloc: Global, words: &mut Words<'_>) -> Answer {
+    let to = words.address()?;
+    let wrote = words.named(&WRITES)?;
+    let bytes = words.bytes(alloc)?;
+    let mut told = Told::begun(alloc);
+    tell_write(&mut told, to, &bytes, &wrote);
+    told_trace(alloc, &told.symbols)
+}

@@ -1,0 +1,10 @@
+use Rattle.test_threads.proofs.sharing.wish_from_two_threads.Given as goal
+
+abbrev pub ghosts-wish_from_two_threads_with-L-Ledger : goal.ghosts-wish_from_two_threads_with-L-Ledger
+ghosts-wish_from_two_threads_with-L-Ledger g a = record { name = a.active.name; parts = a.active.parts }
+
+abbrev pub ghosts-wish_from_two_threads_with-M-Ledger : goal.ghosts-wish_from_two_threads_with-M-Ledger
+ghosts-wish_from_two_threads_with-M-Ledger g a = record { name = a.session.name; parts = a.session.parts }
+
+abbrev pub ghosts-wish_from_two_threads_with-N-Ledger : goal.ghosts-wish_from_two_threads_with-N-Ledger
+ghosts-wish_from_two_threads_with-N-Ledger g a = record { name = a.frames.name; parts = a.frames.parts }
