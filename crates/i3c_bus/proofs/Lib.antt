@@ -1,4 +1,5 @@
 pub mod Seen
+pub mod Wished
 pub mod Locally
 pub mod Framing
 pub mod Heard

@@ -1,5 +1,6 @@
 pub mod Room
 pub mod Readings
+pub mod Wishing
 pub mod Hands
 pub mod Parts
 pub mod Wire

@@ -1,9 +1,10 @@
 ghost use Rattle.std.specs.Prelude.{◌≡◌};
 
 use crate::tokens::Hand;
-use i3c_base::{Addr7, Identity, RaiseRefusal, Record, RoleRefusal, SLOTS, Setup, Slot};
+use crate::wishes::wish;
+use i3c_base::{Addr7, Identity, RaiseRefusal, Record, Request, RoleRefusal, SLOTS, Setup, Slot};
 use i3c_deftgts::List;
-use i3c_device::{Device, Devices};
+use i3c_device::{Device, Devices, SlotSet};
 use i3c_handoff::{Active, Role, retire};
 use i3c_hotjoin::{JoinRefusal, ask};
 use i3c_legacy::{LEGACIES, Legacies, LegacyTargets};
@@ -74,10 +75,12 @@ impl Bus {
     ghost use Rattle.i3c_base.specs.Numbers.{is_capable};
     ghost use Rattle.i3c_base.specs.Covered.{IsTable};
     ghost use Rattle.i3c_bus.specs.Whole.{IsCopyOf};
-    ghost use Rattle.i3c_base.specs.State.{device_at, IsStart, legacy_targets_of};
+    ghost use Rattle.i3c_base.specs.Serve.{NoneAsks};
+    ghost use Rattle.i3c_base.specs.State.{Device as DeviceState, device_at, IsStart, legacy_targets_of};
+    ghost use Rattle.i3c_bus.specs.Wishing.{wish_of};
     ghost use Rattle.i3c_step.specs.Step.{Step};
     ghost use Rattle.i3c_bus.specs.Hands.{HandFits};
-    ghost use Rattle.i3c_bus.specs.Readings.{address_of, keeps_copy, waiting_of};
+    ghost use Rattle.i3c_bus.specs.Readings.{IsAsked, address_of, identity_of, keeps_copy, waiting_of};
     ghost use Rattle.i3c_bus.specs.Room.{StaysAround};
     ghost use Rattle.i3c_step.specs.Replies.{attached_reply, dropped_reply, joins_reply, raised_reply, role_reply};
     ghost use Rattle.i3c_step.specs.declared.events.Event.{Event};
@@ -153,6 +156,49 @@ impl Bus {
         ensures { result ≡ waiting_of (device_at self.now.state slot) }
     {
         self.devices.waiting(slot)
+    }
+
+    /// The first request that the next frame would meet, and the slots whose devices drive it (I3C Basic 5.1.6.2).
+    pub fn asking(&self) -> Option<(Request, SlotSet)>
+        ensures { MatchOption result (NoneAsks self.now.state) (IsAsked self.now.state) }
+    {
+        self.devices.first_request(self.active())
+    }
+
+    /// What a slot's device is, if there is one (I3C Basic 5.1.1.2).
+    pub fn identity(&self, slot: Slot) -> Option<Identity>
+        ensures { result ≡ identity_of (device_at self.now.state slot) }
+    {
+        self.devices.identity(slot)
+    }
+
+    /// Whether interrupts of a slot's device are enabled (I3C Basic 5.1.9.3.1).
+    pub fn may_interrupt(&self, slot: Slot) -> bool
+        ensures { (d : DeviceState) → device_at self.now.state slot ≡ Some d → result ≡ d.kinds.interrupt }
+    {
+        self.devices.may_interrupt(slot)
+    }
+
+    /// Whether role requests of a slot's device are enabled (I3C Basic 5.1.9.3.1).
+    pub fn may_ask_role(&self, slot: Slot) -> bool
+        ensures { (d : DeviceState) → device_at self.now.state slot ≡ Some d → result ≡ d.kinds.role }
+    {
+        self.devices.may_ask_role(slot)
+    }
+
+    /// Whether joins of a slot's device are enabled (I3C Basic 5.1.9.3.1).
+    pub fn may_join(&self, slot: Slot) -> bool
+        ensures { (d : DeviceState) → device_at self.now.state slot ≡ Some d → result ≡ d.kinds.join }
+    {
+        self.devices.may_join(slot)
+    }
+
+    /// The request that a slot's device would drive if each kind of its events was enabled, if it would drive one: a join
+    /// without an address, else the role request before the interrupt (I3C Basic 5.1.6).
+    pub fn wish(&self, slot: Slot) -> Option<Request>
+        ensures { result ≡ wish_of (device_at self.now.state slot) }
+    {
+        wish(&self.devices, slot)
     }
 
     /// The recorded interrupts, the oldest first.

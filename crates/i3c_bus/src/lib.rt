@@ -15,10 +15,12 @@ mod sessions;
 mod tokens;
 mod transferring;
 mod wire;
+mod wishes;
 
 pub use assigning::Assignment;
 pub use bus::{Bus, Records};
 pub use i3c_base::{Answer, JoinRefusal, RaiseRefusal, Request, RoundReply, Served};
+pub use i3c_device::SlotSet;
 pub use i3c_handoff::Role;
 pub use i3c_ibi::{Fixed, Policy, Record, Verdict};
 pub use i3c_step::{

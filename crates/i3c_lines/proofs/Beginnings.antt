@@ -6,7 +6,7 @@ use Rattle.i3c_lines.specs.declared.command.Command.{Command}
 use Rattle.i3c_lines.specs.Forms.{IsForm, tokens, with_first}
 use Rattle.i3c_lines.specs.Parsing.{Becomes, BecomesOther, IsOther}
 use Rattle.i3c_lines.proofs.LineLaws.{line_is, line_of, some_word}
-use Rattle.i3c_lines.proofs.Meanings.{are_same, as_meant, first_of, hex, kinds_of, meant, meant_is, named, number_of, rest_of, written_of}
+use Rattle.i3c_lines.proofs.Meanings.{are_same, as_meant, first_of, hex, kinds_of, meant, meant_is, named, number_of, rest_of, shown_by, written_of}
 
 abbrev tail_of : List ℕ → List ℕ
 tail_of [] = []
@@ -75,16 +75,29 @@ only_e tail command form =
           ]
     ]
 
+-- the two lines that `show` begins
+shown : (word : List ℕ) (words : List (List ℕ)) → IsForm (word ∷ words) (shown_by words) → (word ∷ words ≡ codes "show" ∷ []) ⊎ (word ∷ words ≡ codes "show" ∷ codes "all" ∷ [])
+shown word [] e = inl e
+shown word (next ∷ words) e = inr e
+
 -- behind `s`
-pub only_s : (tail : List ℕ) (command : Command) → IsForm (tokens (115 ∷ tail)) command → (tail ≡ codes "erve") ⊎ (tail ≡ codes "how") ⊎ (tail ≡ codes "ymbols")
+pub only_s : (tail : List ℕ) (command : Command) → IsForm (tokens (115 ∷ tail)) command → (tail ≡ codes "erve") ⊎ (tail ≡ codes "how") ⊎ (tail ≡ codes "ymbols") ⊎ (tail ≡ codes "how all")
 only_s tail command form =
     let (word, words, e, here) = begun 115 tail command refl form in
     elim (either (are_same word (codes "erve")) (Command.Frame Frame.Serve) _ _ here) [
       | inl is ↦ inl (alone 115 tail (codes "erve") (e ∙ is))
       | inr other ↦
-          elim (either (are_same word (codes "ymbols")) Command.Symbols Command.Show _ other) [
-            | inl is ↦ inr (inr (alone 115 tail (codes "ymbols") (e ∙ is)))
-            | inr is ↦ inr (inl (alone 115 tail (codes "how") (e ∙ is)))
+          elim (either (are_same word (codes "ymbols")) Command.Symbols _ _ other) [
+            | inl is ↦ inr (inr (inl (alone 115 tail (codes "ymbols") (e ∙ is))))
+            | inr third ↦
+                elim (either (are_same word (codes "how")) (shown_by words) Command.Show _ third) [
+                  | inl shows ↦
+                      elim (shown (115 ∷ word) words shows) [
+                        | inl is ↦ inr (inl (alone 115 tail (codes "how") (e ∙ is)))
+                        | inr is ↦ inr (inr (inr (ap tail_of (line_is (115 ∷ tail) (codes "show" ∷ codes "all" ∷ []) (e ∙ is)))))
+                      ]
+                  | inr is ↦ inr (inl (alone 115 tail (codes "how") (e ∙ is)))
+                ]
           ]
     ]
 

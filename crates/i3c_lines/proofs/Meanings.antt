@@ -76,6 +76,11 @@ abbrev pub willing_of : List (List ℕ) → Bool
 willing_of [] = true
 willing_of (word ∷ words) = false
 
+-- `show` alone, or with a word behind it
+abbrev pub shown_by : List (List ℕ) → Command
+shown_by [] = Command.Show
+shown_by (word ∷ words) = Command.ShowAll
+
 abbrev pub kinds_of : List ℕ → Kinds
 kinds_of word = record { 0 = bit_and (hex word) 11 }
 
@@ -99,6 +104,7 @@ meant_by word args =
     (cond (are_same word (codes "round")) Command.Round
     (cond (are_same word (codes "serve")) (Command.Frame Frame.Serve)
     (cond (are_same word (codes "symbols")) Command.Symbols
+    (cond (are_same word (codes "show")) (shown_by args)
     (cond (are_same word (codes "enec")) (Command.Frame (Frame.Enec (number_of (rest_of args)) (kinds_of (first_of args))))
     (cond (are_same word (codes "end")) Command.End
     (cond (are_same word (codes "disec")) (Command.Frame (Frame.Disec (number_of (rest_of args)) (kinds_of (first_of args))))
@@ -114,7 +120,8 @@ meant_by word args =
     (cond (are_same word (codes "ask-role")) (Command.AskRole (named (first_of args)))
     (cond (are_same word (codes "handover")) (Command.HandOver (hex (first_of args)))
     (cond (are_same word (codes "policy")) (Command.Policy (policy_of (first_of args)))
-    (cond (are_same word (codes "cut")) (Command.Cut (named (first_of args)) (digits_value 10 (first_of (rest_of args)))) Command.Show)))))))))))))))))))))
+    (cond (are_same word (codes "cut")) (Command.Cut (named (first_of args)) (digits_value 10 (first_of (rest_of args))))
+    (cond (are_same word (codes "frames")) (Command.Frames (digits_value 10 (first_of args))) Command.Show)))))))))))))))))))))))
 
 -- the command that these words can be at most
 abbrev pub meant : List (List ℕ) → Command
@@ -183,7 +190,9 @@ meant_is words Command.Daa e = ap meant e
 meant_is words (Command.Policy policy) (word, e, is) = ap meant e ∙ ap Command.Policy (policy_is word policy is)
 meant_is words (Command.Cut name bit) (word, digits, e, is, b) = ap meant e ∙ (λ i. Command.Cut (named_is word name is i) (sym b.1 i))
 meant_is words Command.Show e = ap meant e
+meant_is words Command.ShowAll e = ap meant e
 meant_is words Command.Symbols e = ap meant e
+meant_is words (Command.Frames count) (word, e, is) = ap meant e ∙ ap Command.Frames (sym is.0.1)
 
 -- so they have its form, if they have any
 pub as_meant : (words : List (List ℕ)) (command : Command) → IsForm words command → IsForm words (meant words)

@@ -127,7 +127,11 @@ prints (Command.Cut name bit) h =
     let digits = decimal_writes bit (omega (arith, h.1)) in
     ((letters name, decimal bit, refl, (h.0, refl), digits.0), (plain (codes "cut") tt, (fit.0.0, (digits.1, tt))), omega (arith, fit.1, digits.2))
 prints Command.Show h = (refl, (plain (codes "show") tt, tt), omega arith)
+prints Command.ShowAll h = (refl, (plain (codes "show") tt, (plain (codes "all") tt, tt)), omega arith)
 prints Command.Symbols h = (refl, (plain (codes "symbols") tt, tt), omega arith)
+prints (Command.Frames count) h =
+    let digits = decimal_writes count (omega (arith, h.1)) in
+    ((decimal count, refl, (digits.0, h.0)), (plain (codes "frames") tt, (digits.1, tt)), omega (arith, digits.2))
 
 -- words that are apart are those of their line, and this is short
 read_again : (words : List (List ℕ)) → Apart words → total words ≤ 60 → (0 < length words) → (tokens (spaced words) ≡ words) × (length (spaced words) ≤ 256)

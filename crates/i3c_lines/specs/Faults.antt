@@ -19,8 +19,10 @@ IsField Field.Addr word = IsHex 2 word × (digits_value 16 word < 128)
 IsField Field.Byte word = IsHex 2 word
 IsField Field.Bytes word = (0 < length word) × AreBytes word
 IsField Field.Bit word = IsDecimal word × (digits_value 10 word < 65536)
+IsField Field.Count word = IsDecimal word × (digits_value 10 word < 65536) × (0 < digits_value 10 word)
 IsField Field.Policy word = (policy : Fixed) × IsPolicy word policy
 IsField Field.Decline word = word ≡ codes "decline"
+IsField Field.All word = word ≡ codes "all"
 
 -- what a fault says of its line is so. Of the words of a line it says only that one hasn't its field's form
 abbrev pub IsSo : List ℕ → FormFault → Type 0

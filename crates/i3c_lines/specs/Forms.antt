@@ -43,6 +43,10 @@ WritesKinds word kinds = IsHex 2 word × (kinds.0 ≡ bit_and (digits_value 16 w
 abbrev pub WritesBit : List ℕ → ℕ → Type 0
 WritesBit word bit = IsDecimal word × (bit ≡ digits_value 10 word) × (bit < 65536)
 
+-- the same, but 1 at least
+abbrev pub WritesCount : List ℕ → ℕ → Type 0
+WritesCount word count = WritesBit word count × (0 < count)
+
 -- three words that are an identity
 abbrev pub WritesIdentity : List ℕ → List ℕ → List ℕ → Identity → Type 0
 WritesIdentity pid bcr dcr identity = Writes 12 pid identity.pid × Writes 2 bcr identity.bcr.0 × Writes 2 dcr identity.dcr.0
@@ -110,7 +114,9 @@ IsForm words Command.Daa = words ≡ codes "daa" ∷ []
 IsForm words (Command.Policy policy) = (word : List ℕ) × (words ≡ codes "policy" ∷ word ∷ []) × IsPolicy word policy
 IsForm words (Command.Cut name bit) = (word digits : List ℕ) × (words ≡ codes "cut" ∷ word ∷ digits ∷ []) × IsNamed word name × WritesBit digits bit
 IsForm words Command.Show = words ≡ codes "show" ∷ []
+IsForm words Command.ShowAll = words ≡ codes "show" ∷ codes "all" ∷ []
 IsForm words Command.Symbols = words ≡ codes "symbols" ∷ []
+IsForm words (Command.Frames count) = (word : List ℕ) × (words ≡ codes "frames" ∷ word ∷ []) × WritesCount word count
 
 -- a line that is passed over: it is empty, or begins with `#`, which is 35
 abbrev pub IsSkipped : List ℕ → Type 0

@@ -72,7 +72,9 @@ IsOther Command.Daa = ⊥
 IsOther (Command.Policy policy) = ⊤
 IsOther (Command.Cut name bit) = ⊤
 IsOther Command.Show = ⊥
+IsOther Command.ShowAll = ⊥
 IsOther Command.Symbols = ⊥
+IsOther (Command.Frames count) = ⊤
 
 -- these words are the line of a command that is read word by word
 abbrev pub IsOtherForm : List (List ℕ) → Command → Type 0

@@ -77,7 +77,9 @@ command_words Command.Daa = codes "daa" ∷ []
 command_words (Command.Policy policy) = codes "policy" ∷ verdicts_word policy.join policy.role policy.interrupt ∷ []
 command_words (Command.Cut name bit) = codes "cut" ∷ letters name ∷ decimal bit ∷ []
 command_words Command.Show = codes "show" ∷ []
+command_words Command.ShowAll = codes "show" ∷ codes "all" ∷ []
 command_words Command.Symbols = codes "symbols" ∷ []
+command_words (Command.Frames count) = codes "frames" ∷ decimal count ∷ []
 
 -- a command's line
 abbrev pub command_text : Command → List ℕ
@@ -124,4 +126,6 @@ HasLine Command.Daa = ⊤
 HasLine (Command.Policy policy) = (word : List ℕ) × IsPolicy word policy
 HasLine (Command.Cut name bit) = IsNamable name × (bit < 2 ^ 16)
 HasLine Command.Show = ⊤
+HasLine Command.ShowAll = ⊤
 HasLine Command.Symbols = ⊤
+HasLine (Command.Frames count) = (0 < count) × (count < 2 ^ 16)

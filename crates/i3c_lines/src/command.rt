@@ -22,6 +22,8 @@ const SERVE: &[u8] = b"erve";
 
 const SHOW: &[u8] = b"how";
 
+const SHOW_ALL: &[u8] = b"how all";
+
 const SYMBOLS: &[u8] = b"ymbols";
 
 const ENEC: &[u8] = b"nec ";
@@ -56,6 +58,8 @@ const POLICY: &[u8] = b"policy";
 const LEGACY: &[u8] = b"legacy";
 
 const MAIN: &[u8] = b"main";
+
+const FRAMES: &[u8] = b"frames";
 
 /// What a line asks for, with the names as they stand there.
 #[derive(Drop)]
@@ -117,8 +121,12 @@ pub enum Command {
     },
     /// `show`: the bus as it is.
     Show,
+    /// `show all`: the same, and what each device is, which of its events are enabled, and what it wishes for.
+    ShowAll,
     /// `symbols`: the last symbols of the wire.
     Symbols,
+    /// `frames N`: the last N whole frames of these symbols.
+    Frames(u16),
 }
 
 /// Names the reading of a line for a command of its own.
@@ -191,6 +199,9 @@ impl Command {
         }
         if is_word(tail, SYMBOLS) {
             return self.set(Command::Symbols);
+        }
+        if is_word(tail, SHOW_ALL) {
+            return self.set(Command::ShowAll);
         }
         None
     }
@@ -346,6 +357,9 @@ fn parse_words(words: &mut Tokens<'_>) -> Option<Command>
     if is_word(word, MAIN) {
         return parse_main(words);
     }
+    if is_word(word, FRAMES) {
+        return parse_frames(words);
+    }
     None
 }
 
@@ -483,6 +497,15 @@ fn parse_cut(words: &mut Tokens<'_>) -> Option<Command>
     let bit = tokens::bit(words.next()?)?;
     words.end()?;
     Some(Command::Cut { name, bit })
+}
+
+/// The word of `frames`: a count.
+fn parse_frames(words: &mut Tokens<'_>) -> Option<Command>
+    ensures { Reads IsForm (codes "frames" ∷ left_words words.old) result }
+{
+    let count = tokens::count(words.next()?)?;
+    words.end()?;
+    Some(Command::Frames(count))
 }
 
 /// The words of `enec` and of `disec`: a byte, and an address if one is given.

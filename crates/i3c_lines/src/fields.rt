@@ -7,6 +7,9 @@ use crate::tokens::{self, is_word};
 /// The last word of a device that doesn't take the controller role.
 const DECLINE: &[u8] = b"decline";
 
+/// The last word of a line that shows all of the bus.
+const ALL: &[u8] = b"all";
+
 /// A place of a line behind its command, by what stands there.
 #[derive(Clone, Copy, Debug, PartialEq, Eq)]
 pub enum Field {
@@ -28,6 +31,10 @@ pub enum Field {
     Bytes,
     /// A bit of a frame.
     Bit,
+    /// How many frames.
+    Count,
+    /// The word that asks for all of the bus.
+    All,
     /// The name of a policy.
     Policy,
     /// The word of a device that doesn't take the controller role.
@@ -48,8 +55,10 @@ impl Field {
             Field::Addr => tokens::address(word).is_some(),
             Field::Bytes => !word.is_empty() && tokens::bytes(word).is_some(),
             Field::Bit => tokens::bit(word).is_some(),
+            Field::Count => tokens::count(word).is_some(),
             Field::Policy => policy(word).is_some(),
             Field::Decline => is_word(word, DECLINE),
+            Field::All => is_word(word, ALL),
         }
     }
 
@@ -65,8 +74,9 @@ impl Field {
             Field::Byte => "BYTE",
             Field::Bytes => "BYTES",
             Field::Bit => "BIT",
+            Field::Count => "N",
             Field::Policy => "POLICY",
-            Field::Decline => "",
+            Field::Decline | Field::All => "",
         }
     }
 
@@ -81,8 +91,10 @@ impl Field {
             Field::Addr => "two hexadecimal digits in capitals, up to 7F",
             Field::Bytes => "two hexadecimal digits in capitals for each byte",
             Field::Bit => "decimal digits, up to 65535",
+            Field::Count => "decimal digits, 1 to 65535",
             Field::Policy => "all, none, joins, roles or interrupts",
             Field::Decline => "'decline' or nothing",
+            Field::All => "'all' or nothing",
         }
     }
 
@@ -96,7 +108,8 @@ impl Field {
             | Field::Addr
             | Field::Byte
             | Field::Bytes => true,
-            Field::Name | Field::Bit | Field::Policy | Field::Decline => false,
+            Field::Name | Field::Bit | Field::Count | Field::Policy | Field::Decline | Field::All =>
+                false,
         }
     }
 }

@@ -35,7 +35,9 @@ impl Command {
             Command::Policy(policy) => push_policy(text, policy),
             Command::Cut { name, bit } => push_cut(text, name, *bit),
             Command::Show => text.push(b"show"),
+            Command::ShowAll => text.push(b"show all"),
             Command::Symbols => text.push(b"symbols"),
+            Command::Frames(count) => push_frames(text, *count),
         }
     }
 }
@@ -198,4 +200,12 @@ fn push_cut(text: &mut Text, name: &Name, bit: u16) -> Result<(), AllocError>
     push_named(text, b"cut", name)?;
     text.push(b" ")?;
     text.push_decimal(u64::from(bit))
+}
+
+/// Appends `frames`, and how many.
+fn push_frames(text: &mut Text, count: u16) -> Result<(), AllocError>
+    ensures { OnOk result (text.new ≡ text.old ++ spaced (codes "frames" ∷ decimal count ∷ [])) }
+{
+    text.push(b"frames ")?;
+    text.push_decimal(u64::from(count))
 }

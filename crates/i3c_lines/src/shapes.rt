@@ -11,7 +11,7 @@ pub(crate) struct Shape {
 }
 
 /// The commands, in the order of docs/FORMATS.md.
-static SHAPES: [Shape; 23] = [
+static SHAPES: [Shape; 24] = [
     Shape {
         word: "legacy",
         needed: &[Field::Name, Field::Addr, Field::Lvr],
@@ -120,11 +120,16 @@ static SHAPES: [Shape; 23] = [
     Shape {
         word: "show",
         needed: &[],
-        further: None,
+        further: Some(Field::All),
     },
     Shape {
         word: "symbols",
         needed: &[],
+        further: None,
+    },
+    Shape {
+        word: "frames",
+        needed: &[Field::Count],
         further: None,
     },
 ];

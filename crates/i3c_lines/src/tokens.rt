@@ -175,6 +175,17 @@ pub(crate) fn bit(word: &[u8]) -> Option<u16>
     u16::from_str_radix(text, BIT_RADIX).ok()
 }
 
+/// A count: decimal digits, 1 to 65535, read as a bit is.
+pub(crate) fn count(word: &[u8]) -> Option<u16>
+    ensures form { IsSome result ↔ (IsDecimal word.now × (digits_value BIT_RADIX word.now < 2 ^ 16) × (0 < digits_value BIT_RADIX word.now)) }
+    ensures value { IfSome result (λ n. n ≡ digits_value BIT_RADIX word.now) }
+{
+    match bit(word)? {
+        0 => None,
+        count => Some(count),
+    }
+}
+
 /// Kinds of events: two hex digits, of which bit 0 names interrupts, bit 1 role requests and bit 3 Hot-Join. Other bits
 /// are dropped.
 pub(crate) fn kinds(word: &[u8]) -> Option<Kinds>

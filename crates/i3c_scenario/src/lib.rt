@@ -29,6 +29,7 @@ pub use explaining::run_explained;
 pub use faults::ScriptFault;
 pub use laws::{lines_are_legal_runs, watched_lines_print_the_same};
 pub use linting::run_lint;
+pub use output::{position_of_feed, write_out};
 pub use report::{StressFault, StressReport};
 pub use script::{Tally, run_script};
 pub use stressing::{Gate, MOST_DEVICES, MOST_POSTS, Watch, stress, stress_watched};

@@ -18,7 +18,7 @@ const GATHERED: usize = 1024;
 const LINE_FEED: u8 = b'\n';
 
 /// Where the first line ends that ends in these bytes.
-pub(crate) fn position_of_feed(bytes: &[u8]) -> Option<usize>
+pub fn position_of_feed(bytes: &[u8]) -> Option<usize>
     ensures { MatchOption result (HasNoFeed bytes.now) (λ end. (end < length bytes.now) × (slice_get bytes.now end ≡ Some LINE_FEED) × HasNoFeed (take end bytes.now)) }
 {
     first_feed(bytes)
@@ -92,7 +92,7 @@ pub(crate) fn write_last<W: Write>(
 
 /// Writes a text, or, where the writer fails or takes nothing, a part of it from its beginning.
 #[inline(always)]
-pub(crate) fn write_out<W: Write>(text: &[u8], out: &mut W) -> Result<(), ScriptFault>
+pub fn write_out<W: Write>(text: &[u8], out: &mut W) -> Result<(), ScriptFault>
     ensures { MatchResult result (λ _. Appends (W.contents out.old) (W.contents out.new) text.now)
         (λ fault. (fault ≡ ScriptFault.Write) × AppendsSome (W.contents out.old) (W.contents out.new) text.now) }
 {

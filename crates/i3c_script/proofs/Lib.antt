@@ -5,3 +5,5 @@ pub mod Showing
 pub mod Assigned
 pub mod Starting
 pub mod Reaching
+pub mod Asked
+pub mod Framed

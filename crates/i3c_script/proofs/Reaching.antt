@@ -1,10 +1,9 @@
 -- The steps of a script's commands are a legal run, whatever these commands are.
 use Rattle.std.proofs.Common.{◌≡◌, ◌∙◌, ℕ, List, [], ◌∷◌, ◌++◌, Option, None, Some, MatchOption, Result, Ok, Err, MatchResult, ap, append_assoc, append-nil, refl, subst, sym}
 use Rattle.i3c_base.specs.declared.answers.RoundReply.{RoundReply}
-use Rattle.i3c_base.specs.declared.device.LegacyTarget.{LegacyTarget}
 use Rattle.i3c_base.specs.declared.device.Setup.{Setup}
 use Rattle.i3c_base.specs.declared.identity.Lvr.{Lvr}
-use Rattle.i3c_base.specs.State.{State, legacy_targets_of, no_lvrs}
+use Rattle.i3c_base.specs.State.{State, legacy_targets_of}
 use Rattle.i3c_step.specs.declared.events.Event.{Event}
 use Rattle.i3c_step.specs.declared.replies.Reply.{Reply}
 use Rattle.i3c_step.specs.Runs.{IsLegalRun}
@@ -104,7 +103,9 @@ does_on steps old new names Command.Daa said refused r h = assigns_on steps old 
 does_on steps old new names (Command.Policy policy) said refused r h = none_more steps new.state (subst (AreLegal steps) (sym (ap (λ (ran : Ran). ran.state) h.0)) r)
 does_on steps old new names (Command.Cut name bit) said refused r h = cut_on steps (slot_of_device old.state names name) old new _ said refused (λ slot. refl) r h
 does_on steps old new names Command.Show said refused r h = stays steps old new r h.0
+does_on steps old new names Command.ShowAll said refused r h = stays steps old new r h.0
 does_on steps old new names Command.Symbols said refused r h = stays steps old new r h.0
+does_on steps old new names (Command.Frames count) said refused r h = stays steps old new r h.0
 does_on steps old new names (Command.Legacy name address lvr) said refused r h = stays steps old new r h.0
 does_on steps old new names (Command.Main name setup) said refused r h = stays steps old new r h.0
 does_on steps old new names (Command.Attach name setup) said refused r h = absurd h
@@ -130,7 +131,9 @@ obeys_on steps old new names named Command.Daa said refused r (same, h) = does_o
 obeys_on steps old new names named (Command.Policy policy) said refused r (same, h) = does_on steps old new names (Command.Policy policy) said refused r h
 obeys_on steps old new names named (Command.Cut name bit) said refused r (same, h) = does_on steps old new names (Command.Cut name bit) said refused r h
 obeys_on steps old new names named Command.Show said refused r (same, h) = does_on steps old new names Command.Show said refused r h
+obeys_on steps old new names named Command.ShowAll said refused r (same, h) = does_on steps old new names Command.ShowAll said refused r h
 obeys_on steps old new names named Command.Symbols said refused r (same, h) = does_on steps old new names Command.Symbols said refused r h
+obeys_on steps old new names named (Command.Frames count) said refused r (same, h) = does_on steps old new names (Command.Frames count) said refused r h
 obeys_on steps old new names named (Command.Legacy name address lvr) said refused r (same, h) = does_on steps old new names (Command.Legacy name address lvr) said refused r h
 obeys_on steps old new names named (Command.Main name setup) said refused r (same, h) = does_on steps old new names (Command.Main name setup) said refused r h
 
@@ -173,7 +176,9 @@ before_on steps legacies names Command.Daa said refused new none h = same_before
 before_on steps legacies names (Command.Policy policy) said refused new none h = same_before steps legacies names new none h.0
 before_on steps legacies names (Command.Cut name bit) said refused new none h = same_before steps legacies names new none h.0
 before_on steps legacies names Command.Show said refused new none h = same_before steps legacies names new none h.0
+before_on steps legacies names Command.ShowAll said refused new none h = same_before steps legacies names new none h.0
 before_on steps legacies names Command.Symbols said refused new none h = same_before steps legacies names new none h.0
+before_on steps legacies names (Command.Frames count) said refused new none h = same_before steps legacies names new none h.0
 
 -- a command leads from a sound stage to a sound one
 pub at_on : (steps : List Made) (stage : Stage) (names : Names) (command : Command) (said : List ℕ) (refused : Option Refusal) (new : ScriptState) → IsSound steps stage → (h : ObeysAt stage names command said refused new)

@@ -10,6 +10,7 @@ use Rattle.i3c_frame.specs.declared.symbols.Symbol.{Symbol}
 use Rattle.i3c_frame.specs.Texts.{text_of}
 use Rattle.i3c_lines.specs.declared.names.Names.{Names}
 use Rattle.i3c_lines.specs.Naming.{legacy_names, slot_names}
+use Rattle.i3c_script.specs.Details.{all_details_text, details_text}
 use Rattle.i3c_script.specs.Printed.{device_text, devices_text, legacies_text, legacy_text, nth_text, numbered_text, record_text}
 
 after : (n : ℕ) → n + 1 ≡ suc n
@@ -23,6 +24,16 @@ devices_more st names slot = ap (devices_text st names) (after slot)
 pub devices_none : (st : State) (names : Names) → devices_text st names 0 ≡ []
 unfolding devices_text
 devices_none st names = refl
+
+-- the same of `show all`
+pub details_more : (st : State) (names : Names) (slot : ℕ)
+    → all_details_text st names (slot + 1) ≡ all_details_text st names slot ++ details_text (slice_index_or (slot_names names) slot None) (device_at st slot)
+unfolding all_details_text
+details_more st names slot = ap (all_details_text st names) (after slot)
+
+pub details_none : (st : State) (names : Names) → all_details_text st names 0 ≡ []
+unfolding all_details_text
+details_none st names = refl
 
 -- one more static address
 pub legacies_more : (names : Names) (a : ℕ) → legacies_text names (a + 1) ≡ legacies_text names a ++ legacy_text (slice_index_or (legacy_names names) a None) a
@@ -84,3 +95,12 @@ left_more n symbols within =
 pub told_behind : {E : Type 0} (r : Result (Unit {0}) E) (before one two new a b rest : List ℕ) → one ≡ before ++ a → two ≡ one ++ b → OnOk r (new ≡ two ++ rest) → OnOk r (new ≡ before ++ (a ++ (b ++ rest)))
 told_behind (Ok done) before one two new a b rest e f g = printed_more before one new a (b ++ rest) e (printed_more one two new b rest f g)
 told_behind (Err fault) before one two new a b rest e f g = g
+
+-- the same of one part
+pub told_on : {E : Type 0} (r : Result (Unit {0}) E) (before one new a rest : List ℕ) → one ≡ before ++ a → OnOk r (new ≡ one ++ rest) → OnOk r (new ≡ before ++ (a ++ rest))
+told_on (Ok done) before one new a rest e f = printed_more before one new a rest e f
+told_on (Err fault) before one new a rest e f = f
+
+-- the same of two parts that are printed at once
+pub told_both : {E : Type 0} (r : Result (Unit {0}) E) (before two new a b rest : List ℕ) → two ≡ before ++ (a ++ b) → OnOk r (new ≡ two ++ rest) → OnOk r (new ≡ before ++ (a ++ (b ++ rest)))
+told_both r before two new a b rest e f = told_behind r before (before ++ a) two new a b rest refl (e ∙ sym (append_assoc before a b)) f

@@ -1,8 +1,10 @@
 pub mod Slots
 pub mod Stops
 pub mod Ran
+pub mod Framing
 pub mod Asking
 pub mod Printed
+pub mod Details
 pub mod Telling
 pub mod Assigning
 pub mod Obeying

@@ -24,7 +24,8 @@ use Rattle.i3c_script.specs.declared.faults.Stop.{Stop}
 use Rattle.i3c_script.specs.declared.stage.Stage.{Stage}
 use Rattle.i3c_script.specs.Asking.{IsEntrance, slot_meant, slot_of_device}
 use Rattle.i3c_script.specs.Assigning.{Assigns, Moves}
-use Rattle.i3c_script.specs.Printed.{declared_text, main_text, show_text, subject_of, symbols_text}
+use Rattle.i3c_script.specs.Details.{show_all_text}
+use Rattle.i3c_script.specs.Printed.{declared_text, frames_text, main_text, show_text, subject_of, symbols_text}
 use Rattle.i3c_script.specs.Ran.{Ran}
 use Rattle.i3c_script.specs.Telling.{IsTold, Prints}
 
@@ -134,7 +135,9 @@ Does old names (Command.Cut name bit) said refused new = MatchResult (slot_of_de
     (λ slot. (new ≡ record old { cuts = cut_at old.cuts slot bit }) × IsDone [] said refused)
     (λ why. (new ≡ old) × IsRefused why said refused)
 Does old names Command.Show said refused new = (new ≡ old) × IsDone (show_text old.state names) said refused
+Does old names Command.ShowAll said refused new = (new ≡ old) × IsDone (show_all_text old.state names) said refused
 Does old names Command.Symbols said refused new = (new ≡ old) × IsDone (symbols_text old.wire) said refused
+Does old names (Command.Frames count) said refused new = (new ≡ old) × IsDone (frames_text count old.wire) said refused
 Does old names (Command.Legacy name address lvr) said refused new = (new ≡ old) × IsRefused Refusal.BusMade said refused
 Does old names (Command.Main name setup) said refused new = (new ≡ old) × IsRefused Refusal.BusMade said refused
 Does old names (Command.Attach name setup) said refused new = ⊥

@@ -1,13 +1,16 @@
 -- What lines print.
-use Rattle.std.specs.Prelude.{ℕ, zero, suc, List, [], ◌∷◌, ◌++◌, codes, length, map, Option, Some, None, Result, Ok, Err, slice_index_or}
+use Rattle.std.specs.Prelude.{◌≡◌, ℕ, zero, suc, if◌then◌else◌, List, [], ◌∷◌, ◌++◌, codes, length, map, Option, Some, None, Result, Ok, Err, slice_index_or}
 use Rattle.std.specs.Fmt.{decimal}
-use Rattle.std.specs.List.{join_with_byte}
+use Rattle.std.specs.List.{flat_map, join_with_byte}
+use Rattle.circular_buffer.specs.Buffer.{keep_last}
 use Rattle.i3c_base.specs.declared.answers.Answer.{Answer}
 use Rattle.i3c_base.specs.declared.answers.RoundReply.{RoundReply}
 use Rattle.i3c_base.specs.declared.identity.Identity.{Identity}
 use Rattle.i3c_base.specs.declared.range.TheConstants.{ADDRESSES, SLOTS}
 use Rattle.i3c_base.specs.declared.requests.Record.{Record}
+use Rattle.i3c_base.specs.declared.requests.Request.{Request}
 use Rattle.i3c_base.specs.declared.requests.Served.{Served}
+use Rattle.i3c_base.specs.Serve.{IsFirstRequest, drives}
 use Rattle.i3c_base.specs.State.{Device, State, device_at}
 use Rattle.i3c_frame.specs.declared.symbols.Symbol.{Symbol}
 use Rattle.i3c_frame.specs.Texts.{text_of}
@@ -22,6 +25,7 @@ use Rattle.i3c_lines.specs.Naming.{legacy_names, letters, slot_names}
 use Rattle.i3c_lines.specs.Refusing.{refusal_text}
 use Rattle.i3c_script.specs.declared.faults.Stop.{Stop}
 use Rattle.i3c_script.specs.declared.telling.Subject.{Subject}
+use Rattle.i3c_script.specs.Framing.{whole_frames}
 
 -- what a line's end prints: its refusal, if it is refused
 abbrev pub end_text : Result (Unit {0}) Stop → List ℕ
@@ -204,8 +208,31 @@ show_text st names =
 abbrev pub symbols_text : List Symbol → List ℕ
 symbols_text wire = join_with_byte 32 (map text_of wire) ++ 10 ∷ []
 
+-- `frames`: the last so many whole frames, the oldest first, each as `symbols` prints symbols
+abbrev pub frames_text : ℕ → List Symbol → List ℕ
+frames_text count wire = flat_map symbols_text (keep_last count (whole_frames wire))
+
 -- one of some symbols: all but the first stand behind a space
 abbrev pub nth_text : ℕ → Option Symbol → List ℕ
 nth_text n None = []
 nth_text zero (Some symbol) = text_of symbol
 nth_text (suc n) (Some symbol) = 32 ∷ text_of symbol
+
+-- a name behind a space, where a slot has one
+abbrev pub asker_text : Option Name → List ℕ
+asker_text None = []
+asker_text (Some name) = codes " " ++ letters name
+
+-- the names of those of so many slots whose devices drive this request, the lowest slot first
+unfoldable pub askers_text : State → Names → Request → ℕ → List ℕ
+askers_text st names r zero = []
+askers_text st names r (suc slot) = askers_text st names r slot ++ (if drives st r slot then asker_text (slice_index_or (slot_names names) slot None) else [])
+
+-- the names of whoever drives the first request, if there is one
+abbrev pub asking_text : State → Names → Option Request → List ℕ
+asking_text st names None = []
+asking_text st names (Some r) = askers_text st names r SLOTS
+
+-- these names tell whose requests the next frame would meet
+abbrev pub TellsAskers : State → Names → List ℕ → Type 0
+TellsAskers st names text = (first : Option Request) × IsFirstRequest st first × (text ≡ asking_text st names first)

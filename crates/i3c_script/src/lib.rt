@@ -3,21 +3,25 @@
 //!
 //! A line of one event takes one path: `stage` hands its command to `running`, which makes the event and has the bus
 //! answer it, and `telling` prints the reply. `asking` finds the slots that names mean, `assigning` plays the whole
-//! session of a `daa`, `show` and `wires` print the bus and its last symbols. `stage` is where a script is, before its bus
-//! and with it. `laws` says that lines make legal runs.
+//! session of a `daa`, `show` prints the bus and `details` all of it, `wires` keeps the last symbols, and `symbols` and
+//! `frames` print them. `stage` is where a script is, before its bus and with it. `laws` says that lines make legal runs.
 #![tactic(auto)]
 
 mod asking;
 mod assigning;
+mod details;
 mod faults;
+mod frames;
 mod laws;
 mod running;
 mod show;
 mod stage;
+mod symbols;
 mod telling;
 mod wires;
 
 pub use faults::Stop;
 pub use laws::scripts_are_legal_runs;
 pub use running::Running;
+pub use show::{show_askers, show_records_behind};
 pub use stage::Stage;

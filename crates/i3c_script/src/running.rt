@@ -3,6 +3,7 @@ ghost use Rattle.i3c_bus.specs.declared.tokens.Hand.{Hand as HandValue};
 
 use crate::asking::{entrance, slot_of_device};
 use crate::assigning;
+use crate::details::show_all;
 use crate::faults::Stop;
 use crate::show::show;
 use crate::telling::{Subject, subject_of, tell, tell_raised};
@@ -52,7 +53,8 @@ impl Running {
     ghost use Rattle.i3c_script.specs.Asking.{slot_of_device};
     ghost use Rattle.i3c_script.specs.Assigning.{Assigns, Moves, cuts_left};
     ghost use Rattle.i3c_script.specs.Obeying.{Answers, AnswersIn, Enters, IsDone, ObeysOn, cut_at};
-    ghost use Rattle.i3c_script.specs.Printed.{show_text, symbols_text};
+    ghost use Rattle.i3c_script.specs.Details.{show_all_text};
+    ghost use Rattle.i3c_script.specs.Printed.{frames_text, show_text, symbols_text};
     ghost use Rattle.i3c_script.specs.Telling.{Prints};
     ghost use Rattle.i3c_lines.specs.Policies.{each_kind};
 
@@ -118,7 +120,9 @@ impl Running {
             }
             Command::Cut { name, bit } => self.cut(names, name, *bit),
             Command::Show => self.show(names, text),
+            Command::ShowAll => self.show_all(names, text),
             Command::Symbols => self.show_symbols(text),
+            Command::Frames(count) => self.show_frames(*count, text),
             Command::Legacy { .. } | Command::Main { .. } => Err(Refusal::BusMade.into()),
         }
     }
@@ -316,6 +320,17 @@ impl Running {
         }
     }
 
+    /// `show all`: the bus with all of its devices.
+    #[inline(never)]
+    fn show_all(&self, names: &Names, text: &mut Text) -> Result<(), Stop>
+        ensures { Prints (IsDone (show_all_text self.now.state names.now)) text.old text.new result }
+    {
+        match show_all(&self.bus, names, text) {
+            Ok(()) => Ok(()),
+            Err(_) => Err(Stop::Memory),
+        }
+    }
+
     /// `symbols`: the last symbols of the wire.
     #[inline(never)]
     fn show_symbols(&mut self, text: &mut Text) -> Result<(), Stop>
@@ -323,6 +338,18 @@ impl Running {
         ensures told { Prints (IsDone (symbols_text self.old.wire)) text.old text.new result }
     {
         match self.wires.show(text) {
+            Ok(()) => Ok(()),
+            Err(_) => Err(Stop::Memory),
+        }
+    }
+
+    /// `frames`: the last so many whole frames of these symbols.
+    #[inline(never)]
+    fn show_frames(&mut self, count: u16, text: &mut Text) -> Result<(), Stop>
+        ensures same { self.new ≡ self.old }
+        ensures told { Prints (IsDone (frames_text count self.old.wire)) text.old text.new result }
+    {
+        match self.wires.show_frames(count, text) {
             Ok(()) => Ok(()),
             Err(_) => Err(Stop::Memory),
         }

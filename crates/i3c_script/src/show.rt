@@ -1,13 +1,14 @@
-ghost use Rattle.std.specs.Prelude.{◌≡◌, [], ◌∷◌, ◌++◌, OnOk, codes, slice_index_or};
+ghost use Rattle.std.specs.Prelude.{◌≡◌, ℕ, List, [], ◌∷◌, ◌++◌, OnOk, codes, drop, false, slice_index_or, suc, true};
 ghost use Rattle.std.specs.Fmt.{decimal};
 ghost use Rattle.i3c_base.specs.declared.range.TheConstants.{ADDRESSES, SLOTS};
-ghost use Rattle.i3c_bus.specs.Readings.{address_of};
+ghost use Rattle.i3c_bus.specs.Readings.{AreAskers, address_of};
+ghost use Rattle.i3c_device.specs.Sets.{IsLowestOf};
 ghost use Rattle.i3c_base.specs.State.{IsPresent, device_at};
 ghost use Rattle.i3c_lines.specs.Naming.{legacy_names, letters, slot_names};
-ghost use Rattle.i3c_script.specs.Printed.{byte_or_none, declared_text, device_text, devices_text, legacies_text, legacy_text, record_text, recorded_text, records_text, show_text};
+ghost use Rattle.i3c_script.specs.Printed.{TellsAskers, asker_text, askers_text, byte_or_none, declared_text, device_text, devices_text, legacies_text, legacy_text, numbered_text, record_text, recorded_text, records_text, show_text};
 
 use i3c_base::{ADDRESSES, Addr7, Record, SLOTS, Slot};
-use i3c_bus::Bus;
+use i3c_bus::{Bus, Request, SlotSet};
 use i3c_lines::{Name, Names};
 use i3c_text::Text;
 use std::alloc::AllocError;
@@ -137,11 +138,78 @@ fn show_records(records: &[Record], text: &mut Text) -> Result<(), AllocError>
     ensures { OnOk result (text.new ≡ text.old ++ records_text records.now) }
 {
     text.push_numbered(b"records ", records.len() as u64)?;
-    for (index, record) in records.iter().enumerate() {
+    show_records_behind(records, 0, text)
+}
+
+/// Prints the records behind the first `count`, each with its number, as `show` does.
+pub fn show_records_behind(
+    records: &[Record],
+    count: usize,
+    text: &mut Text,
+) -> Result<(), AllocError>
+    ensures { OnOk result (text.new ≡ text.old ++ numbered_text (suc count) (drop count records.now)) }
+{
+    for index in count..records.len() {
         show_number(b"record ", index as u64 + 1, text)?;
-        show_record(record, text)?;
+        show_record(&records[index], text)?;
     }
     Ok(())
+}
+
+/// Prints the names of those whose requests the next frame would meet, by slot, each behind a space.
+pub fn show_askers(bus: &Bus, names: &Names, text: &mut Text) -> Result<(), AllocError>
+    ensures { OnOk result ((told : List ℕ) × TellsAskers bus.now.state names.now told × (text.new ≡ text.old ++ told)) }
+{
+    match bus.asking() {
+        Some((request, askers)) => return show_names(bus, names, &request, askers, text),
+        None => return Ok(()),
+    }
+}
+
+/// Prints the names of these slots, whose devices drive a request, each behind a space.
+fn show_names(
+    bus: &Bus,
+    names: &Names,
+    request: &Request,
+    askers: SlotSet,
+    text: &mut Text,
+) -> Result<(), AllocError>
+    requires { AreAskers bus.now.state request.now askers }
+    ensures { OnOk result (text.new ≡ text.old ++ askers_text bus.now.state names.now request.now SLOTS) }
+{
+    let mut left = askers;
+    for number in 0..SLOTS as u8 {
+        let slot = Slot::new(number).unwrap();
+        if is_lowest(left, slot) {
+            show_asker(names, slot, text)?;
+            left = left.but(slot);
+        }
+    }
+    Ok(())
+}
+
+/// Whether a slot is the lowest of a set.
+fn is_lowest(slots: SlotSet, slot: Slot) -> bool
+    ensures lowest { result ≡ true → IsLowestOf slots slot }
+    ensures other { result ≡ false → IsLowestOf slots slot → ⊥ }
+{
+    match slots.lowest() {
+        Some(lowest) => lowest == slot,
+        None => false,
+    }
+}
+
+/// Prints the name of a slot, behind a space.
+fn show_asker(names: &Names, slot: Slot, text: &mut Text) -> Result<(), AllocError>
+    ensures { OnOk result (text.new ≡ text.old ++ asker_text (slice_index_or (slot_names names.now) slot None)) }
+{
+    match names.in_slot(slot) {
+        Some(name) => {
+            text.push(b" ")?;
+            text.push(name.as_bytes())
+        }
+        None => Ok(()),
+    }
 }
 
 /// Prints some words and a number.

@@ -1,14 +1,14 @@
-ghost use Rattle.std.specs.Prelude.{◌≡◌, ◌<◌, [], ◌∷◌, ◌++◌, length, slice_get, vec_capacity, vec_len, IfOk, OnOk};
+ghost use Rattle.std.specs.Prelude.{◌≡◌, [], ◌∷◌, ◌++◌, vec_capacity, vec_len, IfOk, OnOk};
 ghost use Rattle.circular_buffer.specs.Buffer.{buffer, keep_last};
-ghost use Rattle.i3c_frame.specs.Texts.{text_of};
-ghost use Rattle.i3c_script.specs.Printed.{nth_text, symbols_text};
+ghost use Rattle.i3c_script.specs.Printed.{frames_text, symbols_text};
 ghost use Rattle.i3c_script.specs.declared.wires.TheConstants.{SYMBOLS};
 
+use crate::frames::show_frames;
+use crate::symbols::show_line;
 use circular_buffer::HeapCircularBuffer;
 use i3c_frame::{Symbol, Tap};
 use i3c_text::Text;
 use std::alloc::{AllocError, Global};
-use std::fmt::Write;
 use std::marker::Model;
 
 /// How many symbols are kept.
@@ -56,45 +56,16 @@ impl Wires {
         ensures told { OnOk result (text.new ≡ text.old ++ symbols_text (keep_last SYMBOLS self.old)) }
     {
         keep(&mut self.kept, &mut self.fresh);
-        show_kept(&self.kept, text)
+        show_line(self.kept.make_contiguous(), text)
     }
-}
 
-/// Prints symbols, the oldest first, on one line.
-fn show_kept(kept: &HeapCircularBuffer<Symbol>, text: &mut Text) -> Result<(), AllocError>
-    ensures { OnOk result (text.new ≡ text.old ++ symbols_text kept.now.items) }
-{
-    for index in 0..kept.len() {
-        show_nth(kept, index, text)?;
-    }
-    text.end()
-}
-
-/// Prints one of some symbols, behind a space if it isn't the first.
-fn show_nth(
-    kept: &HeapCircularBuffer<Symbol>,
-    index: usize,
-    text: &mut Text,
-) -> Result<(), AllocError>
-    requires { index < length kept.now.items }
-    ensures { OnOk result (text.new ≡ text.old ++ nth_text index (slice_get kept.now.items index)) }
-{
-    if index > 0 {
-        text.push(b" ")?;
-    }
-    match kept.get(index) {
-        Some(symbol) => show_symbol(symbol, text),
-        None => Ok(()),
-    }
-}
-
-/// Prints a symbol.
-fn show_symbol(symbol: &Symbol, text: &mut Text) -> Result<(), AllocError>
-    ensures { OnOk result (text.new ≡ text.old ++ text_of symbol.now) }
-{
-    match write!(text, "{symbol}") {
-        Ok(()) => Ok(()),
-        Err(_) => Err(AllocError),
+    /// Prints the last so many whole frames of the symbols, the oldest first, a line for each.
+    pub fn show_frames(&mut self, count: u16, text: &mut Text) -> Result<(), AllocError>
+        ensures same { self.new ≡ self.old }
+        ensures told { OnOk result (text.new ≡ text.old ++ frames_text count (keep_last SYMBOLS self.old)) }
+    {
+        keep(&mut self.kept, &mut self.fresh);
+        show_frames(self.kept.make_contiguous(), usize::from(count), text)
     }
 }
 

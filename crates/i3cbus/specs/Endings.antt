@@ -1,8 +1,11 @@
 -- What a run of the program came to, and its exit status.
-use Rattle.std.specs.Prelude.{ℕ, ◌==◌, Bool, true, false, Result, Ok, Err, if◌then◌else◌}
+use Rattle.std.specs.Prelude.{ℕ, ◌==◌, Bool, true, false, Option, Some, None, Result, Ok, Err, if◌then◌else◌}
+use Rattle.i3c_frame.specs.declared.traces.TraceFault.{TraceFault}
 use Rattle.i3c_scenario.specs.declared.faults.ScriptFault.{ScriptFault}
 use Rattle.i3c_scenario.specs.declared.script.Tally.{Tally}
 use Rattle.i3c_scenario.specs.declared.report.StressFault.{StressFault}
+use Rattle.i3c_wave.specs.declared.capture_fault.CaptureFault.{CaptureFault}
+use Rattle.i3c_wave.specs.declared.fault.WaveFault.{WaveFault}
 use Rattle.i3cbus.specs.declared.fault.Fault.{Fault}
 
 -- a script's fault, as standard error is told
@@ -17,6 +20,19 @@ abbrev pub stress_told_as : StressFault → Fault
 stress_told_as StressFault.Memory = Fault.Memory
 stress_told_as StressFault.NotBalanced = Fault.NotBalanced
 
+-- that of a waveform
+abbrev pub wave_told_as : WaveFault → Fault
+wave_told_as WaveFault.Memory = Fault.Memory
+wave_told_as WaveFault.Read = Fault.Read
+wave_told_as WaveFault.Write = Fault.Write
+wave_told_as WaveFault.TooLarge = Fault.TooLarge
+
+-- that of a capture
+abbrev pub capture_told_as : CaptureFault → Fault
+capture_told_as CaptureFault.Memory = Fault.Memory
+capture_told_as CaptureFault.Read = Fault.Read
+capture_told_as fault = Fault.Capture fault
+
 -- a fault of the command line is want of memory, or told in the parser's own words
 abbrev pub IsOfWords : Fault → Type 0
 IsOfWords Fault.Memory = Unit {0}
@@ -26,6 +42,7 @@ IsOfWords Fault.Write = ⊥
 IsOfWords Fault.TooLarge = ⊥
 IsOfWords Fault.NotBalanced = ⊥
 IsOfWords Fault.Legacy = ⊥
+IsOfWords (Fault.Capture fault) = ⊥
 IsOfWords (Fault.NoForm reason) = ⊥
 
 -- a script's own fault comes first; output that isn't taken to its end is lost
@@ -33,6 +50,13 @@ abbrev pub ending : Result Tally ScriptFault → Bool → Result Tally Fault
 ending (Err fault) flushed = Err (told_as fault)
 ending (Ok tally) true = Ok tally
 ending (Ok tally) false = Err Fault.Write
+
+-- a waveform's own fault comes first; a trace with a fault is a refused line
+abbrev pub wave_ending : Result (Option TraceFault) WaveFault → Bool → Result Tally Fault
+wave_ending (Err fault) flushed = Err (wave_told_as fault)
+wave_ending (Ok fault) false = Err Fault.Write
+wave_ending (Ok None) true = Ok (record { refused = 0 })
+wave_ending (Ok (Some fault)) true = Ok (record { refused = 1 })
 
 -- 0 where each line was done, 1 where one was refused, 2 where the script wasn't run to its end
 abbrev pub exit_status : Result Tally Fault → ℕ

@@ -1,4 +1,5 @@
 use i3c_scenario::ScriptFault;
+use i3c_wave::{CaptureFault, WaveFault};
 use std::alloc::AllocError;
 use thiserror::Error;
 
@@ -20,6 +21,9 @@ pub(crate) enum Fault {
     NotBalanced,
     #[error("i3cbus: --legacy takes an address of two capital hex digits, 08 to 77\n")]
     Legacy,
+    /// A capture isn't read to its end, and why.
+    #[error("i3cbus: {0}\n")]
+    Capture(CaptureFault),
     /// A line has no form: its number, and why.
     #[error("i3cbus: line {0}\n")]
     NoForm(String),
@@ -37,6 +41,37 @@ impl From<ScriptFault> for Fault {
             ScriptFault::Read => Fault::Read,
             ScriptFault::Write => Fault::Write,
             ScriptFault::TooLarge => Fault::TooLarge,
+        }
+    }
+}
+
+impl From<WaveFault> for Fault {
+    ghost use Rattle.std.specs.Prelude.{◌≡◌};
+    ghost use Rattle.i3cbus.specs.Endings.{wave_told_as};
+
+    ghost from_gives = { λ fault told. told ≡ wave_told_as fault };
+
+    fn from(fault: WaveFault) -> Fault {
+        match fault {
+            WaveFault::Memory => Fault::Memory,
+            WaveFault::Read => Fault::Read,
+            WaveFault::Write => Fault::Write,
+            WaveFault::TooLarge => Fault::TooLarge,
+        }
+    }
+}
+
+impl From<CaptureFault> for Fault {
+    ghost use Rattle.std.specs.Prelude.{◌≡◌};
+    ghost use Rattle.i3cbus.specs.Endings.{capture_told_as};
+
+    ghost from_gives = { λ fault told. told ≡ capture_told_as fault };
+
+    fn from(fault: CaptureFault) -> Fault {
+        match fault {
+            CaptureFault::Memory => Fault::Memory,
+            CaptureFault::Read => Fault::Read,
+            fault => Fault::Capture(fault),
         }
     }
 }

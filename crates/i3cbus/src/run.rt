@@ -1,14 +1,16 @@
 use crate::fault::Fault;
-use crate::status::{came_to, status_of};
+use crate::status::{came_to, status_of, waved};
 use crate::stressing::run_stress;
 use crate::version::print_version;
 use crate::witness::Errors;
-use crate::words::{STANDARD_INPUT, Task, Work, task_named};
+use crate::words::{Capturing, STANDARD_INPUT, Task, Work, task_named};
 use i3c_base::Addresses;
+use i3c_drive::run_driven;
 use i3c_scenario::{
     ScriptFault, Tally, WatchFault, Watching, check_script, run_explained, run_lint, run_script,
     run_trace, run_watched,
 };
+use i3c_wave::{read_capture, run_wave, symbols_text};
 use std::alloc::Global;
 use std::io::{ErrorKind, Read, Write};
 use std::rt::{Env, Files};
@@ -37,6 +39,7 @@ where
     let words = words_given(rt)?;
     match task_named(rt.alloc(), &words)? {
         Task::File(work, file) => run_file(rt, work, file),
+        Task::Capture(capturing, work, file) => run_capture(rt, capturing, work, file),
         Task::Stress(stress) => run_stress(rt, &stress, is_watched),
         Task::Version => print_version(rt),
     }
@@ -52,6 +55,20 @@ where
     }
     match fs::open(rt, file) {
         Ok(mut input) => run_from(rt, work, &mut input),
+        Err(error) => Err(reading_fault(&error)),
+    }
+}
+
+/// Does this with the symbols of a capture, of a file or of standard input.
+fn run_capture<R>(rt: &R, capturing: Capturing<'_>, work: Work, file: &str) -> Result<Tally, Fault>
+where
+    R: Files + Input + Print + Eprint + AllocGlobal,
+{
+    if file == STANDARD_INPUT {
+        return capture_from(rt, capturing, work, &mut rt.reader());
+    }
+    match fs::open(rt, file) {
+        Ok(mut input) => capture_from(rt, capturing, work, &mut input),
         Err(error) => Err(reading_fault(&error)),
     }
 }
@@ -72,7 +89,7 @@ fn reading_fault(error: &io::Error) -> Fault {
     }
 }
 
-/// Runs or checks the script, or reads the trace, of a reader. What was printed is written out on a fault too, and the
+/// Runs, checks or drives the script, or reads the trace, of a reader. What was printed is written out on a fault too, and the
 /// first fault is told.
 fn run_from<R: Print + Eprint + AllocGlobal, S: Read>(
     rt: &R,
@@ -82,7 +99,9 @@ fn run_from<R: Print + Eprint + AllocGlobal, S: Read>(
     let mut printed = io::writer(rt);
     let outcome = match work {
         Work::Watch(watching) => return watch_from(rt, watching, input),
+        Work::Wave(legacies) => return wave_from(rt, legacies, input),
         Work::Run => run_script(rt.alloc(), input, &mut printed),
+        Work::Drive => run_driven(rt.alloc(), input, &mut printed),
         Work::Check => check_script(rt.alloc(), input, &mut printed),
         Work::Trace => run_trace(rt.alloc(), input, &mut printed),
         Work::Lint(legacies) => run_lint(rt.alloc(), legacies, input, &mut printed),
@@ -104,6 +123,33 @@ fn explain_from<R: Eprint + AllocGlobal, S: Read, W: Write>(
     // what can't be told isn't missed
     let _ = rt.eprint(notes);
     outcome
+}
+
+/// Does this with the symbols of a reader's capture.
+fn capture_from<R: Print + Eprint + AllocGlobal, S: Read>(
+    rt: &R,
+    capturing: Capturing<'_>,
+    work: Work,
+    input: &mut S,
+) -> Result<Tally, Fault> {
+    let scl = capturing.scl.as_bytes();
+    let sda = capturing.sda.as_bytes();
+    let symbols = read_capture(rt.alloc(), capturing.legacies, scl, sda, input)?;
+    let text = symbols_text(rt.alloc(), &symbols)?;
+    let mut trace = text.as_bytes();
+    run_from(rt, work, &mut trace)
+}
+
+/// Prints the waveform of a reader's trace.
+fn wave_from<R: Print + AllocGlobal, S: Read>(
+    rt: &R,
+    legacies: Addresses,
+    input: &mut S,
+) -> Result<Tally, Fault> {
+    let mut printed = io::writer(rt);
+    let outcome = run_wave(rt.alloc(), legacies, input, &mut printed);
+    let flushed = printed.flush().is_ok();
+    waved(outcome, flushed)
 }
 
 /// Runs the script of a reader, and shows more of it.

@@ -2,7 +2,7 @@ ghost use Rattle.std.specs.Prelude.{◌≡◌, ◌<◌, length, IsOkAnd};
 ghost use Rattle.i3cbus.specs.Words.{RunsInput};
 
 use crate::fault::Fault;
-use clap::{Arg, ArgAction, ArgMatches, Command, value_parser};
+use clap::{Arg, ArgAction, ArgGroup, ArgMatches, Command, value_parser};
 use i3c_base::{Addr7, Addresses};
 use i3c_scenario::{MOST_DEVICES, MOST_POSTS, Watching};
 use i3c_text::read_byte;
@@ -35,13 +35,33 @@ const TRACE: &str = "trace";
 /// Its flag that asks for faults too.
 const LINT: &str = "lint";
 
+/// Its flag that says that the file is a capture of the lines.
+const VCD: &str = "vcd";
+
+/// Its options that name the signals of a capture, which are called so without them.
+const SCL: &str = "scl";
+
+const SDA: &str = "sda";
+
 /// Its option that names the address of a legacy target.
 const LEGACY: &str = "legacy";
+
+/// The flags with which it takes such an address.
+const WITH_LEGACIES: &str = "with-legacies";
 
 /// The least and the most address of a legacy target.
 const LEAST_LEGACY: u8 = 0x08;
 
 const MOST_LEGACY: u8 = 0x77;
+
+/// The command that answers the lines of another program.
+const DRIVE: &str = "drive";
+
+/// The command that prints a wire as a waveform.
+const WAVE: &str = "wave";
+
+/// Its flag that says that the file is a trace.
+const FROM_TRACE: &str = "trace";
 
 /// The command that lets devices post from threads of their own.
 const STRESS: &str = "stress";
@@ -74,10 +94,14 @@ A script says what happens on the bus, one line for each event, and each line pr
   drop t                        the device t loses power, and is gone
   cut t 9                       it does so in the midst of the next frame, at bit 9
   show                          who is there, at which addresses, and what was recorded
+  show all                      the same, with PIDs, enabled kinds and wishes
   symbols                       the last symbols of the wire
+  frames 2                      its last two whole frames, a line each
 
 'check' runs nothing, and tells each line of a script that has no form, and why.
 'trace' reads such symbols, and tells the requests, commands, rounds and transfers of each frame.
+'trace --vcd' reads the symbols of a capture first, a value change dump with the signals 'scl' and 'sda'.
+'wave --trace' prints such symbols as SCL and SDA with their times, a value change dump.
 
 Exit status:
   0  each line was done
@@ -88,11 +112,20 @@ Exit status:
 
 docs/FORMATS.md has every line of a script, what it prints and when it is refused; examples/ has scripts.";
 
+/// What `drive --help` says at its end.
+const DRIVING: &str = "\
+The lines are those of a script. The answer to each is what it prints, then each interrupt that it recorded, as 'show'
+prints it, and then one last line with the line's number: 'ok 7', or 'refused 7 NoAnswer 09'.
+
+docs/DRIVING.md has all of it; clients/ has clients in Python and C.";
+
 /// What the program does.
 #[derive(Clone, Copy)]
 pub(crate) enum Task<'a> {
     /// Reads this file, and does this with it.
     File(Work, &'a str),
+    /// Reads this file as a capture, and does this with its symbols.
+    Capture(Capturing<'a>, Work, &'a str),
     /// Lets devices post from threads of their own.
     Stress(Stress),
     /// Prints which program this is.
@@ -106,14 +139,28 @@ pub(crate) enum Work {
     Run,
     /// Runs it as a script, and shows more of it.
     Watch(Watching),
+    /// Runs it as a script, and answers each line before it reads the next.
+    Drive,
     /// Checks it as a script, and doesn't run it.
     Check,
     /// Tells it as a trace.
     Trace,
     /// Tells it as a trace with its faults. Legacy targets have these addresses.
     Lint(Addresses),
+    /// Prints it, as a trace, as a value change dump. Legacy targets have these addresses.
+    Wave(Addresses),
     /// Tells it as a trace, with its faults if there are addresses of legacy targets, and says why lines are refused.
     Explain(Option<Addresses>),
+}
+
+/// How a capture is to be read.
+#[derive(Clone, Copy)]
+pub(crate) struct Capturing<'a> {
+    /// The names of the signals that are SCL and SDA.
+    pub scl: &'a str,
+    pub sda: &'a str,
+    /// Legacy targets have these addresses.
+    pub legacies: Addresses,
 }
 
 /// How many devices post, and how often each tries to.
@@ -156,8 +203,14 @@ fn task_given<'a>(matches: &ArgMatches<'a>) -> Result<Task<'a>, Fault> {
     if let Some(stress) = stress_given(matches) {
         return Ok(Task::Stress(stress));
     }
+    if matches.subcommand_matches(DRIVE).is_some() {
+        return Ok(Task::File(Work::Drive, STANDARD_INPUT));
+    }
     if let Some(script) = file_given(matches, CHECK) {
         return Ok(Task::File(Work::Check, script));
+    }
+    if let Some(wave) = matches.subcommand_matches(WAVE) {
+        return wave_given(wave);
     }
     match matches.subcommand_matches(TRACE) {
         Some(trace) => trace_given(trace),
@@ -168,20 +221,41 @@ fn task_given<'a>(matches: &ArgMatches<'a>) -> Result<Task<'a>, Fault> {
     }
 }
 
-/// The trace that was given, and whether its faults are asked for.
+/// The trace or the capture that was given, and whether its faults are asked for.
 fn trace_given<'a>(matches: &ArgMatches<'a>) -> Result<Task<'a>, Fault> {
     let file = matches.get_str(FILE).unwrap_or(STANDARD_INPUT);
-    let legacies = if matches.get_flag(LINT) {
-        Some(legacies_given(matches.get_strs(LEGACY).unwrap_or(&[]))?)
+    let legacies = legacies_given(matches.get_strs(LEGACY).unwrap_or(&[]))?;
+    let work = trace_work(matches, legacies);
+    if !matches.get_flag(VCD) {
+        return Ok(Task::File(work, file));
+    }
+    let capturing = Capturing {
+        scl: matches.get_str(SCL).unwrap_or(SCL),
+        sda: matches.get_str(SDA).unwrap_or(SDA),
+        legacies,
+    };
+    Ok(Task::Capture(capturing, work, file))
+}
+
+/// What is done with a trace. Legacy targets have these addresses.
+fn trace_work(matches: &ArgMatches<'_>, legacies: Addresses) -> Work {
+    let linted = if matches.get_flag(LINT) {
+        Some(legacies)
     } else {
         None
     };
-    let work = match legacies {
-        legacies if matches.get_flag(EXPLAIN) => Work::Explain(legacies),
+    match linted {
+        linted if matches.get_flag(EXPLAIN) => Work::Explain(linted),
         Some(legacies) => Work::Lint(legacies),
         None => Work::Trace,
-    };
-    Ok(Task::File(work, file))
+    }
+}
+
+/// The trace that was given to be printed as a waveform.
+fn wave_given<'a>(matches: &ArgMatches<'a>) -> Result<Task<'a>, Fault> {
+    let file = matches.get_str(FILE).unwrap_or(STANDARD_INPUT);
+    let legacies = legacies_given(matches.get_strs(LEGACY).unwrap_or(&[]))?;
+    Ok(Task::File(Work::Wave(legacies), file))
 }
 
 /// The addresses of legacy targets that were given.
@@ -243,8 +317,10 @@ fn file_given<'a>(matches: &ArgMatches<'a>, command: &str) -> Option<&'a str> {
 /// What the command line may ask for.
 fn commands<'a>(alloc: Global) -> Result<Command<'a>, Fault> {
     let program = with(program(alloc)?, run_command(alloc))?;
+    let program = with(program, drive_command(alloc))?;
     let program = with(program, check_command(alloc))?;
     let program = with(program, trace_command(alloc))?;
+    let program = with(program, wave_command(alloc))?;
     with(program, stress_command(alloc))
 }
 
@@ -301,6 +377,18 @@ fn flag<'a>(alloc: Global, name: &'a str, help: &'a str) -> Arg<'a> {
         .help(help)
 }
 
+/// The command that answers another program.
+fn drive_command<'a>(alloc: Global) -> Result<Command<'a>, Fault> {
+    let drive = Command::new(alloc, DRIVE);
+    Ok(
+        drive
+            .about(
+                "Answers the lines on standard input, each before it reads the next, for another program",
+            )
+            .after_help(DRIVING),
+    )
+}
+
 /// The command that checks a script.
 fn check_command<'a>(alloc: Global) -> Result<Command<'a>, Fault> {
     let check = Command::new(alloc, CHECK).about(
@@ -316,12 +404,39 @@ fn trace_command<'a>(alloc: Global) -> Result<Command<'a>, Fault> {
     let trace = Command::new(alloc, TRACE).about(
         "Tells what a trace says: symbols as the line 'symbols' of a script prints them",
     );
-    trace
-        .arg(lint_argument(alloc))?
+    let trace = trace
+        .arg(lint_argument(alloc).group(WITH_LEGACIES)?)?
         .arg(explain_argument(alloc))?
-        .arg(legacy_argument(alloc)?)?
+        .arg(legacy_argument(alloc).requires_arg(WITH_LEGACIES)?)?;
+    with_capture(alloc, trace)?
+        .group(ArgGroup::new(alloc, WITH_LEGACIES).multiple(true))?
         .arg(file_argument(alloc, "The trace, or - for standard input"))
         .or(Err(Fault::Memory))
+}
+
+/// The same command with the options of a capture.
+fn with_capture<'a>(alloc: Global, trace: Command<'a>) -> Result<Command<'a>, Fault> {
+    trace
+        .arg(capture_argument(alloc).group(WITH_LEGACIES)?)?
+        .arg(signal_argument(alloc, SCL, "The signal of SCL, scl without this").requires_arg(VCD)?)?
+        .arg(signal_argument(alloc, SDA, "The signal of SDA, sda without this").requires_arg(VCD)?)
+        .or(Err(Fault::Memory))
+}
+
+/// Whether the file is a capture.
+fn capture_argument<'a>(alloc: Global) -> Arg<'a> {
+    Arg::new(alloc, VCD)
+        .long(VCD)
+        .action(ArgAction::SetTrue)
+        .help("The file is a capture of SCL and SDA, a value change dump")
+}
+
+/// The name of a signal of a capture.
+fn signal_argument<'a>(alloc: Global, name: &'a str, help: &'a str) -> Arg<'a> {
+    Arg::new(alloc, name)
+        .long(name)
+        .value_name("NAME")
+        .help(help)
 }
 
 /// Whether faults are asked for.
@@ -341,15 +456,23 @@ fn explain_argument<'a>(alloc: Global) -> Arg<'a> {
 }
 
 /// The address of a legacy target.
-fn legacy_argument<'a>(alloc: Global) -> Result<Arg<'a>, Fault> {
-    Ok(
-        Arg::new(alloc, LEGACY)
-            .long(LEGACY)
-            .action(ArgAction::Append)
-            .value_name("ADDR")
-            .help("An I2C target is at ADDR, 08 to 77; as often as you like")
-            .requires_arg(LINT)?,
-    )
+fn legacy_argument<'a>(alloc: Global) -> Arg<'a> {
+    Arg::new(alloc, LEGACY)
+        .long(LEGACY)
+        .action(ArgAction::Append)
+        .value_name("ADDR")
+        .help("An I2C target is at ADDR, 08 to 77; as often as you like")
+}
+
+/// The command that prints a waveform.
+fn wave_command<'a>(alloc: Global) -> Result<Command<'a>, Fault> {
+    let wave = Command::new(alloc, WAVE).about(
+        "Prints SCL and SDA of a trace as a value change dump, for a waveform viewer",
+    );
+    wave.arg(flag(alloc, FROM_TRACE, "The file is a trace").required(true))?
+        .arg(legacy_argument(alloc))?
+        .arg(file_argument(alloc, "The trace, or - for standard input"))
+        .or(Err(Fault::Memory))
 }
 
 /// The command with threads.

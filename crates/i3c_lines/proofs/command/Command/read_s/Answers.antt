@@ -9,7 +9,8 @@ returns g c = (
       elim (only_s c.args.tail.now command form) [
         | inl serve ↦ false≢true (c.if-is_word.ensures.1 serve)
         | inr (inl show) ↦ false≢true (c.if-is_word-2.ensures.1 show)
-        | inr (inr symbols) ↦ false≢true (c.if-is_word-3.ensures.1 symbols)
+        | inr (inr (inl symbols)) ↦ false≢true (c.if-is_word-3.ensures.1 symbols)
+        | inr (inr (inr all)) ↦ false≢true (c.if-is_word-4.ensures.1 all)
       ],
   refl,
 )

@@ -1,0 +1,721 @@
+#define _POSIX_C_SOURCE 200809L
+
+#include "daskreyf.h"
+
+#include <ctype.h>
+#include <errno.h>
+#include <fcntl.h>
+#include <inttypes.h>
+#include <stdarg.h>
+#include <stdio.h>
+#include <stdlib.h>
+#include <string.h>
+#include <sys/socket.h>
+#include <sys/types.h>
+#include <sys/wait.h>
+#include <unistd.h>
+
+enum {
+    LINE_ROOM = 320, /* the engine refuses lines of more than 256 bytes */
+    FIRST_ROOM = 4096,
+    ASKING_ROOM = 64 * (DASKREYF_NAME + 1) + 1,
+    END_ROOM = 48, /* the begin of an answer's last line, with its number */
+    FIRST_FREE_DESCRIPTOR = 3,
+    NOT_RUN = 127
+};
+
+struct daskreyf {
+    pid_t program;
+    int to, from;
+    bool gone;
+    uint64_t number; /* of the last line that was sent */
+
+    char *answer; /* what has come of the answer, with a NUL behind it */
+    size_t length, room;
+    const char *text; /* of the answer, what the line printed */
+    const char *why;
+    struct daskreyf_served served;
+    char asking[ASKING_ROOM];
+};
+
+static const char *const result_names[] = {
+    [DASKREYF_OK] = "Ok",
+    [DASKREYF_BAD_LINE] = "BadLine",
+    [DASKREYF_NO_BUS] = "NoBus",
+    [DASKREYF_BUS_MADE] = "BusMade",
+    [DASKREYF_NAME_TAKEN] = "NameTaken",
+    [DASKREYF_NO_NAME] = "NoName",
+    [DASKREYF_LEGACY_ADDRESS] = "LegacyAddress",
+    [DASKREYF_LEGACY_TWICE] = "LegacyTwice",
+    [DASKREYF_TOO_MANY_LEGACY] = "TooManyLegacy",
+    [DASKREYF_NOT_CAPABLE] = "NotCapable",
+    [DASKREYF_SLOT_TAKEN] = "SlotTaken",
+    [DASKREYF_NO_DEVICE] = "NoDevice",
+    [DASKREYF_ACTIVE_STAYS] = "ActiveStays",
+    [DASKREYF_IS_ACTIVE] = "IsActive",
+    [DASKREYF_NO_ADDRESS] = "NoAddress",
+    [DASKREYF_HAS_ADDRESS] = "HasAddress",
+    [DASKREYF_BYTE_MISMATCH] = "ByteMismatch",
+    [DASKREYF_MASKED] = "Masked",
+    [DASKREYF_FULL] = "Full",
+    [DASKREYF_SESSION_OPEN] = "SessionOpen",
+    [DASKREYF_NO_SESSION] = "NoSession",
+    [DASKREYF_NO_ANSWER] = "NoAnswer",
+    [DASKREYF_NO_END] = "NoEnd",
+    [DASKREYF_TOO_LONG] = "TooLong",
+    [DASKREYF_LIST_STALE] = "ListStale",
+    [DASKREYF_REFUSED] = "Refused",
+    [DASKREYF_BAD_ARGUMENT] = "BadArgument",
+    [DASKREYF_GONE] = "Gone",
+    [DASKREYF_NO_MEMORY] = "NoMemory",
+};
+
+const char *daskreyf_result_name(enum daskreyf_result result)
+{
+    return (size_t)result < sizeof result_names / sizeof result_names[0] ? result_names[result] : "Unknown";
+}
+
+/* The result of a refusal's text, which begins with its name. */
+static enum daskreyf_result refusal_named(const char *why)
+{
+    size_t length = strcspn(why, " ");
+
+    for (int result = DASKREYF_BAD_LINE; result < DASKREYF_REFUSED; result++)
+        if (strlen(result_names[result]) == length && !strncmp(result_names[result], why, length))
+            return (enum daskreyf_result)result;
+    return DASKREYF_REFUSED;
+}
+
+/* The program */
+
+/* The descriptor, moved above the standard ones, and closed in programs that are started later. */
+static int moved_up(int descriptor)
+{
+    int up = fcntl(descriptor, F_DUPFD_CLOEXEC, FIRST_FREE_DESCRIPTOR);
+
+    close(descriptor);
+    return up;
+}
+
+static void close_pair(const int pair[2])
+{
+    for (int i = 0; i < 2; i++)
+        if (pair[i] >= 0)
+            close(pair[i]);
+}
+
+static bool move_pair_up(int pair[2])
+{
+    pair[0] = moved_up(pair[0]);
+    pair[1] = moved_up(pair[1]);
+    if (pair[0] >= 0 && pair[1] >= 0)
+        return true;
+    close_pair(pair);
+    return false;
+}
+
+/* Lines go through a socket, as a write to a pipe whose reader has died would end the client by SIGPIPE. */
+static bool open_pairs(int to[2], int from[2])
+{
+    if (socketpair(AF_UNIX, SOCK_STREAM, 0, to) || !move_pair_up(to))
+        return false;
+    if (!pipe(from) && move_pair_up(from))
+        return true;
+    close_pair(to);
+    return false;
+}
+
+static void become_program(const char *program, int input, int output)
+{
+    if (dup2(input, STDIN_FILENO) >= 0 && dup2(output, STDOUT_FILENO) >= 0)
+        execlp(program, program, "drive", (char *)NULL);
+    _exit(NOT_RUN);
+}
+
+static bool start_program(struct daskreyf *bus, const char *program)
+{
+    int to[2], from[2];
+
+    if (!open_pairs(to, from))
+        return false;
+    bus->program = fork();
+    if (bus->program == 0)
+        become_program(program, to[1], from[1]);
+    close(to[1]);
+    close(from[1]);
+    bus->to = to[0];
+    bus->from = from[0];
+    if (bus->program > 0)
+        return true;
+    close(bus->to);
+    close(bus->from);
+    return false;
+}
+
+struct daskreyf *daskreyf_start(const char *program)
+{
+    struct daskreyf *bus = calloc(1, sizeof *bus);
+
+    if (!bus)
+        return NULL;
+    bus->text = bus->why = "";
+    bus->room = FIRST_ROOM;
+    bus->answer = malloc(bus->room);
+    if (bus->answer && start_program(bus, program))
+        return bus;
+    free(bus->answer);
+    free(bus);
+    return NULL;
+}
+
+int daskreyf_close(struct daskreyf *bus)
+{
+    int status = 0;
+
+    close(bus->to);
+    if (bus->gone) /* it may be writing what nobody reads */
+        close(bus->from);
+    while (waitpid(bus->program, &status, 0) < 0 && errno == EINTR)
+        ;
+    if (!bus->gone)
+        close(bus->from);
+    free(bus->answer);
+    free(bus);
+    return WIFEXITED(status) ? WEXITSTATUS(status) : -WTERMSIG(status);
+}
+
+/* Lines and answers */
+
+static bool send_all(struct daskreyf *bus, const char *bytes, size_t count)
+{
+    while (count > 0) {
+        ssize_t sent = send(bus->to, bytes, count, MSG_NOSIGNAL);
+
+        if (sent < 0 && errno != EINTR)
+            return false;
+        if (sent > 0) {
+            bytes += sent;
+            count -= (size_t)sent;
+        }
+    }
+    return true;
+}
+
+/* Sends a line in one piece, with its line feed. */
+static enum daskreyf_result send_whole(struct daskreyf *bus, const char *line)
+{
+    size_t length = strlen(line);
+    char *whole = malloc(length + 1);
+    bool sent;
+
+    if (!whole)
+        return DASKREYF_NO_MEMORY;
+    memcpy(whole, line, length);
+    whole[length] = '\n';
+    sent = send_all(bus, whole, length + 1);
+    free(whole);
+    return sent ? DASKREYF_OK : DASKREYF_GONE;
+}
+
+/* Makes room for a piece of the answer and its NUL. */
+static bool make_room(struct daskreyf *bus)
+{
+    char *larger;
+
+    if (bus->room - bus->length > FIRST_ROOM / 2)
+        return true;
+    larger = realloc(bus->answer, 2 * bus->room);
+    if (!larger)
+        return false;
+    bus->answer = larger;
+    bus->room *= 2;
+    return true;
+}
+
+static bool receive_piece(struct daskreyf *bus)
+{
+    ssize_t got;
+
+    do
+        got = read(bus->from, bus->answer + bus->length, bus->room - bus->length - 1);
+    while (got < 0 && errno == EINTR);
+    if (got <= 0)
+        return false;
+    bus->length += (size_t)got;
+    bus->answer[bus->length] = '\0';
+    return true;
+}
+
+/* Whether the line ends the answer that is waited for. No other line looks so, whatever devices are called. */
+static bool is_last(const struct daskreyf *bus, const char *line)
+{
+    char done[END_ROOM], refused[END_ROOM];
+    int length;
+
+    snprintf(done, sizeof done, "ok %" PRIu64 "\n", bus->number);
+    length = snprintf(refused, sizeof refused, "refused %" PRIu64 " ", bus->number);
+    return !strcmp(line, done) || (!strncmp(line, refused, (size_t)length) && isupper((unsigned char)line[length]));
+}
+
+/* Whether the answer is whole: nothing comes behind its last line before another one is sent. */
+static bool is_whole(const struct daskreyf *bus)
+{
+    const char *line = bus->answer + bus->length - 1;
+
+    if (*line != '\n')
+        return false;
+    while (line > bus->answer && line[-1] != '\n')
+        line--;
+    return is_last(bus, line);
+}
+
+static enum daskreyf_result receive(struct daskreyf *bus)
+{
+    bus->length = 0;
+    do {
+        if (!make_room(bus))
+            return DASKREYF_NO_MEMORY;
+        if (!receive_piece(bus))
+            return DASKREYF_GONE;
+    } while (!is_whole(bus));
+    bus->answer[--bus->length] = '\0';
+    return DASKREYF_OK;
+}
+
+/* The last line of the text. */
+static const char *last_line(const char *text)
+{
+    const char *feed = strrchr(text, '\n');
+
+    return feed ? feed + 1 : text;
+}
+
+/* The line behind this one, or NULL. */
+static const char *next_line(const char *line)
+{
+    const char *feed = strchr(line, '\n');
+
+    return feed ? feed + 1 : NULL;
+}
+
+/* Cuts the text before this line, which is its last. */
+static void cut_line(struct daskreyf *bus, const char *line)
+{
+    if (line == bus->text)
+        bus->text += strlen(line);
+    else
+        bus->answer[line - bus->answer - 1] = '\0';
+}
+
+static bool begins(const char *text, const char *word)
+{
+    return !strncmp(text, word, strlen(word));
+}
+
+/* The line `asking`. What looks so behind a line that prints a name is a device of this name. */
+static void take_asking(struct daskreyf *bus, const char *sent)
+{
+    const char *line = last_line(bus->text);
+
+    if (begins(sent, "legacy ") || begins(sent, "main ") || begins(sent, "attach "))
+        return;
+    if (strcmp(line, "asking") && !begins(line, "asking "))
+        return;
+    line += strlen("asking");
+    snprintf(bus->asking, sizeof bus->asking, "%s", *line ? line + 1 : line);
+    cut_line(bus, last_line(bus->text));
+}
+
+/* The record that the line added to the log. */
+static bool take_record(struct daskreyf *bus, const char *sent)
+{
+    struct daskreyf_record *record = &bus->served.record;
+    const char *line = last_line(bus->text);
+    unsigned byte;
+    int end = 0;
+
+    if (begins(sent, "show")
+        || sscanf(line, "record %lu slot %u raise %lu at %2" SCNx8 " byte %n", &record->number, &record->slot,
+               &record->raised, &record->address, &end) != 4
+        || !end)
+        return false;
+    record->byte = sscanf(line + end, "%2x", &byte) == 1 ? (int)byte : DASKREYF_NO_BYTE;
+    bus->served.request = DASKREYF_RECORDED;
+    cut_line(bus, line);
+    return true;
+}
+
+/* Whether the first line of the text is this one. */
+static bool is_first(const char *text, const char *line)
+{
+    return begins(text, line) && (text[strlen(line)] == '\n' || !text[strlen(line)]);
+}
+
+static void take_served(struct daskreyf *bus, const char *sent)
+{
+    struct daskreyf_served *served = &bus->served;
+
+    if (take_record(bus, sent))
+        return;
+    if (is_first(bus->text, "turned down"))
+        served->request = DASKREYF_TURNED_DOWN;
+    else if (is_first(bus->text, "torn"))
+        served->request = DASKREYF_TORN;
+    else if (is_first(bus->text, "joining"))
+        served->request = DASKREYF_JOINING;
+    else if (sscanf(bus->text, "wants role %2" SCNx8, &served->address) == 1)
+        served->request = DASKREYF_WANTS_ROLE;
+}
+
+/* Takes the answer apart: its last line, who asks, the record, and what is left, which is what the line printed. */
+static enum daskreyf_result take_answer(struct daskreyf *bus, const char *sent)
+{
+    const char *last;
+
+    bus->text = bus->answer;
+    last = last_line(bus->text);
+    cut_line(bus, last);
+    take_asking(bus, sent);
+    take_served(bus, sent);
+    if (begins(last, "ok "))
+        return DASKREYF_OK;
+    bus->why = strchr(strchr(last, ' ') + 1, ' ') + 1;
+    return refusal_named(bus->why);
+}
+
+static enum daskreyf_result exchange(struct daskreyf *bus, const char *line)
+{
+    enum daskreyf_result result = DASKREYF_GONE;
+
+    bus->text = bus->why = "";
+    memset(&bus->served, 0, sizeof bus->served);
+    if (!bus->gone) {
+        bus->number++;
+        result = send_whole(bus, line);
+    }
+    if (result == DASKREYF_OK)
+        result = receive(bus);
+    if (result == DASKREYF_OK)
+        return take_answer(bus, line);
+    bus->gone = true;
+    return result;
+}
+
+enum daskreyf_result daskreyf_line(struct daskreyf *bus, const char *line)
+{
+    return strchr(line, '\n') ? DASKREYF_BAD_ARGUMENT : exchange(bus, line);
+}
+
+static enum daskreyf_result send_line(struct daskreyf *bus, const char *format, ...)
+{
+    char line[LINE_ROOM];
+    va_list words;
+    int length;
+
+    va_start(words, format);
+    length = vsnprintf(line, sizeof line, format, words);
+    va_end(words);
+    if (length < 0 || length >= LINE_ROOM)
+        return DASKREYF_BAD_ARGUMENT;
+    return daskreyf_line(bus, line);
+}
+
+const char *daskreyf_text(const struct daskreyf *bus)
+{
+    return bus->text;
+}
+
+const char *daskreyf_why(const struct daskreyf *bus)
+{
+    return bus->why;
+}
+
+const struct daskreyf_served *daskreyf_served(const struct daskreyf *bus)
+{
+    return &bus->served;
+}
+
+const char *daskreyf_asking(const struct daskreyf *bus)
+{
+    return bus->asking;
+}
+
+/* An answer that has not what it must have by docs/FORMATS.md: the bus is over. */
+static enum daskreyf_result broken(struct daskreyf *bus)
+{
+    bus->gone = true;
+    return DASKREYF_GONE;
+}
+
+/* The start */
+
+enum daskreyf_result daskreyf_legacy(struct daskreyf *bus, const char *name, uint8_t address, uint8_t lvr)
+{
+    return send_line(bus, "legacy %s %02X %02X", name, address, lvr);
+}
+
+static enum daskreyf_result place(
+    struct daskreyf *bus, const char *word, const char *name, const struct daskreyf_identity *identity)
+{
+    return send_line(bus, "%s %s %012" PRIX64 " %02X %02X%s", word, name, identity->pid, identity->bcr, identity->dcr,
+        identity->declines ? " decline" : "");
+}
+
+enum daskreyf_result daskreyf_main(struct daskreyf *bus, const char *name, const struct daskreyf_identity *identity)
+{
+    return place(bus, "main", name, identity);
+}
+
+/* Devices */
+
+enum daskreyf_result daskreyf_attach(
+    struct daskreyf *bus, const char *name, const struct daskreyf_identity *identity, unsigned *slot)
+{
+    enum daskreyf_result result = place(bus, "attach", name, identity);
+    unsigned found;
+
+    if (result != DASKREYF_OK)
+        return result;
+    if (sscanf(bus->text, "%*s slot %u", &found) != 1)
+        return broken(bus);
+    if (slot)
+        *slot = found;
+    return DASKREYF_OK;
+}
+
+enum daskreyf_result daskreyf_drop(struct daskreyf *bus, const char *name)
+{
+    return send_line(bus, "drop %s", name);
+}
+
+enum daskreyf_result daskreyf_cut(struct daskreyf *bus, const char *name, uint16_t bit)
+{
+    return send_line(bus, "cut %s %u", name, (unsigned)bit);
+}
+
+enum daskreyf_result daskreyf_raise(struct daskreyf *bus, const char *name, int byte, unsigned long *number)
+{
+    enum daskreyf_result result;
+    unsigned long found;
+
+    if (byte == DASKREYF_NO_BYTE)
+        result = send_line(bus, "raise %s", name);
+    else
+        result = send_line(bus, "raise %s %02X", name, (unsigned)byte);
+    if (result != DASKREYF_OK)
+        return result;
+    if (sscanf(bus->text, "raised %lu", &found) != 1)
+        return broken(bus);
+    if (number)
+        *number = found;
+    return DASKREYF_OK;
+}
+
+enum daskreyf_result daskreyf_ask_join(struct daskreyf *bus, const char *name)
+{
+    return send_line(bus, "ask-join %s", name);
+}
+
+enum daskreyf_result daskreyf_ask_role(struct daskreyf *bus, const char *name)
+{
+    return send_line(bus, "ask-role %s", name);
+}
+
+/* The controller */
+
+enum daskreyf_result daskreyf_policy(struct daskreyf *bus, enum daskreyf_policy policy)
+{
+    static const char *const words[] = {
+        [DASKREYF_ACCEPT_ALL] = "all",
+        [DASKREYF_ACCEPT_NONE] = "none",
+        [DASKREYF_ACCEPT_JOINS] = "joins",
+        [DASKREYF_ACCEPT_ROLES] = "roles",
+        [DASKREYF_ACCEPT_INTERRUPTS] = "interrupts",
+    };
+
+    if ((size_t)policy >= sizeof words / sizeof words[0])
+        return DASKREYF_BAD_ARGUMENT;
+    return send_line(bus, "policy %s", words[policy]);
+}
+
+enum daskreyf_result daskreyf_serve(struct daskreyf *bus)
+{
+    return daskreyf_line(bus, "serve");
+}
+
+static enum daskreyf_result set_events(struct daskreyf *bus, const char *word, uint8_t kinds, int address)
+{
+    if (address == DASKREYF_ALL)
+        return send_line(bus, "%s %02X", word, kinds);
+    return send_line(bus, "%s %02X %02X", word, kinds, (unsigned)address);
+}
+
+enum daskreyf_result daskreyf_enec(struct daskreyf *bus, uint8_t kinds, int address)
+{
+    return set_events(bus, "enec", kinds, address);
+}
+
+enum daskreyf_result daskreyf_disec(struct daskreyf *bus, uint8_t kinds, int address)
+{
+    return set_events(bus, "disec", kinds, address);
+}
+
+enum daskreyf_result daskreyf_reset(struct daskreyf *bus)
+{
+    return daskreyf_line(bus, "reset");
+}
+
+enum daskreyf_result daskreyf_list(struct daskreyf *bus)
+{
+    return daskreyf_line(bus, "list");
+}
+
+enum daskreyf_result daskreyf_read(struct daskreyf *bus, uint8_t address, uint8_t registers[DASKREYF_REGISTERS])
+{
+    enum daskreyf_result result = send_line(bus, "read %02X", address);
+    const char *digits = last_line(bus->text) + strlen("bytes ");
+
+    if (result != DASKREYF_OK)
+        return result;
+    if (!begins(last_line(bus->text), "bytes ") || strlen(digits) != 2 * DASKREYF_REGISTERS)
+        return broken(bus);
+    for (int i = 0; i < DASKREYF_REGISTERS; i++)
+        if (sscanf(digits + 2 * i, "%2" SCNx8, &registers[i]) != 1)
+            return broken(bus);
+    return DASKREYF_OK;
+}
+
+enum daskreyf_result daskreyf_write(struct daskreyf *bus, uint8_t address, const uint8_t *bytes, size_t count)
+{
+    char digits[2 * (DASKREYF_REGISTERS + 1) + 1] = "";
+
+    /* one byte more than the engine takes is enough for its refusal */
+    for (size_t i = 0; i < count && i <= DASKREYF_REGISTERS; i++)
+        snprintf(digits + 2 * i, sizeof digits - 2 * i, "%02X", bytes[i]);
+    return send_line(bus, "write %02X%s%s", address, count ? " " : "", digits);
+}
+
+enum daskreyf_result daskreyf_handover(struct daskreyf *bus, uint8_t address)
+{
+    return send_line(bus, "handover %02X", address);
+}
+
+/* Assignments */
+
+static bool read_assigned(const char *line, struct daskreyf_assigned *assigned)
+{
+    return sscanf(line, "assigned %2" SCNx8 " %12" SCNx64 " %2" SCNx8 " %2" SCNx8, &assigned->address, &assigned->pid,
+               &assigned->bcr, &assigned->dcr) == 4;
+}
+
+enum daskreyf_result daskreyf_daa(struct daskreyf *bus, struct daskreyf_assigned *assigned, size_t room, size_t *count)
+{
+    enum daskreyf_result result = daskreyf_line(bus, "daa");
+    struct daskreyf_assigned one;
+
+    *count = 0;
+    for (const char *line = bus->text; line; line = next_line(line)) {
+        if (!read_assigned(line, &one))
+            continue;
+        if (*count < room)
+            assigned[*count] = one;
+        ++*count;
+    }
+    return result;
+}
+
+enum daskreyf_result daskreyf_open(struct daskreyf *bus)
+{
+    return daskreyf_line(bus, "open");
+}
+
+enum daskreyf_result daskreyf_round(
+    struct daskreyf *bus, enum daskreyf_round *round, struct daskreyf_assigned *assigned)
+{
+    enum daskreyf_result result = daskreyf_line(bus, "round");
+    const char *line = last_line(bus->text);
+
+    if (result != DASKREYF_OK)
+        return result;
+    if (read_assigned(line, assigned))
+        *round = DASKREYF_ASSIGNED;
+    else
+        *round = strcmp(line, "done") ? DASKREYF_NOBODY : DASKREYF_DONE;
+    return DASKREYF_OK;
+}
+
+enum daskreyf_result daskreyf_end(struct daskreyf *bus)
+{
+    return daskreyf_line(bus, "end");
+}
+
+/* What is looked at */
+
+/* Reads `NAME ADDR waiting N`. */
+static bool read_device(const char *line, struct daskreyf_member *device)
+{
+    char address[3];
+    unsigned value;
+
+    if (sscanf(line, "%16s %2s waiting %u", device->name, address, &device->waiting) != 3)
+        return false;
+    device->address = sscanf(address, "%2x", &value) == 1 ? (int)value : DASKREYF_UNADDRESSED;
+    return true;
+}
+
+/* Reads `NAME ADDR legacy`. */
+static bool read_legacy(const char *line, struct daskreyf_member *legacy)
+{
+    unsigned value;
+    int end = 0;
+
+    if (sscanf(line, "%16s %2x legacy%n", legacy->name, &value, &end) != 2 || !end)
+        return false;
+    legacy->address = (int)value;
+    legacy->waiting = 0;
+    return true;
+}
+
+/* Reads the lines of `show` into the state. */
+static bool read_state(const char *line, struct daskreyf_state *state)
+{
+    if (sscanf(line, "active %2" SCNx8, &state->active) != 1)
+        return false;
+    line = next_line(line);
+    for (; line && state->device_count < DASKREYF_SLOTS; line = next_line(line))
+        if (read_device(line, &state->devices[state->device_count]))
+            state->device_count++;
+        else
+            break;
+    for (; line && state->legacy_count < DASKREYF_LEGACIES; line = next_line(line))
+        if (read_legacy(line, &state->legacies[state->legacy_count]))
+            state->legacy_count++;
+        else
+            break;
+    return line && sscanf(line, "records %lu", &state->record_count) == 1;
+}
+
+enum daskreyf_result daskreyf_show(struct daskreyf *bus, struct daskreyf_state *state)
+{
+    enum daskreyf_result result = daskreyf_line(bus, "show");
+
+    memset(state, 0, sizeof *state);
+    if (result != DASKREYF_OK)
+        return result;
+    return read_state(bus->text, state) ? DASKREYF_OK : broken(bus);
+}
+
+enum daskreyf_result daskreyf_show_all(struct daskreyf *bus)
+{
+    return daskreyf_line(bus, "show all");
+}
+
+enum daskreyf_result daskreyf_symbols(struct daskreyf *bus)
+{
+    return daskreyf_line(bus, "symbols");
+}
+
+enum daskreyf_result daskreyf_frames(struct daskreyf *bus, uint16_t count)
+{
+    return send_line(bus, "frames %u", (unsigned)count);
+}

@@ -1,0 +1,246 @@
+/*
+ * An I3C Basic bus that a C program drives, line by line, through `i3cbus drive`. C99 and POSIX, and nothing else.
+ *
+ * Each call sends one line and waits for its answer. A line that the engine refuses gives the result of that name, and has
+ * changed nothing but for the cuts that a frame takes. Numbers in brackets are sections of MIPI I3C Basic v1.1.1.
+ * docs/DRIVING.md has the protocol, docs/FORMATS.md each line with its refusals. A bus is for one thread at a time.
+ */
+#ifndef DASKREYF_H
+#define DASKREYF_H
+
+#include <stdbool.h>
+#include <stddef.h>
+#include <stdint.h>
+
+enum {
+    DASKREYF_SLOTS = 16,         /* places for devices, the main controller's counted */
+    DASKREYF_LEGACIES = 16,      /* legacy I2C targets at most */
+    DASKREYF_REGISTERS = 16,     /* registers of a device, and bytes of one transfer at most */
+    DASKREYF_NAME = 16,          /* letters of a name at most */
+    DASKREYF_NO_BYTE = -1,       /* an interrupt without a mandatory byte */
+    DASKREYF_UNADDRESSED = -1,   /* a device without a dynamic address */
+    DASKREYF_ALL = -1            /* ENEC and DISEC to all */
+};
+
+/* The kinds of events of ENEC and DISEC. [5.1.9.3.1] */
+enum { DASKREYF_INTERRUPTS = 1, DASKREYF_ROLES = 2, DASKREYF_JOINS = 8 };
+
+/* What came of a call. */
+enum daskreyf_result {
+    DASKREYF_OK,
+
+    /* the engine refused the line: */
+    DASKREYF_BAD_LINE,         /* no line of docs/FORMATS.md */
+    DASKREYF_NO_BUS,           /* `main` hasn't come yet */
+    DASKREYF_BUS_MADE,         /* `main` has come: no other one may, and no legacy target */
+    DASKREYF_NAME_TAKEN,       /* a present device or a legacy target has this name */
+    DASKREYF_NO_NAME,          /* nobody was ever called so */
+    DASKREYF_LEGACY_ADDRESS,   /* a legacy target's address is from 08 to 77 */
+    DASKREYF_LEGACY_TWICE,     /* another legacy target has this address */
+    DASKREYF_TOO_MANY_LEGACY,  /* there are sixteen legacy targets */
+    DASKREYF_NOT_CAPABLE,      /* by its BCR the device can't, or the table has nobody there [5.1.1.2.1] */
+    DASKREYF_SLOT_TAKEN,       /* all slots have a device */
+    DASKREYF_NO_DEVICE,        /* the device is gone, or is a legacy target */
+    DASKREYF_ACTIVE_STAYS,     /* the active controller doesn't leave, nor is cut in a frame of its own */
+    DASKREYF_IS_ACTIVE,        /* the device is the active controller */
+    DASKREYF_NO_ADDRESS,       /* the device has no dynamic address; or there is none left to give */
+    DASKREYF_HAS_ADDRESS,      /* the device has a dynamic address already */
+    DASKREYF_BYTE_MISMATCH,    /* the BCR wants a mandatory byte and none was given, or the other way round */
+    DASKREYF_MASKED,           /* events of this kind are disabled [5.1.9.3.1] */
+    DASKREYF_FULL,             /* eight interrupts of the device wait, or its slot's count is used up */
+    DASKREYF_SESSION_OPEN,     /* an assignment is open */
+    DASKREYF_NO_SESSION,       /* no assignment is open */
+    DASKREYF_NO_ANSWER,        /* nobody at the address acknowledged, or the table has nobody there */
+    DASKREYF_NO_END,           /* the last T of the read said that more bytes would come */
+    DASKREYF_TOO_LONG,         /* a transfer has sixteen bytes at most */
+    DASKREYF_LIST_STALE,       /* addresses have changed since the last `list` [5.1.9.3.7] */
+    DASKREYF_REFUSED,          /* for a reason that isn't known here: daskreyf_why has it */
+
+    /* nothing was sent: */
+    DASKREYF_BAD_ARGUMENT,     /* a line feed in a text, or a name that is far too long */
+
+    /* the bus is over: */
+    DASKREYF_GONE,             /* the program has ended, or breaks the protocol; daskreyf_close has its status */
+    DASKREYF_NO_MEMORY
+};
+
+/* Which requests the controller accepts. */
+enum daskreyf_policy {
+    DASKREYF_ACCEPT_ALL,
+    DASKREYF_ACCEPT_NONE,
+    DASKREYF_ACCEPT_JOINS,
+    DASKREYF_ACCEPT_ROLES,
+    DASKREYF_ACCEPT_INTERRUPTS
+};
+
+/* An interrupt that the active controller accepted. [5.1.6] */
+struct daskreyf_record {
+    unsigned long number;  /* its place in the log, from 1 */
+    unsigned slot;         /* of the device that raised it */
+    unsigned long raised;  /* its number among the accepted raises of that slot */
+    uint8_t address;       /* the dynamic address that it came from */
+    int byte;              /* its mandatory byte, or DASKREYF_NO_BYTE */
+};
+
+/* What became of a request that came up in a frame's first header. */
+enum daskreyf_request {
+    DASKREYF_QUIET,        /* nobody asked */
+    DASKREYF_RECORDED,     /* an interrupt is in the log: `record` */
+    DASKREYF_TURNED_DOWN,  /* the policy, or this frame, doesn't accept it; the device keeps asking */
+    DASKREYF_TORN,         /* an interrupt whose byte was lost with its device; nothing was recorded */
+    DASKREYF_JOINING,      /* a device asked to join, and may [5.1.5] */
+    DASKREYF_WANTS_ROLE    /* the device at `address` asked for the controller's role [5.1.7] */
+};
+
+struct daskreyf_served {
+    enum daskreyf_request request;
+    struct daskreyf_record record;
+    uint8_t address;
+};
+
+/* A device with the dynamic address that a round gave it. [5.1.4.2] */
+struct daskreyf_assigned {
+    uint8_t address;
+    uint64_t pid;  /* 48 bits */
+    uint8_t bcr;
+    uint8_t dcr;
+};
+
+/* What one round of an assignment came to. */
+enum daskreyf_round {
+    DASKREYF_ASSIGNED,  /* a device took the address */
+    DASKREYF_NOBODY,    /* no device took it */
+    DASKREYF_DONE       /* no device is left */
+};
+
+/* A device that is put on a bus. */
+struct daskreyf_identity {
+    uint64_t pid;  /* 48 bits */
+    uint8_t bcr;
+    uint8_t dcr;
+    bool declines;  /* it never takes the role over */
+};
+
+/* A device that is present, or a legacy target. */
+struct daskreyf_member {
+    char name[DASKREYF_NAME + 1];
+    int address;       /* or DASKREYF_UNADDRESSED */
+    unsigned waiting;  /* its interrupts that wait */
+};
+
+/* The bus, as `show` prints it, without its log. */
+struct daskreyf_state {
+    uint8_t active;  /* the address of the active controller */
+    struct daskreyf_member devices[DASKREYF_SLOTS];  /* by slots */
+    size_t device_count;
+    struct daskreyf_member legacies[DASKREYF_LEGACIES];  /* by addresses */
+    size_t legacy_count;
+    unsigned long record_count;
+};
+
+/* A bus of its own, in a program of its own. */
+struct daskreyf;
+
+/*
+ * Starts the program by its path, or by its name in PATH. NULL if there is no memory, process or descriptor for it, and errno
+ * says which. A program that can't be run is DASKREYF_GONE at the first call, and has the status 127.
+ */
+struct daskreyf *daskreyf_start(const char *program);
+
+/*
+ * Ends the bus and its program. Gives the program's status: 0, or 1 if a line was refused, 2 after a fault that it told on
+ * standard error; less a signal's number if it was killed.
+ */
+int daskreyf_close(struct daskreyf *bus);
+
+/* The name of a result, as the engine writes refusals: "NoAnswer". */
+const char *daskreyf_result_name(enum daskreyf_result result);
+
+/* Sends any line of docs/FORMATS.md, without its line feed. */
+enum daskreyf_result daskreyf_line(struct daskreyf *bus, const char *line);
+
+/* Of the last answer. Texts hold until the next call. */
+
+/* What the line printed, as `run` prints it: lines with line feeds between them, without the refusal. */
+const char *daskreyf_text(const struct daskreyf *bus);
+
+/* Why it was refused, with the address or number if there is one: "NoAnswer 09". Empty if it wasn't. */
+const char *daskreyf_why(const struct daskreyf *bus);
+
+/* What its frame served first, also where the frame was refused then. */
+const struct daskreyf_served *daskreyf_served(const struct daskreyf *bus);
+
+/*
+ * The names of the devices that drive the first request of the next frame: one, or all that want to join, by slots and with
+ * spaces between. Empty if nobody asks.
+ */
+const char *daskreyf_asking(const struct daskreyf *bus);
+
+/* The start: legacy I2C targets come before the main controller. */
+
+enum daskreyf_result daskreyf_legacy(struct daskreyf *bus, const char *name, uint8_t address, uint8_t lvr);
+enum daskreyf_result daskreyf_main(struct daskreyf *bus, const char *name, const struct daskreyf_identity *identity);
+
+/* What devices do. */
+
+/* Puts a device into the first free slot. `slot` may be NULL. */
+enum daskreyf_result daskreyf_attach(
+    struct daskreyf *bus, const char *name, const struct daskreyf_identity *identity, unsigned *slot);
+
+/* The device loses power between two frames. */
+enum daskreyf_result daskreyf_drop(struct daskreyf *bus, const char *name);
+
+/* The device loses power in the next frame, from this bit on, as docs/BUS.md counts them. */
+enum daskreyf_result daskreyf_cut(struct daskreyf *bus, const char *name, uint16_t bit);
+
+/* Queues an interrupt, with its mandatory byte or DASKREYF_NO_BYTE. `number`, from 1, may be NULL. [5.1.6] */
+enum daskreyf_result daskreyf_raise(struct daskreyf *bus, const char *name, int byte, unsigned long *number);
+
+enum daskreyf_result daskreyf_ask_join(struct daskreyf *bus, const char *name); /* [5.1.5] */
+enum daskreyf_result daskreyf_ask_role(struct daskreyf *bus, const char *name); /* [5.1.7] */
+
+/* What the controller does. All but the policy are frames: daskreyf_served has what came up in their first header. */
+
+enum daskreyf_result daskreyf_policy(struct daskreyf *bus, enum daskreyf_policy policy);
+enum daskreyf_result daskreyf_serve(struct daskreyf *bus);
+
+/* Enables and disables kinds of events, of the device at an address or of DASKREYF_ALL. [5.1.9.3.1] */
+enum daskreyf_result daskreyf_enec(struct daskreyf *bus, uint8_t kinds, int address);
+enum daskreyf_result daskreyf_disec(struct daskreyf *bus, uint8_t kinds, int address);
+
+enum daskreyf_result daskreyf_reset(struct daskreyf *bus); /* RSTDAA [5.1.9.3.3] */
+enum daskreyf_result daskreyf_list(struct daskreyf *bus);  /* DEFTGTS [5.1.9.3.7] */
+
+/* Private transfers with a device or a legacy target. [5.1.2.3] */
+enum daskreyf_result daskreyf_read(struct daskreyf *bus, uint8_t address, uint8_t registers[DASKREYF_REGISTERS]);
+enum daskreyf_result daskreyf_write(struct daskreyf *bus, uint8_t address, const uint8_t *bytes, size_t count);
+
+/* Offers the role to the device at an address, by GETACCCR. [5.1.7] */
+enum daskreyf_result daskreyf_handover(struct daskreyf *bus, uint8_t address);
+
+/*
+ * A whole assignment by ENTDAA: tells who got an address, of which the first `room` are stored, and how many they are. It
+ * tells so too where it is DASKREYF_NO_ADDRESS. [5.1.4.2]
+ */
+enum daskreyf_result daskreyf_daa(struct daskreyf *bus, struct daskreyf_assigned *assigned, size_t room, size_t *count);
+
+/* An assignment by its rounds. `assigned` is set where the round is DASKREYF_ASSIGNED. */
+enum daskreyf_result daskreyf_open(struct daskreyf *bus);
+enum daskreyf_result daskreyf_round(
+    struct daskreyf *bus, enum daskreyf_round *round, struct daskreyf_assigned *assigned);
+enum daskreyf_result daskreyf_end(struct daskreyf *bus);
+
+/* What is looked at. */
+
+/* The bus; its log is in daskreyf_text. */
+enum daskreyf_result daskreyf_show(struct daskreyf *bus, struct daskreyf_state *state);
+
+/*
+ * All of the bus, with what each device is, may and wants; the last symbols on the wire, 256 at most; and the last frames of
+ * these that are whole, as many or fewer. daskreyf_text has them then.
+ */
+enum daskreyf_result daskreyf_show_all(struct daskreyf *bus);
+enum daskreyf_result daskreyf_symbols(struct daskreyf *bus);
+enum daskreyf_result daskreyf_frames(struct daskreyf *bus, uint16_t count);
+
+#endif

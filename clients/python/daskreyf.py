@@ -1,0 +1,659 @@
+"""An I3C Basic bus that a Python program drives, line by line, through `i3cbus drive`.
+
+    with Bus("i3cbus") as bus:
+        hub = bus.main("hub", pid=0x020400000001, bcr=0x46, dcr=0xC0)
+        sensor = bus.attach("sensor", pid=0x020400000010, bcr=0x06, dcr=0x44)
+        bus.daa()
+        sensor.raise_interrupt(0x2A)
+        record = bus.serve()
+
+Each method sends one line and waits for its answer. A line that the engine refuses raises the exception of that name, and
+has changed nothing but for the cuts that a frame takes. Numbers in brackets are sections of MIPI I3C Basic v1.1.1.
+
+docs/DRIVING.md has the protocol, and docs/FORMATS.md each line with its refusals. A `Bus` is for one thread.
+"""
+
+from __future__ import annotations
+
+import enum
+import functools
+import operator
+import os
+import re
+import subprocess
+from collections.abc import Sequence
+from dataclasses import dataclass, field
+from types import TracebackType
+from typing import NoReturn
+
+REGISTERS = 16
+"""The registers of a device or a legacy target, and the most bytes of one transfer."""
+
+_PIECE = 65536
+_RECORD = re.compile(r"record (\d+) slot (\d+) raise (\d+) at ([0-9A-F]{2}) byte ([0-9A-F]{2}|--)")
+_ASKING = re.compile(r"asking( |$)")
+# The lines that print a name first: what looks like a line `asking` is a device of that name.
+_NAMING = ("legacy", "main", "attach")
+
+
+# What the engine tells
+
+
+@dataclass(frozen=True)
+class Record:
+    """An interrupt that the active controller accepted. [5.1.6]"""
+
+    number: int
+    """Its place in the log, from 1."""
+    slot: int
+    """The slot of the device that raised it."""
+    raised: int
+    """Its number among the accepted raises of that slot."""
+    address: int
+    """The dynamic address that it came from."""
+    byte: int | None
+    """The mandatory byte, or None for a device that sends none."""
+
+
+@dataclass(frozen=True)
+class TurnedDown:
+    """A request that the policy, or this frame, doesn't accept. The device keeps asking."""
+
+
+@dataclass(frozen=True)
+class Torn:
+    """An interrupt whose byte was lost with its device. Nothing was recorded."""
+
+
+@dataclass(frozen=True)
+class Joining:
+    """A device asked to join, and may. The next assignment gives it an address. [5.1.5]"""
+
+
+@dataclass(frozen=True)
+class WantsRole:
+    """The device at this address asked for the controller's role. A `handover` would give it. [5.1.7]"""
+
+    address: int
+
+
+Served = Record | TurnedDown | Torn | Joining | WantsRole
+"""What became of a request that came up in a frame's first header. It is None where nobody asked."""
+
+_PLAIN: dict[str, Served] = {"turned down": TurnedDown(), "torn": Torn(), "joining": Joining()}
+
+
+@dataclass(frozen=True)
+class Assigned:
+    """A device with the dynamic address that a round gave it. [5.1.4.2]"""
+
+    address: int
+    pid: int
+    bcr: int
+    dcr: int
+
+
+@dataclass(frozen=True)
+class Nobody:
+    """A round in which no device took the address."""
+
+
+@dataclass(frozen=True)
+class DeviceState:
+    """A device that is present: its address, or None without one, and how many of its interrupts wait."""
+
+    name: str
+    address: int | None
+    waiting: int
+
+
+@dataclass(frozen=True)
+class LegacyTarget:
+    """A legacy I2C target, which has a static address."""
+
+    name: str
+    address: int
+
+
+@dataclass(frozen=True)
+class BusState:
+    """The bus, as `show` prints it."""
+
+    active: int
+    """The address of the active controller."""
+    devices: tuple[DeviceState, ...]
+    """By slots."""
+    legacies: tuple[LegacyTarget, ...]
+    """By addresses."""
+    records: tuple[Record, ...]
+
+
+class Kinds(enum.IntFlag):
+    """Kinds of events, as ENEC and DISEC have them. [5.1.9.3.1]"""
+
+    INTERRUPTS = 1
+    ROLES = 2
+    JOINS = 8
+
+
+@dataclass(frozen=True)
+class DeviceDetails:
+    """What a device that is present is, and what it may and wants to signal."""
+
+    name: str
+    pid: int
+    bcr: int
+    dcr: int
+    enabled: Kinds
+    wish: Kinds
+    """`JOINS` for a device that asked for an address, `ROLES` for one that asked for the role, or neither."""
+
+
+@dataclass(frozen=True)
+class BusDetails:
+    """All of the bus, as `show all` prints it."""
+
+    state: BusState
+    devices: tuple[DeviceDetails, ...]
+    """By slots."""
+    listed: bool
+    """Whether no address has changed since the last `list`."""
+    in_session: bool
+    """Whether an assignment is open."""
+
+
+@dataclass(frozen=True)
+class Answer:
+    """The answer to a line."""
+
+    number: int
+    """The line's number, from 1."""
+    lines: tuple[str, ...] = ()
+    """What the line printed, as `run` prints it, without the refusal."""
+    record: Record | None = None
+    """The interrupt that the line added to the log."""
+    asking: tuple[str, ...] | None = None
+    """Who asks now, as `Bus.asking` has it; None where that hasn't changed."""
+
+    @property
+    def served(self) -> Served | None:
+        """What the line's frame served first."""
+        return _served(self.lines[0], self.record) if self.lines else None
+
+    @property
+    def assigned(self) -> tuple[Assigned, ...]:
+        """The devices that got an address, in the order of the rounds."""
+        return tuple(_assigned(line) for line in self.lines if line.startswith("assigned "))
+
+
+# What goes wrong
+
+
+class BusGone(Exception):
+    """The program has ended, couldn't be spoken to any more, or said what the protocol doesn't have."""
+
+    def __init__(self, what: str, status: int | None = None) -> None:
+        super().__init__(what)
+        self.status = status
+        """The program's exit status, where it has ended; negative for a signal."""
+
+
+class Refused(Exception):
+    """The engine refused a line. `why` is the reason's name; `about` its address or number, as it was printed."""
+
+    def __init__(self, why: str, about: str | None, answer: Answer) -> None:
+        super().__init__(f"line {answer.number}: {why}" + (f" {about}" if about else ""))
+        self.why = why
+        self.about = about
+        self.answer = answer
+        """What the line printed before: what its frame served, and the rounds of a `daa`."""
+
+
+class BadLine(Refused):
+    """This is no line of docs/FORMATS.md."""
+
+
+class NoBus(Refused):
+    """`main` hasn't come yet."""
+
+
+class BusMade(Refused):
+    """`main` has come: no other one may, and no legacy target."""
+
+
+class NameTaken(Refused):
+    """A present device or a legacy target has this name."""
+
+
+class NoName(Refused):
+    """Nobody was ever called so."""
+
+
+class LegacyAddress(Refused):
+    """A legacy target's address is from 08 to 77."""
+
+
+class LegacyTwice(Refused):
+    """Another legacy target has this address."""
+
+
+class TooManyLegacy(Refused):
+    """There are sixteen legacy targets."""
+
+
+class NotCapable(Refused):
+    """The device can't do this by its BCR, or the table has nobody at that address. [5.1.1.2.1]"""
+
+
+class SlotTaken(Refused):
+    """All slots have a device."""
+
+
+class NoDevice(Refused):
+    """The device is gone, or is a legacy target."""
+
+
+class ActiveStays(Refused):
+    """The active controller doesn't leave, and isn't cut in a frame of its own."""
+
+
+class IsActive(Refused):
+    """The device is the active controller."""
+
+
+class NoAddress(Refused):
+    """The device has no dynamic address; or there is none left to give."""
+
+
+class HasAddress(Refused):
+    """The device has a dynamic address already."""
+
+
+class ByteMismatch(Refused):
+    """The BCR wants a mandatory byte and none was given, or the other way round."""
+
+
+class Masked(Refused):
+    """Events of this kind are disabled. [5.1.9.3.1]"""
+
+
+class Full(Refused):
+    """Eight interrupts of the device wait, or its slot's count is used up."""
+
+
+class SessionOpen(Refused):
+    """An assignment is open."""
+
+
+class NoSession(Refused):
+    """No assignment is open."""
+
+
+class NoAnswer(Refused):
+    """Nobody at this address acknowledged, or the table has nobody there."""
+
+
+class NoEnd(Refused):
+    """The last T of the read said that more bytes would come."""
+
+
+class TooLong(Refused):
+    """A transfer has sixteen bytes at most."""
+
+
+class ListStale(Refused):
+    """Addresses have changed since the last `list`. [5.1.9.3.7]"""
+
+
+_REFUSALS = {refusal.__name__: refusal for refusal in Refused.__subclasses__()}
+
+
+# What a line is given
+
+
+class Policy(enum.StrEnum):
+    """Which requests the controller accepts."""
+
+    ALL = "all"
+    NONE = "none"
+    JOINS = "joins"
+    ROLES = "roles"
+    INTERRUPTS = "interrupts"
+
+
+@dataclass(frozen=True)
+class Device:
+    """A device that was put on a bus. Its name may be given away again once it has left."""
+
+    bus: Bus = field(repr=False, compare=False)
+    name: str
+    slot: int
+    pid: int
+    bcr: int
+    dcr: int
+
+    def drop(self) -> None:
+        """`drop`: the device loses power between two frames."""
+        self.bus.line(f"drop {self.name}")
+
+    def raise_interrupt(self, byte: int | None = None) -> int:
+        """`raise`: queues an interrupt, with a mandatory byte where the BCR says so. Gives its number, from 1. [5.1.6]"""
+        line = f"raise {self.name}" + ("" if byte is None else f" {_hex(byte, 2)}")
+        return int(self.bus.line(line).lines[0].split()[1])
+
+    def ask_join(self) -> None:
+        """`ask-join`: the device wants an address. [5.1.5]"""
+        self.bus.line(f"ask-join {self.name}")
+
+    def ask_role(self) -> None:
+        """`ask-role`: the device wants to be the controller. [5.1.7]"""
+        self.bus.line(f"ask-role {self.name}")
+
+    def cut(self, bit: int) -> None:
+        """`cut`: the device loses power in the next frame, from this bit on, as docs/BUS.md counts them."""
+        self.bus.line(f"cut {self.name} {_bit(bit)}")
+
+    @property
+    def address(self) -> int | None:
+        """The dynamic address, or None without one. It is looked up by `show`."""
+        for device in self.bus.show().devices:
+            if device.name == self.name:
+                return device.address
+        return None
+
+
+class Bus:
+    """A bus of its own, in a program of its own, which lives until `close`."""
+
+    def __init__(self, program: str | Sequence[str] = "i3cbus") -> None:
+        """Starts the program, which is named by its path or by words that `drive` is put behind."""
+        words = [program] if isinstance(program, str) else list(program)
+        self._process = subprocess.Popen(
+            [*words, "drive"],
+            stdin=subprocess.PIPE,
+            stdout=subprocess.PIPE,
+            stderr=subprocess.PIPE,
+            bufsize=0,
+        )
+        assert self._process.stdin is not None and self._process.stdout is not None
+        self._to = self._process.stdin.fileno()
+        self._from = self._process.stdout.fileno()
+        self._number = 0
+        self.answer = Answer(0)
+        """The answer to the last line, also to one that was refused."""
+        self.asking: tuple[str, ...] = ()
+        """The devices that drive the first request of the next frame: one, or all that want to join, by slots."""
+        self.records: list[Record] = []
+        """The interrupts that were recorded, in their order. Whoever has handled them may clear it."""
+
+    def __enter__(self) -> Bus:
+        return self
+
+    def __exit__(
+        self,
+        kind: type[BaseException] | None,
+        error: BaseException | None,
+        trace: TracebackType | None,
+    ) -> None:
+        status = self.close()
+        if kind is None and status not in (0, 1):
+            raise BusGone(f"i3cbus ended with status {status}", status)
+
+    def close(self) -> int:
+        """Ends the bus and its program. Gives its status: 0, or 1 if a line was refused; 2 after a fault of its own."""
+        if self._process.returncode is None:
+            self._end()
+        return self._process.wait()
+
+    # The start
+
+    def legacy(self, name: str, address: int, lvr: int) -> LegacyTarget:
+        """`legacy`: a legacy I2C target, from 08 to 77, before `main`."""
+        self.line(f"legacy {name} {_hex(address, 2)} {_hex(lvr, 2)}")
+        return LegacyTarget(name, address)
+
+    def main(self, name: str, pid: int, bcr: int, dcr: int, decline: bool = False) -> Device:
+        """`main`: starts the bus with its controller."""
+        return self._place("main", name, pid, bcr, dcr, decline)
+
+    def attach(self, name: str, pid: int, bcr: int, dcr: int, decline: bool = False) -> Device:
+        """`attach`: puts a device into the first free slot. One that declines never takes the role over."""
+        return self._place("attach", name, pid, bcr, dcr, decline)
+
+    def _place(self, word: str, name: str, pid: int, bcr: int, dcr: int, decline: bool) -> Device:
+        identity = f"{_hex(pid, 12)} {_hex(bcr, 2)} {_hex(dcr, 2)}"
+        answer = self.line(f"{word} {name} {identity}{' decline' if decline else ''}")
+        return Device(self, name, int(answer.lines[0].split()[2]), pid, bcr, dcr)
+
+    # What the controller does
+
+    def policy(self, policy: Policy) -> None:
+        """`policy`: which requests are accepted from here on."""
+        self.line(f"policy {Policy(policy).value}")
+
+    def serve(self) -> Served | None:
+        """`serve`: a frame that serves the first request. None if nobody asks."""
+        return self.line("serve").served
+
+    def enec(self, kinds: int, address: int | None = None) -> Served | None:
+        """`enec`: enables kinds of events, of all or of one. [5.1.9.3.1]"""
+        return self._events("enec", kinds, address)
+
+    def disec(self, kinds: int, address: int | None = None) -> Served | None:
+        """`disec`: disables kinds of events, of all or of one. [5.1.9.3.1]"""
+        return self._events("disec", kinds, address)
+
+    def _events(self, word: str, kinds: int, address: int | None) -> Served | None:
+        to = "" if address is None else f" {_hex(address, 2)}"
+        return self.line(f"{word} {_hex(kinds, 2)}{to}").served
+
+    def reset(self) -> Served | None:
+        """`reset`: takes all addresses back but the active controller's, by RSTDAA. [5.1.9.3.3]"""
+        return self.line("reset").served
+
+    def send_list(self) -> Served | None:
+        """`list`: tells all devices who has which address, by DEFTGTS. [5.1.9.3.7]"""
+        return self.line("list").served
+
+    def read(self, address: int) -> bytes:
+        """`read`: the sixteen registers of a device or a legacy target. [5.1.2.3]"""
+        return bytes.fromhex(self._own(self.line(f"read {_hex(address, 2)}")).split()[1])
+
+    def write(self, address: int, data: bytes) -> Served | None:
+        """`write`: replaces the first registers, by sixteen bytes at most. [5.1.2.3]"""
+        return self.line(f"write {_hex(address, 2)} {data.hex().upper()}".rstrip()).served
+
+    def handover(self, address: int) -> int:
+        """`handover`: offers the role to the device at the address, by GETACCCR. Gives the new controller's. [5.1.7]"""
+        return int(self._own(self.line(f"handover {_hex(address, 2)}")).split()[1], 16)
+
+    def daa(self) -> tuple[Assigned, ...]:
+        """`daa`: a whole assignment by ENTDAA. Gives who got an address; `NoAddress` has that in `answer`. [5.1.4.2]"""
+        return self.line("daa").assigned
+
+    def open_daa(self) -> Served | None:
+        """`open`: opens an assignment, whose rounds are sent one by one."""
+        return self.line("open").served
+
+    def round(self) -> Assigned | Nobody | None:
+        """`round`: one round of the open assignment. None if no device is left."""
+        line = self._own(self.line("round"))
+        if line == "done":
+            return None
+        return Nobody() if line == "nobody" else _assigned(line)
+
+    def end_daa(self) -> None:
+        """`end`: ends the open assignment."""
+        self.line("end")
+
+    # What is looked at
+
+    def show(self) -> BusState:
+        """`show`: the bus, with its whole log."""
+        return _state(self.line("show").lines)
+
+    def show_all(self) -> BusDetails:
+        """`show all`: the same, what each device is, may and wants, and whether the list is current and a session open."""
+        lines = self.line("show all").lines
+        state = _state(lines)
+        devices = lines[-2 - len(state.devices) : -2]
+        return BusDetails(state, tuple(map(_details, devices)), lines[-2] == "list current", lines[-1] == "session open")
+
+    def symbols(self) -> tuple[str, ...]:
+        """`symbols`: the last symbols on the wire, 256 at most, as docs/FORMATS.md writes them."""
+        return tuple(self.line("symbols").lines[0].split())
+
+    def frames(self, count: int) -> tuple[str, ...]:
+        """`frames`: the last frames of these symbols that are whole, as many or fewer, the oldest first."""
+        return self.line(f"frames {count}").lines
+
+    # Lines and answers
+
+    def line(self, text: str) -> Answer:
+        """Sends a line, without its line feed, and gives its answer. Raises the `Refused` of the reason if it is refused."""
+        if "\n" in text:
+            raise ValueError("a line has no line feed")
+        lines = self._exchange(text)
+        self.answer = self._parse(text, lines[:-1])
+        if self.answer.record is not None:
+            self.records.append(self.answer.record)
+        if self.answer.asking is not None:
+            self.asking = self.answer.asking
+        if lines[-1].startswith("refused "):
+            _, _, why, *about = lines[-1].split(" ")
+            raise _REFUSALS.get(why, Refused)(why, " ".join(about) or None, self.answer)
+        return self.answer
+
+    def _parse(self, text: str, lines: list[str]) -> Answer:
+        """The answer whose lines these are, without the last one."""
+        word = text.partition(" ")[0]
+        asking: tuple[str, ...] | None = None
+        record: Record | None = None
+        if lines and word not in _NAMING and _ASKING.match(lines[-1]):
+            asking = tuple(lines.pop().split()[1:])
+        if lines and word != "show":
+            record = _record(lines[-1])
+        return Answer(self._number, tuple(lines[:-1] if record else lines), record, asking)
+
+    def _own(self, answer: Answer) -> str:
+        """The line of the frame itself, which comes behind what it served."""
+        if not answer.lines:
+            self._fail("i3cbus answered a frame without a line of its own")
+        return answer.lines[-1]
+
+    def _exchange(self, text: str) -> list[str]:
+        """Sends a line and reads its answer. If that is interrupted the bus is over, as its next answer would be another's."""
+        line = text.encode("utf-8", "surrogateescape") + b"\n"
+        self._number += 1
+        try:
+            self._send(line)
+            return self._receive()
+        except BaseException:
+            self._process.kill()
+            self._end()
+            raise
+
+    def _send(self, line: bytes) -> None:
+        if self._process.returncode is not None:
+            raise BusGone("the bus is closed", self._process.returncode)
+        try:
+            while line:
+                line = line[os.write(self._to, line) :]
+        except BrokenPipeError:
+            self._fail("i3cbus no longer reads")
+
+    def _receive(self) -> list[str]:
+        """The lines of the answer. Nothing comes behind the last one before another line is sent."""
+        answer = b""
+        while True:
+            piece = os.read(self._from, _PIECE)
+            if not piece:
+                self._fail("i3cbus has ended in the midst of an answer" if answer else "i3cbus has ended")
+            answer += piece
+            if answer.endswith(b"\n") and self._is_last(answer[answer.rfind(b"\n", 0, -1) + 1 : -1]):
+                return answer.decode("latin-1").split("\n")[:-1]
+
+    def _is_last(self, line: bytes) -> bool:
+        """Whether the line ends the answer that is waited for. No other line looks so, whatever devices are called."""
+        if line == b"ok %d" % self._number:
+            return True
+        refused = b"refused %d " % self._number
+        return line.startswith(refused) and line[len(refused) : len(refused) + 1].isupper()
+
+    def _fail(self, what: str) -> NoReturn:
+        """Says why the program is gone, with its status and what it told on standard error."""
+        told = self._end()
+        status = self._process.wait()
+        raise BusGone(f"{what}: status {status}" + (f": {told}" if told else ""), status)
+
+    def _end(self) -> str:
+        """Closes the program's input, waits for its end, and gives what it told on standard error."""
+        process = self._process
+        assert process.stdin is not None and process.stdout is not None and process.stderr is not None
+        process.stdin.close()
+        told = "" if process.stderr.closed else process.stderr.read().decode("utf-8", "replace").strip()
+        process.wait()
+        process.stderr.close()
+        process.stdout.close()
+        return told
+
+
+def _hex(value: int, digits: int) -> str:
+    """A number in capital hexadecimal digits, as lines want it."""
+    if not 0 <= value < 16**digits:
+        raise ValueError(f"{value:#x} has more than {digits} hexadecimal digits, or is negative")
+    return f"{value:0{digits}X}"
+
+
+def _bit(bit: int) -> int:
+    if not 0 <= bit <= 65535:
+        raise ValueError(f"a bit number is from 0 to 65535, and not {bit}")
+    return bit
+
+
+def _address(text: str) -> int | None:
+    return None if text == "--" else int(text, 16)
+
+
+def _record(line: str) -> Record | None:
+    found = _RECORD.fullmatch(line)
+    if found is None:
+        return None
+    number, slot, raised, address, byte = found.groups()
+    return Record(int(number), int(slot), int(raised), int(address, 16), _address(byte))
+
+
+def _state(lines: tuple[str, ...]) -> BusState:
+    """The bus of the lines of `show`, or of the first lines of `show all`."""
+    words = [line.split() for line in lines[1:]]
+    count = next(index for index, line in enumerate(words) if len(line) == 2)
+    return BusState(
+        int(lines[0].split()[1], 16),
+        tuple(DeviceState(it[0], _address(it[1]), int(it[3])) for it in words[:count] if len(it) == 4),
+        tuple(LegacyTarget(it[0], int(it[1], 16)) for it in words[:count] if len(it) == 3),
+        tuple(record for record in map(_record, lines[1 + count :]) if record),
+    )
+
+
+def _details(line: str) -> DeviceDetails:
+    words = line.split()
+    enabled = functools.reduce(operator.or_, map(_kind, words[9:-2]))
+    return DeviceDetails(words[1], int(words[3], 16), int(words[5], 16), int(words[7], 16), enabled, _kind(words[-1]))
+
+
+def _kind(word: str) -> Kinds:
+    """The kind of a word of `show all`."""
+    return {"interrupt": Kinds.INTERRUPTS, "role": Kinds.ROLES, "join": Kinds.JOINS}.get(word, Kinds(0))
+
+
+def _assigned(line: str) -> Assigned:
+    _, address, pid, bcr, dcr = line.split()
+    return Assigned(int(address, 16), int(pid, 16), int(bcr, 16), int(dcr, 16))
+
+
+def _served(line: str, record: Record | None) -> Served | None:
+    if record is not None:
+        return record
+    if line.startswith("wants role "):
+        return WantsRole(int(line.split()[2], 16))
+    return _PLAIN.get(line)

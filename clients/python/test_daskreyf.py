@@ -1,0 +1,235 @@
+"""Tests of the client itself: each line has its method, and what goes wrong has its error.
+
+I3CBUS=PATH python3 -m unittest test_daskreyf
+"""
+
+from __future__ import annotations
+
+import os
+import signal
+import unittest
+
+import daskreyf
+from daskreyf import Answer, Assigned, Bus, BusDetails, BusGone, BusState, Device, DeviceDetails, DeviceState, Kinds
+from daskreyf import LegacyTarget, Nobody, Policy, Record, Refused, Torn
+
+PROGRAM = os.environ.get("I3CBUS", "i3cbus")
+
+
+def with_hub(bus: Bus) -> Device:
+    return bus.main("hub", pid=0x020400000001, bcr=0x46, dcr=0xC0)
+
+
+def with_target(bus: Bus, name: str = "t") -> Device:
+    return bus.attach(name, pid=0x020400000010, bcr=0x06, dcr=0x44)
+
+
+class LinesTest(unittest.TestCase):
+    """Each line of docs/FORMATS.md by its method."""
+
+    def setUp(self) -> None:
+        self.bus = self.enterContext(Bus(PROGRAM))
+
+    def test_the_start(self) -> None:
+        self.assertEqual(self.bus.legacy("clock", 0x68, 0x40), LegacyTarget("clock", 0x68))
+        self.assertEqual(with_hub(self.bus).slot, 0)
+        self.assertEqual(with_target(self.bus).slot, 1)
+        hub, target = DeviceState("hub", 0x08, 0), DeviceState("t", None, 0)
+        self.assertEqual(self.bus.show(), BusState(0x08, (hub, target), (LegacyTarget("clock", 0x68),), ()))
+
+    def test_all_of_the_bus(self) -> None:
+        with_hub(self.bus)
+        joiner = with_target(self.bus)
+        self.bus.disec(Kinds.INTERRUPTS | Kinds.ROLES)
+        joiner.ask_join()
+        hub = DeviceDetails("hub", 0x020400000001, 0x46, 0xC0, Kinds(11), Kinds(0))
+        target = DeviceDetails("t", 0x020400000010, 0x06, 0x44, Kinds.JOINS, Kinds.JOINS)
+        self.assertEqual(self.bus.show_all(), BusDetails(self.bus.show(), (hub, target), False, False))
+        self.bus.send_list()
+        self.bus.open_daa()
+        self.assertEqual((self.bus.show_all().listed, self.bus.show_all().in_session), (True, True))
+
+    def test_an_assignment_of_one_line(self) -> None:
+        with_hub(self.bus)
+        with_target(self.bus)
+        self.assertEqual(self.bus.daa(), (Assigned(0x09, 0x020400000010, 0x06, 0x44),))
+        self.assertEqual(self.bus.daa(), ())
+        self.assertEqual(
+            " ".join(self.bus.symbols()),
+            "S 7E/W+ 07.0 Sr 7E/R+ =0204000000100644 @13+ Sr 7E/R- P S 7E/W+ 07.0 Sr 7E/R- P",
+        )
+        self.assertEqual(self.bus.frames(1), ("S 7E/W+ 07.0 Sr 7E/R- P",))
+        self.assertEqual(len(self.bus.frames(3)), 2)
+
+    def test_an_assignment_of_rounds(self) -> None:
+        with_hub(self.bus)
+        with_target(self.bus)
+        self.assertIsNone(self.bus.open_daa())
+        with self.assertRaises(daskreyf.SessionOpen):
+            self.bus.serve()
+        self.assertEqual(self.bus.round(), Assigned(0x09, 0x020400000010, 0x06, 0x44))
+        self.assertIsNone(self.bus.round())
+        self.bus.end_daa()
+        with self.assertRaises(daskreyf.NoSession):
+            self.bus.round()
+
+    def test_a_round_that_nobody_takes(self) -> None:
+        with_hub(self.bus)
+        target = with_target(self.bus)
+        self.bus.open_daa()
+        target.cut(73)
+        self.assertEqual(self.bus.round(), Nobody())
+        self.assertIsNone(self.bus.round())
+        self.bus.end_daa()
+
+    def test_transfers(self) -> None:
+        self.bus.legacy("clock", 0x68, 0x40)
+        with_hub(self.bus)
+        self.assertIsNone(self.bus.write(0x68, b"\x12\xab"))
+        self.assertEqual(self.bus.read(0x68), b"\x12\xab" + bytes(14))
+        self.assertIsNone(self.bus.write(0x68, b""))
+        with self.assertRaises(daskreyf.TooLong):
+            self.bus.write(0x68, bytes(17))
+
+    def test_kinds_resets_and_lists(self) -> None:
+        with_hub(self.bus)
+        target = with_target(self.bus)
+        self.bus.daa()
+        self.assertIsNone(self.bus.disec(Kinds.INTERRUPTS | Kinds.JOINS))
+        with self.assertRaises(daskreyf.Masked):
+            target.raise_interrupt(0x11)
+        self.assertIsNone(self.bus.enec(Kinds.INTERRUPTS, 0x09))
+        self.assertEqual(target.raise_interrupt(0x11), 1)
+        recorded = Record(1, 1, 1, 0x09, 0x11)
+        self.assertEqual(self.bus.send_list(), recorded)
+        self.assertEqual(self.bus.records, [recorded])
+        self.assertIsNone(self.bus.reset())
+        self.assertIsNone(target.address)
+
+    def test_an_interrupt_without_a_byte(self) -> None:
+        with_hub(self.bus)
+        plain = self.bus.attach("plain", pid=0x020400000020, bcr=0x02, dcr=0x00)
+        self.bus.daa()
+        plain.raise_interrupt()
+        self.assertEqual(self.bus.serve(), Record(1, 1, 1, 0x09, None))
+
+    def test_a_refused_frame_has_served(self) -> None:
+        with_hub(self.bus)
+        target = with_target(self.bus)
+        self.bus.daa()
+        target.raise_interrupt(0x11)
+        target.cut(9)
+        with self.assertRaises(daskreyf.NoAnswer) as refused:
+            self.bus.read(0x09)
+        self.assertEqual((refused.exception.about, refused.exception.answer.served), ("09", Torn()))
+
+    def test_a_policy_by_its_word(self) -> None:
+        with_hub(self.bus)
+        self.bus.policy(Policy("none"))
+        self.assertEqual(self.bus.answer, Answer(2))
+
+    def test_lines_of_ones_own(self) -> None:
+        self.assertEqual(self.bus.line(""), Answer(1))
+        self.assertEqual(self.bus.line("# a comment, \0 and \N{MICRO SIGN}"), Answer(2))
+        with self.assertRaises(daskreyf.BadLine):
+            self.bus.line("show\0")
+        with self.assertRaises(daskreyf.NoBus):
+            self.bus.line("show")
+        self.assertEqual(self.bus.line("main hub 020400000001 46 C0"), Answer(5, ("hub slot 0 at 08",)))
+
+    def test_names_that_look_like_answers(self) -> None:
+        with_hub(self.bus)
+        names = ("ok", "refused", "asking", "record", "records", "09", "waiting", "0")
+        for slot, name in enumerate(names, 1):
+            self.bus.attach(name, pid=0x020400000010 + slot, bcr=0x06, dcr=0x44)
+            self.assertEqual(self.bus.answer.lines, (f"{name} slot {slot}",))
+        self.bus.daa()
+        for name in names:
+            self.bus.line(f"raise {name} 11")
+        self.assertEqual([device.name for device in self.bus.show().devices], ["hub", *names])
+        for slot, name in enumerate(names, 1):
+            self.assertEqual(self.bus.asking, (name,))
+            self.assertEqual(self.bus.serve(), Record(slot, slot, 1, 0x08 + slot, 0x11))
+        self.assertEqual(self.bus.asking, ())
+
+    def test_all_that_want_to_join_ask(self) -> None:
+        with_hub(self.bus)
+        self.bus.line("attach asking 020400000010 06 44")
+        self.bus.line("attach records 020400000011 06 44")
+        self.bus.line("ask-join records")
+        self.assertEqual(self.bus.asking, ("records",))
+        self.bus.line("ask-join asking")
+        self.assertEqual(self.bus.asking, ("asking", "records"))
+        self.bus.line("drop records")
+        self.assertEqual(self.bus.asking, ("asking",))
+
+
+class FaultsTest(unittest.TestCase):
+    """What goes wrong with the program or its words."""
+
+    def test_words_that_no_line_has(self) -> None:
+        with Bus(PROGRAM) as bus:
+            for wrong in (
+                lambda: bus.line("show\nshow"),
+                lambda: bus.read(0x100),
+                lambda: bus.read(-1),
+                lambda: with_hub(bus).cut(65536),
+                lambda: bus.policy("some"),  # type: ignore[arg-type]
+            ):
+                self.assertRaises(ValueError, wrong)
+            self.assertEqual(bus.show().active, 0x08)
+
+    def test_the_status_of_the_end(self) -> None:
+        bus = Bus(PROGRAM)
+        with_hub(bus)
+        self.assertEqual((bus.close(), bus.close()), (0, 0))
+        self.assertRaisesRegex(BusGone, "closed", bus.serve)
+        bus = Bus(PROGRAM)
+        self.assertRaises(daskreyf.NoBus, bus.serve)
+        self.assertEqual(bus.close(), 1)
+
+    def test_a_program_that_is_missing(self) -> None:
+        self.assertRaises(FileNotFoundError, Bus, "./no-such-program")
+
+    def test_a_program_that_dies(self) -> None:
+        bus = Bus(PROGRAM)
+        with_hub(bus)
+        bus._process.kill()
+        with self.assertRaises(BusGone) as gone:
+            bus.serve()
+        self.assertEqual((gone.exception.status, bus.close()), (-signal.SIGKILL, -signal.SIGKILL))
+
+    def test_a_program_that_says_why_it_ends(self) -> None:
+        bus = Bus(["sh", "-c", "read line; echo 'i3cbus: memory' >&2; exit 2"])
+        with self.assertRaisesRegex(BusGone, "i3cbus has ended: status 2: i3cbus: memory"):
+            bus.serve()
+
+    def test_an_answer_that_breaks_off(self) -> None:
+        bus = Bus(["sh", "-c", "read line; echo quiet"])
+        self.assertRaisesRegex(BusGone, "in the midst of an answer: status 0", bus.serve)
+
+    def test_a_program_that_no_longer_reads(self) -> None:
+        bus = Bus(["sh", "-c", "exec <&-; echo ready; sleep 0.2"])
+        self.assertEqual(os.read(bus._from, 6), b"ready\n")
+        self.assertRaisesRegex(BusGone, "no longer reads: status", bus.serve)
+
+    def test_the_fault_at_the_end_is_told(self) -> None:
+        with self.assertRaisesRegex(BusGone, "status 2"):
+            with Bus(["sh", "-c", "exit 2"]):
+                pass
+
+    def test_an_answer_that_comes_in_pieces(self) -> None:
+        bus = Bus(["sh", "-c", "read line; printf 'ok 10 w'; sleep 0.1; printf 'aiting 0\\no'; sleep 0.1; echo 'k 1'; read line"])
+        self.assertEqual(bus.line("show"), Answer(1, ("ok 10 waiting 0",)))
+        bus.close()
+
+    def test_a_refusal_that_is_not_known(self) -> None:
+        bus = Bus(["sh", "-c", "read line; echo refused 1 IdentityTwice; read line"])
+        with self.assertRaises(Refused) as refused:
+            bus.line("declare 09 020400000010 06 44")
+        self.assertEqual((type(refused.exception), refused.exception.why), (Refused, "IdentityTwice"))
+        bus.close()
+
+
+if __name__ == "__main__":
+    unittest.main()

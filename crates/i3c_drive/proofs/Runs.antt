@@ -1,0 +1,284 @@
+-- The run over an input, line by line.
+use Rattle.std.proofs.Common.{◌≡◌, ◌≢◌, ◌∙◌, ℕ, suc, ◌+◌, List, [], ◌∷◌, ◌++◌, drop, length, min, take, arith, Option, Some, None, IfSome, Result, Ok, Err, ap, append_assoc, append-nil, inr, refl, subst, sym}
+use Rattle.std.proofs.lemmas.List.Elements.{All-tail}
+use Rattle.std.specs.Io.KnownBytes.{Appends, Consumes, IsAtEnd}
+use Rattle.i3c_drive.specs.declared.driven.Driver.{Driver}
+use Rattle.i3c_drive.specs.declared.input.Input.{Input}
+use Rattle.i3c_base.specs.declared.requests.Record.{Record}
+use Rattle.i3c_drive.specs.Answers.{AreAnswered, AreLinesOf, Asks, IsAnswered, IsChange, IsDrivenPart, IsNews, LacksFeed, WentBefore, last_line, log_of}
+use Rattle.i3c_drive.specs.Inputs.{IsInHand, Takes, pending}
+use Rattle.i3c_drive.specs.Steps.{Closes, Fails, IsAnswer, IsCut, IsTold, Knows, RunsAll, RunsPart, RunsWhole, Tells, state}
+use Rattle.i3c_lines.specs.Gathering.{gathered}
+use Rattle.i3c_lines.specs.declared.refusals.Refusal.{Refusal}
+use Rattle.i3c_scenario.specs.declared.faults.ScriptFault.{ScriptFault}
+use Rattle.i3c_scenario.specs.Outcomes.{HasNoFeed}
+use Rattle.i3c_scenario.specs.Scripts.{IsRun, Lead, LineDoes, LineRun, lines_bytes, lines_refused, refusals_of}
+use Rattle.i3c_script.specs.Obeying.{IsBegun, ScriptState}
+use Rattle.i3c_script.specs.Printed.{numbered_text}
+use Rattle.i3c_scenario.proofs.CheckRuns.{some_out}
+use Rattle.i3c_scenario.proofs.Gathered.{nothing_out, some_after}
+use Rattle.i3c_scenario.proofs.ScriptRead.{ended_is, script_is, unread}
+use Rattle.i3c_scenario.proofs.ScriptRuns.{bytes_both, does_whole, refused_both}
+use Rattle.i3c_scenario.proofs.TraceRead.{more_read, none_read}
+use Rattle.i3c_scenario.proofs.Written.{appends_both}
+
+-- Lines that are answered lead on
+pub answered_lead : (number : ℕ) (old : ScriptState) (lines : List LineRun) (new : ScriptState) (answers : List ℕ) → AreAnswered number old lines new answers → Lead old lines new
+answered_lead number old [] new answers (same, none) = same
+answered_lead number old (run ∷ rest) new answers (mid, is, (answer, later, one, text, are)) = (mid, is, answered_lead (suc number) mid rest new later are)
+
+-- one more line is answered
+answered_more : (lines : List LineRun) (number at : ℕ) (old mid new : ScriptState) (run : LineRun) (answers answer : List ℕ)
+    → at ≡ number + length lines → AreAnswered number old lines mid answers → IsRun mid run new → IsAnswered at mid run new answer → AreAnswered number old (lines ++ run ∷ []) new (answers ++ answer)
+answered_more [] number at old mid new run answers answer e (same, none) is one =
+    let first : at ≡ number = omega (arith, e) in
+    let here = subst (λ st. IsAnswered number st run new answer) same (subst (λ n. IsAnswered n mid run new answer) first one) in
+    (new, subst (λ st. IsRun st run new) same is, (answer, [], here, ap (λ a. a ++ answer) none ∙ sym (append-nil answer), (refl, refl)))
+answered_more (other ∷ lines) number at old mid new run answers answer e (next, does, (before, later, told, text, are)) is one =
+    let on : at ≡ suc number + length lines = omega (arith, e) in
+    (next, does, (before, later ++ answer, told, ap (λ a. a ++ answer) text ∙ append_assoc before later answer, answered_more lines (suc number) at next mid new run later answer on are is one))
+
+length_more : (lines : List LineRun) (run : LineRun) → length (lines ++ run ∷ []) ≡ length lines + 1
+length_more [] run = omega arith
+length_more (one ∷ lines) run = omega (arith, length_more lines run)
+
+-- the lines that were run so far, of which the next has this number, and what was read beside them
+pub record DrivenSoFar (known now before after : Option (List ℕ)) (input : Input) (old new : Driver) (at : ℕ) : Type 0 where
+  pub lines : List LineRun
+  pub answers : List ℕ
+  pub answered : AreAnswered 1 (state old) lines (state new) answers
+  pub number : at ≡ 1 + length lines
+  pub out : Appends before after answers
+  pub count : min new.refused 18446744073709551615 ≡ min (old.refused + lines_refused lines) 18446744073709551615
+  pub read : Consumes known now (lines_bytes lines ++ pending input)
+  pub knows : Knows new
+
+pub none_driven : (known before : Option (List ℕ)) (input : Input) (driver : Driver) → pending input ≡ [] → Knows driver → DrivenSoFar known known before before input driver driver 1
+none_driven known before input driver none knows = record {
+  lines = [];
+  answers = [];
+  answered = (refl, refl);
+  number = omega arith;
+  out = nothing_out before;
+  count = omega arith;
+  read = none_read known (pending input) none;
+  knows = knows;
+}
+
+-- what was read, where a text more was taken of it
+taken_read : (known now next : Option (List ℕ)) (old new : Input) (before text : List ℕ) → Consumes known now (before ++ pending old) → Takes now next old new text → Consumes known next ((before ++ text) ++ pending new)
+taken_read known now next old new before text one takes =
+    more_read known now next (before ++ pending old) takes.read ((before ++ text) ++ pending new) one takes.consumed
+    (append_assoc before text (pending new) ∙ ap (λ b. before ++ b) (sym takes.same) ∙ sym (append_assoc before (pending old) takes.read))
+
+-- a line is answered by its first bytes
+whole_answer : (number : ℕ) (line first : List ℕ) (old new : Driver) (answer : List ℕ) → first ≡ take 257 line → IsAnswer number first old new answer → IsAnswer number line old new answer
+whole_answer number line first old new answer same is = record {
+  said = is.said;
+  refused = is.refused;
+  does = does_whole (state old) line is.said is.refused (state new) (subst (λ l. LineDoes (state old) l is.said is.refused (state new)) same is.does);
+  text = is.text;
+  knows = is.knows;
+  count = is.count;
+}
+
+-- one more line, with its answer
+more_driven : (known now before mid : Option (List ℕ)) (input : Input) (old from to : Driver) (number : ℕ) (line first answer : List ℕ) → (so_far : DrivenSoFar known now before mid input old from number) → HasNoFeed line → first ≡ take 257 line
+    → IsAnswer number first from to answer → (run : LineRun) × (run.line ≡ line) × AreAnswered 1 (state old) (so_far.lines ++ run ∷ []) (state to) (so_far.answers ++ answer) × (min to.refused 18446744073709551615 ≡ min (old.refused + lines_refused (so_far.lines ++ run ∷ [])) 18446744073709551615)
+more_driven known now before mid input old from to number line first answer so_far one same is =
+    let whole = whole_answer number line first from to answer same is in
+    let run : LineRun = record { line = line; said = whole.said; refused = whole.refused } in
+    let ran : IsRun (state from) run (state to) = record { one = one; does = whole.does } in (
+      run,
+      refl,
+      answered_more so_far.lines 1 number (state old) (state from) (state to) run so_far.answers answer so_far.number so_far.answered ran whole.text,
+      omega (arith, so_far.count, whole.count, refused_both so_far.lines (run ∷ [])),
+    )
+
+-- the bytes of the lines with one more
+more_bytes : (lines : List LineRun) (run : LineRun) (line : List ℕ) → run.line ≡ line → lines_bytes lines ++ (line ++ 10 ∷ []) ≡ lines_bytes (lines ++ run ∷ [])
+more_bytes lines run line same = ap (λ l. lines_bytes lines ++ (l ++ 10 ∷ [])) (sym same) ∙ sym (bytes_both lines (run ∷ []))
+
+-- a line that came with its feed was told
+pub one_driven : (known now next before mid after : Option (List ℕ)) (input further : Input) (old from to : Driver) (number : ℕ) (line : List ℕ)
+    → DrivenSoFar known now before mid input old from number → IsInHand further line → Takes now next input further (line ++ 10 ∷ [])
+    → IsTold number (gathered further.line) mid after from to → DrivenSoFar known next before after further old to (number + 1)
+one_driven known now next before mid after input further old from to number line so_far hand takes told =
+    let (run, same, answered, count) = more_driven known now before mid input old from to number line (gathered further.line) told.answer so_far hand.0 hand.1 told.is in
+    record {
+      lines = so_far.lines ++ run ∷ [];
+      answers = so_far.answers ++ told.answer;
+      answered = answered;
+      number = omega (arith, so_far.number, length_more so_far.lines run);
+      out = appends_both before mid after so_far.answers told.answer so_far.out told.out;
+      count = count;
+      read = subst (λ b. Consumes known next (b ++ pending further)) (more_bytes so_far.lines run line same) (taken_read known now next input further (lines_bytes so_far.lines) (line ++ 10 ∷ []) so_far.read takes);
+      knows = told.is.knows;
+    }
+
+-- what was read to its end
+ended_as : (known left : Option (List ℕ)) (read bytes : List ℕ) → Consumes known left read → IsAtEnd left → read ≡ bytes → IfSome known (λ input. bytes ≡ input)
+ended_as None left read bytes consumed end same = tt
+ended_as (Some xs) None read bytes consumed end same = absurd consumed
+ended_as (Some xs) (Some ys) read bytes consumed end same = sym same ∙ sym (append-nil read) ∙ ap (λ b. read ++ b) (sym end) ∙ sym consumed
+
+if_some : (P Q : List ℕ → Type 0) → (known : Option (List ℕ)) → ((input : List ℕ) → P input → Q input) → IfSome known P → IfSome known Q
+if_some P Q None f h = tt
+if_some P Q (Some input) f h = f input h
+
+not_none : (byte : ℕ) (line : List ℕ) → byte ∷ line ≡ [] → ⊥
+not_none byte line e = absurd cc
+
+-- a text that isn't empty, and has no feed, ends in no feed
+lacks_feed : (front line : List ℕ) → HasNoFeed line → line ≢ [] → LacksFeed (front ++ line)
+lacks_feed front [] one some = absurd (some refl)
+lacks_feed front (byte ∷ []) one some = (front, byte, refl, one 0 byte (omega arith))
+lacks_feed front (byte ∷ (more ∷ line)) one some =
+    let (head, last, same, is) = lacks_feed (front ++ byte ∷ []) (more ∷ line) (All-tail (λ (b : ℕ). b ≢ 10) byte (more ∷ line) one) (λ e. not_none more line e) in
+    (head, last, sym (append_assoc front (byte ∷ []) (more ∷ line)) ∙ same, is)
+
+-- the last line was told, which has no feed
+pub last_driven : (known now next before mid after : Option (List ℕ)) (input further : Input) (old from to : Driver) (number : ℕ) (line : List ℕ)
+    → DrivenSoFar known now before mid input old from number → IsInHand further line → line ≢ [] → Takes now next input further line → pending further ≡ [] → IsAtEnd next
+    → IsTold number (gathered further.line) mid after from to → RunsWhole known before after old to
+last_driven known now next before mid after input further old from to number line so_far hand some takes none end told =
+    let (run, same, answered, count) = more_driven known now before mid input old from to number line (gathered further.line) told.answer so_far hand.0 hand.1 told.is in
+    let bytes = lines_bytes so_far.lines in
+    let lines = so_far.lines ++ run ∷ [] in
+    let read = taken_read known now next input further bytes line so_far.read takes in
+    let front : (bytes ++ line) ++ pending further ≡ bytes ++ line = ap (λ b. (bytes ++ line) ++ b) none ∙ append-nil (bytes ++ line) in
+    let feed : (bytes ++ line) ++ 10 ∷ [] ≡ lines_bytes lines = append_assoc bytes line (10 ∷ []) ∙ more_bytes so_far.lines run line same in
+    record {
+      lines = lines;
+      answers = so_far.answers ++ told.answer;
+      answered = answered;
+      all = if_some (λ input. bytes ++ line ≡ input) (λ input. AreLinesOf input lines) known
+          (λ input is. inr (subst LacksFeed is (lacks_feed bytes line hand.0 some), sym feed ∙ ap (λ b. b ++ 10 ∷ []) is))
+          (ended_as known next ((bytes ++ line) ++ pending further) (bytes ++ line) read end front);
+      out = appends_both before mid after so_far.answers told.answer so_far.out told.out;
+      count = count;
+    }
+
+went_whole : (fault : ScriptFault) (before after : Option (List ℕ)) (answers : List ℕ) → Appends before after answers → WentBefore fault before after answers
+went_whole ScriptFault.Memory before after answers out = out
+went_whole ScriptFault.Write before after answers out = some_out before after answers out
+went_whole ScriptFault.Read before after answers out = out
+went_whole ScriptFault.TooLarge before after answers out = out
+
+-- a fault before the next line
+pub driven_stops : (known now before after : Option (List ℕ)) (input : Input) (old to : Driver) (number : ℕ) (fault : ScriptFault) → DrivenSoFar known now before after input old to number → RunsPart known before after old fault
+driven_stops known now before after input old to number fault so_far = record {
+  lines = so_far.lines;
+  end = state to;
+  answers = so_far.answers;
+  rest = pending input ++ (unread now ++ 10 ∷ []);
+  answered = so_far.answered;
+  first = script_is known now (lines_bytes so_far.lines ++ pending input) (lines_bytes so_far.lines) (pending input) so_far.read refl;
+  out = went_whole fault before after so_far.answers so_far.out;
+}
+
+-- no line was run
+pub none_ran : (known out : Option (List ℕ)) (driver : Driver) → IsBegun (state driver) → IsDrivenPart known out out ScriptFault.Memory
+none_ran known out driver begun = record {
+  lines = [];
+  start = state driver;
+  end = state driver;
+  answers = [];
+  rest = unread known ++ 10 ∷ [];
+  begun = begun;
+  answered = (refl, refl);
+  first = script_is known known [] [] [] (none_read known [] refl) refl;
+  out = nothing_out out;
+}
+
+-- a line's answer was cut
+pub driven_cut : (known now before mid after : Option (List ℕ)) (input further : Input) (old from to : Driver) (number : ℕ) (line rest : List ℕ)
+    → (so_far : DrivenSoFar known now before mid input old from number) → IsInHand further line → IfSome known (λ input. lines_bytes so_far.lines ++ (line ++ (10 ∷ rest)) ≡ input ++ 10 ∷ [])
+    → IsCut number (gathered further.line) mid after from to → RunsPart known before after old ScriptFault.Write
+driven_cut known now before mid after input further old from to number line rest so_far hand first cut =
+    let (run, same, answered, count) = more_driven known now before mid input old from to number line (gathered further.line) cut.answer so_far hand.0 hand.1 cut.is in
+    let lines = so_far.lines ++ run ∷ [] in
+    let whole : lines_bytes so_far.lines ++ (line ++ (10 ∷ rest)) ≡ lines_bytes lines ++ rest =
+    ap (λ b. lines_bytes so_far.lines ++ b) (sym (append_assoc line (10 ∷ []) rest)) ∙ sym (append_assoc (lines_bytes so_far.lines) (line ++ 10 ∷ []) rest) ∙ ap (λ b. b ++ rest) (more_bytes so_far.lines run line same) in
+    record {
+      lines = lines;
+      end = state to;
+      answers = so_far.answers ++ cut.answer;
+      rest = rest;
+      answered = answered;
+      first = if_some (λ input. lines_bytes so_far.lines ++ (line ++ (10 ∷ rest)) ≡ input ++ 10 ∷ []) (λ input. lines_bytes lines ++ rest ≡ input ++ 10 ∷ []) known (λ input is. sym whole ∙ is) first;
+      out = some_after before mid after so_far.answers cut.answer so_far.out cut.out;
+    }
+
+-- the line that came with its feed, in the input
+fed_first : (known now next : Option (List ℕ)) (input further : Input) (bytes line : List ℕ) → Consumes known now (bytes ++ pending input) → Takes now next input further (line ++ 10 ∷ [])
+    → IfSome known (λ input. bytes ++ (line ++ (10 ∷ (pending further ++ (unread next ++ 10 ∷ [])))) ≡ input ++ 10 ∷ [])
+fed_first known now next input further bytes line one takes =
+    let read = taken_read known now next input further bytes (line ++ 10 ∷ []) one takes in
+    let more = pending further ++ (unread next ++ 10 ∷ []) in
+    let same : (bytes ++ (line ++ 10 ∷ [])) ++ more ≡ bytes ++ (line ++ (10 ∷ more)) = append_assoc bytes (line ++ 10 ∷ []) more ∙ ap (λ b. bytes ++ b) (append_assoc line (10 ∷ []) more) in
+    if_some (λ input. (bytes ++ (line ++ 10 ∷ [])) ++ more ≡ input ++ 10 ∷ []) (λ input. bytes ++ (line ++ (10 ∷ more)) ≡ input ++ 10 ∷ []) known (λ input is. sym same ∙ is)
+    (script_is known next ((bytes ++ (line ++ 10 ∷ [])) ++ pending further) (bytes ++ (line ++ 10 ∷ [])) (pending further) read refl)
+
+-- the line that came without one
+last_first : (known now next : Option (List ℕ)) (input further : Input) (bytes line : List ℕ) → Consumes known now (bytes ++ pending input) → Takes now next input further line → pending further ≡ [] → IsAtEnd next
+    → IfSome known (λ input. bytes ++ (line ++ (10 ∷ [])) ≡ input ++ 10 ∷ [])
+last_first known now next input further bytes line one takes none end =
+    let read = taken_read known now next input further bytes line one takes in
+    let same : ((bytes ++ line) ++ pending further) ++ 10 ∷ [] ≡ bytes ++ (line ++ 10 ∷ []) =
+    ap (λ b. ((bytes ++ line) ++ b) ++ 10 ∷ []) none ∙ ap (λ b. b ++ 10 ∷ []) (append-nil (bytes ++ line)) ∙ append_assoc bytes line (10 ∷ []) in
+    ended_is known next ((bytes ++ line) ++ pending further) (bytes ++ (line ++ 10 ∷ [])) read end same
+
+-- a fault at a line that came with its feed
+pub fed_fails : (fault : ScriptFault) (known now next before mid after : Option (List ℕ)) (input further : Input) (old from to : Driver) (number : ℕ) (line : List ℕ)
+    → DrivenSoFar known now before mid input old from number → IsInHand further line → Takes now next input further (line ++ 10 ∷ []) → Fails fault number (gathered further.line) mid after from to → RunsPart known before after old fault
+fed_fails ScriptFault.Memory known now next before mid after input further old from to number line so_far hand takes same =
+    subst (λ out. RunsPart known before out old ScriptFault.Memory) (sym same) (driven_stops known now before mid input old from number ScriptFault.Memory so_far)
+fed_fails ScriptFault.Write known now next before mid after input further old from to number line so_far hand takes cut =
+    driven_cut known now before mid after input further old from to number line (pending further ++ (unread next ++ 10 ∷ [])) so_far hand (fed_first known now next input further (lines_bytes so_far.lines) line so_far.read takes) cut
+fed_fails ScriptFault.Read known now next before mid after input further old from to number line so_far hand takes none = absurd none
+fed_fails ScriptFault.TooLarge known now next before mid after input further old from to number line so_far hand takes none = absurd none
+
+-- a fault at the last line
+last_fails : (fault : ScriptFault) (known now next before mid after : Option (List ℕ)) (input further : Input) (old from to : Driver) (number : ℕ) (line : List ℕ)
+    → DrivenSoFar known now before mid input old from number → IsInHand further line → Takes now next input further line → pending further ≡ [] → IsAtEnd next → Fails fault number (gathered further.line) mid after from to → RunsPart known before after old fault
+last_fails ScriptFault.Memory known now next before mid after input further old from to number line so_far hand takes none end same =
+    subst (λ out. RunsPart known before out old ScriptFault.Memory) (sym same) (driven_stops known now before mid input old from number ScriptFault.Memory so_far)
+last_fails ScriptFault.Write known now next before mid after input further old from to number line so_far hand takes none end cut =
+    driven_cut known now before mid after input further old from to number line [] so_far hand (last_first known now next input further (lines_bytes so_far.lines) line so_far.read takes none end) cut
+last_fails ScriptFault.Read known now next before mid after input further old from to number line so_far hand takes none end is = absurd is
+last_fails ScriptFault.TooLarge known now next before mid after input further old from to number line so_far hand takes none end is = absurd is
+
+-- what the last line comes to is what the run comes to
+pub last_tells : (known now next before mid after : Option (List ℕ)) (input further : Input) (old from to : Driver) (number : ℕ) (line : List ℕ) (result : Result (Unit {0}) ScriptFault)
+    → DrivenSoFar known now before mid input old from number → IsInHand further line → line ≢ [] → Takes now next input further line → pending further ≡ [] → IsAtEnd next
+    → Tells number (gathered further.line) mid after from to result → RunsAll known before after old to result
+last_tells known now next before mid after input further old from to number line (Ok done) so_far hand some takes none end told = last_driven known now next before mid after input further old from to number line so_far hand some takes none end told
+last_tells known now next before mid after input further old from to number line (Err fault) so_far hand some takes none end fails = last_fails fault known now next before mid after input further old from to number line so_far hand takes none end fails
+
+-- a line that was run, as it is answered
+pub line_answered : (number : ℕ) (line : List ℕ) (refused : Option Refusal) (log : List Record) (from mid to : Driver) → LineDoes (state from) line mid.answer refused (state mid) → state to ≡ state mid → log ≡ log_of (state from)
+    → Knows from → mid.asked ≡ from.asked → Closes number (length log) refused mid to → to.refused ≡ min (from.refused + refusals_of refused) 18446744073709551615 → IsAnswer number line from to to.answer
+line_answered number line refused log from mid to does same logged knows kept closes count =
+    let before = log_of (state from) in
+    let news = closes.news in
+    let asks = subst (λ st. Asks st to.asked) (sym same) closes.asks in
+    let change : IsChange (state from) (state to) news = record { before = from.asked; after = to.asked; asked = knows; asks = asks; news = subst (λ b. IsNews b to.asked news) kept closes.is } in
+    record {
+      said = mid.answer;
+      refused = refused;
+      does = subst (LineDoes (state from) line mid.answer refused) (sym same) does;
+      text = (
+        news,
+        change,
+        closes.told
+            ∙ ap (λ l. mid.answer ++ (numbered_text (suc (length l)) (drop (length l) (log_of (state mid))) ++ (news ++ last_line number refused))) logged
+            ∙ ap (λ m. mid.answer ++ (numbered_text (suc (length before)) (drop (length before) (log_of m)) ++ (news ++ last_line number refused))) (sym same),
+      );
+      knows = asks;
+      count = count;
+    }
+
+-- what a line printed is all of the answer so far
+pub said_whole : (old : ScriptState) (line before after : List ℕ) (refused : Option Refusal) (new : ScriptState) → (said : List ℕ) × (after ≡ before ++ said) × LineDoes old line said refused new → before ≡ [] → LineDoes old line after refused new
+said_whole old line before after refused new (said, told, does) none = subst (λ t. LineDoes old line t refused new) (sym (told ∙ ap (λ t. t ++ said) none)) does

@@ -1,0 +1,295 @@
+ghost use Rattle.std.specs.Prelude.{◌≡◌, ℕ, ◌+◌, List, [], ◌∷◌, ◌++◌, codes, drop, min, suc, OnOk};
+ghost use Rattle.std.specs.Io.KnownBytes.{IsAtEnd};
+ghost use Rattle.i3c_drive.specs.Answers.{AnswersGoOut, AsksAt, last_line, log_of};
+ghost use Rattle.i3c_drive.specs.Inputs.{pending};
+ghost use Rattle.i3c_drive.specs.Steps.{Closes, IsAnswer, Knows, RunsAll, Tells, TellsNews, state};
+ghost use Rattle.i3c_script.specs.Obeying.{IsBegun};
+ghost use Rattle.i3c_script.specs.Printed.{numbered_text};
+ghost use Rattle.i3c_scenario.specs.Scripts.{refusals_of};
+ghost use Rattle.i3c_scenario.specs.ScriptSteps.{Reads};
+
+use crate::input::{Input, Next};
+use i3c_base::Record;
+use i3c_lines::{Command, Names, Refusal, is_skipped};
+use i3c_scenario::{ScriptFault, Tally, write_out};
+use i3c_script::{Stage, Stop, show_askers, show_records_behind};
+use i3c_text::Text;
+use std::alloc::{AllocError, Global};
+use std::io::{Read, Write};
+
+/// Runs the lines that another program sends, and answers each before it reads the next, until the input ends.
+///
+/// An answer begins with what the line prints in a script. Then comes each record that the line added to the log, as `show`
+/// prints it. Where those have changed whose requests the next frame would meet, `asking` and their names follow. The last
+/// line is `ok` and the line's number, or `refused`, the number and why.
+///
+/// Each line has an answer, empty ones and comments too. The input may have any length. At its end an open session is
+/// ended, and the bus retired. Before a fault all answers went out, but to a writer that fails only a part of them.
+pub fn run_driven<R: Read, W: Write>(
+    alloc: Global,
+    reader: &mut R,
+    writer: &mut W,
+) -> Result<Tally, ScriptFault>
+    // an `Ok` comes after the whole input
+    ensures whole { OnOk result (IsAtEnd (R.remaining reader.new)) }
+    // a script starts with no bus, no legacy target and no name; each line changes the state and is answered as its command
+    // says; with `Ok` all answers went out, and before a fault as much as that fault says
+    ensures answers { AnswersGoOut (R.remaining reader.old) (W.contents writer.old) (W.contents writer.new) result }
+{
+    let mut driver = Driver::new(alloc);
+    let Ok(mut input) = Input::new(alloc) else {
+        let _none = driver.retire();
+        return Err(ScriptFault::Memory);
+    };
+    let outcome = driver.run_all(&mut input, reader, writer);
+    let refused = driver.retire();
+    match outcome {
+        Ok(()) => Ok(Tally { refused }),
+        Err(fault) => Err(fault),
+    }
+}
+
+/// Names the lines of a driven bus.
+struct Driven;
+
+/// The state of a driven bus: its stage and names, the current command, the current answer, and how many lines were
+/// refused.
+pub(crate) struct Driver {
+    alloc: Global,
+    stage: Stage,
+    names: Names,
+    // the last that was read
+    command: Command,
+    answer: Text,
+    // the names of those who asked before, and who ask now
+    asked: Text,
+    asks: Text,
+    refused: u64,
+}
+
+impl Driver {
+    /// A driver of which nothing was asked.
+    fn new(alloc: Global) -> Driver
+        ensures begun { IsBegun (state result) }
+        ensures refused { result.refused ≡ 0 }
+        ensures knows { Knows result }
+    {
+        Driver {
+            alloc,
+            stage: Stage::new(),
+            names: Names::new(alloc),
+            command: Command::Show,
+            answer: Text::new(alloc),
+            asked: Text::new(alloc),
+            asks: Text::new(alloc),
+            refused: 0,
+        }
+    }
+
+    /// Answers each line of an input.
+    fn run_all<R: Read, W: Write>(
+        &mut self,
+        input: &mut Input,
+        reader: &mut R,
+        out: &mut W,
+    ) -> Result<(), ScriptFault>
+        requires unread { pending input.old ≡ [] }
+        requires knows { Knows self.old }
+        ensures whole { OnOk result (IsAtEnd (R.remaining reader.new)) }
+        ensures runs { RunsAll (R.remaining reader.old) (W.contents out.old) (W.contents out.new) self.old self.new result }
+    {
+        for number in 1..u64::MAX {
+            let next = match input.advance(reader) {
+                Ok(next) => next,
+                Err(fault) => return Err(fault),
+            };
+            match next {
+                Next::End => return Ok(()),
+                Next::Last => return self.tell(number, input.line(), out),
+                Next::Line => match self.tell(number, input.line(), out) {
+                    Ok(()) => {}
+                    Err(fault) => return Err(fault),
+                },
+            }
+        }
+        // no input has so many lines
+        Err(ScriptFault::TooLarge)
+    }
+
+    /// Runs a line, and hands its answer to the writer.
+    fn tell<W: Write>(&mut self, number: u64, line: &[u8], out: &mut W) -> Result<(), ScriptFault>
+        requires { Knows self.old }
+        ensures { Tells number line.now (W.contents out.old) (W.contents out.new) self.old self.new result }
+    {
+        match self.run(number, line) {
+            Ok(()) => {}
+            Err(_) => return Err(ScriptFault::Memory),
+        }
+        match write_out(self.answer.as_bytes(), out) {
+            Ok(()) => {}
+            Err(fault) => return Err(fault),
+        }
+        match out.flush() {
+            Ok(()) => Ok(()),
+            Err(_) => Err(ScriptFault::Write),
+        }
+    }
+
+    /// Runs a line. Its answer waits.
+    fn run(&mut self, number: u64, line: &[u8]) -> Result<(), AllocError>
+        requires { Knows self.old }
+        ensures { OnOk result (IsAnswer number line.now self.old self.new self.new.answer) }
+    {
+        let count = self.log().len();
+        self.answer.clear();
+        match self.obey(line) {
+            Ok(()) => return self.close(number, count, None),
+            Err(Stop::Refused(why)) => return self.close(number, count, Some(why)),
+            Err(Stop::Memory) => return Err(AllocError),
+        }
+    }
+
+    /// Appends what follows what a line printed, and counts its refusal: the records behind the first `count`, who asks, where
+    /// that has changed, and the last line.
+    fn close(
+        &mut self,
+        number: u64,
+        count: usize,
+        refused: Option<Refusal>,
+    ) -> Result<(), AllocError>
+        ensures told { OnOk result (Closes number count refused self.old self.new) }
+        ensures state { state self.new ≡ state self.old }
+        ensures counted { self.new.refused ≡ min (self.old.refused + refusals_of refused) u64.MAX }
+    {
+        self.refused = self.refused.saturating_add(refusals(&refused));
+        self.push_added(count)?;
+        self.push_asking()?;
+        push_last(number, &refused, &mut self.answer)
+    }
+
+    /// Obeys a line, if it has a command.
+    fn obey(&mut self, line: &[u8]) -> Result<(), Stop>
+        ensures refused { self.new.refused ≡ self.old.refused }
+        ensures asked { self.new.asked ≡ self.old.asked }
+        ensures reads { Reads (state self.old) line.now self.old.answer self.new.answer result (state self.new) }
+    {
+        match is_skipped(line) {
+            Ok(true) => return Ok(()),
+            Ok(false) => {}
+            Err(refusal) => return Err(Stop::Refused(refusal)),
+        }
+        match self.command.read::<Driven>(line) {
+            Some(()) => self.stage.obey::<Driven>(
+                self.alloc,
+                &mut self.names,
+                &self.command,
+                &mut self.answer,
+            ),
+            None => Err(Stop::Refused(Refusal::BadLine)),
+        }
+    }
+
+    /// The log of the bus. Before the bus it is empty.
+    fn log(&self) -> &[Record]
+        ensures { result.now ≡ log_of (state self.now) }
+    {
+        match &self.stage {
+            Stage::Before(_) => &[],
+            Stage::Running(running) => running.bus().records(),
+        }
+    }
+
+    /// Appends the records behind the first `count` to the answer.
+    fn push_added(&mut self, count: usize) -> Result<(), AllocError>
+        ensures told { OnOk result (self.new.answer ≡ self.old.answer ++ numbered_text (suc count) (drop count (log_of (state self.old)))) }
+        ensures state { state self.new ≡ state self.old }
+        ensures refused { self.new.refused ≡ self.old.refused }
+        ensures asked { self.new.asked ≡ self.old.asked }
+    {
+        match &self.stage {
+            Stage::Before(_) => Ok(()),
+            Stage::Running(running) => {
+                show_records_behind(running.bus().records(), count, &mut self.answer)
+            }
+        }
+    }
+
+    /// Appends the line of those who ask to the answer, where they have changed.
+    fn push_asking(&mut self) -> Result<(), AllocError>
+        ensures told { OnOk result (TellsNews self.old self.new) }
+        ensures state { state self.new ≡ state self.old }
+        ensures refused { self.new.refused ≡ self.old.refused }
+    {
+        self.asks.clear();
+        push_askers(&self.stage, &self.names, &mut self.asks)?;
+        if self.asks.as_bytes() == self.asked.as_bytes() {
+            return Ok(());
+        }
+        self.asked.clear();
+        self.asked.push(self.asks.as_bytes())?;
+        push_news(self.asks.as_bytes(), &mut self.answer)
+    }
+
+    /// Takes the driver apart, with its bus, and tells how many lines were refused.
+    fn retire(self) -> u64
+        ensures { result ≡ self.refused }
+    {
+        let Driver {
+            alloc: _,
+            stage,
+            names: _,
+            command: _,
+            answer: _,
+            asked: _,
+            asks: _,
+            refused,
+        } = self;
+        stage.retire();
+        refused
+    }
+}
+
+/// Appends the names of those whose requests the next frame would meet. Before the bus there are none.
+fn push_askers(stage: &Stage, names: &Names, text: &mut Text) -> Result<(), AllocError>
+    ensures { OnOk result ((told : List ℕ) × AsksAt stage.now names.now told × (text.new ≡ text.old ++ told)) }
+{
+    match stage {
+        Stage::Before(_) => return Ok(()),
+        Stage::Running(running) => return show_askers(running.bus(), names, text),
+    }
+}
+
+/// Appends the line of those who ask.
+fn push_news(asks: &[u8], answer: &mut Text) -> Result<(), AllocError>
+    ensures { OnOk result (answer.new ≡ answer.old ++ (codes "asking" ++ (asks.now ++ 10 ∷ []))) }
+{
+    answer.push(b"asking")?;
+    answer.push(asks)?;
+    answer.end()
+}
+
+/// How many refusals a line is.
+fn refusals(refused: &Option<Refusal>) -> u64
+    ensures { result ≡ refusals_of refused.now }
+{
+    match refused {
+        None => 0,
+        Some(_) => 1,
+    }
+}
+
+/// Appends the last line of an answer.
+fn push_last(number: u64, refused: &Option<Refusal>, answer: &mut Text) -> Result<(), AllocError>
+    ensures { OnOk result (answer.new ≡ answer.old ++ last_line number refused.now) }
+{
+    match refused {
+        None => answer.push_numbered(b"ok ", number),
+        Some(why) => {
+            answer.push(b"refused ")?;
+            answer.push_decimal(number)?;
+            answer.push(b" ")?;
+            why.push(answer)?;
+            answer.end()
+        }
+    }
+}

@@ -1,0 +1,12 @@
+//! A bus that another program drives: it sends a script's lines, and each is answered before the next is read.
+//!
+//! `input` reads one line after another and keeps no more than a piece of the input. `driven` runs each line and answers it.
+//! `laws` says that the lines that were answered do what they do in a script.
+#![tactic(auto)]
+
+mod driven;
+mod input;
+mod laws;
+
+pub use driven::run_driven;
+pub use laws::answered_lines_lead;

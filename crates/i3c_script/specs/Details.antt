@@ -1,0 +1,64 @@
+-- What `show all` prints.
+use Rattle.std.specs.Prelude.{ℕ, zero, suc, Bool, true, false, List, [], ◌∷◌, ◌++◌, codes, Option, Some, None, slice_index_or}
+use Rattle.i3c_base.specs.declared.identity.Identity.{Identity}
+use Rattle.i3c_base.specs.declared.range.TheConstants.{SLOTS}
+use Rattle.i3c_base.specs.declared.requests.Request.{Request}
+use Rattle.i3c_base.specs.declared.requests.Request.TheVariants.{Interrupt, Join, Role}
+use Rattle.i3c_base.specs.State.{Device, State, device_at}
+use Rattle.i3c_bus.specs.Wishing.{wish_by}
+use Rattle.i3c_lines.specs.declared.names.Name.{Name}
+use Rattle.i3c_lines.specs.declared.names.Names.{Names}
+use Rattle.i3c_lines.specs.Naming.{letters, slot_names}
+use Rattle.i3c_text.specs.Hex.{byte_text, hex_text}
+use Rattle.i3c_script.specs.Printed.{show_text}
+
+-- what a device is
+abbrev pub registers_text : Identity → List ℕ
+registers_text identity = codes " pid " ++ (hex_text 12 identity.pid ++ (codes " bcr " ++ (byte_text identity.bcr.0 ++ (codes " dcr " ++ byte_text identity.dcr.0))))
+
+-- the enabled ones of interrupts, role requests and joins
+abbrev pub kinds_words : Bool → Bool → Bool → List ℕ
+kinds_words false false false = codes "none"
+kinds_words true false false = codes "interrupt"
+kinds_words false true false = codes "role"
+kinds_words false false true = codes "join"
+kinds_words true true false = codes "interrupt role"
+kinds_words true false true = codes "interrupt join"
+kinds_words false true true = codes "role join"
+kinds_words true true true = codes "interrupt role join"
+
+-- the word of a wish for the role or to join; `show` counts the interrupts that wait
+abbrev pub wish_word : Option Request → List ℕ
+wish_word None = codes "none"
+wish_word (Some Join) = codes "join"
+wish_word (Some (Role a)) = codes "role"
+wish_word (Some (Interrupt a)) = codes "none"
+
+-- a device by these parts
+abbrev pub described_text : Name → Identity → List ℕ → List ℕ → List ℕ
+described_text name identity kinds wish = codes "device " ++ (letters name ++ (registers_text identity ++ (codes " enabled " ++ (kinds ++ (codes " wishes " ++ (wish ++ 10 ∷ []))))))
+
+-- a present device: its name, its PID, BCR and DCR, the enabled kinds of its events, and its wish
+abbrev pub details_text : Option Name → Option Device → List ℕ
+details_text (Some name) (Some d) = described_text name d.identity (kinds_words d.kinds.interrupt d.kinds.role d.kinds.join) (wish_word (wish_by d.address d))
+details_text None device = []
+details_text (Some name) None = []
+
+-- the present devices of so many slots, the lowest slot first
+unfoldable pub all_details_text : State → Names → ℕ → List ℕ
+all_details_text st names zero = []
+all_details_text st names (suc slot) = all_details_text st names slot ++ details_text (slice_index_or (slot_names names) slot None) (device_at st slot)
+
+-- whether the list of devices is current
+abbrev pub list_text : Bool → List ℕ
+list_text true = codes "list current" ++ 10 ∷ []
+list_text false = codes "list stale" ++ 10 ∷ []
+
+-- whether a session is open
+abbrev pub session_text : Bool → List ℕ
+session_text true = codes "session open" ++ 10 ∷ []
+session_text false = codes "session closed" ++ 10 ∷ []
+
+-- `show all`: what `show` prints, then the present devices, the list and the session
+abbrev pub show_all_text : State → Names → List ℕ
+show_all_text st names = show_text st names ++ (all_details_text st names SLOTS ++ (list_text st.listed ++ session_text st.in_session))

@@ -1,0 +1,9 @@
+pub mod LevelLaws
+pub mod DumpLaws
+pub mod Written
+pub mod ReadLaws
+pub mod RunLaws
+pub mod EdgeLaws
+pub mod BitLaws
+pub mod ReadBack
+pub mod CaptureLaws

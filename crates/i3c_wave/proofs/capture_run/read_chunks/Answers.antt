@@ -1,0 +1,48 @@
+use Rattle.std.proofs.Common.{◌≡◌, ◌⊎◌, ◌<◌, ◌++◌, Err, Ok, IfSome, MatchResult, arith, length, subst, sym, take}
+use Rattle.std.specs.Io.KnownBytes.{Consumes}
+use Rattle.i3c_wave.specs.CaptureTexts.{HasSymbols, IsOfReading, new_input, text_read}
+use Rattle.i3c_wave.proofs.CaptureLaws.{all_read, bytes_on, chunk_fault, end_fault, ended_with, more_read}
+use Rattle.i3c_wave.proofs.capture_run.read_chunks.Goals as goal
+use Rattle.i3c_wave.proofs.capture_run.read_chunks.Goals.{in-Ok-end_text, in-Err}
+
+pub returns-then-count-eq0 : goal.returns-then-count-eq0
+returns-then-count-eq0 g c =
+    let first = g.R.Read.remaining c.args.reader.now in
+    let old = g.R.Read.remaining c.loop.reader in
+    let new = g.R.Read.remaining c.read.new.self in
+    let legacies = c.args.legacies in
+    let scl = c.args.scl.now in
+    let sda = c.args.sda.now in
+    let inv = c.loop.invariant.1 in
+    let none : c.in-Ok.count ≡ 0 = omega (arith, c.if-count-eq0.true) in
+    let room : 0 < length c.read.new.buf = omega (arith, c.read.auto.buf, c.loop.invariant.0) in
+    let two = subst (λ n. Consumes old new (take n c.read.new.buf)) none c.in-Ok.ensures.bytes.0 in
+    let end = c.in-Ok.ensures.bytes.1 none room in
+    elim c.match-end_text.branch [
+      | in-Ok-end_text w ↦
+          subst (λ r. MatchResult r (λ symbols. IfSome first (λ text. HasSymbols legacies scl sda text symbols.items)) (λ fault. IsOfReading fault ⊎ IfSome first (λ text. text_read legacies scl sda text ≡ Err fault))) (sym w.result-is)
+          (all_read first old new inv.0 (λ text. HasSymbols legacies scl sda text c.end_text.new.symbols.items) inv.1 two end (ended_with legacies scl sda inv.0 (record { reached = c.loop.reached; word = c.loop.word; symbols = c.loop.symbols.items }) c.end_text.new.symbols.items inv.2 w.in-Ok-end_text.ensures))
+      | in-Err w ↦
+          subst (λ r. MatchResult r (λ symbols. IfSome first (λ text. HasSymbols legacies scl sda text symbols.items)) (λ fault. IsOfReading fault ⊎ IfSome first (λ text. text_read legacies scl sda text ≡ Err fault))) (sym w.result-is)
+          (end_fault first old new legacies scl sda inv.0 (record { reached = c.loop.reached; word = c.loop.word; symbols = c.loop.symbols.items }) w.in-Err.fault inv.1 two end inv.2 w.in-Err.ensures)
+    ]
+
+pub returns-in-Err-take_bytes : goal.returns-in-Err-take_bytes
+returns-in-Err-take_bytes g c =
+    let first = g.R.Read.remaining c.args.reader.now in
+    let old = g.R.Read.remaining c.loop.reader in
+    let new = g.R.Read.remaining c.read.new.self in
+    let inv = c.loop.invariant.1 in
+    let piece = take c.in-Ok.count c.read.new.buf in
+    chunk_fault first new c.args.legacies c.args.scl.now c.args.sda.now inv.0 piece (record { reached = c.loop.reached; word = c.loop.word; symbols = c.loop.symbols.items }) c.in-Err-take_bytes.fault (more_read first old new inv.0 piece inv.1 c.in-Ok.ensures.bytes.0) inv.2 c.in-Err-take_bytes.ensures
+
+pub loop-preserved : goal.loop-preserved
+loop-preserved g c =
+    let first = g.R.Read.remaining c.args.reader.now in
+    let old = g.R.Read.remaining c.loop.reader in
+    let new = g.R.Read.remaining c.read.new.self in
+    let inv = c.loop.invariant.1 in
+    let piece = take c.in-Ok.count c.read.new.buf in (
+      omega (arith, c.read.auto.buf, c.loop.invariant.0),
+      (inv.0 ++ piece, more_read first old new inv.0 piece inv.1 c.in-Ok.ensures.bytes.0, bytes_on c.args.scl.now c.args.sda.now inv.0 piece (new_input c.args.legacies) (record { reached = c.loop.reached; word = c.loop.word; symbols = c.loop.symbols.items }) (Ok (record { reached = c.in-Ok-take_bytes.next; word = c.take_bytes.new.word; symbols = c.take_bytes.new.symbols.items })) inv.2 c.in-Ok-take_bytes.ensures),
+    )

@@ -1,0 +1,129 @@
+-- The text of a capture: its words, the symbols that are read of them, and its first fault.
+use Rattle.std.specs.Prelude.{◌≡◌, ◌⊎◌, ℕ, ◌+◌, ◌==◌, min, nat_lt, Bool, ◌||◌, List, [], ◌∷◌, ◌++◌, length, option_to_list, ⊤, Option, Some, None, IfSome, Result, Ok, Err, if◌then◌else◌}
+use Rattle.i3c_base.specs.declared.addresses.Addresses.{Addresses}
+use Rattle.i3c_frame.specs.declared.symbols.Symbol.{Symbol}
+use Rattle.i3c_frame.specs.Texts.{text_of}
+use Rattle.i3c_wave.specs.declared.capture.Capture.{Capture}
+use Rattle.i3c_wave.specs.declared.capture.Heard.{Heard}
+use Rattle.i3c_wave.specs.declared.capture_fault.CaptureFault.{CaptureFault}
+use Rattle.i3c_wave.specs.declared.capture_text.Reached.{Reached}
+use Rattle.i3c_wave.specs.declared.capture_text.Taken.{Taken}
+use Rattle.i3c_wave.specs.declared.dump.Item.{Item}
+use Rattle.i3c_wave.specs.declared.dump.Said.{Said}
+use Rattle.i3c_wave.specs.Captures.{at_time, changed, heard, new_capture, with_line}
+use Rattle.i3c_wave.specs.Dump.{line}
+use Rattle.i3c_wave.specs.Dumps.{is_ended, new_dump, word_said}
+
+-- what is read of a text: its whole words, the letters of a word that is open, and the symbols
+pub record Input : Type 0 where
+  pub reached : Reached
+  pub word : List ℕ
+  pub symbols : List Symbol
+
+-- before the first word
+abbrev pub new_reached : Addresses → Reached
+new_reached legacies = record { dump = new_dump; capture = new_capture legacies; line = 1 }
+
+-- a space, a tab, a line feed or a carriage return
+abbrev pub is_space : ℕ → Bool
+is_space byte = (byte == 32 || byte == 9) || (byte == 10 || byte == 13)
+
+-- what is heard of the lines
+abbrev pub item_taken : Reached → Result Heard CaptureFault → Result Taken CaptureFault
+item_taken reached (Ok heard) = Ok (record { reached = record reached { capture = heard.capture }; symbol = heard.symbol })
+item_taken reached (Err fault) = Err fault
+
+-- a time
+abbrev pub time_taken : Reached → Option Capture → Result Taken CaptureFault
+time_taken reached None = Err (CaptureFault.BadTime reached.line)
+time_taken reached (Some capture) = Ok (record { reached = record reached { capture = capture }; symbol = None })
+
+-- what a word says is heard
+abbrev pub item_heard : Reached → Item → Result Taken CaptureFault
+item_heard reached Item.Nothing = Ok (record { reached = reached; symbol = None })
+item_heard reached (Item.Time time) = time_taken reached (at_time reached.capture time)
+item_heard reached Item.NoLevel = Err (CaptureFault.NoLevel reached.capture.time)
+item_heard reached (Item.Level line high) = item_taken reached (changed reached.dump.setup reached.capture (with_line reached.capture.level line high))
+
+-- what a word says, if it says something
+abbrev pub said_taken : Reached → Result Said CaptureFault → Result Taken CaptureFault
+said_taken reached (Ok said) = item_heard (record reached { dump = said.dump }) said.item
+said_taken reached (Err fault) = Err fault
+
+-- the next word
+abbrev pub word_taken : List ℕ → List ℕ → Reached → List ℕ → Result Taken CaptureFault
+word_taken scl sda reached word = said_taken reached (word_said scl sda reached.dump reached.line word)
+
+-- a word is whole, and a symbol may be by it
+abbrev pub kept : List Symbol → Result Taken CaptureFault → Result Input CaptureFault
+kept symbols (Ok taken) = Ok (record { reached = taken.reached; word = []; symbols = symbols ++ option_to_list taken.symbol })
+kept symbols (Err fault) = Err fault
+
+-- the end of a word, if it has letters
+abbrev pub word_ended : List ℕ → List ℕ → Input → Result Input CaptureFault
+word_ended scl sda input = if length input.word == 0 then Ok input else kept input.symbols (word_taken scl sda input.reached input.word)
+
+-- behind a space: a line feed ends a line
+abbrev pub behind : Reached → ℕ → Reached
+behind reached byte = if byte == 10 then record reached { line = min (reached.line + 1) 18446744073709551615 } else reached
+
+-- behind the space that ends a word
+abbrev pub parted : ℕ → Result Input CaptureFault → Result Input CaptureFault
+parted byte (Ok input) = Ok (record input { reached = behind input.reached byte })
+parted byte (Err fault) = Err fault
+
+-- the next byte: a space, or a letter of a word, which has 65,536 at most
+abbrev pub byte_read : List ℕ → List ℕ → Input → ℕ → Result Input CaptureFault
+byte_read scl sda input byte = if is_space byte then parted byte (word_ended scl sda input)
+    else (if nat_lt (length input.word) 65536 then Ok (record input { word = input.word ++ byte ∷ [] }) else Err (CaptureFault.BadWord input.reached.line))
+
+-- what follows, unless there is a fault
+abbrev pub goes_on : Result Input CaptureFault → (Input → Result Input CaptureFault) → Result Input CaptureFault
+goes_on (Ok input) next = next input
+goes_on (Err fault) next = Err fault
+
+-- bytes, one after another
+abbrev pub bytes_read : List ℕ → List ℕ → Input → List ℕ → Result Input CaptureFault
+bytes_read scl sda input [] = Ok input
+bytes_read scl sda input (byte ∷ rest) = goes_on (byte_read scl sda input byte) (λ next. bytes_read scl sda next rest)
+
+-- what is heard at the end, if the text is whole
+abbrev pub closed_as : Reached → Result ⊤ CaptureFault → Result Taken CaptureFault
+closed_as reached (Ok _) = item_taken reached (heard reached.capture)
+closed_as reached (Err fault) = Err fault
+
+abbrev pub closed : Reached → Result Taken CaptureFault
+closed reached = closed_as reached (is_ended reached.dump reached.line)
+
+-- a text ends: its last word, and the level that lasts
+abbrev pub text_ended : List ℕ → List ℕ → Input → Result Input CaptureFault
+text_ended scl sda input = goes_on (word_ended scl sda input) (λ next. kept next.symbols (closed next.reached))
+
+-- these are the symbols of a text that ended
+abbrev pub Ended : List ℕ → List ℕ → Input → List Symbol → Type 0
+Ended scl sda input symbols = (last : Input) × (text_ended scl sda input ≡ Ok last) × (last.symbols ≡ symbols)
+
+-- the symbols before the end, and after it
+abbrev pub Closed : Result Taken CaptureFault → List Symbol → List Symbol → Type 0
+Closed outcome old new = (taken : Taken) × (outcome ≡ Ok taken) × (new ≡ old ++ option_to_list taken.symbol)
+
+-- before a text
+abbrev pub new_input : Addresses → Input
+new_input legacies = record { reached = new_reached legacies; word = []; symbols = [] }
+
+-- what a whole text comes to, by the names of SCL and SDA
+abbrev pub text_read : Addresses → List ℕ → List ℕ → List ℕ → Result Input CaptureFault
+text_read legacies scl sda text = goes_on (bytes_read scl sda (new_input legacies) text) (text_ended scl sda)
+
+-- the text's symbols
+abbrev pub HasSymbols : Addresses → List ℕ → List ℕ → List ℕ → List Symbol → Type 0
+HasSymbols legacies scl sda text symbols = (input : Input) × (text_read legacies scl sda text ≡ Ok input) × (input.symbols ≡ symbols)
+
+-- a fault of memory, or of the reader
+abbrev pub IsOfReading : CaptureFault → Type 0
+IsOfReading fault = (fault ≡ CaptureFault.Memory) ⊎ (fault ≡ CaptureFault.Read)
+
+-- the texts of symbols, each on a line of its own
+abbrev pub lines_of : List Symbol → List ℕ
+lines_of [] = []
+lines_of (symbol ∷ rest) = line (text_of symbol) ++ lines_of rest

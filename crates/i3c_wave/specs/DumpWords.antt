@@ -1,0 +1,83 @@
+-- The words of a value change dump (IEEE 1364).
+use Rattle.std.specs.Prelude.{ℕ, ◌+◌, ◌*◌, ◌-◌, ◌==◌, ◌/◌, max, nat_lt, Bool, true, false, ◌||◌, ◌&&◌, List, [], ◌∷◌, length, position, codes, bytes_eq, Option, Some, None, unwrap_or, if◌then◌else◌}
+use Rattle.std.specs.Option.{option_and_then}
+use Rattle.i3c_wave.specs.declared.dump_word.Code.{Code}
+use Rattle.i3c_wave.specs.declared.dump_word.Command.{Command}
+use Rattle.i3c_wave.specs.declared.dump_word.Lead.{Lead}
+use Rattle.i3c_wave.specs.declared.dump_word.Magnitude.{Magnitude}
+
+-- the commands before which the values of signals stand
+abbrev pub values_of : List ℕ → Command
+values_of word = if bytes_eq word (codes "$dumpvars") || bytes_eq word (codes "$dumpall") then Command.Values
+    else (if bytes_eq word (codes "$dumpon") || bytes_eq word (codes "$dumpoff") then Command.Values else Command.Other)
+
+-- the command of a word
+abbrev pub command_of : List ℕ → Command
+command_of word = if bytes_eq word (codes "$end") then Command.End
+    else (if bytes_eq word (codes "$timescale") then Command.Timescale
+    else (if bytes_eq word (codes "$var") then Command.Var
+    else (if bytes_eq word (codes "$enddefinitions") then Command.EndDefinitions else values_of word)))
+
+-- the code of one to four bytes
+abbrev pub code_of : List ℕ → Option Code
+code_of [] = None
+code_of (a ∷ []) = Some (record { first = a; second = 0; third = 0; fourth = 0 })
+code_of (a ∷ b ∷ []) = Some (record { first = a; second = b; third = 0; fourth = 0 })
+code_of (a ∷ b ∷ c ∷ []) = Some (record { first = a; second = b; third = c; fourth = 0 })
+code_of (a ∷ b ∷ c ∷ d ∷ []) = Some (record { first = a; second = b; third = c; fourth = d })
+code_of (a ∷ b ∷ c ∷ d ∷ e ∷ rest) = None
+
+-- two codes are one
+abbrev pub is_same_code : Code → Code → Bool
+is_same_code one other = one.first == other.first && (one.second == other.second && (one.third == other.third && one.fourth == other.fourth))
+
+-- a signal that was declared has this code
+abbrev pub is_same_code_as : Option Code → Code → Bool
+is_same_code_as None code = false
+is_same_code_as (Some declared) code = is_same_code declared code
+
+-- a number with one more digit, if it is one, and fits
+abbrev pub digit_more : ℕ → ℕ → Option ℕ
+digit_more number digit = if (nat_lt digit 48 || nat_lt 57 digit) || nat_lt 1000000000000000000 number then None else Some (number * 10 + (digit - 48))
+
+-- a number with more digits
+abbrev pub number_from : ℕ → List ℕ → Option ℕ
+number_from number [] = Some number
+number_from number (digit ∷ rest) = option_and_then (λ next. number_from next rest) (digit_more number digit)
+
+-- the number of decimal digits, of which there is one at least
+abbrev pub number_of : List ℕ → Option ℕ
+number_of [] = None
+number_of (digit ∷ rest) = number_from 0 (digit ∷ rest)
+
+-- the number of a timescale's units
+abbrev pub magnitude_of : List ℕ → Option Magnitude
+magnitude_of digits = if bytes_eq digits (codes "1") then Some Magnitude.One
+    else (if bytes_eq digits (codes "10") then Some Magnitude.Ten
+    else (if bytes_eq digits (codes "100") then Some Magnitude.Hundred else None))
+
+-- how many bytes of a word stand before its first letter
+abbrev pub digits_in : List ℕ → ℕ
+digits_in word = unwrap_or (position (λ byte. nat_lt 57 byte) word) (length word)
+
+-- 3 ns in a unit of time, rounded up
+abbrev pub unit_setup : List ℕ → Option ℕ
+unit_setup unit = if bytes_eq unit (codes "fs") then Some 3000000
+    else (if bytes_eq unit (codes "ps") then Some 3000
+    else (if bytes_eq unit (codes "ns") then Some 3
+    else (if bytes_eq unit (codes "us") || (bytes_eq unit (codes "ms") || bytes_eq unit (codes "s")) then Some 1 else None)))
+
+-- the same in one, ten or a hundred of them: one at least
+abbrev pub scaled : ℕ → Magnitude → ℕ
+scaled setup Magnitude.One = setup
+scaled setup Magnitude.Ten = max (setup / 10) 1
+scaled setup Magnitude.Hundred = max (setup / 100) 1
+
+-- what a word between commands begins with
+abbrev pub lead_of : ℕ → Lead
+lead_of first = if first == 36 then Lead.Command
+    else (if first == 35 then Lead.Time
+    else (if first == 48 then Lead.Low
+    else (if first == 49 then Lead.High
+    else (if (first == 120 || first == 88) || (first == 122 || first == 90) then Lead.NoLevel
+    else (if (first == 98 || first == 66) || ((first == 114 || first == 82) || (first == 115 || first == 83)) then Lead.Vector else Lead.Other)))))

@@ -1,0 +1,13 @@
+pub mod Awaited
+pub mod Captures
+pub mod CaptureTexts
+pub mod Dump
+pub mod DumpWords
+pub mod Dumps
+pub mod Edges
+pub mod Laws
+pub mod Levels
+pub mod Output
+pub mod Reading
+pub mod Runs
+pub mod Timing

@@ -1,0 +1,48 @@
+-- What goes out of a text that is a trace, or is none.
+use Rattle.std.specs.Prelude.{◌≡◌, ◌⊎◌, ℕ, All, List, [], ◌∷◌, ◌++◌, codes, decimal, map, Option, Some, None, IfSome, Result, MatchResult}
+use Rattle.std.specs.Io.KnownBytes.{Appends, Keeps}
+use Rattle.i3c_frame.specs.declared.symbols.Symbol.{Symbol}
+use Rattle.i3c_frame.specs.declared.traces.TraceFault.{TraceFault}
+use Rattle.i3c_frame.specs.Parts.{parts}
+use Rattle.i3c_frame.specs.Texts.{IsInRange, text_of}
+use Rattle.i3c_frame.specs.Traces.{IsFirstFault, IsTrace}
+use Rattle.i3c_wave.specs.declared.fault.WaveFault.{WaveFault}
+use Rattle.i3c_wave.specs.Dump.{dump_text, line}
+use Rattle.i3c_wave.specs.Output.{AppendsSome}
+
+-- a fault of writing, or of what is written
+abbrev pub IsWriteFault : WaveFault → Type 0
+IsWriteFault fault = (fault ≡ WaveFault.Memory) ⊎ (fault ≡ WaveFault.Write)
+
+-- the line of a text that is no trace: want of memory has none
+abbrev pub fault_line : TraceFault → List ℕ
+fault_line (TraceFault.BadSymbol number) = codes "refused BadSymbol " ++ (decimal number ++ 10 ∷ [])
+fault_line TraceFault.NoStart = line (codes "refused NoStart")
+fault_line TraceFault.NoStop = line (codes "refused NoStop")
+fault_line TraceFault.OutOfMemory = []
+
+-- the text is a trace, with this dump
+pub record IsDump (legacies : ℕ) (text dump : List ℕ) : Type 0 where
+  pub trace : List Symbol
+  pub is_trace : IsTrace trace
+  pub in_range : All IsInRange trace
+  pub same : map text_of trace ≡ parts text
+  pub dumped : dump ≡ dump_text legacies trace
+
+-- the text comes to its dump, or to the line of its first fault
+abbrev pub ComesTo : ℕ → List ℕ → Option TraceFault → List ℕ → Type 0
+ComesTo legacies text None lines = IsDump legacies text lines
+ComesTo legacies text (Some fault) lines = IsFirstFault (parts text) fault × (lines ≡ fault_line fault)
+
+-- the known bytes do
+pub record CameTo (legacies : ℕ) (known : Option (List ℕ)) (fault : Option TraceFault) (lines : List ℕ) : Type 0 where
+  pub text : List ℕ
+  pub read : IfSome known (λ bytes. text ≡ bytes)
+  pub comes : ComesTo legacies text fault lines
+
+-- what goes out of known bytes: all that they come to with `Ok`, and otherwise nothing or a prefix of it
+abbrev pub GoesOut : ℕ → Option (List ℕ) → Option (List ℕ) → Option (List ℕ) → Result (Option TraceFault) WaveFault → Type 0
+GoesOut legacies known old new result =
+    MatchResult result
+    (λ fault. (lines : List ℕ) × CameTo legacies known fault lines × Appends old new lines)
+    (λ _. Keeps old new ⊎ ((lines : List ℕ) × (fault : Option TraceFault) × CameTo legacies known fault lines × AppendsSome old new lines))

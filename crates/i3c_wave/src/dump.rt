@@ -1,0 +1,320 @@
+ghost use Rattle.std.specs.Prelude.{◌≡◌};
+ghost use Rattle.i3c_wave.specs.Dumps.{level_said, line_named, nothing};
+
+use crate::capture::Line;
+use crate::capture_fault::CaptureFault;
+use crate::dump_word::{
+    Code, Command, Lead, Magnitude, code_of, command_of, digits_in, has_code, is_word, lead_of,
+    magnitude_of, number_of, scaled, unit_setup,
+};
+
+/// The setup time without a timescale, whose unit is then 1 ns.
+const UNSCALED: u64 = 3;
+
+/// Where a dump stands between two words.
+#[derive(Clone, Copy, Debug, PartialEq, Eq)]
+pub(crate) enum Place {
+    /// Between commands.
+    Between,
+    /// In a command that is passed over.
+    Passed,
+    /// In a timescale, behind its number or before it.
+    Scale(Option<Magnitude>),
+    /// Before the kind of a signal.
+    Kind,
+    /// Before its width.
+    Width,
+    /// Before its code. It has one bit, or others.
+    Code(bool),
+    /// Before its name. It has this code, if it may be a line.
+    Name(Option<Code>),
+    /// Before the code of a vector's signal.
+    Vector,
+}
+
+/// What a dump has said so far: where it stands, the codes of the two lines, and the setup time in its units.
+#[derive(Clone, Copy, Debug, Drop)]
+pub(crate) struct Dump {
+    place: Place,
+    scl: Option<Code>,
+    sda: Option<Code>,
+    setup: u64,
+}
+
+/// What a word says.
+#[derive(Clone, Copy, Debug, PartialEq, Eq)]
+pub(crate) enum Item {
+    /// Nothing of the two lines.
+    Nothing,
+    /// The time.
+    Time(u64),
+    /// A line is high from now on, or low.
+    Level(Line, bool),
+    /// A line has no level.
+    NoLevel,
+}
+
+/// A dump behind a word, and what the word says.
+#[derive(Clone, Copy, Debug, Drop)]
+pub(crate) struct Said {
+    pub dump: Dump,
+    pub item: Item,
+}
+
+impl Dump {
+    ghost use Rattle.std.specs.Prelude.{◌≡◌};
+    ghost use Rattle.i3c_wave.specs.DumpWords.{code_of, unit_setup};
+    ghost use Rattle.i3c_wave.specs.Dumps.{at_place, begun_word, behind_vector, command_said, ended, is_ended, inside, line_of, missing, named, new_dump, scale_word, scaled_by, scaled_unit, value_said, word_said};
+
+    /// Before the first word.
+    pub fn new() -> Dump
+        ensures { result ≡ new_dump }
+    {
+        Dump {
+            place: Place::Between,
+            scl: None,
+            sda: None,
+            setup: UNSCALED,
+        }
+    }
+
+    /// The setup time in the dump's units.
+    pub fn setup(&self) -> u64
+        ensures { result ≡ self.now.setup }
+    {
+        self.setup
+    }
+
+    /// Takes the next word, which stands at this line of the text. The signals of these names are SCL and SDA.
+    pub fn take(self, scl: &[u8], sda: &[u8], at: u64, word: &[u8]) -> Result<Said, CaptureFault>
+        ensures { result ≡ word_said scl.now sda.now self at word.now }
+    {
+        match self.place {
+            Place::Between => self.begin(at, word),
+            Place::Vector => Ok(self.behind_vector(word)),
+            _ if is_word(word, b"$end") => self.end(at),
+            _ => self.inside(scl, sda, at, word),
+        }
+    }
+
+    /// Ends the text: no command is open, and both lines were declared.
+    pub fn end_text(&self, at: u64) -> Result<(), CaptureFault>
+        ensures { result ≡ is_ended self.now at }
+    {
+        match self.place {
+            Place::Between => self.missing(),
+            _ => Err(CaptureFault::BadWord(at)),
+        }
+    }
+
+    /// Fails if a line wasn't declared.
+    fn missing(&self) -> Result<(), CaptureFault>
+        ensures { result ≡ missing self.now.scl self.now.sda }
+    {
+        match (self.scl, self.sda) {
+            (None, _) => Err(CaptureFault::NoScl),
+            (Some(_), None) => Err(CaptureFault::NoSda),
+            (Some(_), Some(_)) => Ok(()),
+        }
+    }
+
+    /// Takes a word between commands.
+    fn begin(self, at: u64, word: &[u8]) -> Result<Said, CaptureFault>
+        ensures { result ≡ begun_word self at word.now }
+    {
+        let [first, rest @ ..] = word else {
+            return Err(CaptureFault::BadWord(at));
+        };
+        match lead_of(*first) {
+            Lead::Command => self.command(command_of(word)),
+            Lead::Time => match number_of(rest) {
+                Some(time) => Ok(saying(self, Item::Time(time))),
+                None => Err(CaptureFault::BadTime(at)),
+            },
+            Lead::Low => Ok(self.value(Some(false), rest)),
+            Lead::High => Ok(self.value(Some(true), rest)),
+            Lead::NoLevel => Ok(self.value(None, rest)),
+            Lead::Vector => Ok(nothing(self.at_place(Place::Vector))),
+            Lead::Other => Err(CaptureFault::BadWord(at)),
+        }
+    }
+
+    /// Begins a command.
+    fn command(self, command: Command) -> Result<Said, CaptureFault>
+        ensures { result ≡ command_said self command }
+    {
+        match command {
+            Command::End | Command::Values => Ok(nothing(self)),
+            Command::Timescale => Ok(nothing(self.at_place(Place::Scale(None)))),
+            Command::Var => Ok(nothing(self.at_place(Place::Kind))),
+            Command::Other => Ok(nothing(self.at_place(Place::Passed))),
+            Command::EndDefinitions => match self.missing() {
+                Ok(()) => Ok(nothing(self.at_place(Place::Passed))),
+                Err(fault) => Err(fault),
+            },
+        }
+    }
+
+    /// Takes the value of a signal.
+    fn value(self, level: Option<bool>, code: &[u8]) -> Said
+        ensures { result ≡ value_said self level (code_of code.now) }
+    {
+        match code_of(code) {
+            Some(code) => saying(self, level_said(self.line_of(code), level)),
+            None => nothing(self),
+        }
+    }
+
+    /// The line that has a code.
+    fn line_of(self, code: Code) -> Option<Line>
+        ensures { result ≡ line_of self code }
+    {
+        if has_code(self.scl, code) {
+            Some(Line::Scl)
+        } else if has_code(self.sda, code) {
+            Some(Line::Sda)
+        } else {
+            None
+        }
+    }
+
+    /// Takes the code behind a vector. A vector is no level of a line.
+    fn behind_vector(self, code: &[u8]) -> Said
+        ensures { result ≡ behind_vector self code.now }
+    {
+        self.at_place(Place::Between).value(None, code)
+    }
+
+    /// Ends a command.
+    fn end(self, at: u64) -> Result<Said, CaptureFault>
+        ensures { result ≡ ended self at }
+    {
+        match self.place {
+            Place::Passed => Ok(nothing(self.at_place(Place::Between))),
+            Place::Scale(_) => Err(CaptureFault::BadTimescale(at)),
+            _ => Err(CaptureFault::BadWord(at)),
+        }
+    }
+
+    /// Takes a word inside a command.
+    fn inside(self, scl: &[u8], sda: &[u8], at: u64, word: &[u8]) -> Result<Said, CaptureFault>
+        ensures { result ≡ inside scl.now sda.now self at word.now }
+    {
+        match self.place {
+            Place::Between | Place::Vector | Place::Passed => Ok(nothing(self)),
+            Place::Scale(magnitude) => self.scale(magnitude, at, word),
+            Place::Kind => Ok(nothing(self.at_place(Place::Width))),
+            Place::Width => Ok(nothing(self.at_place(Place::Code(is_word(word, b"1"))))),
+            Place::Code(true) => Ok(nothing(self.at_place(Place::Name(code_of(word))))),
+            Place::Code(false) => Ok(nothing(self.at_place(Place::Name(None)))),
+            Place::Name(code) => Ok(nothing(self.named(line_named(scl, sda, word), code))),
+        }
+    }
+
+    /// The dump behind the name of a signal with this code, which is that of a line or not. The first of a name counts.
+    fn named(self, line: Option<Line>, code: Option<Code>) -> Dump
+        ensures { result ≡ named self line code }
+    {
+        let passed = self.at_place(Place::Passed);
+        match (line, self.scl, self.sda) {
+            (Some(Line::Scl), None, _) => Dump {
+                scl: code,
+                ..passed
+            },
+            (Some(Line::Sda), _, None) => Dump {
+                sda: code,
+                ..passed
+            },
+            _ => passed,
+        }
+    }
+
+    /// Takes a word of a timescale, behind a number or not.
+    fn scale(self, magnitude: Option<Magnitude>, at: u64, word: &[u8]) -> Result<Said, CaptureFault>
+        ensures { result ≡ scale_word self magnitude at word.now }
+    {
+        let count = digits_in(word);
+        match magnitude {
+            None => self.scale_by(magnitude_of(&word[..count]), at, &word[count..]),
+            Some(magnitude) if count == 0 => self.scale_unit(magnitude, at, word),
+            Some(_) => Err(CaptureFault::BadTimescale(at)),
+        }
+    }
+
+    /// Takes the unit of a timescale that stands behind its number, if one does.
+    fn scale_by(
+        self,
+        magnitude: Option<Magnitude>,
+        at: u64,
+        unit: &[u8],
+    ) -> Result<Said, CaptureFault>
+        ensures { result ≡ scaled_by self magnitude at unit.now }
+    {
+        match magnitude {
+            Some(magnitude) if unit.is_empty() => {
+                Ok(nothing(self.at_place(Place::Scale(Some(magnitude)))))
+            }
+            Some(magnitude) => self.scale_unit(magnitude, at, unit),
+            None => Err(CaptureFault::BadTimescale(at)),
+        }
+    }
+
+    /// Takes the unit of a timescale.
+    fn scale_unit(self, magnitude: Magnitude, at: u64, unit: &[u8]) -> Result<Said, CaptureFault>
+        ensures { result ≡ scaled_unit self magnitude at (unit_setup unit.now) }
+    {
+        match unit_setup(unit) {
+            Some(setup) => Ok(nothing(Dump {
+                place: Place::Passed,
+                setup: scaled(setup, magnitude),
+                ..self
+            })),
+            None => Err(CaptureFault::BadTimescale(at)),
+        }
+    }
+
+    /// The dump at another place.
+    fn at_place(self, place: Place) -> Dump
+        ensures { result ≡ at_place self place }
+    {
+        Dump { place, ..self }
+    }
+}
+
+/// A dump behind a word that says this.
+fn saying(dump: Dump, item: Item) -> Said
+    ensures { result ≡ record { dump = dump; item = item } }
+{
+    Said { dump, item }
+}
+
+/// A dump behind a word that says nothing of the lines.
+fn nothing(dump: Dump) -> Said
+    ensures { result ≡ nothing dump }
+{
+    saying(dump, Item::Nothing)
+}
+
+/// What the level of a signal says, if the signal is a line.
+fn level_said(line: Option<Line>, level: Option<bool>) -> Item
+    ensures { result ≡ level_said line level }
+{
+    match (line, level) {
+        (None, _) => Item::Nothing,
+        (Some(_), None) => Item::NoLevel,
+        (Some(line), Some(high)) => Item::Level(line, high),
+    }
+}
+
+/// The line of a name, if it is one's.
+fn line_named(scl: &[u8], sda: &[u8], name: &[u8]) -> Option<Line>
+    ensures { result ≡ line_named scl.now sda.now name.now }
+{
+    if is_word(name, scl) {
+        Some(Line::Scl)
+    } else if is_word(name, sda) {
+        Some(Line::Sda)
+    } else {
+        None
+    }
+}

@@ -1,0 +1,41 @@
+//! The wire as a waveform: what each symbol is on SCL and SDA, with times, and the text of a value change dump.
+//!
+//! `levels` is what the two lines are at, symbol by symbol. `timing` says for how long, and `wave` is the dump (IEEE 1364) of
+//! one symbol after another. `run` writes the dump of a trace as a stream, by `reading` and `output`. `edges` is
+//! one who watches the two lines. `laws` says that SDA has a symbol's bits where SCL rises, and what is heard of a trace's
+//! levels. `dump_word` and `dump` say what the words of a dump say of two signals, `capture` reads symbols of the signals'
+//! levels, and `capture_text` and `capture_run` those of a whole text.
+#![tactic(auto)]
+
+mod awaited;
+mod capture;
+mod capture_fault;
+mod capture_run;
+mod capture_text;
+mod dump;
+mod dump_word;
+mod edges;
+mod fault;
+mod laws;
+mod levels;
+mod output;
+mod reader;
+mod reading;
+mod run;
+mod symbol_lines;
+mod timing;
+mod wave;
+
+pub use awaited::Awaited;
+pub use capture::Line;
+pub use capture_fault::CaptureFault;
+pub use capture_run::read_capture;
+pub use edges::{Edges, Mark};
+pub use fault::WaveFault;
+pub use laws::{edges_give_the_marks, rising_edges_have_the_bits, symbols_are_read_back};
+pub use levels::{Level, Levels};
+pub use reader::{Reader, Reading};
+pub use run::run_wave;
+pub use symbol_lines::symbols_text;
+pub use timing::Timing;
+pub use wave::Wave;
