@@ -48,6 +48,8 @@ static const char *const result_names[] = {
     [DASKREYF_LEGACY_ADDRESS] = "LegacyAddress",
     [DASKREYF_LEGACY_TWICE] = "LegacyTwice",
     [DASKREYF_TOO_MANY_LEGACY] = "TooManyLegacy",
+    [DASKREYF_IDENTITY_TWICE] = "IdentityTwice",
+    [DASKREYF_TOO_MANY_DECLARED] = "TooManyDeclared",
     [DASKREYF_NOT_CAPABLE] = "NotCapable",
     [DASKREYF_SLOT_TAKEN] = "SlotTaken",
     [DASKREYF_NO_DEVICE] = "NoDevice",
@@ -61,6 +63,7 @@ static const char *const result_names[] = {
     [DASKREYF_SESSION_OPEN] = "SessionOpen",
     [DASKREYF_NO_SESSION] = "NoSession",
     [DASKREYF_NO_ANSWER] = "NoAnswer",
+    [DASKREYF_BAD_ADDRESS] = "BadAddress",
     [DASKREYF_NO_END] = "NoEnd",
     [DASKREYF_TOO_LONG] = "TooLong",
     [DASKREYF_LIST_STALE] = "ListStale",
@@ -454,6 +457,12 @@ enum daskreyf_result daskreyf_legacy(struct daskreyf *bus, const char *name, uin
     return send_line(bus, "legacy %s %02X %02X", name, address, lvr);
 }
 
+enum daskreyf_result daskreyf_declare(
+    struct daskreyf *bus, uint8_t address, const struct daskreyf_identity *identity)
+{
+    return send_line(bus, "declare %02X %012" PRIX64 " %02X %02X", address, identity->pid, identity->bcr, identity->dcr);
+}
+
 static enum daskreyf_result place(
     struct daskreyf *bus, const char *word, const char *name, const struct daskreyf_identity *identity)
 {
@@ -593,6 +602,16 @@ enum daskreyf_result daskreyf_write(struct daskreyf *bus, uint8_t address, const
     for (size_t i = 0; i < count && i <= DASKREYF_REGISTERS; i++)
         snprintf(digits + 2 * i, sizeof digits - 2 * i, "%02X", bytes[i]);
     return send_line(bus, "write %02X%s%s", address, count ? " " : "", digits);
+}
+
+enum daskreyf_result daskreyf_setdasa(struct daskreyf *bus, uint8_t fixed, uint8_t address)
+{
+    return send_line(bus, "setdasa %02X %02X", fixed, address);
+}
+
+enum daskreyf_result daskreyf_setnewda(struct daskreyf *bus, uint8_t old, uint8_t address)
+{
+    return send_line(bus, "setnewda %02X %02X", old, address);
 }
 
 enum daskreyf_result daskreyf_handover(struct daskreyf *bus, uint8_t address)

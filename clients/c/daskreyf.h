@@ -32,12 +32,14 @@ enum daskreyf_result {
     /* the engine refused the line: */
     DASKREYF_BAD_LINE,         /* no line of docs/FORMATS.md */
     DASKREYF_NO_BUS,           /* `main` hasn't come yet */
-    DASKREYF_BUS_MADE,         /* `main` has come: no other one may, and no legacy target */
+    DASKREYF_BUS_MADE,         /* `main` has come: no other one may, and nothing more is declared */
     DASKREYF_NAME_TAKEN,       /* a present device or a legacy target has this name */
     DASKREYF_NO_NAME,          /* nobody was ever called so */
-    DASKREYF_LEGACY_ADDRESS,   /* a legacy target's address is from 08 to 77 */
-    DASKREYF_LEGACY_TWICE,     /* another legacy target has this address */
+    DASKREYF_LEGACY_ADDRESS,   /* a static address is from 08 to 77 */
+    DASKREYF_LEGACY_TWICE,     /* a legacy target or a declared identity has this address */
     DASKREYF_TOO_MANY_LEGACY,  /* there are sixteen legacy targets */
+    DASKREYF_IDENTITY_TWICE,   /* the identity is declared at another static address */
+    DASKREYF_TOO_MANY_DECLARED, /* sixteen identities are declared */
     DASKREYF_NOT_CAPABLE,      /* by its BCR the device can't, or the table has nobody there [5.1.1.2.1] */
     DASKREYF_SLOT_TAKEN,       /* all slots have a device */
     DASKREYF_NO_DEVICE,        /* the device is gone, or is a legacy target */
@@ -51,6 +53,7 @@ enum daskreyf_result {
     DASKREYF_SESSION_OPEN,     /* an assignment is open */
     DASKREYF_NO_SESSION,       /* no assignment is open */
     DASKREYF_NO_ANSWER,        /* nobody at the address acknowledged, or the table has nobody there */
+    DASKREYF_BAD_ADDRESS,      /* the address can't be given: it is out of range, somebody's, or a static one */
     DASKREYF_NO_END,           /* the last T of the read said that more bytes would come */
     DASKREYF_TOO_LONG,         /* a transfer has sixteen bytes at most */
     DASKREYF_LIST_STALE,       /* addresses have changed since the last `list` [5.1.9.3.7] */
@@ -176,9 +179,14 @@ const struct daskreyf_served *daskreyf_served(const struct daskreyf *bus);
  */
 const char *daskreyf_asking(const struct daskreyf *bus);
 
-/* The start: legacy I2C targets come before the main controller. */
+/* The start: legacy I2C targets and declarations come before the main controller. */
 
 enum daskreyf_result daskreyf_legacy(struct daskreyf *bus, const char *name, uint8_t address, uint8_t lvr);
+
+/* Devices of an identity have a static address, from 08 to 77. Whether it declines doesn't matter here. [5.1.1.2.3] */
+enum daskreyf_result daskreyf_declare(
+    struct daskreyf *bus, uint8_t address, const struct daskreyf_identity *identity);
+
 enum daskreyf_result daskreyf_main(struct daskreyf *bus, const char *name, const struct daskreyf_identity *identity);
 
 /* What devices do. */
@@ -214,6 +222,12 @@ enum daskreyf_result daskreyf_list(struct daskreyf *bus);  /* DEFTGTS [5.1.9.3.7
 /* Private transfers with a device or a legacy target. [5.1.2.3] */
 enum daskreyf_result daskreyf_read(struct daskreyf *bus, uint8_t address, uint8_t registers[DASKREYF_REGISTERS]);
 enum daskreyf_result daskreyf_write(struct daskreyf *bus, uint8_t address, const uint8_t *bytes, size_t count);
+
+/* Gives a dynamic address to the device at a static one, while it has none, by SETDASA. [5.1.9.3.10] */
+enum daskreyf_result daskreyf_setdasa(struct daskreyf *bus, uint8_t fixed, uint8_t address);
+
+/* Gives another dynamic address to the device at this one, by SETNEWDA. [5.1.9.3.11] */
+enum daskreyf_result daskreyf_setnewda(struct daskreyf *bus, uint8_t old, uint8_t address);
 
 /* Offers the role to the device at an address, by GETACCCR. [5.1.7] */
 enum daskreyf_result daskreyf_handover(struct daskreyf *bus, uint8_t address);

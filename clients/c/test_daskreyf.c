@@ -161,6 +161,27 @@ static void test_lines(struct daskreyf *bus)
     CHECK(daskreyf_show_all(bus) == DASKREYF_OK && strstr(daskreyf_text(bus), "\nlist stale\nsession closed"));
 }
 
+static void test_static_addresses(const char *program)
+{
+    struct daskreyf *bus = daskreyf_start(program);
+    struct daskreyf_state state;
+
+    CHECK(bus);
+    if (!bus)
+        return;
+    CHECK(daskreyf_declare(bus, 0x20, &target) == DASKREYF_OK && !strcmp(daskreyf_text(bus), "declared 20"));
+    CHECK(daskreyf_declare(bus, 0x20, &second) == DASKREYF_LEGACY_TWICE);
+    CHECK(daskreyf_declare(bus, 0x21, &target) == DASKREYF_IDENTITY_TWICE);
+    CHECK(daskreyf_main(bus, "hub", &hub) == DASKREYF_OK);
+    CHECK(daskreyf_attach(bus, "t", &target, NULL) == DASKREYF_OK);
+    CHECK(daskreyf_setdasa(bus, 0x20, 0x08) == DASKREYF_BAD_ADDRESS && !strcmp(daskreyf_why(bus), "BadAddress 08"));
+    CHECK(daskreyf_setdasa(bus, 0x20, 0x30) == DASKREYF_OK);
+    CHECK(daskreyf_setnewda(bus, 0x30, 0x31) == DASKREYF_OK);
+    CHECK(daskreyf_show(bus, &state) == DASKREYF_OK && state.devices[1].address == 0x31);
+    CHECK(daskreyf_setdasa(bus, 0x20, 0x30) == DASKREYF_NO_ANSWER);
+    CHECK(daskreyf_close(bus) == 1);
+}
+
 static void test_the_end(const char *program)
 {
     struct daskreyf *bus = daskreyf_start(program);
@@ -188,6 +209,7 @@ int main(int count, char **words)
     test_a_handover(bus);
     test_lines(bus);
     CHECK(daskreyf_close(bus) == 1);
+    test_static_addresses(program);
     test_the_end(program);
     puts(failures ? "test_daskreyf: FAILED" : "test_daskreyf: ok");
     return failures > 0;

@@ -218,7 +218,7 @@ class NoBus(Refused):
 
 
 class BusMade(Refused):
-    """`main` has come: no other one may, and no legacy target."""
+    """`main` has come: no other one may, and nothing more is declared."""
 
 
 class NameTaken(Refused):
@@ -230,15 +230,23 @@ class NoName(Refused):
 
 
 class LegacyAddress(Refused):
-    """A legacy target's address is from 08 to 77."""
+    """A static address is from 08 to 77."""
 
 
 class LegacyTwice(Refused):
-    """Another legacy target has this address."""
+    """A legacy target or a declared identity has this address."""
 
 
 class TooManyLegacy(Refused):
     """There are sixteen legacy targets."""
+
+
+class IdentityTwice(Refused):
+    """The identity is declared at another static address."""
+
+
+class TooManyDeclared(Refused):
+    """Sixteen identities are declared."""
 
 
 class NotCapable(Refused):
@@ -291,6 +299,10 @@ class NoSession(Refused):
 
 class NoAnswer(Refused):
     """Nobody at this address acknowledged, or the table has nobody there."""
+
+
+class BadAddress(Refused):
+    """The address can't be given: it is out of range, somebody's, or a static one."""
 
 
 class NoEnd(Refused):
@@ -412,6 +424,10 @@ class Bus:
         self.line(f"legacy {name} {_hex(address, 2)} {_hex(lvr, 2)}")
         return LegacyTarget(name, address)
 
+    def declare(self, address: int, pid: int, bcr: int, dcr: int) -> None:
+        """`declare`: devices of this identity have a static address, from 08 to 77; before `main`. [5.1.1.2.3]"""
+        self.line(f"declare {_hex(address, 2)} {_identity(pid, bcr, dcr)}")
+
     def main(self, name: str, pid: int, bcr: int, dcr: int, decline: bool = False) -> Device:
         """`main`: starts the bus with its controller."""
         return self._place("main", name, pid, bcr, dcr, decline)
@@ -421,8 +437,7 @@ class Bus:
         return self._place("attach", name, pid, bcr, dcr, decline)
 
     def _place(self, word: str, name: str, pid: int, bcr: int, dcr: int, decline: bool) -> Device:
-        identity = f"{_hex(pid, 12)} {_hex(bcr, 2)} {_hex(dcr, 2)}"
-        answer = self.line(f"{word} {name} {identity}{' decline' if decline else ''}")
+        answer = self.line(f"{word} {name} {_identity(pid, bcr, dcr)}{' decline' if decline else ''}")
         return Device(self, name, int(answer.lines[0].split()[2]), pid, bcr, dcr)
 
     # What the controller does
@@ -462,6 +477,14 @@ class Bus:
     def write(self, address: int, data: bytes) -> Served | None:
         """`write`: replaces the first registers, by sixteen bytes at most. [5.1.2.3]"""
         return self.line(f"write {_hex(address, 2)} {data.hex().upper()}".rstrip()).served
+
+    def setdasa(self, fixed: int, address: int) -> Served | None:
+        """`setdasa`: gives a dynamic address to the device at a static one, while it has none. [5.1.9.3.10]"""
+        return self.line(f"setdasa {_hex(fixed, 2)} {_hex(address, 2)}").served
+
+    def setnewda(self, old: int, address: int) -> Served | None:
+        """`setnewda`: gives another dynamic address to the device at this one. [5.1.9.3.11]"""
+        return self.line(f"setnewda {_hex(old, 2)} {_hex(address, 2)}").served
 
     def handover(self, address: int) -> int:
         """`handover`: offers the role to the device at the address, by GETACCCR. Gives the new controller's. [5.1.7]"""
@@ -603,6 +626,10 @@ def _hex(value: int, digits: int) -> str:
     if not 0 <= value < 16**digits:
         raise ValueError(f"{value:#x} has more than {digits} hexadecimal digits, or is negative")
     return f"{value:0{digits}X}"
+
+
+def _identity(pid: int, bcr: int, dcr: int) -> str:
+    return f"{_hex(pid, 12)} {_hex(bcr, 2)} {_hex(dcr, 2)}"
 
 
 def _bit(bit: int) -> int:

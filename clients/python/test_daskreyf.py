@@ -91,6 +91,32 @@ class LinesTest(unittest.TestCase):
         with self.assertRaises(daskreyf.TooLong):
             self.bus.write(0x68, bytes(17))
 
+    def test_static_addresses(self) -> None:
+        self.bus.declare(0x20, 0x020400000010, 0x06, 0x44)
+        with self.assertRaises(daskreyf.IdentityTwice):
+            self.bus.declare(0x21, 0x020400000010, 0x06, 0x44)
+        with self.assertRaises(daskreyf.LegacyTwice):
+            self.bus.legacy("clock", 0x20, 0x40)
+        with_hub(self.bus)
+        target = with_target(self.bus)
+        with self.assertRaises(daskreyf.BadAddress) as refused:
+            self.bus.setdasa(0x20, 0x08)
+        self.assertEqual(refused.exception.about, "08")
+        self.assertIsNone(self.bus.setdasa(0x20, 0x30))
+        target.raise_interrupt(0x11)
+        self.assertEqual(self.bus.setnewda(0x30, 0x31), Record(1, 1, 1, 0x30, 0x11))
+        self.assertEqual(target.address, 0x31)
+        with self.assertRaises(daskreyf.NoAnswer):
+            self.bus.setdasa(0x20, 0x30)
+        with self.assertRaises(daskreyf.BusMade):
+            self.bus.declare(0x22, 0x020400000011, 0x06, 0x44)
+
+    def test_sixteen_identities_are_declared(self) -> None:
+        for number in range(16):
+            self.bus.declare(0x20 + number, number, 0x06, 0x44)
+        with self.assertRaises(daskreyf.TooManyDeclared):
+            self.bus.declare(0x30, 16, 0x06, 0x44)
+
     def test_kinds_resets_and_lists(self) -> None:
         with_hub(self.bus)
         target = with_target(self.bus)
@@ -224,10 +250,10 @@ class FaultsTest(unittest.TestCase):
         bus.close()
 
     def test_a_refusal_that_is_not_known(self) -> None:
-        bus = Bus(["sh", "-c", "read line; echo refused 1 IdentityTwice; read line"])
+        bus = Bus(["sh", "-c", "read line; echo refused 1 OfLater; read line"])
         with self.assertRaises(Refused) as refused:
-            bus.line("declare 09 020400000010 06 44")
-        self.assertEqual((type(refused.exception), refused.exception.why), (Refused, "IdentityTwice"))
+            bus.line("of a later engine")
+        self.assertEqual((type(refused.exception), refused.exception.why), (Refused, "OfLater"))
         bus.close()
 
 

@@ -14,6 +14,7 @@ STAMP = re.compile(r"^\[ *[\d.]+\] ")
 RECORD = re.compile(r"record (\d+) slot (\d+) raise \d+ at .. byte (..)")
 SLOT = re.compile(r"(\w+) slot (\d+)")
 IN_SYSFS = re.compile(r"(..) pid (\w+) bcr (\w+) dcr (\w+)")
+MOVED = re.compile(r"daskreyf > setnewda (..) (..)")
 HANDLED = re.compile(r"daskreyf-client 0-(\w+): interrupt, payload \[(..)\]")
 TROUBLE = re.compile(r"WARNING|BUG|Call Trace|the engine is gone|no slot|Kernel panic")
 LONG = 900
@@ -39,13 +40,21 @@ def step(log: list[str], number: int) -> list[str]:
     return log[first:last]
 
 
+def moves(log: list[str]) -> dict[str, str]:
+    """The addresses that SETNEWDA gave, by the ones before."""
+    sent = [(index, found) for index, found in enumerate(map(MOVED.match, log)) if found]
+    return {found[1]: found[2] for index, found in sent if log[index + 1] == ANSWER + "done"}
+
+
 def check_addresses(log: list[str], answers: list[str]) -> None:
-    """After the first assignment each device is in sysfs, but for one that needs GETMXDS, which the engine lacks."""
+    """After the first assignment each device is in sysfs, at the address that Linux wanted for it if it did, but for one
+    that needs GETMXDS, which the engine lacks."""
     linux = sorted(found.groups() for found in map(IN_SYSFS.match, step(log, 1)) if found)
+    moved = moves(log[: log.index(step(log, 2)[0])])
     first = next(i for i, line in enumerate(answers) if line.startswith("assigned "))
     rounds = [line.split()[1:] for line in answers[first : answers.index("done", first)] if line.startswith("assigned ")]
     wanted = sorted(
-        (address.lower(), small(pid), small(bcr), small(dcr))
+        (moved.get(address, address).lower(), small(pid), small(bcr), small(dcr))
         for address, pid, bcr, dcr in rounds
         if not int(bcr, 16) & 1
     )

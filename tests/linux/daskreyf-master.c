@@ -408,7 +408,7 @@ static int dk_send_one(struct dk_master *m, struct i3c_ccc_cmd *cmd,
 		dev_info(m->dev, "DEFSLVS of the core: %*ph\n",
 			 dest->payload.len, data);
 		return dk_do(m, "list");
-	case I3C_CCC_SETDASA:	/* come later: refused as `BadLine` until then */
+	case I3C_CCC_SETDASA:	/* refused: no line declares a static address */
 		return dk_do(m, "setdasa %02X %02X", dest->addr, data[0] >> 1);
 	case I3C_CCC_SETNEWDA:
 		return dk_do(m, "setnewda %02X %02X", dest->addr, data[0] >> 1);

@@ -6,3 +6,4 @@ pub mod LostLaws
 pub mod Verdicts
 pub mod BitLaws
 pub mod SetLaws
+pub mod StaticLaws

@@ -5,8 +5,9 @@ use Rattle.std.proofs.lemmas.List.{append-nil, drop_all, get_or-set_other, get_o
 use Rattle.std.proofs.lemmas.Option.{none-some, same_Some}
 use Rattle.i3c_base.specs.declared.range.TheConstants.{ADDRESSES, SLOTS}
 use Rattle.i3c_base.specs.declared.device.Setup.{Setup}
+use Rattle.i3c_base.specs.declared.identity.Identity.{Identity}
 use Rattle.i3c_base.specs.Places.{changed, changed_from}
-use Rattle.i3c_base.specs.State.{Device, Entry, State, attached, change, device_at, each, entry_at, forgotten, kept_of, no_devices, no_entries, no_raises, unkept}
+use Rattle.i3c_base.specs.State.{Device, Entry, State, attached, change, device_at, each, entry_at, entry_in, fixed_of, kept_again, kept_of, no_devices, no_entries, no_identities, no_raises, taken_over, unkept}
 use Rattle.i3c_base.specs.Local.{attach, drop_off}
 use Rattle.i3c_base.specs.Cutting.{Lost}
 use Rattle.i3c_base.specs.Serve.{emptied}
@@ -107,15 +108,19 @@ pub drop_off_from : (s : ℕ) (st : State) (t : ℕ) (d : Device) → device_at 
 drop_off_from s st t d h = cond_none_from (t == s) (device_at st t) d (sym (drop_off_at s st t) ∙ h)
 
 pub attach_from : (s : ℕ) (setup : Setup) (st : State) (t : ℕ) (d : Device) → device_at (attach s setup st) t ≡ Some d
-    → ((t ≡ s) × (attached setup ≡ d)) ⊎ (device_at st t ≡ Some d)
-attach_from s setup st t d h = elim (set_from st.devices s t (Some (attached setup)) d h) [
-  | inl e ↦ inl (e.0, same_Some (attached setup) d e.1)
+    → ((t ≡ s) × (attached (fixed_of st.declared setup.identity) setup ≡ d)) ⊎ (device_at st t ≡ Some d)
+attach_from s setup st t d h = elim (set_from st.devices s t (Some (attached (fixed_of st.declared setup.identity) setup)) d h) [
+  | inl e ↦ inl (e.0, same_Some (attached (fixed_of st.declared setup.identity) setup) d e.1)
   | inr e ↦ inr e
 ]
 
--- entries without identities
-pub forgotten_at : (st : State) (a : ℕ) → entry_at (forgotten st) a ≡ option_map unkept (entry_at st a)
-forgotten_at st a = changed_at (λ b place. option_map unkept place) st.given a None refl
+-- entries of a table that was taken over
+pub taken_over_at : (declared : List (Option Identity)) (own : ℕ) (given : List (Option Entry)) (a : ℕ)
+    → entry_in (taken_over declared own given) a ≡ option_map (λ (e : Entry). record e { kept = kept_again declared given own a e }) (entry_in given a)
+taken_over_at declared own given a = changed_at (λ b place. option_map (λ (e : Entry). record e { kept = kept_again declared given own b e }) place) given a None refl
+
+pub length-taken_over : (declared : List (Option Identity)) (own : ℕ) (given : List (Option Entry)) → length (taken_over declared own given) ≡ length given
+length-taken_over declared own given = length-changed (λ b place. option_map (λ (e : Entry). record e { kept = kept_again declared given own b e }) place) given
 
 pub kept_of-unkept : (o : Option Entry) → kept_of (option_map unkept o) ≡ None
 kept_of-unkept None = refl
@@ -137,6 +142,10 @@ no_devices_at s = replicate_same SLOTS s None
 pub no_entries_at : (a : ℕ) → get_or no_entries a None ≡ None
 unfolding no_entries
 no_entries_at a = replicate_same ADDRESSES a None
+
+pub no_identities_at : (a : ℕ) → get_or no_identities a None ≡ None
+unfolding no_identities
+no_identities_at a = replicate_same ADDRESSES a None
 
 pub no_raises_at : (s : ℕ) → get_or no_raises s 0 ≡ 0
 unfolding no_raises

@@ -1,14 +1,16 @@
--- The frames' own parts: enabling, reset, list, handover and private transfers, with the bits that each sends.
-use Rattle.std.specs.Prelude.{◌≡◌, ◌≢◌, ℕ, ◌+◌, ◌*◌, ◌<◌, Bool, true, false, not, ◌&&◌, ◌||◌, ◌==◌, ◌⊎◌, List, ◌++◌, All, length, drop, slice_index, slice_set, count_by, Option, Some, None, if◌then◌else◌, is_some, option_map}
+-- The frames' own parts: enabling, reset, list, handover, private transfers, SETDASA and SETNEWDA, with the bits that each sends.
+use Rattle.std.specs.Prelude.{◌≡◌, ◌≢◌, ℕ, ◌+◌, ◌*◌, ◌<◌, Bool, true, false, not, ◌&&◌, ◌||◌, ◌==◌, ◌⊎◌, List, ◌++◌, All, length, drop, slice_index, slice_set, count_by, Option, Some, None, if◌then◌else◌, is_none, is_some, option_map}
 use Rattle.i3c_base.specs.declared.answers.Answer.{Answer}
 use Rattle.i3c_base.specs.declared.device.LegacyTarget.{LegacyTarget}
-use Rattle.i3c_base.specs.State.{Device, State, IsPresent, IsTargetAt, change, device_at, each, forgotten, has_address, in_slot, legacy_target_at, unkept}
+use Rattle.i3c_base.specs.State.{Device, Entry, State, IsPresent, IsTargetAt, change, declared_at, device_at, each, entry_in, has_address, in_slot, is_the, kept_entry_of, known_in, legacy_target_at, released, taken_over, unkept}
 use Rattle.i3c_base.specs.Places.{changed}
+use Rattle.i3c_base.specs.declared.identity.Identity.{Identity}
 use Rattle.i3c_base.specs.declared.kinds.Change.{Change}
 use Rattle.i3c_base.specs.declared.kinds.Change.TheVariants.{Enable, Disable}
 use Rattle.i3c_base.specs.declared.kinds.Kinds.{Kinds}
 use Rattle.i3c_base.specs.Numbers.{KindSet, kind_set}
 use Rattle.i3c_base.specs.Cutting.{Lost}
+use Rattle.i3c_base.specs.Round.{winner}
 use Rattle.i3c_base.specs.Serve.{IsAnd, without_role}
 
 -- some device other than the active controller has the address
@@ -67,6 +69,69 @@ kinds_bits None answer = 18
 kinds_bits (Some a) (Answer.NoAnswer b) = 18
 kinds_bits (Some a) _ = 27
 
+-- slot s holds device d, which has the static address f and no dynamic one, and isn't the active controller
+abbrev pub IsUnaddressedAt : State → ℕ → ℕ → Device → Type 0
+IsUnaddressedAt st f s d = (device_at st s ≡ Some d) × (d.address ≡ None) × (d.fixed ≡ Some f) × (s ≢ st.active)
+
+-- some device without a dynamic address has the static address
+abbrev pub AnyUnaddressedAt : State → ℕ → Type 0
+AnyUnaddressedAt st f = (s : ℕ) × (d : Device) × IsUnaddressedAt st f s d
+
+-- each of them is lost (also where there is none)
+abbrev pub AllUnaddressedLostAt : State → ℕ → Lost → Type 0
+AllUnaddressedLostAt st f lost = (s : ℕ) (d : Device) → IsUnaddressedAt st f s d → lost s ≡ true
+
+-- some of them isn't lost
+abbrev pub SomeUnaddressedLeftAt : State → ℕ → Lost → Type 0
+SomeUnaddressedLeftAt st f lost = (s : ℕ) × (d : Device) × IsUnaddressedAt st f s d × (lost s ≡ false)
+
+-- a device that takes SETDASA at the static address f
+abbrev pub takes_static : ℕ → ℕ → ℕ → Device → Bool
+takes_static active f s d = not (s == active) && (is_none d.address && is_the f d.fixed)
+
+-- the address a, if there is one, is released
+abbrev pub released_at : Option ℕ → List (Option Entry) → List (Option Entry)
+released_at None given = given
+released_at (Some a) given = slice_set given a (option_map released (entry_in given a))
+
+-- a table after SETDASA: the address that was kept for the identity is released, and the new one is kept for it
+abbrev pub settled : List (Option Identity) → Identity → ℕ → List (Option Entry) → List (Option Entry)
+settled declared i new given = slice_set (released_at (known_in given i) given) new (Some (kept_entry_of declared i))
+
+-- SETDASA: who takes it at the static address f of the identity i has the new address, which enters the table
+abbrev pub with_static : ℕ → Identity → ℕ → State → State
+with_static f i new st = record (each (λ s d. if takes_static st.active f s d then winner new d else d) st) {
+  given = settled st.declared i new st.given;
+  listed = false;
+}
+
+-- the answers of SETDASA, and what each leaves
+abbrev pub SetsStatic : ℕ → ℕ → Answer → Lost → State → State → Type 0
+SetsStatic f new answer lost mid done =
+    ((answer ≡ Answer.Done) × AnyUnaddressedAt mid f × ((i : Identity) × (declared_at mid f ≡ Some i) × (done ≡ with_static f i new mid)))
+    ⊎ ((answer ≡ Answer.NoAnswer f) × AllUnaddressedLostAt mid f lost × (done ≡ mid))
+
+-- a device at a new address
+abbrev pub readdressed : ℕ → Device → Device
+readdressed new d = record d { address = Some new }
+
+-- a table whose entry at `old` has moved to a new address
+abbrev pub moved : ℕ → ℕ → List (Option Entry) → List (Option Entry)
+moved old new given = slice_set (slice_set given old None) new (entry_in given old)
+
+-- SETNEWDA: all who have the address `old` have the new one, with the entry of the table
+abbrev pub with_new : ℕ → ℕ → State → State
+with_new old new st = record (each (λ s d. if reaches st (Some old) s d then readdressed new d else d) st) {
+  given = moved old new st.given;
+  listed = false;
+}
+
+-- the answers of SETNEWDA, and what each leaves
+abbrev pub SetsNew : ℕ → ℕ → Answer → Lost → State → State → Type 0
+SetsNew old new answer lost mid done =
+    ((answer ≡ Answer.Done) × AnyAt mid old × (done ≡ with_new old new mid))
+    ⊎ ((answer ≡ Answer.NoAnswer old) × AllLostAt mid old lost × (done ≡ mid))
+
 -- the active controller has the address
 abbrev pub active_has : State → ℕ → Bool
 active_has st a = in_slot (has_address a) (device_at st st.active)
@@ -94,13 +159,13 @@ list_bits st = 9 * (2 + 4 * (count_by is_some st.given + count_by is_some st.leg
 abbrev pub IsWillingAt : State → ℕ → ℕ → Type 0
 IsWillingAt st a s = (d : Device) × IsTargetAt st a s d × (d.willing ≡ true)
 
--- the role passes to slot s
-abbrev pub handed : ℕ → State → State
-handed s st = forgotten (record (change s without_role st) { active = s; listed = false })
+-- the role passes to slot s, whose device has the address own
+abbrev pub handed : ℕ → ℕ → State → State
+handed s own st = record (change s without_role st) { active = s; given = taken_over st.declared own st.given; listed = false }
 
 -- GETACCCR granted: the lowest slot with a willing device that isn't lost is active
 abbrev pub Hands : ℕ → Lost → State → State → Type 0
-Hands a lost mid done = (s : ℕ) × IsWillingAt mid a s × (lost s ≡ false) × ((t : ℕ) → t < s → IsWillingAt mid a t → lost t ≡ true) × (done ≡ handed s mid)
+Hands a lost mid done = (s : ℕ) × IsWillingAt mid a s × (lost s ≡ false) × ((t : ℕ) → t < s → IsWillingAt mid a t → lost t ≡ true) × (done ≡ handed s a mid)
 
 -- GETACCCR not granted: each willing device at the address is lost
 abbrev pub KeepsRole : ℕ → Lost → State → State → Type 0

@@ -6,6 +6,6 @@ pub mod State
 pub mod Local
 pub mod Refusing
 pub mod Serve
-pub mod Frames
 pub mod Round
+pub mod Frames
 pub mod Covered

@@ -1,11 +1,11 @@
 -- What a device does by itself: attaching, dropping off, raising and asking.
 use Rattle.std.specs.Prelude.{ℕ, suc, true, [], ◌∷◌, ◌++◌, Option, Some, None, slice_set}
 use Rattle.i3c_base.specs.declared.device.Setup.{Setup}
-use Rattle.i3c_base.specs.State.{State, attached, change, raised_at}
+use Rattle.i3c_base.specs.State.{State, attached, change, fixed_of, raised_at}
 
--- a device enters an empty slot
+-- a device enters an empty slot; its static address is the one that is declared for its identity
 abbrev pub attach : ℕ → Setup → State → State
-attach s setup st = record st { devices = slice_set st.devices s (Some (attached setup)) }
+attach s setup st = record st { devices = slice_set st.devices s (Some (attached (fixed_of st.declared setup.identity) setup)) }
 
 -- a slot becomes empty, and nothing else changes
 abbrev pub drop_off : ℕ → State → State

@@ -62,7 +62,7 @@ winner a d = record d { address = Some a; hearing = false; join_wish = false }
 -- the winners have the address a, which enters the table and is kept for the identity
 abbrev pub assigned : Lost → Identity → ℕ → State → State
 assigned lost i a st = record (each (λ s d. if wins lost i s d then winner a d else d) st) {
-  given = slice_set st.given a (Some (kept_entry_of i));
+  given = slice_set st.given a (Some (kept_entry_of st.declared i));
   listed = false;
 }
 

@@ -42,11 +42,11 @@ offer_free st cuts to closed free = ap (λ b. first_refusal ((b, Refusal.Session
 pub handed_carried : {T : Type 0} (gives : T → Symbol → T → Type 0) (tap first second last : T) (old mid new : Held) (to slot holder taker : ℕ) (cuts : CutList) (served : Served) (word bits : ℕ)
     → HandFits (Hand.Role holder) old.state → first_refusal ((cuts_active old.state cuts, Refusal.ActiveStays) ∷ hand_checks old.state to) ≡ None → IsWayTo gives tap first second old.state cuts served word bits
     → IsOffered old.state to (lost_by cuts (bits + 27)) (Taken slot) → Tells gives second last (IsOfferWire to (Taken slot))
-    → mid.state ≡ handed slot old.state → mid.room ≡ old.room → new.state ≡ emptied (lost_by cuts (bits + 27)) mid.state → new.room ≡ mid.room → taker ≡ slot
+    → mid.state ≡ handed slot to old.state → mid.room ≡ old.room → new.state ≡ emptied (lost_by cuts (bits + 27)) mid.state → new.room ≡ mid.room → taker ≡ slot
     → Carries old new (Event.HandOver to cuts) (Reply.Handed served) (Hand.Role taker) (Tells gives tap last)
 handed_carried gives tap first second last old mid new to slot holder taker cuts served word bits fits free way hands own is kept gone same took =
     let all : bits + 27 ≡ word + (header_bits served + 27) = let count = way.count in omega (arith, count) in
-    let after : new.state ≡ emptied (lost_by cuts (word + (header_bits served + 27))) (handed slot old.state) = gone ∙ (λ k. emptied (lost_by cuts (all k)) (is k)) in
+    let after : new.state ≡ emptied (lost_by cuts (word + (header_bits served + 27))) (handed slot to old.state) = gone ∙ (λ k. emptied (lost_by cuts (all k)) (is k)) in
     let active : new.state.active ≡ slot = ap (λ (st : State). st.active) after in
     record {
       step = acting old.state (Event.HandOver to cuts) (Reply.Handed served) new.state (offer_free old.state cuts to fits.1 free) (inl (
@@ -55,10 +55,10 @@ handed_carried gives tap first second last old mid new to slot holder taker cuts
         record {
           word = word;
           mid = old.state;
-          done = handed slot old.state;
+          done = handed slot to old.state;
           sent = way.sent;
           serves = way.serves (lost_by cuts (word + (header_bits served + 27)));
-          own = subst (λ n. Hands to (lost_by cuts n) old.state (handed slot old.state)) all hands;
+          own = subst (λ n. Hands to (lost_by cuts n) old.state (handed slot to old.state)) all hands;
           left = after;
         },
       ));

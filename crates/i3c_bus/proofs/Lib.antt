@@ -16,3 +16,4 @@ pub mod Resetting
 pub mod Handovers
 pub mod Transfers
 pub mod RoundsMore
+mod Settings

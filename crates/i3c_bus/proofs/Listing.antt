@@ -1,5 +1,6 @@
 -- The list of a bus, written and read.
-use Rattle.std.proofs.Common.{◌≡◌, ℕ, ◌+◌, ◌*◌, if◌then◌else◌, count_by, is_some, ◌<◌, List, [], ◌∷◌, ◌++◌, length, take, get_or, map, option_map, refl, sym, ap, ◌∙◌, arith, subst}
+use Rattle.std.proofs.Common.{cond, Option, None, Some, ◌≡◌, ℕ, ◌+◌, ◌*◌, if◌then◌else◌, count_by, is_some, ◌<◌, List, [], ◌∷◌, ◌++◌, length, take, get_or, map, option_map, refl, sym, ap, ◌∙◌, arith, subst}
+use Rattle.std.proofs.lemmas.List.Sums.{sum_by-cons}
 use Rattle.std.specs.List.{flat_map}
 use Rattle.std.proofs.lemmas.List.{flat_map_more, map-append, take_more}
 use Rattle.std.proofs.lemmas.List.Elements.{All-nil}
@@ -101,8 +102,17 @@ pub list_before : (old mid : State) (words : List Word) → KeepsTable old mid �
 list_before old mid words keeps h = (
   h.0,
   sym (keeps.own h.0) ∙ h.1,
-  subst (λ (t : Table). Carry (list_bytes (entries_of t h.0)) words) (λ k. record { given = keeps.given k; legacy = map (option_map (λ (x : LegacyTarget). x.lvr)) (keeps.legacy k); listed = keeps.listed k }) h.2,
+  subst (λ (t : Table). Carry (list_bytes (entries_of t h.0)) words) (λ k. record { given = keeps.given k; legacy = map (option_map (λ (x : LegacyTarget). x.lvr)) (keeps.legacy k); declared = old.declared; listed = keeps.listed k }) h.2,
 )
+
+count_cons : {A : Type 0} (x : Option A) (xs : List (Option A)) → count_by is_some (x ∷ xs) ≡ cond (is_some x) 1 0 + count_by is_some xs
+count_cons x xs = sum_by-cons (λ o. cond (is_some o) 1 0) x xs
+
+-- what is made of each entry is counted as the entry was
+pub count_mapped : {A B : Type 0} (f : A → B) (xs : List (Option A)) → count_by is_some (map (option_map f) xs) ≡ count_by is_some xs
+count_mapped f [] = refl
+count_mapped f (None ∷ xs) = count_cons None (map (option_map f) xs) ∙ (ap (λ n. 0 + n) (count_mapped f xs) ∙ sym (count_cons None xs))
+count_mapped f (Some x ∷ xs) = count_cons (Some (f x)) (map (option_map f) xs) ∙ (ap (λ n. 1 + n) (count_mapped f xs) ∙ sym (count_cons (Some x) xs))
 
 pub bits_before : (old mid : State) → KeepsTable old mid → list_bits mid ≡ list_bits old
 bits_before old mid keeps = λ k. 9 * (2 + 4 * (count_by is_some (keeps.given k) + count_by is_some (keeps.legacy k)))

@@ -32,7 +32,7 @@ copied_still old new list keeps copied listed =
       (
         copy.1.0,
         keeps.own copy.1.0 ∙ copy.1.1,
-        copy.1.2 ∙ (λ t. entries_of (record { given = sym keeps.given t; legacy = sym keeps.legacy t; listed = sym keeps.listed t }) copy.1.0),
+        copy.1.2 ∙ (λ t. entries_of (record { given = sym keeps.given t; legacy = sym keeps.legacy t; declared = old.declared; listed = sym keeps.listed t }) copy.1.0),
       ),
     )
 

@@ -199,7 +199,7 @@ whole_written : (table : Table) (list : List Entry) (a : ℕ) (bytes : List ℕ)
 whole_written table list a bytes st whole =
     let same : lvrs (written a bytes st) ≡ lvrs st = lvrs_set bytes a st.legacy in record {
       sound = sound_written a bytes st whole.sound;
-      covered = (whole.covered.0, whole.covered.1 ∙ sym same, whole.covered.2);
+      covered = (whole.covered.0, whole.covered.1 ∙ sym same, whole.covered.2, whole.covered.3);
       copied = copied_still st (written a bytes st) list (record {
         given = refl;
         legacy = same;

@@ -9,3 +9,4 @@ pub mod Beginning
 pub mod Asking
 pub mod Assigning
 pub mod Whole
+pub mod Statics

@@ -12,6 +12,7 @@ state_of devices raised active table legacy in_session records = record {
   raised = raised;
   active = active;
   legacy = legacy;
+  declared = table.declared;
   given = table.given;
   in_session = in_session;
   listed = table.listed;

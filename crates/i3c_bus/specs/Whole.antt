@@ -10,7 +10,7 @@ use Rattle.i3c_step.specs.Sound.{IsSound}
 
 -- the active controller's table, as the state has it
 abbrev pub the_table : State → Table
-the_table st = record { given = st.given; legacy = lvrs st; listed = st.listed }
+the_table st = record { given = st.given; legacy = lvrs st; declared = st.declared; listed = st.listed }
 
 -- these are the entries of its list, its own first, and they give a copy of it
 abbrev pub IsCopyOf : State → List Entry → Type 0

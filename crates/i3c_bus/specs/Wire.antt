@@ -11,7 +11,7 @@ use Rattle.i3c_base.specs.declared.requests.Served.{Served}
 use Rattle.i3c_base.specs.Cutting.{CutList, lost_by}
 use Rattle.i3c_base.specs.State.{State, entry_at}
 use Rattle.i3c_base.specs.Serve.{IsFirst, IsWordBits, byte_due, drives, emptied, header_bits}
-use Rattle.i3c_base.specs.Frames.{AnyLeft, SomeLeftAt, active_has}
+use Rattle.i3c_base.specs.Frames.{AnyLeft, SomeLeftAt, SomeUnaddressedLeftAt, active_has}
 use Rattle.i3c_word.specs.declared.Word.{Word}
 use Rattle.i3c_deftgts.specs.declared.entries.Entry.{Entry}
 use Rattle.i3c_deftgts.specs.Entries.{entries_of}
@@ -19,7 +19,7 @@ use Rattle.i3c_deftgts.specs.Layout.{Carry, list_bytes}
 use Rattle.i3c_entdaa.specs.declared.outcome.Round.{Round}
 use Rattle.i3c_entdaa.specs.Rounds.{IsAcknowledged, IsRead, reply_of}
 use Rattle.i3c_entdaa.specs.Telling.{IsRoundWire}
-use Rattle.i3c_events.specs.Telling.{IsKindsWire, IsWord}
+use Rattle.i3c_events.specs.Telling.{IsKindsWire, IsSettingWire, IsWord}
 use Rattle.i3c_handoff.specs.declared.outcome.Offer.{Offer}
 use Rattle.i3c_handoff.specs.Offers.{IsReadAs, SomeTakes, is_acknowledged, offer_bits}
 use Rattle.i3c_handoff.specs.Telling.{IsOfferWire}
@@ -32,7 +32,7 @@ use Rattle.i3c_xfer.specs.Transfers.{AnyAnswers, IsReadAs as IsDataAs, IsWritten
 use Rattle.i3c_frame.specs.declared.symbols.Symbol.{Symbol}
 use Rattle.i3c_frame.specs.declared.symbols.Symbol.TheVariants.{Start, Repeated, Stop, Header}
 use Rattle.i3c_step.specs.declared.events.Event.{Event}
-use Rattle.i3c_step.specs.declared.events.Event.TheVariants.{Enec, Disec, Reset, SendList, ReadFrom, WriteTo, HandOver}
+use Rattle.i3c_step.specs.declared.events.Event.TheVariants.{Enec, Disec, Reset, SendList, ReadFrom, WriteTo, SetStatic, SetNew, HandOver}
 use Rattle.i3c_step.specs.declared.replies.Reply.{Reply}
 use Rattle.i3c_step.specs.Step.{cuts_in}
 use Rattle.i3c_bus.specs.Whole.{the_table}
@@ -87,6 +87,15 @@ IsAnswered st cuts (Some a) begun answer = (answer ≡ Answer.Done) ↔ SomeLeft
 -- ENEC or DISEC after so many bits
 abbrev pub IsKindsPart : State → CutList → Change → Option ℕ → Kinds → Answer → ℕ → List Symbol → Type 0
 IsKindsPart old cuts change to kinds answer begun wire = IsKindsWire change to kinds answer wire × IsAnswered old cuts to begun answer
+
+-- SETDASA, the code 87, after so many bits: acknowledged exactly where somebody without a dynamic address is left at the static one by the
+-- ninth bit of its header
+abbrev pub IsStaticPart : State → CutList → ℕ → ℕ → Answer → ℕ → List Symbol → Type 0
+IsStaticPart old cuts f to answer begun wire = IsSettingWire 0x87 f to answer wire × ((answer ≡ Answer.Done) ↔ SomeUnaddressedLeftAt old f (lost_by cuts (begun + 18)))
+
+-- SETNEWDA, the code 88, after so many bits
+abbrev pub IsNewPart : State → CutList → ℕ → ℕ → Answer → ℕ → List Symbol → Type 0
+IsNewPart old cuts a to answer begun wire = IsSettingWire 0x88 a to answer wire × IsAnswered old cuts (Some a) begun answer
 
 -- RSTDAA: the code 06
 abbrev pub IsResetWire : List Symbol → Type 0
@@ -150,6 +159,8 @@ IsOwnWire old cuts (Reset policy others) answer new begun wire = IsResetWire wir
 IsOwnWire old cuts (SendList policy others) answer new begun wire = IsListPart old wire
 IsOwnWire old cuts (ReadFrom a policy others) answer new begun wire = IsReadPart old cuts a answer begun wire
 IsOwnWire old cuts (WriteTo a bytes policy others) answer new begun wire = IsWritePart old cuts a bytes.items answer begun wire
+IsOwnWire old cuts (SetStatic f to policy others) answer new begun wire = IsStaticPart old cuts f to answer begun wire
+IsOwnWire old cuts (SetNew a to policy others) answer new begun wire = IsNewPart old cuts a to answer begun wire
 IsOwnWire old cuts (HandOver to others) answer new begun wire = IsDeclinedPart old cuts to new begun wire
 IsOwnWire old cuts _ answer new begun wire = ⊥
 

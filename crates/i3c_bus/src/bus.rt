@@ -1,4 +1,6 @@
 ghost use Rattle.std.specs.Prelude.{◌≡◌};
+ghost use Rattle.i3c_base.specs.State.{attached, fixed_of};
+ghost use Rattle.i3c_table.specs.Rows.{HasStatic};
 
 use crate::tokens::Hand;
 use crate::wishes::wish;
@@ -7,7 +9,7 @@ use i3c_deftgts::List;
 use i3c_device::{Device, Devices, SlotSet};
 use i3c_handoff::{Active, Role, retire};
 use i3c_hotjoin::{JoinRefusal, ask};
-use i3c_legacy::{LEGACIES, Legacies, LegacyTargets};
+use i3c_legacy::{Legacies, LegacyTargets};
 use i3c_picker::pick;
 use i3c_step::{DropRefusal, OutOfMemory, SlotTaken, StartFault};
 use i3c_table::{Row, Table};
@@ -44,7 +46,7 @@ impl Records {
 /// recorded.
 pub struct Bus {
     pub(crate) devices: Devices,
-    raised: [u64; SLOTS],
+    pub(crate) raised: [u64; SLOTS],
     pub(crate) active: Active,
     pub(crate) table: Table,
     // what each device that keeps the list read of the last one
@@ -76,7 +78,7 @@ impl Bus {
     ghost use Rattle.i3c_base.specs.Covered.{IsTable};
     ghost use Rattle.i3c_bus.specs.Whole.{IsCopyOf};
     ghost use Rattle.i3c_base.specs.Serve.{NoneAsks};
-    ghost use Rattle.i3c_base.specs.State.{Device as DeviceState, device_at, IsStart, legacy_targets_of};
+    ghost use Rattle.i3c_base.specs.State.{Device as DeviceState, device_at, in_slot, IsStart};
     ghost use Rattle.i3c_bus.specs.Wishing.{wish_of};
     ghost use Rattle.i3c_step.specs.Step.{Step};
     ghost use Rattle.i3c_bus.specs.Hands.{HandFits};
@@ -86,20 +88,21 @@ impl Bus {
     ghost use Rattle.i3c_step.specs.declared.events.Event.{Event};
     ghost use Rattle.i3c_bus.specs.declared.tokens.Hand.{Hand};
 
-    /// A bus with its main controller, in slot 0 at the least pickable address, beside these legacy targets.
+    /// A bus with its main controller, in slot 0 at the least pickable address, beside these legacy targets and with these
+    /// declared static addresses.
     /// It answers `NotCapable` where the main device's BCR isn't a controller's.
     pub fn new(alloc: Global, main: Setup, legacies: Legacies) -> Result<(Bus, Role), StartFault>
         ensures capable { IsOk result ↔ (is_capable main.identity.bcr ≡ true) }
-        ensures start { IfOk result (λ made. IsStart main (legacy_targets_of legacies) made.0.state) }
+        ensures start { IfOk result (λ made. IsStart main legacies made.0.state) }
         ensures fits { IfOk result (λ made. HandFits (Hand.Role made.1) made.0.state) }
     {
         let Identity { bcr, dcr, .. } = main.identity;
         if !bcr.capable() {
             return Err(StartFault::NotCapable);
         }
-        // so few legacy targets leave most of the usable addresses free
-        let few = legacies.len() <= LEGACIES;
-        prove!(few);
+        let mut controller = device(main, &legacies);
+        // so few static addresses leave most of the usable ones free
+        let _taken = legacies.addresses();
         let legacy = LegacyTargets::new(&legacies);
         let mut table = Table::new(legacies);
         let Some(address) = pick(&table) else {
@@ -110,8 +113,8 @@ impl Bus {
             bcr,
             dcr,
             identity: None,
+            fixed: controller.fixed(),
         });
-        let mut controller = Device::new(main);
         controller.take_address(address);
         let holder = Slot::default();
         let mut devices = Devices::new();
@@ -174,21 +177,21 @@ impl Bus {
 
     /// Whether interrupts of a slot's device are enabled (I3C Basic 5.1.9.3.1).
     pub fn may_interrupt(&self, slot: Slot) -> bool
-        ensures { (d : DeviceState) → device_at self.now.state slot ≡ Some d → result ≡ d.kinds.interrupt }
+        ensures { result ≡ in_slot (λ d. d.kinds.interrupt) (device_at self.now.state slot) }
     {
         self.devices.may_interrupt(slot)
     }
 
     /// Whether role requests of a slot's device are enabled (I3C Basic 5.1.9.3.1).
     pub fn may_ask_role(&self, slot: Slot) -> bool
-        ensures { (d : DeviceState) → device_at self.now.state slot ≡ Some d → result ≡ d.kinds.role }
+        ensures { result ≡ in_slot (λ d. d.kinds.role) (device_at self.now.state slot) }
     {
         self.devices.may_ask_role(slot)
     }
 
     /// Whether joins of a slot's device are enabled (I3C Basic 5.1.9.3.1).
     pub fn may_join(&self, slot: Slot) -> bool
-        ensures { (d : DeviceState) → device_at self.now.state slot ≡ Some d → result ≡ d.kinds.join }
+        ensures { result ≡ in_slot (λ d. d.kinds.join) (device_at self.now.state slot) }
     {
         self.devices.may_join(slot)
     }
@@ -251,7 +254,8 @@ impl Bus {
         }
     }
 
-    /// A device enters a slot, without an address. It answers `SlotTaken` where the slot holds one.
+    /// A device enters a slot, without a dynamic address; its static one is what was declared for its identity. It answers
+    /// `SlotTaken` where the slot holds one.
     #[inline(never)]
     pub fn attach(&mut self, slot: Slot, setup: Setup) -> Result<(), SlotTaken>
         ensures step { Step self.old.state (Event.Attach slot setup) (attached_reply result) self.new.state }
@@ -260,7 +264,8 @@ impl Bus {
         if self.devices.holds(slot) {
             return Err(SlotTaken);
         }
-        self.devices.put(slot, Device::new(setup));
+        let device = device(setup, self.table.legacies());
+        self.devices.put(slot, device);
         Ok(())
     }
 
@@ -345,11 +350,17 @@ impl Bus {
             in_session: _,
             records,
         } = self;
-        let role = match hand {
-            Hand::Role(role) => role,
-            Hand::Session(session) => session.into_role(),
-        };
-        retire(active, role);
+        retire(active, hand.into_role());
         Records { list: records }
     }
+}
+
+/// A device that was just attached to a bus with these declared static addresses.
+fn device(setup: Setup, legacies: &Legacies) -> Device
+    ensures new { result ≡ attached (fixed_of legacies.now.declared setup.identity) setup }
+    ensures static_alone { HasStatic result.fixed }
+{
+    let identity = setup.identity;
+    let fixed = legacies.fixed_of(&identity);
+    Device::new(setup, fixed)
 }

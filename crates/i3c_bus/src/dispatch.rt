@@ -58,6 +58,12 @@ impl Bus {
                 let command = Command::WriteTo(*to, copy_of(bytes));
                 self.send(hand, command, *policy, tap, cuts)
             }
+            Event::SetStatic(fixed, new, policy, cuts) => {
+                self.send(hand, Command::SetStatic(*fixed, *new), *policy, tap, cuts)
+            }
+            Event::SetNew(old, new, policy, cuts) => {
+                self.send(hand, Command::SetNew(*old, *new), *policy, tap, cuts)
+            }
             Event::HandOver(to, cuts) => self.step_hand(hand, *to, tap, cuts),
             Event::OpenDaa(cuts) => self.step_open(hand, tap, cuts),
             Event::Round(cuts) => self.step_round(hand, tap, cuts),

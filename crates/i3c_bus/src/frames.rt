@@ -134,6 +134,12 @@ impl Bus {
             Command::SendList => Reply::from(self.list(role, policy, tap, cuts)),
             Command::ReadFrom(from) => Reply::from(self.read(role, *from, policy, tap, cuts)),
             Command::WriteTo(to, bytes) => self.write_kept(role, *to, bytes, policy, tap, cuts),
+            Command::SetStatic(fixed, new) => {
+                Reply::from(self.set_static(role, *fixed, *new, policy, tap, cuts))
+            }
+            Command::SetNew(old, new) => {
+                Reply::from(self.set_new(role, *old, *new, policy, tap, cuts))
+            }
         }
     }
 

@@ -5,7 +5,7 @@ use i3c_frame::Tap;
 use i3c_handoff::{HandFault, Offer, Role, give, offer, offer_bits, tell_offer};
 
 impl Bus {
-    ghost use Rattle.std.specs.Prelude.{◌≡◌, ◌≢◌, ◌∷◌, ℕ, true, None, Some, IfErr, MatchResult};
+    ghost use Rattle.std.specs.Prelude.{◌≡◌, ◌≢◌, ◌∷◌, true, None, Some, IfErr, MatchResult};
     ghost use Rattle.i3c_base.specs.Frames.{IsWillingAt, handed};
     ghost use Rattle.i3c_base.specs.declared.requests.Served.{Served as ServedValue};
     ghost use Rattle.i3c_frame.specs.Taps.{Tells};
@@ -44,7 +44,7 @@ impl Bus {
         let last = bits + offer_bits(&offer);
         match offer {
             Offer::Taken(slot) => {
-                let role = self.hand(role, slot);
+                let role = self.hand(role, slot, to);
                 self.drop_lost(cuts, last);
                 Ok((role, served))
             }
@@ -79,16 +79,16 @@ impl Bus {
         Ok(())
     }
 
-    /// The role passes to a slot. What its device's copy of the list gives is the table then: the one that there is, but
-    /// for the identities that addresses are kept for.
-    fn hand(&mut self, role: Role, slot: Slot) -> Role
+    /// The role passes to a slot, whose device has this address. What its device's copy of the list gives is the table then:
+    /// the one that there is, in which addresses are kept for declared identities alone.
+    fn hand(&mut self, role: Role, slot: Slot, address: Addr7) -> Role
         requires own { role ≡ self.old.state.active }
-        requires willing { (a : ℕ) × IsWillingAt self.old.state a slot }
-        ensures state { self.new.state ≡ handed slot self.old.state }
+        requires willing { IsWillingAt self.old.state address slot }
+        ensures state { self.new.state ≡ handed slot address self.old.state }
         ensures held { result ≡ slot }
         ensures room { self.new.room ≡ self.old.room }
     {
-        self.table.forget_identities();
+        self.table.take_over(address);
         self.devices.lose_role_wish(slot);
         give(&mut self.active, role, slot)
     }

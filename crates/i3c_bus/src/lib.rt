@@ -12,6 +12,8 @@ mod frames;
 mod handing;
 mod runs;
 mod sessions;
+mod setting;
+mod still;
 mod tokens;
 mod transferring;
 mod wire;
@@ -25,7 +27,8 @@ pub use i3c_handoff::Role;
 pub use i3c_ibi::{Fixed, Policy, Record, Verdict};
 pub use i3c_step::{
     ActiveStays, Command, DropRefusal, Event, FrameFault, Framed, OutOfMemory, Refusal, Reply,
-    RunFault, SlotTaken, StartFault, TRANSFER, TargetFault, WRITE_KEPT, WriteFault,
+    RunFault, SetFault, SlotTaken, StartFault, TRANSFER, TargetFault, WRITE_KEPT, WriteFault,
 };
 pub use runs::{Outcome, run_events};
+pub use still::Still;
 pub use tokens::{Hand, Session};

@@ -30,7 +30,7 @@ pub fn run_events(
     legacies: Legacies,
     events: &[Event],
 ) -> Result<Outcome, RunFault>
-    ensures run { IfOk result (λ o. IsLegalRun main (legacy_targets_of legacies) events.now o.replies.items o.bus.state) }
+    ensures run { IfOk result (λ o. IsLegalRun main legacies events.now o.replies.items o.bus.state) }
     ensures fits { IfOk result (λ o. HandFits o.hand o.bus.state) }
     ensures unique { IfOk result (λ o. HasDistinctIdentities o.bus.state → HasUniqueAnswers o.bus.state) }
     ensures active { IfOk result (λ o. IsPresent o.bus.state o.bus.state.active) }

@@ -44,7 +44,7 @@ impl Session {
 
 impl Hand {
     ghost use Rattle.std.specs.Prelude.{◌≡◌};
-    ghost use Rattle.i3c_bus.specs.Hands.{holder_of};
+    ghost use Rattle.i3c_bus.specs.Hands.{holder_of, is_session};
 
     /// The slot that holds it.
     pub fn holder(&self) -> Slot
@@ -53,6 +53,28 @@ impl Hand {
         match self {
             Hand::Role(role) => role.holder(),
             Hand::Session(session) => session.holder(),
+        }
+    }
+
+    /// The role, or while a session is open the session that takes its place.
+    pub(crate) fn new(role: Role, in_session: bool) -> Hand
+        ensures holder { holder_of result ≡ role }
+        ensures session { is_session result ≡ in_session }
+    {
+        if in_session {
+            Hand::Session(Session { role })
+        } else {
+            Hand::Role(role)
+        }
+    }
+
+    /// The role that it is or holds.
+    pub(crate) fn into_role(self) -> Role
+        ensures { result ≡ holder_of self }
+    {
+        match self {
+            Hand::Role(role) => role,
+            Hand::Session(session) => session.into_role(),
         }
     }
 }

@@ -1,7 +1,7 @@
 -- Common command codes and their bytes.
 use Rattle.std.specs.Prelude.{◌≡◌, ◌≢◌, ℕ}
 use Rattle.i3c_ccc.specs.declared.codes.Code.{Code}
-use Rattle.i3c_ccc.specs.declared.codes.Code.TheVariants.{Enec, Disec, Rstdaa, Entdaa, Deftgts, EnecDirect, DisecDirect, Getacccr, Other}
+use Rattle.i3c_ccc.specs.declared.codes.Code.TheVariants.{Enec, Disec, Rstdaa, Entdaa, Deftgts, EnecDirect, DisecDirect, Setdasa, Setnewda, Getacccr, Other}
 
 -- the byte of a code
 abbrev pub byte_of_code : Code → ℕ
@@ -12,12 +12,14 @@ byte_of_code Entdaa = 0x07
 byte_of_code Deftgts = 0x08
 byte_of_code EnecDirect = 0x80
 byte_of_code DisecDirect = 0x81
+byte_of_code Setdasa = 0x87
+byte_of_code Setnewda = 0x88
 byte_of_code Getacccr = 0x91
 byte_of_code (Other byte) = byte
 
 -- a byte that is none of the codes known by name
 abbrev pub IsUnnamed : ℕ → Type 0
-IsUnnamed b = (b ≢ 0x00) × (b ≢ 0x01) × (b ≢ 0x06) × (b ≢ 0x07) × (b ≢ 0x08) × (b ≢ 0x80) × (b ≢ 0x81) × (b ≢ 0x91)
+IsUnnamed b = (b ≢ 0x00) × (b ≢ 0x01) × (b ≢ 0x06) × (b ≢ 0x07) × (b ≢ 0x08) × (b ≢ 0x80) × (b ≢ 0x81) × (b ≢ 0x87) × (b ≢ 0x88) × (b ≢ 0x91)
 
 -- `Other` stands for unnamed bytes alone
 abbrev pub IsNamedWhereKnown : Code → Type 0
@@ -29,6 +31,8 @@ IsNamedWhereKnown Entdaa = Unit {0}
 IsNamedWhereKnown Deftgts = Unit {0}
 IsNamedWhereKnown EnecDirect = Unit {0}
 IsNamedWhereKnown DisecDirect = Unit {0}
+IsNamedWhereKnown Setdasa = Unit {0}
+IsNamedWhereKnown Setnewda = Unit {0}
 IsNamedWhereKnown Getacccr = Unit {0}
 
 -- this is the code of the byte

@@ -18,6 +18,10 @@ pub enum Code {
     EnecDirect,
     /// Disable events, direct: `81`.
     DisecDirect,
+    /// Set dynamic address from static address, direct: `87`.
+    Setdasa,
+    /// Set new dynamic address, direct: `88`.
+    Setnewda,
     /// Get accept controller role: `91`.
     Getacccr,
     /// A code that this engine doesn't use.
@@ -36,6 +40,8 @@ pub fn code_of(byte: u8) -> Code
         0x08 => Code::Deftgts,
         0x80 => Code::EnecDirect,
         0x81 => Code::DisecDirect,
+        0x87 => Code::Setdasa,
+        0x88 => Code::Setnewda,
         0x91 => Code::Getacccr,
         other => Code::Other(other),
     }
@@ -53,6 +59,8 @@ pub fn byte_of(code: Code) -> u8
         Code::Deftgts => 0x08,
         Code::EnecDirect => 0x80,
         Code::DisecDirect => 0x81,
+        Code::Setdasa => 0x87,
+        Code::Setnewda => 0x88,
         Code::Getacccr => 0x91,
         Code::Other(byte) => byte,
     }

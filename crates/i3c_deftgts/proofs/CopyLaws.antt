@@ -1,5 +1,5 @@
 -- The rows and the legacy targets of a list, one after the other.
-use Rattle.std.proofs.Common.{◌≡◌, ◌≢◌, ℕ, zero, suc, min, length-append, ◌+◌, ◌≤◌, ◌<◌, ◌⊎◌, inl, inr, Bool, true, false, not, nat_eq, nat_le, ◌==◌, cond, if◌then◌else◌, List, [], ◌∷◌, ◌++◌, length, map, take, get_or, set, Option, Some, None, option_map, is_some, count_by, Result, Ok, Err, MatchResult, OnOk, OnErr, sym, refl, ap, ◌∙◌, arith}
+use Rattle.std.proofs.Common.{◌≡◌, ◌≢◌, ℕ, zero, suc, min, length-append, ◌+◌, ◌≤◌, ◌<◌, ◌⊎◌, inl, inr, Bool, true, false, not, ◌||◌, nat_eq, nat_le, ◌==◌, cond, if◌then◌else◌, List, [], ◌∷◌, ◌++◌, length, map, take, get_or, set, Option, Some, None, option_map, is_some, count_by, Result, Ok, Err, MatchResult, OnOk, OnErr, sym, refl, ap, ◌∙◌, arith}
 use Rattle.std.specs.List.{cons_option, filter_map, AllByRecursion, IsDistinct}
 use Rattle.std.proofs.lemmas.Bool.{and_parts, cases_lt, cond-true, cond-false, eq-eqb, le-leb, lt-leb, leb-true}
 use Rattle.std.proofs.lemmas.List.{append-nil, length-take, take-map, take-append-le, take_all, take_more}
@@ -9,11 +9,13 @@ use Rattle.std.proofs.lemmas.Option.{none-some, same_Some}
 use Rattle.i3c_base.specs.declared.range.TheConstants.{ADDRESSES}
 use Rattle.i3c_base.specs.declared.identity.Lvr.{Lvr}
 use Rattle.i3c_base.specs.Covered.{Table}
-use Rattle.i3c_base.specs.State.{IsUsable, no_entries}
+use Rattle.i3c_base.specs.State.{Board, IsUsable, declared_in, is_usable, no_entries, no_identities}
+use Rattle.i3c_base.proofs.Lookups.{no_identities_at}
 use Rattle.i3c_legacy.specs.declared.faults.LegacyFault.{LegacyFault}
 use Rattle.i3c_legacy.specs.declared.faults.LegacyFault.TheVariants.{LegacyAddress, LegacyTwice, TooManyLegacy}
 use Rattle.i3c_legacy.specs.declared.legacies.TheConstants.{LEGACIES}
-use Rattle.i3c_legacy.specs.Declaring.{first_fault, is_static}
+use Rattle.i3c_base.specs.State.{is_static}
+use Rattle.i3c_legacy.specs.Declaring.{first_fault, is_taken}
 use Rattle.i3c_legacy.specs.Rows.{places, row_at, HasOwnAddresses}
 use Rattle.i3c_legacy.proofs.RowLaws.{count-places, places_at, places_push}
 use Rattle.i3c_table.proofs.Reset.{entries-nil}
@@ -22,7 +24,7 @@ use Rattle.i3c_table.specs.Putting.{MayPut, with_row}
 use Rattle.i3c_table.specs.Rows.{entries, entry_of_row}
 use Rattle.i3c_deftgts.specs.declared.entries.Entry.{Entry}
 use Rattle.i3c_deftgts.specs.declared.entries.Entry.TheVariants.{Device, Legacy}
-use Rattle.i3c_deftgts.specs.Copies.{is_usable, legacies_in, row_in, table_of, target_in}
+use Rattle.i3c_deftgts.specs.Copies.{legacies_in, row_in, table_of, target_in}
 use Rattle.i3c_deftgts.specs.Entries.{address_of, has_twice, is_among}
 use Rattle.i3c_deftgts.proofs.PickLaws.{before, own_picked, passed_over, row_unpicked, take_absent}
 
@@ -59,7 +61,7 @@ pub same_row : (entry : Entry) (row : Row) → row_in entry ≡ Some row → row
 same_row (Legacy address lvr) row h = absurd (none-some row h)
 same_row (Device address dcr bcr fixed) row h = at (is_usable address) h
   where
-    at : (b : Bool) → cond b (Some (record { address = address; bcr = bcr; dcr = dcr; identity = None })) None ≡ Some row → row.address ≡ address
+    at : (b : Bool) → cond b (Some (record { address = address; bcr = bcr; dcr = dcr; identity = None; fixed = fixed })) None ≡ Some row → row.address ≡ address
     at true e = ap (λ (r : Row). r.address) (sym (same_Some _ row e))
     at false e = absurd (none-some row e)
 
@@ -80,7 +82,7 @@ pub usable_row : (entry : Entry) (row : Row) → row_in entry ≡ Some row → I
 usable_row (Legacy address lvr) row h = absurd (none-some row h)
 usable_row (Device address dcr bcr fixed) row h = at (is_usable address) refl h
   where
-    at : (b : Bool) → is_usable address ≡ b → cond b (Some (record { address = address; bcr = bcr; dcr = dcr; identity = None })) None ≡ Some row → IsUsable row.address
+    at : (b : Bool) → is_usable address ≡ b → cond b (Some (record { address = address; bcr = bcr; dcr = dcr; identity = None; fixed = fixed })) None ≡ Some row → IsUsable row.address
     at true u e = let same : address ≡ row.address = ap (λ (r : Row). r.address) (same_Some _ row e) in rw (sym same) (usable address u)
     at false u e = absurd (none-some row e)
 
@@ -121,16 +123,32 @@ own_take n rows own = record {
   in_range = All-take (λ row. static_of row < ADDRESSES) n rows own.in_range;
 }
 
-module _ {T : Type 0} (r : Result T LegacyFault) (list : List Entry) (i a : ℕ) (entry : Entry) (lvr : Lvr) (legacies new : List (Option Lvr)) where
+-- what a list tells of static addresses: its legacy targets, and no declared identities
+abbrev pub told_by : List Entry → Board
+told_by list = record { legacy = legacies_in list; declared = no_identities }
+
+module _ {T : Type 0} (r : Result T LegacyFault) (list : List Entry) (i a : ℕ) (entry : Entry) (lvr : Lvr) (board new : Board) where
   targets : List Target
   targets = filter_map target_in (take i list)
 
   -- a target of the list is declared, or left out
-  pub legacy_more : has_twice list ≡ false → i < length list → entry ≡ get_or list i entry → entry ≡ Legacy a lvr → legacies ≡ legacies_in (take i list)
-      → MatchResult r (λ _. first_fault legacies a ≡ None) (λ told. first_fault legacies a ≡ Some told) → OnOk r (new ≡ set legacies a (Some lvr)) → OnErr r (new ≡ legacies) → new ≡ legacies_in (take (i + 1) list)
+  pub legacy_more : has_twice list ≡ false → i < length list → entry ≡ get_or list i entry → entry ≡ Legacy a lvr → board ≡ told_by (take i list)
+      → MatchResult r (λ _. first_fault board a ≡ None) (λ told. first_fault board a ≡ Some told) → OnOk r (new ≡ record board { legacy = set board.legacy a (Some lvr) }) → OnErr r (new ≡ board) → new ≡ told_by (take (i + 1) list)
   unfolding targets
   legacy_more h l is here so_far tested ok err = by_static (is_static a) refl
     where
+      legacies : List (Option Lvr)
+      legacies = board.legacy
+
+      before_it : legacies ≡ legacies_in (take i list)
+      before_it = ap (λ (b : Board). b.legacy) so_far
+
+      undeclared : board.declared ≡ no_identities
+      undeclared = ap (λ (b : Board). b.declared) so_far
+
+      with_legacies : {xs : List (Option Lvr)} → xs ≡ legacies_in (take (i + 1) list) → record board { legacy = xs } ≡ told_by (take (i + 1) list)
+      with_legacies e = λ t. record { legacy = e t; declared = undeclared t }
+
       parts : (has_twice (take i list) ≡ false) × (is_among (address_of entry) (take i list) ≡ false)
       parts = before list i entry h l is
 
@@ -143,7 +161,7 @@ module _ {T : Type 0} (r : Result T LegacyFault) (list : List Entry) (i a : ℕ)
       next : (o : Option Target) → target_in entry ≡ o → legacies_in (take (i + 1) list) ≡ places static_of lvr_of (take LEGACIES (targets ++ cons_option o []))
       next o e = ap (λ t. places static_of lvr_of (take LEGACIES t)) (picked_more target_in list i entry l is ∙ ap (λ p. targets ++ cons_option p []) e)
 
-      by_room : is_static a ≡ true → new ≡ legacies_in (take (i + 1) list)
+      by_room : is_static a ≡ true → new ≡ told_by (take (i + 1) list)
       by_room s = at (cases_lt (length targets) LEGACIES)
         where
           e : target_in entry ≡ Some (a, lvr)
@@ -155,50 +173,55 @@ module _ {T : Type 0} (r : Result T LegacyFault) (list : List Entry) (i a : ℕ)
           absent : row_at static_of (take LEGACIES targets) a ≡ None
           absent = take_absent static_of targets a LEGACIES none
 
-          free : is_some (get_or legacies a None) ≡ false
-          free = ap (λ g. is_some (get_or g a None)) so_far ∙ (ap is_some (places_at static_of lvr_of (take LEGACIES targets) a own_kept.in_range) ∙ ap (λ o. is_some (option_map lvr_of o)) absent)
+          no_legacy : is_some (get_or legacies a None) ≡ false
+          no_legacy = ap (λ g. is_some (get_or g a None)) before_it ∙ (ap is_some (places_at static_of lvr_of (take LEGACIES targets) a own_kept.in_range) ∙ ap (λ o. is_some (option_map lvr_of o)) absent)
+
+          free : is_taken board a ≡ false
+          free = ap (λ b. b || is_some (declared_in board.declared a)) no_legacy ∙ (ap (λ ds. is_some (declared_in ds a)) undeclared ∙ ap is_some (no_identities_at a))
 
           many : count_by is_some legacies ≡ length (take LEGACIES targets)
-          many = ap (count_by is_some) so_far ∙ count-places static_of lvr_of (take LEGACIES targets) own_kept
+          many = ap (count_by is_some) before_it ∙ count-places static_of lvr_of (take LEGACIES targets) own_kept
 
-          fault_is : (b : Bool) → nat_le LEGACIES (count_by is_some legacies) ≡ b → first_fault legacies a ≡ chosen true false b
-          fault_is b full = ap (λ x. chosen x (is_some (get_or legacies a None)) (nat_le LEGACIES (count_by is_some legacies))) s
+          fault_is : (b : Bool) → nat_le LEGACIES (count_by is_some legacies) ≡ b → first_fault board a ≡ chosen true false b
+          fault_is b full = ap (λ x. chosen x (is_taken board a) (nat_le LEGACIES (count_by is_some legacies))) s
               ∙ (ap (λ x. chosen true x (nat_le LEGACIES (count_by is_some legacies))) free ∙ ap (chosen true false) full)
 
           long : length (take LEGACIES targets) ≡ min LEGACIES (length targets)
           long = length-take LEGACIES targets
 
-          at : (length targets < LEGACIES) ⊎ (LEGACIES ≤ length targets) → new ≡ legacies_in (take (i + 1) list)
+          at : (length targets < LEGACIES) ⊎ (LEGACIES ≤ length targets) → new ≡ told_by (take (i + 1) list)
           at (inl room) =
               let whole : take LEGACIES targets ≡ targets = take_all LEGACIES targets (omega arith) in
-              let put = added r (first_fault legacies a) (fault_is false (lt-leb LEGACIES (count_by is_some legacies) (omega (arith, many, long, room)))) tested ok in
-              put ∙ (ap (λ g. set g a (Some lvr)) so_far
+              let put = added r (first_fault board a) (fault_is false (lt-leb LEGACIES (count_by is_some legacies) (omega (arith, many, long, room)))) tested ok in
+              put ∙ with_legacies (ap (λ g. set g a (Some lvr)) before_it
               ∙ (sym (places_push static_of lvr_of (take LEGACIES targets) (a, lvr) (static_below a s) absent)
               ∙ sym (next (Some (a, lvr)) e ∙ ap (places static_of lvr_of) (take_all LEGACIES (targets ++ (a, lvr) ∷ []) (omega (arith, room, length-append targets ((a, lvr) ∷ []))) ∙ ap (λ t. t ++ (a, lvr) ∷ []) (sym whole)))))
           at (inr full) =
-              left r (first_fault legacies a) TooManyLegacy (fault_is true (le-leb LEGACIES (count_by is_some legacies) (omega (arith, many, long, full)))) tested err
-              ∙ (so_far ∙ sym (next (Some (a, lvr)) e ∙ ap (places static_of lvr_of) (take-append-le LEGACIES targets ((a, lvr) ∷ []) full)))
+              left r (first_fault board a) TooManyLegacy (fault_is true (le-leb LEGACIES (count_by is_some legacies) (omega (arith, many, long, full)))) tested err
+              ∙ with_legacies (before_it ∙ sym (next (Some (a, lvr)) e ∙ ap (places static_of lvr_of) (take-append-le LEGACIES targets ((a, lvr) ∷ []) full)))
 
-      by_static : (b : Bool) → is_static a ≡ b → new ≡ legacies_in (take (i + 1) list)
+      by_static : (b : Bool) → is_static a ≡ b → new ≡ told_by (take (i + 1) list)
       by_static false s =
-          left r (first_fault legacies a) LegacyAddress (ap (λ b. chosen b (is_some (get_or legacies a None)) (nat_le LEGACIES (count_by is_some legacies))) s) tested err
-          ∙ (so_far ∙ sym (next None (ap target_in here ∙ cond-false (is_static a) (Some (a, lvr)) None s) ∙ ap (λ t. places static_of lvr_of (take LEGACIES t)) (append-nil targets)))
+          left r (first_fault board a) LegacyAddress (ap (λ b. chosen b (is_taken board a) (nat_le LEGACIES (count_by is_some legacies))) s) tested err
+          ∙ with_legacies (before_it ∙ sym (next None (ap target_in here ∙ cond-false (is_static a) (Some (a, lvr)) None s) ∙ ap (λ t. places static_of lvr_of (take LEGACIES t)) (append-nil targets)))
       by_static true s = by_room s
 
 -- a device's entry declares no target
-pub legacy_same : (list : List Entry) (i : ℕ) (entry : Entry) (legacies new : List (Option Lvr)) → i < length list → entry ≡ get_or list i entry → target_in entry ≡ None → legacies ≡ legacies_in (take i list) → new ≡ legacies → new ≡ legacies_in (take (i + 1) list)
-legacy_same list i entry legacies new l is none so_far same =
-    same ∙ (so_far ∙ ap (λ t. places static_of lvr_of (take LEGACIES t)) (sym (picked_more target_in list i entry l is ∙ (ap (λ o. filter_map target_in (take i list) ++ cons_option o []) none ∙ append-nil (filter_map target_in (take i list))))))
+pub legacy_same : (list : List Entry) (i : ℕ) (entry : Entry) (board new : Board) → i < length list → entry ≡ get_or list i entry → target_in entry ≡ None → board ≡ told_by (take i list) → new ≡ board → new ≡ told_by (take (i + 1) list)
+legacy_same list i entry board new l is none so_far same =
+    same ∙ (so_far ∙ ap (λ t. record { legacy = places static_of lvr_of (take LEGACIES t); declared = no_identities }) (sym (picked_more target_in list i entry l is ∙ (ap (λ o. filter_map target_in (take i list) ++ cons_option o []) none ∙ append-nil (filter_map target_in (take i list))))))
 
 -- the table after the first entries' rows
 abbrev pub part : List Entry → ℕ → Table
-part list i = record { given = entries (filter_map row_in (take i list)); legacy = legacies_in list; listed = false }
+part list i = record { given = entries (filter_map row_in (take i list)); legacy = legacies_in list; declared = no_identities; listed = false }
 
-pub part_none : (list : List Entry) (legacies : List (Option Lvr)) (table : Table) → table ≡ record { given = no_entries; legacy = legacies; listed = false } → legacies ≡ legacies_in list → table ≡ part list 0
-part_none list legacies table is same = is ∙ (ap (λ l. record { given = no_entries; legacy = l; listed = false }) same ∙ ap (λ g. record { given = g; legacy = legacies_in list; listed = false }) (sym entries-nil))
+pub part_none : (list : List Entry) (board : Board) (table : Table) → table ≡ record { given = no_entries; legacy = board.legacy; declared = board.declared; listed = false } → board ≡ told_by list → table ≡ part list 0
+part_none list board table is same =
+    is ∙ (ap (λ (b : Board). record { given = no_entries; legacy = b.legacy; declared = b.declared; listed = false }) same
+    ∙ ap (λ g. record { given = g; legacy = legacies_in list; declared = no_identities; listed = false }) (sym entries-nil))
 
 pub part_all : (list : List Entry) (i : ℕ) (table : Table) → length list ≤ i → table ≡ part list i → table ≡ table_of list
-part_all list i table past is = is ∙ ap (λ es. record { given = entries (filter_map row_in es); legacy = legacies_in list; listed = false }) (take_all i list past)
+part_all list i table past is = is ∙ ap (λ es. record { given = entries (filter_map row_in es); legacy = legacies_in list; declared = no_identities; listed = false }) (take_all i list past)
 
 no_target : (entry : Entry) (row : Row) → row_in entry ≡ Some row → target_in entry ≡ None
 no_target (Device address dcr bcr fixed) row h = refl
@@ -210,7 +233,7 @@ row_address row = row.address
 module _ (list : List Entry) (i : ℕ) (entry : Entry) (table : Table) where
   pub part_same : i < length list → entry ≡ get_or list i entry → row_in entry ≡ None → table ≡ part list i → table ≡ part list (i + 1)
   part_same l is none so_far =
-      so_far ∙ ap (λ rows. record { given = entries rows; legacy = legacies_in list; listed = false })
+      so_far ∙ ap (λ rows. record { given = entries rows; legacy = legacies_in list; declared = no_identities; listed = false })
       (sym (picked_more row_in list i entry l is ∙ (ap (λ o. filter_map row_in (take i list) ++ cons_option o []) none ∙ append-nil (filter_map row_in (take i list)))))
 
   no_row : has_twice list ≡ false → i < length list → entry ≡ get_or list i entry → (row : Row) → row_in entry ≡ Some row → row_at row_address (filter_map row_in (take i list)) row.address ≡ None
@@ -219,8 +242,11 @@ module _ (list : List Entry) (i : ℕ) (entry : Entry) (table : Table) where
 
   -- a row may be put: it is usable, and no entry has its address
   pub may_put : has_twice list ≡ false → i < length list → entry ≡ get_or list i entry → (row : Row) → row_in entry ≡ Some row → table ≡ part list i → MayPut table row
-  may_put h l is row here so_far = inl (usable_row entry row here, free_row, free_target)
+  may_put h l is row here so_far = inl (usable_row entry row here, free_row, free_target, free_declared)
     where
+      free_declared : declared_in table.declared row.address ≡ None
+      free_declared = ap (λ t. declared_in t.declared row.address) so_far ∙ no_identities_at row.address
+
       own_rows : HasOwnAddresses row_address (filter_map row_in (take i list))
       own_rows = own_picked row_address row_in same_row small_row (take i list) (before list i entry h l is).0
 
@@ -242,6 +268,6 @@ module _ (list : List Entry) (i : ℕ) (entry : Entry) (table : Table) where
 
   pub part_more : has_twice list ≡ false → i < length list → entry ≡ get_or list i entry → (row : Row) (new : Table) → row_in entry ≡ Some row → table ≡ part list i → new ≡ with_row row table → new ≡ part list (i + 1)
   part_more h l is row new here so_far put =
-      put ∙ (ap (with_row row) so_far ∙ ap (λ g. record { given = g; legacy = legacies_in list; listed = false })
+      put ∙ (ap (with_row row) so_far ∙ ap (λ g. record { given = g; legacy = legacies_in list; declared = no_identities; listed = false })
       (sym (ap entries (picked_more row_in list i entry l is ∙ ap (λ o. filter_map row_in (take i list) ++ cons_option o []) here)
       ∙ places_push row_address entry_of_row (filter_map row_in (take i list)) row (small_row entry row here) (no_row h l is row here))))

@@ -1,5 +1,5 @@
 -- The list of a table gives the table back, but for what is kept for identities.
-use Rattle.std.proofs.Common.{◌≡◌, ℕ, zero, suc, ◌+◌, ◌≤◌, true, false, not, ◌==◌, List, [], ◌∷◌, ◌++◌, length, map, take, get_or, set, Option, Some, None, IfSome, IsTrue, is_some, count_by, option_map, inl, inr, sym, refl, ap, ◌∙◌, arith, subst}
+use Rattle.std.proofs.Common.{◌≡◌, ℕ, zero, suc, ◌+◌, ◌≤◌, true, false, not, ◌==◌, List, [], ◌∷◌, ◌++◌, length, map, take, get_or, set, Option, Some, None, IfSome, IsTrue, is_some, count_by, option_map, ◌⊎◌, inl, inr, sym, refl, ap, ◌∙◌, arith, subst}
 use Rattle.std.specs.List.{cons_option, filter_map}
 use Rattle.std.proofs.lemmas.Bool.{and_from, cases_eq, cond-true, cond-false, eq-eqb, le-leb, ne_eqb}
 use Rattle.std.proofs.lemmas.List.{append-nil, ext_get_or, get_or-map, get_or-set_other, length-map, take_all}
@@ -7,15 +7,17 @@ use Rattle.std.proofs.lemmas.List.Elements.{filter_map-append}
 use Rattle.i3c_base.specs.declared.range.TheConstants.{ADDRESSES}
 use Rattle.i3c_base.specs.declared.identity.Lvr.{Lvr}
 use Rattle.i3c_base.specs.Covered.{Table}
-use Rattle.i3c_base.specs.State.{Entry as Given, entry_in, IsFree, IsUsable, unkept}
+use Rattle.i3c_base.specs.State.{Entry as Given, entry_in, IsFree, IsUsable, no_identities, unkept}
+use Rattle.i3c_base.proofs.Lookups.{set_at}
 use Rattle.i3c_legacy.specs.declared.legacies.TheConstants.{LEGACIES}
-use Rattle.i3c_legacy.specs.Declaring.{is_static}
+use Rattle.i3c_base.specs.State.{is_static}
 use Rattle.i3c_legacy.specs.Rows.{places, row_at}
 use Rattle.i3c_legacy.proofs.RowLaws.{length-places, places_at}
 use Rattle.i3c_table.specs.declared.row.Row.{Row}
-use Rattle.i3c_table.specs.Rows.{entries, entry_of_row}
+use Rattle.i3c_table.specs.Rows.{entries, entry_of_row, static_in, HasStatic}
 use Rattle.i3c_deftgts.specs.declared.entries.Entry.{Entry}
-use Rattle.i3c_deftgts.specs.Copies.{copy_of, is_usable, legacies_in, row_in, table_of, target_in}
+use Rattle.i3c_base.specs.State.{is_usable}
+use Rattle.i3c_deftgts.specs.Copies.{copy_of, legacies_in, row_in, table_of, target_in}
 use Rattle.i3c_deftgts.specs.Entries.{address_of, device_at, entries_of, has_twice, legacy_at, upwards}
 use Rattle.i3c_deftgts.proofs.CopyLaws.{lvr_of, row_address, same_row, same_target, small_row, small_target, static_of, Target}
 use Rattle.i3c_deftgts.proofs.DistinctLaws.{among_below, entries_once, own_is, some_at, stood_before}
@@ -76,7 +78,7 @@ length-picked {R = R} pick (entry ∷ rest) = at (pick entry) (length-picked pic
 
 -- the rows and the targets of a table's entries
 abbrev row_of : ℕ → Given → Row
-row_of a g = record { address = a; bcr = g.bcr; dcr = g.dcr; identity = None }
+row_of a g = record { address = a; bcr = g.bcr; dcr = g.dcr; identity = None; fixed = g.fixed }
 
 abbrev target_of : ℕ → Lvr → Target
 target_of a lvr = (a, lvr)
@@ -88,12 +90,28 @@ is_usable-true a u =
 device_row : (a : ℕ) (g : Given) → IsUsable a → row_in (device_at a g) ≡ Some (row_of a g)
 device_row a g u = cond-true (is_usable a) (Some (row_of a g)) None (is_usable-true a u)
 
+-- a static address that may be one stays
+static_same : (o : Option ℕ) → HasStatic o → static_in o ≡ o
+static_same None h = refl
+static_same (Some f) h = cond-true (is_static f) (Some f) None h
+
+-- what holds of all that stands holds where one place was emptied
+pub still : {A : Type 0} (P : A → Type 0) (xs : List (Option A)) (own a : ℕ) → IfSome (get_or xs a None) P → IfSome (get_or (set xs own None) a None) P
+still P xs own a h = elim (cases_eq a own) [
+  | inl same ↦ emptied (set_at xs own a None None)
+  | inr other ↦ subst (λ o. IfSome o P) (sym (get_or-set_other xs own a None None other)) h
+]
+  where
+    emptied : ((a ≡ own) × (get_or (set xs own None) a None ≡ None)) ⊎ (get_or (set xs own None) a None ≡ get_or xs a None) → IfSome (get_or (set xs own None) a None) P
+    emptied (inl e) = subst (λ o. IfSome o P) (sym e.1) tt
+    emptied (inr e) = subst (λ o. IfSome o P) (sym e) h
+
 pub if_stands : {A : Type 0} (P : Type 0) (o : Option A) (Q : A → Type 0) → (is_some o ≡ true → P) → ((x : A) → P → Q x) → IfSome o Q
 if_stands P None Q h k = tt
 if_stands P (Some x) Q h k = k x (h refl)
 
 module _ (table : Table) (own : ℕ) (g : Given) (here : entry_in table.given own ≡ Some g) (usable : (a : ℕ) → IfSome (entry_in table.given a) (λ _. IsUsable a)) (apart : (a : ℕ) → IfSome (entry_in table.given a) (λ _. IsFree table.legacy a))
-    (static : (a : ℕ) → IfSome (get_or table.legacy a None) (λ _. IsTrue (is_static a))) where
+    (static : (a : ℕ) → IfSome (get_or table.legacy a None) (λ _. IsTrue (is_static a))) (fixed : (a : ℕ) → IfSome (entry_in table.given a) (λ given. HasStatic given.fixed)) where
   abbrev others : List Entry
   others = upwards device_at 0 (set table.given own None)
 
@@ -114,20 +132,22 @@ module _ (table : Table) (own : ℕ) (g : Given) (here : entry_in table.given ow
       ap (λ o. cons_option o (filter_map row_in (others ++ targets))) (device_row own g own_usable)
       ∙ ap (λ rows. row_of own g ∷ rows) (filter_map-append row_in others targets ∙ (ap (λ rows. filter_map row_in others ++ rows) (none_picked legacy_at row_in (λ n x. refl) table.legacy 0) ∙ append-nil (filter_map row_in others)))
 
-  entry_back : (o : Option Given) (a : ℕ) → option_map entry_of_row (option_map (row_of a) o) ≡ option_map unkept o
-  entry_back None a = refl
-  entry_back (Some x) a = refl
+  entry_back : (o : Option Given) (a : ℕ) → IfSome o (λ given. HasStatic given.fixed) → option_map entry_of_row (option_map (row_of a) o) ≡ option_map unkept o
+  entry_back None a h = refl
+  entry_back (Some x) a h = ap (λ (f : Option ℕ). Some (record x { kept = None; fixed = f })) (static_same x.fixed h)
 
   row_found : (a : ℕ) → option_map entry_of_row (row_at row_address (filter_map row_in list) a) ≡ option_map unkept (entry_in table.given a)
   row_found a = ap (λ rows. option_map entry_of_row (row_at row_address rows a)) rows_are ∙ elim (cases_eq own a) [
     | inl same ↦
         ap (option_map entry_of_row) (cond-true (own == a) (Some (row_of own g)) (row_at row_address (filter_map row_in others) a) (eq-eqb own a same))
-        ∙ (ap (option_map unkept) (sym here) ∙ ap (λ b. option_map unkept (entry_in table.given b)) same)
+        ∙ (entry_back (Some g) own (subst (λ (o : Option Given). IfSome o (λ given. HasStatic given.fixed)) here (fixed own))
+        ∙ (ap (option_map unkept) (sym here) ∙ ap (λ b. option_map unkept (entry_in table.given b)) same))
     | inr other ↦
         ap (option_map entry_of_row) (cond-false (own == a) (Some (row_of own g)) (row_at row_address (filter_map row_in others) a) (ne_eqb own a other)
         ∙ picked_at device_at (λ n x. refl) row_address row_in same_row row_of (set table.given own None) a
         (λ k. if_stands (IsUsable k) (get_or (set table.given own None) k None) (λ x. row_in (device_at k x) ≡ Some (row_of k x)) (λ there. some_at (IsUsable k) (entry_in table.given k) (usable k) (stood_before table.given own k there)) (λ x u. device_row k x u)))
-        ∙ (entry_back (get_or (set table.given own None) a None) a ∙ ap (option_map unkept) (get_or-set_other table.given own a None None (λ e. other (sym e))))
+        ∙ (entry_back (get_or (set table.given own None) a None) a (still (λ (given : Given). HasStatic given.fixed) table.given own a (fixed a))
+        ∙ ap (option_map unkept) (get_or-set_other table.given own a None None (λ e. other (sym e))))
   ]
 
   given_back : length table.given ≡ ADDRESSES → entries (filter_map row_in list) ≡ map (option_map unkept) table.given
@@ -159,13 +179,13 @@ module _ (table : Table) (own : ℕ) (g : Given) (here : entry_in table.given ow
       (λ a below. places_at static_of lvr_of (filter_map target_in targets) a (rw (← targets_are) (own_picked static_of target_in same_target small_target list once).in_range) ∙ target_found a)
 
   back : length table.given ≡ ADDRESSES → length table.legacy ≡ ADDRESSES → count_by is_some table.legacy ≤ LEGACIES → table_of list ≡ copy_of table
-  back long all few = ap (λ rows. record { given = rows; legacy = legacies_in list; listed = false }) (given_back long) ∙ ap (λ l. record { given = map (option_map unkept) table.given; legacy = l; listed = false }) (legacy_back all few)
+  back long all few = ap (λ rows. record { given = rows; legacy = legacies_in list; declared = no_identities; listed = false }) (given_back long) ∙ ap (λ l. record { given = map (option_map unkept) table.given; legacy = l; declared = no_identities; listed = false }) (legacy_back all few)
 
 -- the table of a table's own list
 pub copied_back : (table : Table) (own : ℕ) → is_some (entry_in table.given own) ≡ true → ((a : ℕ) → IfSome (entry_in table.given a) (λ _. IsUsable a)) → ((a : ℕ) → IfSome (entry_in table.given a) (λ _. IsFree table.legacy a))
-    → ((a : ℕ) → IfSome (get_or table.legacy a None) (λ _. IsTrue (is_static a))) → length table.given ≡ ADDRESSES → length table.legacy ≡ ADDRESSES → count_by is_some table.legacy ≤ LEGACIES → table_of (entries_of table own) ≡ copy_of table
-copied_back table own stands usable apart static long all few = of_own (entry_in table.given own) refl stands
+    → ((a : ℕ) → IfSome (get_or table.legacy a None) (λ _. IsTrue (is_static a))) → ((a : ℕ) → IfSome (entry_in table.given a) (λ given. HasStatic given.fixed)) → length table.given ≡ ADDRESSES → length table.legacy ≡ ADDRESSES → count_by is_some table.legacy ≤ LEGACIES → table_of (entries_of table own) ≡ copy_of table
+copied_back table own stands usable apart static fixed long all few = of_own (entry_in table.given own) refl stands
   where
     of_own : (o : Option Given) → entry_in table.given own ≡ o → is_some o ≡ true → table_of (entries_of table own) ≡ copy_of table
     of_own None e there = cc
-    of_own (Some g) e there = ap (λ es. table_of (es ++ (upwards device_at 0 (set table.given own None) ++ upwards legacy_at 0 table.legacy))) (own_is table own g e) ∙ back table own g e usable apart static long all few
+    of_own (Some g) e there = ap (λ es. table_of (es ++ (upwards device_at 0 (set table.given own None) ++ upwards legacy_at 0 table.legacy))) (own_is table own g e) ∙ back table own g e usable apart static fixed long all few

@@ -1,24 +1,19 @@
 -- The table that a list gives to a controller.
-use Rattle.std.specs.Prelude.{ℕ, Bool, false, ◌&&◌, ◌==◌, nat_le, not, List, map, take, Option, Some, None, option_map, if◌then◌else◌}
+use Rattle.std.specs.Prelude.{ℕ, false, List, map, take, Option, Some, None, option_map, if◌then◌else◌}
 use Rattle.std.specs.List.{filter_map}
 use Rattle.i3c_base.specs.declared.identity.Lvr.{Lvr}
 use Rattle.i3c_base.specs.Covered.{Table}
-use Rattle.i3c_base.specs.State.{unkept}
+use Rattle.i3c_base.specs.State.{is_static, is_usable, no_identities, unkept}
 use Rattle.i3c_legacy.specs.declared.legacies.TheConstants.{LEGACIES}
-use Rattle.i3c_legacy.specs.Declaring.{is_static}
 use Rattle.i3c_legacy.specs.Rows.{places}
 use Rattle.i3c_table.specs.declared.row.Row.{Row}
 use Rattle.i3c_table.specs.Rows.{entries}
 use Rattle.i3c_deftgts.specs.declared.entries.Entry.{Entry}
 use Rattle.i3c_deftgts.specs.declared.entries.Entry.TheVariants.{Device, Legacy}
 
--- the dynamic addresses that may be given: 08 to 77 without 3E, 5E, 6E and 76
-abbrev pub is_usable : ℕ → Bool
-is_usable a = nat_le 0x08 a && (nat_le a 0x77 && (not (a == 0x3E) && (not (a == 0x5E) && (not (a == 0x6E) && not (a == 0x76)))))
-
 -- the row of a device at an address that may be given, kept for no identity
 abbrev pub row_in : Entry → Option Row
-row_in (Device address dcr bcr fixed) = if is_usable address then Some (record { address = address; bcr = bcr; dcr = dcr; identity = None }) else None
+row_in (Device address dcr bcr fixed) = if is_usable address then Some (record { address = address; bcr = bcr; dcr = dcr; identity = None; fixed = fixed }) else None
 row_in (Legacy address lvr) = None
 
 -- the legacy target of an entry, at an address where one may be declared
@@ -30,10 +25,10 @@ target_in (Legacy address lvr) = if is_static address then Some (address, lvr) e
 abbrev pub legacies_in : List Entry → List (Option Lvr)
 legacies_in list = places (λ target. target.0) (λ target. target.1) (take LEGACIES (filter_map target_in list))
 
--- the table that a list gives
+-- the table that a list gives, which tells of no declared identities
 abbrev pub table_of : List Entry → Table
-table_of list = record { given = entries (filter_map row_in list); legacy = legacies_in list; listed = false }
+table_of list = record { given = entries (filter_map row_in list); legacy = legacies_in list; declared = no_identities; listed = false }
 
--- a table as its controller's list tells it: no address is kept for an identity
+-- a table as its controller's list tells it: no address is kept for an identity, and none is declared
 abbrev pub copy_of : Table → Table
-copy_of table = record { given = map (option_map unkept) table.given; legacy = table.legacy; listed = false }
+copy_of table = record { given = map (option_map unkept) table.given; legacy = table.legacy; declared = no_identities; listed = false }

@@ -36,9 +36,9 @@ pub record AreMarked (marks : List Bool) (entries : List Entry) : Type 0 where
   pub counted : count_by (λ mark. mark) marks ≡ length entries
   pub own : HaveOwnAddresses entries
 
--- the entry of an address that was given to a device, which has no static one
+-- the entry of an address that was given to a device, with its static one
 abbrev pub device_at : ℕ → Given → Entry
-device_at a given = Device a given.dcr given.bcr None
+device_at a given = Device a given.dcr given.bcr given.fixed
 
 -- the entry of the legacy target at a static address
 abbrev pub legacy_at : ℕ → Lvr → Entry

@@ -1,5 +1,6 @@
 ghost use Rattle.std.specs.Prelude.{◌≡◌};
-ghost use Rattle.i3c_deftgts.specs.Copies.{is_usable, legacies_in, row_in};
+ghost use Rattle.i3c_base.specs.State.{is_usable, no_identities};
+ghost use Rattle.i3c_deftgts.specs.Copies.{legacies_in, row_in};
 ghost use Rattle.i3c_deftgts.specs.Entries.{HaveOwnAddresses};
 
 use crate::entries::{Entry, List};
@@ -10,9 +11,10 @@ impl List {
     ghost use Rattle.std.specs.Prelude.{◌≡◌};
     ghost use Rattle.i3c_deftgts.specs.Copies.{table_of};
 
-    /// The table of a controller that knows its bus by this list alone, as one that takes over the role does: its
-    /// rows and its legacy targets, no identities, and no current list. Left out are devices at addresses that none may
-    /// be given, and legacy targets that may not be declared or come after sixteen others.
+    /// The table of whoever knows a bus by this list alone: its rows and its legacy targets, no identities, and no
+    /// current list. Nothing is declared in it, since a list doesn't tell declarations: a new controller has its own
+    /// (`Table::take_over`). Left out are devices at addresses that none may be given, and legacy targets that may not
+    /// be declared or come after sixteen others.
     pub fn to_table(&self) -> Table
         ensures { result ≡ table_of self.now }
     {
@@ -30,7 +32,7 @@ impl List {
 // The legacy targets among entries, but for those that may not be declared.
 fn legacies_in(entries: &[Entry]) -> Legacies
     requires { HaveOwnAddresses entries.now }
-    ensures { result ≡ legacies_in entries.now }
+    ensures { result ≡ record { legacy = legacies_in entries.now; declared = no_identities } }
 {
     let mut legacies = Legacies::new();
     for entry in entries {
@@ -50,12 +52,13 @@ fn row_in(entry: &Entry) -> Option<Row>
             address,
             dcr,
             bcr,
-            ..
+            fixed,
         } if is_usable(*address) => Some(Row {
             address: *address,
             bcr: *bcr,
             dcr: *dcr,
             identity: None,
+            fixed: *fixed,
         }),
         _ => None,
     }

@@ -1,9 +1,8 @@
 ghost use Rattle.std.specs.Prelude.{◌≡◌, ◌+◌, ◌≤◌, ◌++◌, ℕ, List as ListOf, [], None, IfSome, IsSome, IsTrue, count_by, is_some, length, slice_index_or};
 ghost use Rattle.arrayvec.specs.ArrayVec.{array_vec_len};
 ghost use Rattle.i3c_base.specs.declared.range.TheConstants.{ADDRESSES};
-ghost use Rattle.i3c_base.specs.State.{entry_in};
-ghost use Rattle.i3c_legacy.specs.Declaring.{is_static};
-ghost use Rattle.i3c_table.specs.Rows.{entry_of_row};
+ghost use Rattle.i3c_base.specs.State.{entry_in, is_static};
+ghost use Rattle.i3c_table.specs.Rows.{entry_of_row, HasStatic};
 ghost use Rattle.i3c_word.specs.declared.Word.{Word as WordValue};
 ghost use Rattle.i3c_deftgts.specs.Copies.{copy_of, table_of};
 ghost use Rattle.i3c_deftgts.specs.Entries.{device_at, entries_of, given_in, legacy_at, upwards, HaveOwnAddresses};
@@ -80,10 +79,10 @@ fn push_devices(entries: &mut ArrayVec<Entry, ENTRIES>, table: &Table, addresses
 // Appends the entries of the legacy targets, if there are any, by address upwards.
 fn push_legacies(entries: &mut ArrayVec<Entry, ENTRIES>, legacies: &Legacies)
     requires { array_vec_len entries.old + LEGACIES ≤ ENTRIES }
-    ensures items { entries.new.items ≡ entries.old.items ++ upwards legacy_at 0 legacies.now }
-    ensures few { count_by is_some legacies.now ≤ LEGACIES }
-    ensures static_alone { (a : ℕ) → IfSome (slice_index_or legacies.now a None) (λ _. IsTrue (is_static a)) }
-    ensures all_places { length legacies.now ≡ ADDRESSES }
+    ensures items { entries.new.items ≡ entries.old.items ++ upwards legacy_at 0 legacies.now.legacy }
+    ensures few { count_by is_some legacies.now.legacy ≤ LEGACIES }
+    ensures static_alone { (a : ℕ) → IfSome (slice_index_or legacies.now.legacy a None) (λ _. IsTrue (is_static a)) }
+    ensures all_places { length legacies.now.legacy ≡ ADDRESSES }
 {
     let lvrs = legacies.by_address();
     if legacies.is_empty() {
@@ -108,14 +107,15 @@ fn push_targets(entries: &mut ArrayVec<Entry, ENTRIES>, lvrs: &[Option<Lvr>])
     }
 }
 
-// The entry of a row, whose device has no static address.
+// The entry of a row.
 fn device_entry(row: &Row) -> Entry
+    requires { HasStatic row.now.fixed }
     ensures { result ≡ device_at row.now.address (entry_of_row row.now) }
 {
     Entry::Device {
         address: row.address,
         dcr: row.dcr,
         bcr: row.bcr,
-        fixed: None,
+        fixed: row.fixed,
     }
 }

@@ -2,7 +2,7 @@
 use Rattle.std.proofs.Common.{◌≡◌, ℕ, Bool, true, false, if◌then◌else◌, List, Option, Some, None, is_none, option_map, refl}
 use Rattle.i3c_base.specs.declared.requests.Request.{Request}
 use Rattle.i3c_base.specs.declared.requests.Request.TheVariants.{Interrupt, Join, Role}
-use Rattle.i3c_base.specs.Frames.{overwritten, unaddressed_device}
+use Rattle.i3c_base.specs.Frames.{overwritten, readdressed, unaddressed_device}
 use Rattle.i3c_base.specs.Round.{hears, unhearing, winner}
 use Rattle.i3c_base.specs.Serve.{without_role}
 use Rattle.i3c_device.specs.Enabling.{under}
@@ -51,10 +51,14 @@ blind_accept Join kinds s (Some d) = refl
 blind_accept (Role a) kinds s (Some d) = refl
 blind_accept (Interrupt a) kinds s (Some d) = refl
 
--- an address that was won, and a write
+-- an address that was taken, another one, and a write
 pub blind_won : (a : ℕ) → IsBlind (λ s place. option_map (winner a) place)
 blind_won a kinds s None = refl
 blind_won a kinds s (Some d) = refl
+
+pub blind_readdress : (a : ℕ) → IsBlind (λ s place. option_map (readdressed a) place)
+blind_readdress a kinds s None = refl
+blind_readdress a kinds s (Some d) = refl
 
 pub blind_write : (active a : ℕ) (bytes : List ℕ) → IsBlind (written_at active a bytes)
 blind_write active a bytes kinds s None = refl

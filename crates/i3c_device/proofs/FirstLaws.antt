@@ -1,7 +1,7 @@
 -- The request that wins a header: what some slots drive into it, by their keys, and which of them drive the winner's.
-use Rattle.std.proofs.Common.{◌≡◌, ℕ, ◌+◌, ◌<◌, ◌≤◌, Bool, true, false, not, ◌&&◌, ◌==◌, if◌then◌else◌, ◌⊎◌, List, [], ◌∷◌, ◌++◌, length, length-append, get_or, slice_index, Option, None, Some, inl, inr, refl, sym, ap, subst, ◌∙◌, arith}
+use Rattle.std.proofs.Common.{◌≡◌, ℕ, ◌+◌, ◌<◌, ◌≤◌, Bool, true, false, not, ◌&&◌, ◌==◌, ◌⊎◌, List, [], ◌∷◌, ◌++◌, length, length-append, get_or, slice_index, Option, None, Some, inl, inr, sym, ap, subst, ◌∙◌, arith}
 use Rattle.std.specs.List.{All, Contains}
-use Rattle.std.proofs.lemmas.Bool.{and_left, and_parts, both_ways, cases_Bool, cases_eq, cases_lt, cond-true, cond-false, eq-eqb, false_from_ne_true, ne_eqb}
+use Rattle.std.proofs.lemmas.Bool.{and_left, and_parts, both_ways, cases_Bool, cases_eq, cases_lt, eq-eqb, false_from_ne_true, ne_eqb}
 use Rattle.std.proofs.lemmas.List.{get_or_past}
 use Rattle.std.proofs.lemmas.List.Elements.{All-append, All-cons, All-contains, All-nil, All-weaker, Contains-append_left, Contains-push}
 use Rattle.i3c_base.specs.declared.range.TheConstants.{SLOTS}
@@ -33,9 +33,6 @@ driven_below active places s q long d = elim (cases_lt s SLOTS) [
   | inl l ↦ l
   | inr past ↦ absurd (undriven_past active s (get_or places s None) q (get_or_past places s None (omega (arith, long, past))) d)
 ]
-
-taken : (i : ℕ) (left next : SlotSet) → TakesOut i left next → i < SLOTS → has next i ≡ false
-taken i left next out l = out i l ∙ cond-true (i == i) false (has left i) (eq-eqb i i refl)
 
 -- ---- the requests of some slots, one slot after another
 
@@ -85,38 +82,6 @@ requests_more among left next keys first i requests more r h low there below out
 pub requests_all : (among left : SlotSet) (keys : List ℕ) (first : ℕ) (requests : List Request) → RequestsSoFar among left keys first requests → ((s : ℕ) → s < SLOTS → has left s ≡ false)
     → (s : ℕ) → s < SLOTS → has among s ≡ true → Contains requests (request_of (slice_index keys s))
 requests_all among left keys first requests h none s l t = elim (h.complete s l t) [ inl later ↦ absurd (both_ways _ (none s l) later) | inr held ↦ held ]
-
--- ---- the slots with a key, one after another
-
-pub record SlotsSoFar (among left : SlotSet) (keys : List ℕ) (key : ℕ) (slots : SlotSet) : Type 0 where
-  pub within : (s : ℕ) → s < SLOTS → has left s ≡ true → has among s ≡ true
-  pub are : (s : ℕ) → s < SLOTS → has slots s ≡ (not (has left s) && (has among s && slice_index keys s == key))
-
-pub slots_none : (among : SlotSet) (keys : List ℕ) (key : ℕ) (slots : SlotSet) → ((s : ℕ) → has slots s ≡ false) → SlotsSoFar among among keys key slots
-slots_none among keys key slots none = record { within = λ s l t. t; are = λ s l. none s ∙ sym (neither (has among s) (slice_index keys s == key)) }
-  where
-    neither : (a b : Bool) → (not a && (a && b)) ≡ false
-    neither true b = refl
-    neither false b = refl
-
-pub slots_more : (among left next : SlotSet) (keys : List ℕ) (key i : ℕ) (slots more : SlotSet) → SlotsSoFar among left keys key slots → i < SLOTS → has left i ≡ true → TakesOut i left next
-    → ((s : ℕ) → s < SLOTS → has more s ≡ (if s == i then (slice_index keys i == key) else has slots s)) → SlotsSoFar among next keys key more
-slots_more among left next keys key i slots more h low there out put = record {
-  within = λ s l t. h.within s l (sym (still_in i left next out s l (not_taken i left next out s l t)) ∙ t);
-  are = λ s l. put s l ∙ (elim (cases_eq s i) [
-    | inl e ↦
-        cond-true (s == i) (slice_index keys i == key) (has slots s) (eq-eqb s i e)
-        ∙ sym (ap (λ b. not b && (has among s && slice_index keys s == key)) (ap (has next) e ∙ taken i left next out low)
-        ∙ (ap (λ b. b && slice_index keys s == key) (ap (has among) e ∙ h.within i low there) ∙ ap (λ k. slice_index keys k == key) e))
-    | inr ne ↦
-        cond-false (s == i) (slice_index keys i == key) (has slots s) (ne_eqb s i ne)
-        ∙ (h.are s l ∙ ap (λ b. not b && (has among s && slice_index keys s == key)) (sym (still_in i left next out s l ne)))
-  ]);
-}
-
-pub slots_all : (among left : SlotSet) (keys : List ℕ) (key : ℕ) (slots : SlotSet) → SlotsSoFar among left keys key slots → ((s : ℕ) → s < SLOTS → has left s ≡ false)
-    → (s : ℕ) → s < SLOTS → has slots s ≡ (has among s && slice_index keys s == key)
-slots_all among left keys key slots h none s l = h.are s l ∙ ap (λ b. not b && (has among s && slice_index keys s == key)) (none s l)
 
 -- ---- the winner
 

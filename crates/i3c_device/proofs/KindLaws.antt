@@ -1,7 +1,7 @@
 -- Sets of kinds and the bits that stand for them.
 use Rattle.std.proofs.Common.{◌≡◌, ℕ, ◌-◌, ◌*◌, ◌/◌, ◌%◌, ◌^◌, ◌<◌, not, ◌&&◌, ◌||◌, ◌==◌, min, max, ap, ◌∙◌, arith}
 use Rattle.std.proofs.lemmas.Bool.Decides.{nat_tests}
-use Rattle.std.proofs.lemmas.Nat.Bits.{and_pow, bit_at-lt, bit_at_and, bit_at_lowest, bit_at_not, bit_at_or}
+use Rattle.std.proofs.lemmas.Nat.Bits.{and_pow, bit_at-lt, bit_at_and, bit_at_not, bit_at_or}
 use Rattle.std.specs.Int.{Width, bit_at}
 use mir.Val.{bits}
 use Rattle.std.specs.Int.RustNames.{bit_or}

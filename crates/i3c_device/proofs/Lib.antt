@@ -11,3 +11,4 @@ pub mod KeyLaws
 pub mod FindLaws
 pub mod FirstLaws
 pub mod ReadLaws
+pub mod SameLaws

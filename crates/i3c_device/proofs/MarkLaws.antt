@@ -1,5 +1,5 @@
 -- What marks say of the places that they are of.
-use Rattle.std.proofs.Common.{◌≡◌, ℕ, zero, suc, ◌+◌, ◌/◌, ◌<◌, ◌≤◌, Bool, true, false, not, ◌&&◌, ◌==◌, if◌then◌else◌, List, [], ◌∷◌, length, length-set, get_or, set, replicate, Option, Some, None, is_none, is_some, option_map, slice_index, subst, inl, inr, refl, sym, ap, ◌∙◌, arith}
+use Rattle.std.proofs.Common.{◌≡◌, ℕ, zero, suc, ◌+◌, ◌/◌, ◌<◌, ◌≤◌, Bool, true, false, not, ◌&&◌, ◌==◌, if◌then◌else◌, List, [], ◌∷◌, length, length-set, get_or, set, replicate, Option, Some, None, is_none, option_map, slice_index, subst, inl, inr, refl, sym, ap, ◌∙◌, arith}
 use Rattle.std.proofs.lemmas.Bool.{and_parts, both_ways, cases_eq, cond-true, cond-false, eq-eqb, ne_eqb}
 use Rattle.std.proofs.lemmas.List.{get_or-replicate, get_or-set_other, length-replicate, get_or-set_same}
 use Rattle.i3c_base.specs.declared.range.TheConstants.{SLOTS}
@@ -10,11 +10,12 @@ use Rattle.i3c_base.specs.Serve.{asks}
 use Rattle.i3c_base.specs.State.{Device, in_slot, is_the, no_devices}
 use Rattle.i3c_base.proofs.Lookups.{no_devices_at}
 use Rattle.i3c_device.specs.declared.marks.Marks.{Marks}
+use Rattle.i3c_device.specs.declared.marks.TheConstants.{NO_STATIC}
 use Rattle.i3c_device.specs.declared.sets.SlotSet.{SlotSet}
 use Rattle.i3c_device.specs.Addressing.{IsDynamicIn}
-use Rattle.i3c_device.specs.Marks.{AreKeys, AreMarks, IsSetOf, key_in, requeued}
+use Rattle.i3c_device.specs.Marks.{AreKeys, AreMarks, AreStaticMarks, IsSetOf, key_in, requeued, static_mark, static_mark_in}
 use Rattle.i3c_device.specs.Sets.{has}
-use Rattle.i3c_device.specs.Walks.{drives_at}
+use Rattle.i3c_device.specs.Walks.{AreTakers, drives_at}
 use Rattle.i3c_device.specs.Reading.{AreAt}
 use Rattle.i3c_device.specs.Wishing.{key_of, wishes_interrupt, wishes_join, wishes_role}
 
@@ -63,21 +64,22 @@ keys_of_put keys places i place key low are is dynamic here = (
   ],
 )
 
--- the slots so far whose keys are of requests at an address
-abbrev pub AreKeyed : ℕ → ℕ → List ℕ → SlotSet → Type 0
-AreKeyed a n keys slots = (s : ℕ) → s < SLOTS → s < n → has slots s ≡ (slice_index keys s / 2 == a)
+-- the slots so far whose mark passes a test
+abbrev pub AreSuch : (ℕ → Bool) → ℕ → List ℕ → SlotSet → Type 0
+AreSuch test n marks slots = (s : ℕ) → s < SLOTS → s < n → has slots s ≡ test (slice_index marks s)
 
-pub keyed_none : (a : ℕ) (keys : List ℕ) (slots : SlotSet) → AreKeyed a 0 keys slots
-keyed_none a keys slots s l m = absurd (omega (arith, m))
+pub such_none : (test : ℕ → Bool) (marks : List ℕ) (slots : SlotSet) → AreSuch test 0 marks slots
+such_none test marks slots s l m = absurd (omega (arith, m))
 
-pub keyed_more : (a n : ℕ) (keys : List ℕ) (slots more : SlotSet) (b : Bool) → AreKeyed a n keys slots → b ≡ (slice_index keys n / 2 == a) → ((s : ℕ) → s < SLOTS → has more s ≡ (if s == n then b else has slots s)) → AreKeyed a (n + 1) keys more
-keyed_more a n keys slots more b h is put s l m = put s l ∙ elim (cases_eq s n) [
-  | inl e ↦ cond-true (s == n) b (has slots s) (eq-eqb s n e) ∙ (is ∙ ap (λ k. slice_index keys k / 2 == a) (sym e))
+pub such_more : (test : ℕ → Bool) (n : ℕ) (marks : List ℕ) (slots more : SlotSet) (b : Bool) → AreSuch test n marks slots → b ≡ test (slice_index marks n) → ((s : ℕ) → s < SLOTS → has more s ≡ (if s == n then b else has slots s))
+    → AreSuch test (n + 1) marks more
+such_more test n marks slots more b h is put s l m = put s l ∙ elim (cases_eq s n) [
+  | inl e ↦ cond-true (s == n) b (has slots s) (eq-eqb s n e) ∙ (is ∙ ap (λ k. test (slice_index marks k)) (sym e))
   | inr ne ↦ cond-false (s == n) b (has slots s) (ne_eqb s n ne) ∙ h s l (omega (arith, m, ne))
 ]
 
 -- the slots of the devices at an address, but the active controller's
-pub keyed_at : (active a n : ℕ) (keys : List ℕ) (places : List (Option Device)) (present unaddressed addressed keyed both slots : SlotSet) → SLOTS ≤ n → AreKeyed a n keys keyed → AreKeys keys places → IsSetOf (λ d. true) present places
+pub keyed_at : (active a n : ℕ) (keys : List ℕ) (places : List (Option Device)) (present unaddressed addressed keyed both slots : SlotSet) → SLOTS ≤ n → AreSuch (λ k. k / 2 == a) n keys keyed → AreKeys keys places → IsSetOf (λ d. true) present places
     → IsSetOf (λ d. is_none d.address) unaddressed places → ((s : ℕ) → s < SLOTS → has addressed s ≡ (has present s && not (has unaddressed s))) → ((s : ℕ) → s < SLOTS → has both s ≡ (has keyed s && has addressed s))
     → ((s : ℕ) → s < SLOTS → has slots s ≡ (if s == active then false else has both s)) → AreAt active a slots places
 keyed_at active a n keys places present unaddressed addressed keyed both slots past h are there lacks addresses joined but s l =
@@ -109,6 +111,44 @@ keyed_at active a n keys places present unaddressed addressed keyed both slots p
     go false None = nobody (0 == a)
     go false (Some d) = device d.address d.role_wish
 
+-- the slots of the devices that take SETDASA at a static address: those with its mark and without a dynamic address
+pub takers_at : (active f n : ℕ) (statics : List ℕ) (places : List (Option Device)) (unaddressed marked both slots : SlotSet) → SLOTS ≤ n → f < 128 → AreSuch (λ m. m == f) n statics marked → AreStaticMarks statics places
+    → IsSetOf (λ d. is_none d.address) unaddressed places → ((s : ℕ) → s < SLOTS → has both s ≡ (has marked s && has unaddressed s)) → ((s : ℕ) → s < SLOTS → has slots s ≡ (if s == active then false else has both s))
+    → AreTakers active f slots places
+takers_at active f n statics places unaddressed marked both slots past small h are lacks joined but s l =
+    but s l ∙ (ap (λ b. if s == active then false else b) (joined s l ∙ (λ t. (h s l (omega (arith, l, past)) ∙ ap (λ m. m == f) (are.1 s l)) t && lacks s l t)) ∙ go (s == active) (get_or places s None))
+  where
+    swapped : (x y : Bool) → (x && y) ≡ (y && x)
+    swapped true true = refl
+    swapped true false = refl
+    swapped false true = refl
+    swapped false false = refl
+
+    marks : (o : Option ℕ) → (static_mark o == f) ≡ is_the f o
+    marks None = ne_eqb NO_STATIC f (λ e. omega (arith, e, small))
+    marks (Some a) = refl
+
+    go : (b : Bool) (o : Option Device) → (if b then false else (static_mark_in o == f) && in_slot (λ d. is_none d.address) o) ≡ in_slot (λ d. not b && (is_none d.address && is_the f d.fixed)) o
+    go true None = refl
+    go true (Some d) = refl
+    go false None = swapped (NO_STATIC == f) false
+    go false (Some d) = ap (λ b. b && is_none d.address) (marks d.fixed) ∙ swapped (is_the f d.fixed) (is_none d.address)
+
+-- the marks of empty slots
+pub statics_none : AreStaticMarks (replicate SLOTS NO_STATIC) no_devices
+statics_none = (length-replicate {A = ℕ} SLOTS NO_STATIC, λ s l. get_or-replicate SLOTS s NO_STATIC 0 l ∙ sym (ap static_mark_in (no_devices_at s)))
+
+-- one mark anew
+pub statics_of_put : (statics : List ℕ) (places : List (Option Device)) (i : ℕ) (place : Option Device) (mark : ℕ) → i < length places → AreStaticMarks statics places → mark ≡ static_mark_in place → i < SLOTS
+    → AreStaticMarks (set statics i mark) (set places i place)
+statics_of_put statics places i place mark low are is here = (
+  length-set statics i mark ∙ are.0,
+  λ s l. elim (cases_eq s i) [
+    | inl e ↦ ap (λ k. slice_index (set statics i mark) k) e ∙ (get_or-set_same statics i mark 0 (omega (arith, are.0, here)) ∙ (is ∙ sym (ap static_mark_in (ap (λ k. get_or (set places i place) k None) e ∙ get_or-set_same places i place None low))))
+    | inr ne ↦ get_or-set_other statics i s mark 0 ne ∙ (are.1 s l ∙ sym (ap static_mark_in (get_or-set_other places i s place None ne)))
+  ],
+)
+
 -- a place anew that passes a test as before
 pub set_of_same : (test : Device → Bool) (slots : SlotSet) (places : List (Option Device)) (i : ℕ) (place : Option Device) → i < length places → IsSetOf test slots places → in_slot test place ≡ in_slot test (get_or places i None)
     → IsSetOf test slots (set places i place)
@@ -133,6 +173,17 @@ keys_of_same keys places i place low are same dynamic = (
   ],
 )
 
+-- and the same static address
+pub statics_of_same : (statics : List ℕ) (places : List (Option Device)) (i : ℕ) (place : Option Device) → i < length places → AreStaticMarks statics places → static_mark_in place ≡ static_mark_in (get_or places i None)
+    → AreStaticMarks statics (set places i place)
+statics_of_same statics places i place low are same = (
+  are.0,
+  λ s l. elim (cases_eq s i) [
+    | inl e ↦ are.1 s l ∙ (ap (λ k. static_mark_in (get_or places k None)) e ∙ (sym same ∙ sym (ap static_mark_in (ap (λ k. get_or (set places i place) k None) e ∙ get_or-set_same places i place None low))))
+    | inr ne ↦ are.1 s l ∙ sym (ap static_mark_in (get_or-set_other places i s place None ne))
+  ],
+)
+
 -- whatever stands in a slot is as it was, but for what a change leaves out
 pub record Alike (place before : Option Device) : Type 0 where
   pub present : in_slot (λ d. true) place ≡ in_slot (λ d. true) before
@@ -141,11 +192,12 @@ pub record Alike (place before : Option Device) : Type 0 where
   pub unaddressed : in_slot (λ d. is_none d.address) place ≡ in_slot (λ d. is_none d.address) before
   pub key : key_in place ≡ key_in before
   pub dynamic : IsDynamicIn before → IsDynamicIn place
+  pub static_mark : static_mark_in place ≡ static_mark_in before
 
 -- where it hears or hears no more
 pub alike_opened : (o : Option Device) → Alike (option_map hears o) o
-alike_opened None = record { present = refl; joining = refl; asking = refl; unaddressed = refl; key = refl; dynamic = λ x. x }
-alike_opened (Some d) = subst (λ (e : Device). Alike (Some e) (Some d)) (sym (rehearing d)) (record { present = refl; joining = refl; asking = refl; unaddressed = refl; key = refl; dynamic = λ x. x })
+alike_opened None = record { present = refl; joining = refl; asking = refl; unaddressed = refl; key = refl; dynamic = λ x. x; static_mark = refl }
+alike_opened (Some d) = subst (λ (e : Device). Alike (Some e) (Some d)) (sym (rehearing d)) (record { present = refl; joining = refl; asking = refl; unaddressed = refl; key = refl; dynamic = λ x. x; static_mark = refl })
   where
     rehearing : (d : Device) → hears d ≡ record d { hearing = if is_none d.address then true else d.hearing }
     rehearing d = go (is_none d.address)
@@ -155,8 +207,8 @@ alike_opened (Some d) = subst (λ (e : Device). Alike (Some e) (Some d)) (sym (r
         go false = refl
 
 pub alike_ended : (o : Option Device) → Alike (option_map unhearing o) o
-alike_ended None = record { present = refl; joining = refl; asking = refl; unaddressed = refl; key = refl; dynamic = λ x. x }
-alike_ended (Some d) = record { present = refl; joining = refl; asking = refl; unaddressed = refl; key = refl; dynamic = λ x. x }
+alike_ended None = record { present = refl; joining = refl; asking = refl; unaddressed = refl; key = refl; dynamic = λ x. x; static_mark = refl }
+alike_ended (Some d) = record { present = refl; joining = refl; asking = refl; unaddressed = refl; key = refl; dynamic = λ x. x; static_mark = refl }
 
 pub interrupts_opened : (o : Option Device) → in_slot wishes_interrupt (option_map hears o) ≡ in_slot wishes_interrupt o
 interrupts_opened None = refl
@@ -172,8 +224,8 @@ interrupts_ended (Some d) = refl
 
 -- where other interrupts wait
 pub alike_queued : (queue : Device → List Waiting) (o : Option Device) → Alike (option_map (requeued queue) o) o
-alike_queued queue None = record { present = refl; joining = refl; asking = refl; unaddressed = refl; key = refl; dynamic = λ x. x }
-alike_queued queue (Some d) = record { present = refl; joining = refl; asking = refl; unaddressed = refl; key = refl; dynamic = λ x. x }
+alike_queued queue None = record { present = refl; joining = refl; asking = refl; unaddressed = refl; key = refl; dynamic = λ x. x; static_mark = refl }
+alike_queued queue (Some d) = record { present = refl; joining = refl; asking = refl; unaddressed = refl; key = refl; dynamic = λ x. x; static_mark = refl }
 
 pub hearing_queued : (queue : Device → List Waiting) (o : Option Device) → in_slot (λ d. d.hearing) (option_map (requeued queue) o) ≡ in_slot (λ d. d.hearing) o
 hearing_queued queue None = refl
@@ -193,6 +245,7 @@ marks_heard marks more places i place b long here are alike interrupts is rest p
       hearing = set_of_put (λ d. d.hearing) marks.hearing more.hearing places i place b low are.hearing is put;
       unaddressed = set_of_same (λ d. is_none d.address) marks.unaddressed places i place low are.unaddressed alike.unaddressed;
       keys = keys_of_same marks.keys places i place low are.keys alike.key alike.dynamic;
+      statics = statics_of_same marks.statics places i place low are.statics alike.static_mark;
     })
 
 -- the marks where other interrupts wait
@@ -209,4 +262,5 @@ marks_queued marks more places i place b long here are alike hearing is rest put
       hearing = set_of_same (λ d. d.hearing) marks.hearing places i place low are.hearing hearing;
       unaddressed = set_of_same (λ d. is_none d.address) marks.unaddressed places i place low are.unaddressed alike.unaddressed;
       keys = keys_of_same marks.keys places i place low are.keys alike.key alike.dynamic;
+      statics = statics_of_same marks.statics places i place low are.statics alike.static_mark;
     })

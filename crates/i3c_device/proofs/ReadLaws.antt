@@ -14,7 +14,6 @@ use Rattle.i3c_base.specs.declared.device.TheConstants.{REGISTERS}
 use Rattle.i3c_base.specs.Cutting.{CutList, Lost, cut_of, is_by, lost_by}
 use Rattle.i3c_base.specs.State.{Device, in_slot}
 use Rattle.i3c_device.specs.declared.sets.SlotSet.{SlotSet}
-use Rattle.i3c_device.specs.Marks.{IsSetOf}
 use Rattle.i3c_device.specs.Reading.{AreAt, AreReadOf, IsDrivenFrom, IsRegisterFrom, IsRegisterOf, PullsLow, SomeZero, has_zero}
 use Rattle.i3c_device.specs.Sets.{has}
 use Rattle.i3c_device.specs.Walks.{reaches_at, written_at}
@@ -57,21 +56,6 @@ register_of_none k start cut j l = bit_at_ones 8 (7 - j) (omega arith) ∙ go (i
 -- slot i is taken out of a set
 abbrev TakesOut : ℕ → SlotSet → SlotSet → Type 0
 TakesOut i left next = (s : ℕ) → s < SLOTS → has next s ≡ (if s == i then false else has left s)
-
--- the slots at the address among those that aren't left
-abbrev pub AreAtSoFar : ℕ → ℕ → SlotSet → SlotSet → List (Option Device) → Type 0
-AreAtSoFar active a left slots devices = (s : ℕ) → s < SLOTS → has slots s ≡ (not (has left s) && in_slot (reaches_at active (Some a) s) (get_or devices s None))
-
-and_false : (b : Bool) → (b && false) ≡ false
-and_false true = refl
-and_false false = refl
-
-pub at_none : (active a : ℕ) (present slots : SlotSet) (devices : List (Option Device)) → ((s : ℕ) → has slots s ≡ false) → IsSetOf (λ d. true) present devices → AreAtSoFar active a present slots devices
-at_none active a present slots devices none is s l = none s ∙ sym (go (get_or devices s None) (is s l))
-  where
-    go : (o : Option Device) → has present s ≡ in_slot (λ d. true) o → (not (has present s) && in_slot (reaches_at active (Some a) s) o) ≡ false
-    go None e = and_false (not (has present s))
-    go (Some d) e = ap (λ b. not b && reaches_at active (Some a) s d) e
 
 -- one of the slots that aren't left isn't lost, and has 0 there
 abbrev pub SomeZeroSoFar : SlotSet → SlotSet → Lost → ℕ → ℕ → List (Option Device) → Type 0

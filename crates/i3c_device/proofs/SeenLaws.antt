@@ -2,7 +2,6 @@
 use Rattle.std.proofs.Common.{◌≡◌, ℕ, zero, suc, ◌+◌, ◌<◌, Bool, true, false, ◌==◌, if◌then◌else◌, List, [], ◌∷◌, length, get_or, set, Option, Some, None, option_map, inl, inr, refl, sym, ap, subst, ◌∙◌, arith, length-set, zero-add}
 use Rattle.std.proofs.lemmas.Bool.{cases_eq, cond-true, cond-false, eq-eqb, ne_eqb}
 use Rattle.std.proofs.lemmas.List.{ext_get_or, get_or-set_other, get_or-set_same}
-use Rattle.std.proofs.lemmas.Option.{none-some, same_Some}
 use Rattle.i3c_base.specs.declared.range.TheConstants.{SLOTS}
 use Rattle.i3c_base.specs.Numbers.{KindSet}
 use Rattle.i3c_base.specs.Places.{changed, changed_from}
@@ -22,14 +21,6 @@ seen_at e xs s = changed_at (seen_in e) xs s None refl
 
 pub length_seen : (e : Enabled) (xs : List (Option Device)) → length (seen e xs) ≡ length xs
 length_seen e xs = length-changed (seen_in e) xs
-
--- a device that is seen has the kinds of its slot
-pub kinds_seen : (e : Enabled) (xs : List (Option Device)) (s : ℕ) (d : Device) → get_or (seen e xs) s None ≡ Some d → d.kinds ≡ kinds_in e s
-kinds_seen e xs s d h = go (get_or xs s None) (sym (seen_at e xs s) ∙ h)
-  where
-    go : (o : Option Device) → seen_in e s o ≡ Some d → d.kinds ≡ kinds_in e s
-    go None n = absurd (none-some d n)
-    go (Some x) n = sym (ap (λ y. y.kinds) (same_Some (under (kinds_in e s) x) d n))
 
 -- each slot changed, and perhaps its kinds
 pub seen_turned : (e more : Enabled) (f : ℕ → Option Device → Option Device) (xs ys : List (Option Device)) → length xs ≡ SLOTS → length ys ≡ SLOTS

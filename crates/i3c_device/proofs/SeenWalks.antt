@@ -9,14 +9,14 @@ use Rattle.i3c_base.specs.declared.refusals.RaiseRefusal.{RaiseRefusal}
 use Rattle.i3c_base.specs.declared.requests.Request.{Request}
 use Rattle.i3c_base.specs.declared.requests.Request.TheVariants.{Interrupt, Join, Role}
 use Rattle.i3c_base.specs.Cutting.{CutList, Lost, lost_by}
-use Rattle.i3c_base.specs.Frames.{with_kinds, without_kinds}
+use Rattle.i3c_base.specs.Frames.{takes_static, with_kinds, without_kinds}
 use Rattle.i3c_base.specs.Numbers.{KindSet}
 use Rattle.i3c_base.specs.Places.{changed}
 use Rattle.i3c_base.specs.Serve.{asks, is_empty}
 use Rattle.i3c_base.specs.State.{Device, in_slot, is_the}
 use Rattle.i3c_word.specs.declared.Word.{Word}
 use Rattle.i3c_ccc.specs.declared.codes.Code.{Code}
-use Rattle.i3c_ccc.specs.declared.codes.Code.TheVariants.{Deftgts, Disec, DisecDirect, Enec, EnecDirect, Getacccr, Other}
+use Rattle.i3c_ccc.specs.declared.codes.Code.TheVariants.{Deftgts, Disec, DisecDirect, Enec, EnecDirect, Getacccr, Other, Setdasa, Setnewda}
 use Rattle.i3c_device.specs.declared.enabled.Enabled.{Enabled}
 use Rattle.i3c_device.specs.declared.marks.Marks.{Marks}
 use Rattle.i3c_device.specs.declared.sets.SlotSet.{SlotSet}
@@ -28,10 +28,10 @@ use Rattle.i3c_device.specs.Marks.{AreMarks, IsSetOf}
 use Rattle.i3c_device.specs.Raising.{interrupting_if, next_fault}
 use Rattle.i3c_device.specs.Reading.{AreReadOf, PullsLow}
 use Rattle.i3c_device.specs.Sets.{SomeLeft, has}
-use Rattle.i3c_device.specs.Walks.{AreReached, AreWillingLost, IsLowestWilling, SomeReached, heard_at, reaches_at, willing_at}
+use Rattle.i3c_device.specs.Walks.{AreReached, AreTakers, AreWillingLost, IsLowestWilling, SomeReached, SomeTakes, heard_at, reaches_at, willing_at}
 use Rattle.i3c_device.specs.Wishing.{asks_some, wishes_interrupt, wishes_join, wishes_role}
-use Rattle.i3c_device.proofs.EachLaws.{all_changed}
-use Rattle.i3c_device.proofs.SeenLaws.{kinds_seen, length_seen, seen_at, seen_turned}
+use Rattle.i3c_device.proofs.EachLaws.{all_changed, narrowed}
+use Rattle.i3c_device.proofs.SeenLaws.{length_seen, seen_at, seen_turned}
 
 -- what holds where a call went well
 pub on_ok : {A B : Type 0} (r : Result A B) (P Q : Type 0) → (P → Q) → OnOk r P → OnOk r Q
@@ -116,6 +116,10 @@ reached_all e xs now active present slots is of but s l =
 pub reached_one : (e : Enabled) (xs now : List (Option Device)) (active a : ℕ) (slots : SlotSet) → seen e xs ≡ now → AreReached active (Some a) slots xs → AreReached active (Some a) slots now
 reached_one e xs now active a slots is of s l = of s l ∙ sym (ap (in_slot (reaches_at active (Some a) s)) (now_at e xs now s is) ∙ test_seen e (reaches_at active (Some a) s) s (get_or xs s None) (λ kinds d. refl))
 
+-- who takes SETDASA
+pub takers_seen : (e : Enabled) (xs now : List (Option Device)) (active f : ℕ) (slots : SlotSet) → seen e xs ≡ now → AreTakers active f slots xs → AreTakers active f slots now
+takers_seen e xs now active f slots is of s l = of s l ∙ sym (ap (in_slot (takes_static active f s)) (now_at e xs now s is) ∙ test_seen e (takes_static active f s) s (get_or xs s None) (λ kinds d. refl))
+
 -- that somebody of them isn't lost
 there_in : (test : Device → Bool) (o : Option Device) → in_slot test o ≡ true → (d : Device) × (o ≡ Some d) × (test d ≡ true)
 there_in test None h = absurd (both_ways _ refl h)
@@ -127,12 +131,24 @@ within_slots now s d long there = elim (cases_lt s SLOTS) [
   | inr past ↦ absurd (none-some d (sym (get_or_past now s None (omega (arith, long, past))) ∙ there))
 ]
 
+-- a device of these passes the test of its slot, and isn't lost
+abbrev SomePasses : (ℕ → Device → Bool) → Lost → List (Option Device) → Type 0
+SomePasses test lost now = (s : ℕ) × (d : Device) × (get_or now s None ≡ Some d) × (test s d ≡ true) × (lost s ≡ false)
+
+passes_some : (test : ℕ → Device → Bool) (slots : SlotSet) (lost : Lost) (now : List (Option Device)) (b : Bool) → length now ≡ SLOTS → ((s : ℕ) → s < SLOTS → has slots s ≡ in_slot (test s) (get_or now s None))
+    → (IsTrue b ↔ SomeLeft slots lost) → (IsTrue b ↔ SomePasses test lost now)
+passes_some test slots lost now b long passes is = (
+  λ t. let left = is.0 t in let there = there_in (test left.0) (get_or now left.0 None) (sym (passes left.0 left.1) ∙ left.2) in (left.0, there.0, there.1, there.2, left.3),
+  λ some. let l = within_slots now some.0 some.1 long some.2 in is.1 (some.0, l, passes some.0 l ∙ (ap (in_slot (test some.0)) some.2 ∙ some.3), some.4),
+)
+
 pub heard_some : (active : ℕ) (to : Option ℕ) (slots : SlotSet) (lost : Lost) (now : List (Option Device)) (b : Bool) → length now ≡ SLOTS → AreReached active to slots now → (IsTrue b ↔ SomeLeft slots lost)
     → (IsTrue b ↔ SomeReached active to lost now)
-heard_some active to slots lost now b long reached is = (
-  λ t. let left = is.0 t in let there = there_in (reaches_at active to left.0) (get_or now left.0 None) (sym (reached left.0 left.1) ∙ left.2) in (left.0, there.0, there.1, there.2, left.3),
-  λ some. let l = within_slots now some.0 some.1 long some.2 in is.1 (some.0, l, reached some.0 l ∙ (ap (in_slot (reaches_at active to some.0)) some.2 ∙ some.3), some.4),
-)
+heard_some active to = passes_some (reaches_at active to)
+
+pub takes_some : (active f : ℕ) (slots : SlotSet) (lost : Lost) (now : List (Option Device)) (b : Bool) → length now ≡ SLOTS → AreTakers active f slots now → (IsTrue b ↔ SomeLeft slots lost)
+    → (IsTrue b ↔ SomeTakes active f lost now)
+takes_some active f = passes_some (takes_static active f)
 
 -- who would take the role
 willing_now : (e : Enabled) (xs now : List (Option Device)) (active a s : ℕ) → seen e xs ≡ now → willing_at active a s (get_or now s None) ≡ willing_at active a s (get_or xs s None)
@@ -192,15 +208,26 @@ kinds_heard e more f active to slots xs now long is reached anew =
     (λ s l. kinds_of_heard e more f active to slots s (get_or xs s None) (anew s l) (reached s l ∙ ap (in_slot (reaches_at active to s)) (now_at e xs now s is)))
     ∙ ap (changed (λ s place. option_map (λ d. if reaches_at active to s d then under (f d.kinds) d else d) place)) is
 
--- a command that changes those whom it reaches
-pub reached_alike : (h : Device → Device) (active : ℕ) (to : Option ℕ) (slots : SlotSet) (s : ℕ) (o : Option Device) → has slots s ≡ in_slot (reaches_at active to s) o
-    → within slots (λ k place. option_map h place) s o ≡ option_map (λ d. if reaches_at active to s d then h d else d) o
-reached_alike h active to slots s None e = elim (has slots s) as (λ b. ◌≡◌ {A = Option Device} (if b then None else None) None) [ true ↦ refl | false ↦ refl ]
-reached_alike h active to slots s (Some d) e = ap (λ b. if b then Some (h d) else Some d) e ∙ go (reaches_at active to s d)
+-- those who pass the test of their slot are changed
+passing_alike : (h : Device → Device) (test : ℕ → Device → Bool) (slots : SlotSet) (s : ℕ) (o : Option Device) → has slots s ≡ in_slot (test s) o
+    → within slots (λ k place. option_map h place) s o ≡ option_map (λ d. if test s d then h d else d) o
+passing_alike h test slots s None e = elim (has slots s) as (λ b. ◌≡◌ {A = Option Device} (if b then None else None) None) [ true ↦ refl | false ↦ refl ]
+passing_alike h test slots s (Some d) e = ap (λ b. if b then Some (h d) else Some d) e ∙ go (test s d)
   where
     go : (b : Bool) → (if b then Some (h d) else Some d) ≡ Some (if b then h d else d)
     go true = refl
     go false = refl
+
+-- a command that changes those whom it reaches
+pub reached_alike : (h : Device → Device) (active : ℕ) (to : Option ℕ) (slots : SlotSet) (s : ℕ) (o : Option Device) → has slots s ≡ in_slot (reaches_at active to s) o
+    → within slots (λ k place. option_map h place) s o ≡ option_map (λ d. if reaches_at active to s d then h d else d) o
+reached_alike h active to = passing_alike h (reaches_at active to)
+
+-- these slots are changed, whose devices are those that pass the test
+pub passing_changed : (h : Device → Device) (test : ℕ → Device → Bool) (slots : SlotSet) (now more : List (Option Device)) → length now ≡ SLOTS → ((s : ℕ) → s < SLOTS → has slots s ≡ in_slot (test s) (get_or now s None))
+    → more ≡ changed (within slots (λ k place. option_map h place)) now → more ≡ changed (λ s place. option_map (λ d. if test s d then h d else d) place) now
+passing_changed h test slots now more long are is =
+    narrowed (λ k place. option_map h place) (λ s place. option_map (λ d. if test s d then h d else d) place) slots now more long is (λ s l. passing_alike h test slots s (get_or now s None) (are s l))
 
 -- a command that changes nobody
 pub unheard : (active : ℕ) (to : Option ℕ) (now : List (Option Device)) → now ≡ changed (λ s place. option_map (λ d. if reaches_at active to s d then d else d) place) now
@@ -273,14 +300,23 @@ disabled_alike active to code words kinds now named (inl e) =
 disabled_alike active to code words kinds now named (inr e) =
     ap (λ k. changed (λ s place. option_map (λ d. if reaches_at active to s d then under (without_kinds d.kinds k) d else d) place) now) named ∙ ap (λ c. changed (heard_at active to c words) now) (sym e)
 
-pub unheard_alike : (active : ℕ) (to : Option ℕ) (code : Code) (words : List Word) (now : List (Option Device)) → (code ≡ Deftgts) ⊎ ((code ≡ Getacccr) ⊎ ((byte : ℕ) × (code ≡ Other byte))) → now ≡ changed (heard_at active to code words) now
+pub unheard_alike : (active : ℕ) (to : Option ℕ) (code : Code) (words : List Word) (now : List (Option Device))
+    → (code ≡ Deftgts) ⊎ ((code ≡ Setdasa) ⊎ ((code ≡ Setnewda) ⊎ ((code ≡ Getacccr) ⊎ ((byte : ℕ) × (code ≡ Other byte))))) → now ≡ changed (heard_at active to code words) now
 unheard_alike active to code words now (inl e) = unheard active to now ∙ ap (λ c. changed (heard_at active to c words) now) (sym e)
 unheard_alike active to code words now (inr (inl e)) = unheard active to now ∙ ap (λ c. changed (heard_at active to c words) now) (sym e)
-unheard_alike active to code words now (inr (inr e)) = unheard active to now ∙ ap (λ c. changed (heard_at active to c words) now) (sym e.1)
+unheard_alike active to code words now (inr (inr (inl e))) = unheard active to now ∙ ap (λ c. changed (heard_at active to c words) now) (sym e)
+unheard_alike active to code words now (inr (inr (inr (inl e)))) = unheard active to now ∙ ap (λ c. changed (heard_at active to c words) now) (sym e)
+unheard_alike active to code words now (inr (inr (inr (inr e)))) = unheard active to now ∙ ap (λ c. changed (heard_at active to c words) now) (sym e.1)
 
--- kinds of a device that is seen
-pub kinds_now : (e : Enabled) (xs now : List (Option Device)) (s : ℕ) (d : Device) → seen e xs ≡ now → get_or now s None ≡ Some d → kinds_in e s ≡ d.kinds
-kinds_now e xs now s d is h = sym (kinds_seen e xs s d (ap (λ ys. get_or ys s None) is ∙ h))
+-- a kind that is enabled for the slot's device
+pub kind_there : (e : Enabled) (xs now : List (Option Device)) (kind : KindSet → Bool) (present own both : SlotSet) (s : ℕ) → seen e xs ≡ now → IsSetOf (λ d. true) present xs → has own s ≡ kind (kinds_in e s)
+    → has both s ≡ (has present s && has own s) → s < SLOTS → has both s ≡ in_slot (λ d. kind d.kinds) (get_or now s None)
+kind_there e xs now kind present own both s is of enables joined l =
+    joined ∙ ((λ t. of s l t && enables t) ∙ (go (get_or xs s None) ∙ ap (in_slot (λ d. kind d.kinds)) (sym (now_at e xs now s is))))
+  where
+    go : (o : Option Device) → (in_slot (λ d. true) o && kind (kinds_in e s)) ≡ in_slot (λ d. kind d.kinds) (seen_in e s o)
+    go None = refl
+    go (Some d) = refl
 
 -- registers as they are read
 pulls_seen : (e : Enabled) (xs now : List (Option Device)) (active a : ℕ) (lost : Lost) (k bit : ℕ) → seen e xs ≡ now → PullsLow active a lost k bit xs → PullsLow active a lost k bit now

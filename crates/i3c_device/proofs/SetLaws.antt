@@ -1,9 +1,9 @@
 -- Sets of slots and the bits that stand for them.
-use Rattle.std.proofs.Common.{◌≡◌, ℕ, ◌-◌, ◌*◌, ◌%◌, ◌^◌, ◌<◌, true, false, ◌&&◌, ◌==◌, min, nat_le, if◌then◌else◌, inl, inr, sym, ap, ◌∙◌, subst, arith}
-use Rattle.std.proofs.lemmas.Bool.{and_left, cases_eq, cases_lt, cond-true, cond-false, eq-eqb, le-leb, lt-leb, ne_eqb}
+use Rattle.std.proofs.Common.{◌≡◌, ℕ, ◌-◌, ◌*◌, ◌%◌, ◌^◌, ◌<◌, true, false, ◌==◌, min, if◌then◌else◌, inl, inr, sym, ap, ◌∙◌, subst, arith}
+use Rattle.std.proofs.lemmas.Bool.{cases_eq, cond-true, cond-false, eq-eqb, ne_eqb}
 use Rattle.std.proofs.lemmas.Bool.Decides.{nat_tests}
 use Rattle.std.proofs.lemmas.Nat.{and_le_l}
-use Rattle.std.proofs.lemmas.Nat.Bits.{bit_at-lt, bit_at_and, bit_at_clear_other, bit_at_clear_same, bit_at_mask_below, bit_at_mask_inside, bit_at_set_other, bit_at_set_same, bit_at-trailing_zeros, ones_shl}
+use Rattle.std.proofs.lemmas.Nat.Bits.{bit_at_clear_other, bit_at_clear_same, bit_at_set_other, bit_at_set_same, bit_at-trailing_zeros}
 use Rattle.std.specs.Int.{bit_at, trailing_zeros, w16}
 use Rattle.std.specs.Int.RustNames.{bit_or}
 use lib.Bits.{bit_and}

@@ -4,7 +4,7 @@ use Rattle.i3c_base.specs.declared.identity.Identity.{Identity}
 use Rattle.i3c_base.specs.declared.range.TheConstants.{SLOTS}
 use Rattle.i3c_base.specs.declared.requests.Request.{Request}
 use Rattle.i3c_base.specs.Cutting.{Lost}
-use Rattle.i3c_base.specs.Frames.{overwritten}
+use Rattle.i3c_base.specs.Frames.{overwritten, readdressed, takes_static}
 use Rattle.i3c_base.specs.Numbers.{KindSet, number_of}
 use Rattle.i3c_base.specs.Round.{winner, wins}
 use Rattle.i3c_base.specs.Serve.{asks, rank, without}
@@ -31,6 +31,10 @@ reaches_at active (Some a) s d = not (s == active) && has_address a d
 -- these are the slots of the devices that a command reaches
 abbrev pub AreReached : ℕ → Option ℕ → SlotSet → List (Option Device) → Type 0
 AreReached active to slots devices = (s : ℕ) → s < SLOTS → has slots s ≡ in_slot (reaches_at active to s) (slice_index_or devices s None)
+
+-- these are the slots of the devices that take SETDASA at a static address
+abbrev pub AreTakers : ℕ → ℕ → SlotSet → List (Option Device) → Type 0
+AreTakers active f slots devices = (s : ℕ) → s < SLOTS → has slots s ≡ in_slot (takes_static active f s) (slice_index_or devices s None)
 
 -- it is a willing device at this address, other than the active controller
 abbrev pub willing_at : ℕ → ℕ → ℕ → Option Device → Bool
@@ -100,6 +104,14 @@ AreHearers slots devices = (s : ℕ) → s < SLOTS → has slots s ≡ in_slot (
 abbrev pub hears_as : ℕ → Option Device → Bool
 hears_as number place = in_slot (λ d. d.hearing && number_of d.identity == number) place
 
--- it after the devices in these slots won this address
+-- it after the devices in these slots took this address
 abbrev pub taken_at : SlotSet → ℕ → ℕ → Option Device → Option Device
 taken_at winners a s place = if has winners s then option_map (winner a) place else place
+
+-- it after the devices in these slots got another dynamic address
+abbrev pub readdressed_at : SlotSet → ℕ → ℕ → Option Device → Option Device
+readdressed_at slots a s place = if has slots s then option_map (readdressed a) place else place
+
+-- a device of these takes SETDASA at a static address, and isn't lost
+abbrev pub SomeTakes : ℕ → ℕ → Lost → List (Option Device) → Type 0
+SomeTakes active f lost devices = (s : ℕ) × (d : Device) × (slice_index_or devices s None ≡ Some d) × (takes_static active f s d ≡ true) × (lost s ≡ false)

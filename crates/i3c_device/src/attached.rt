@@ -1,4 +1,5 @@
-use crate::queues::copied;
+use crate::marks::NO_STATIC;
+use crate::queues::{are_same, copied};
 use arrayvec::ArrayVec;
 use i3c_base::{Addr7, Identity, REGISTERS, RaiseRefusal, Request, Setup, WAITING, Waiting};
 use i3c_header::key;
@@ -9,6 +10,7 @@ use std::marker::Model;
 pub(crate) struct Attached {
     identity: Identity,
     willing: bool,
+    fixed: Option<Addr7>,
     address: Option<Addr7>,
     waiting: ArrayVec<Waiting, WAITING>,
     join_wish: bool,
@@ -26,6 +28,7 @@ impl Model for Attached {
     ghost view = { λ d. record {
       identity = d.identity;
       willing = d.willing;
+      fixed = d.fixed;
       address = d.address;
       kinds = all_kinds;
       waiting = d.waiting.items;
@@ -39,23 +42,25 @@ impl Model for Attached {
 }
 
 impl Attached {
-    ghost use Rattle.std.specs.Prelude.{◌≡◌, ◌≤◌, is_none, suc, length, slice_get, MatchOption, MatchResult, OnErr, OnOk, Some, None, true};
+    ghost use Rattle.std.specs.Prelude.{◌≡◌, ◌≤◌, ◌↔◌, IsTrue, is_none, suc, length, slice_get, MatchOption, MatchResult, OnErr, OnOk, Some, None, true};
     ghost use Rattle.i3c_base.specs.declared.device.TheConstants.{REGISTERS as REGISTER_COUNT};
-    ghost use Rattle.i3c_base.specs.Frames.{overwritten, unaddressed_device};
+    ghost use Rattle.i3c_base.specs.Frames.{overwritten, readdressed, unaddressed_device};
     ghost use Rattle.i3c_base.specs.State.{attached};
     ghost use Rattle.i3c_base.specs.Serve.{without_front, without_join, without_role};
     ghost use Rattle.i3c_base.specs.Round.{hears, unhearing, winner};
     ghost use Rattle.i3c_device.specs.Addressing.{IsDynamic};
+    ghost use Rattle.i3c_device.specs.Marks.{static_mark};
     ghost use Rattle.i3c_device.specs.Wishing.{choice_of, key_of, wishes_interrupt, wishes_join, wishes_role};
     ghost use Rattle.i3c_device.specs.Raising.{front_byte, interrupting_if, next_fault, raise_fault, with_raise};
 
-    /// A device that was just attached: its registers are `00`.
-    pub fn new(setup: Setup) -> Attached
-        ensures { result ≡ attached setup }
+    /// A device that was just attached, with this static address: its registers are `00`.
+    pub fn new(setup: Setup, fixed: Option<Addr7>) -> Attached
+        ensures { result ≡ attached fixed setup }
     {
         Attached {
             identity: setup.identity,
             willing: setup.willing,
+            fixed,
             address: None,
             waiting: ArrayVec::new(),
             join_wish: false,
@@ -72,6 +77,7 @@ impl Attached {
         Attached {
             identity: self.identity,
             willing: self.willing,
+            fixed: self.fixed,
             address: self.address,
             waiting: copied(&self.waiting),
             join_wish: self.join_wish,
@@ -79,6 +85,36 @@ impl Attached {
             hearing: self.hearing,
             registers: self.registers,
         }
+    }
+
+    /// Whether the other device is the same: clauses see no difference between the two.
+    pub fn is_same(&self, other: &Attached) -> bool
+        ensures same { IsTrue result ↔ (self.now ≡ other.now) }
+        ensures kinds { self.now.kinds ≡ other.now.kinds }
+    {
+        self.identity == other.identity
+            && self.willing == other.willing
+            && self.fixed == other.fixed
+            && self.has_same_wishes(other)
+            && self.has_same_data(other)
+    }
+
+    /// Whether the other device has the same dynamic address and the same wishes, and either both or neither hear the open
+    /// session.
+    fn has_same_wishes(&self, other: &Attached) -> bool
+        ensures { IsTrue result ↔ ((self.now.address ≡ other.now.address) × (self.now.join_wish ≡ other.now.join_wish) × (self.now.role_wish ≡ other.now.role_wish) × (self.now.hearing ≡ other.now.hearing)) }
+    {
+        self.address == other.address
+            && self.join_wish == other.join_wish
+            && self.role_wish == other.role_wish
+            && self.hearing == other.hearing
+    }
+
+    /// Whether the other device has the same waiting interrupts and the same registers.
+    fn has_same_data(&self, other: &Attached) -> bool
+        ensures { IsTrue result ↔ ((self.now.waiting ≡ other.now.waiting) × (self.now.registers ≡ other.now.registers)) }
+    {
+        are_same(&self.waiting, &other.waiting) && self.registers == other.registers
     }
 
     /// What the device is.
@@ -95,7 +131,14 @@ impl Attached {
         self.hearing
     }
 
-    /// Its address, if it has one.
+    /// Its static address, if it has one.
+    pub fn fixed(&self) -> Option<Addr7>
+        ensures { result ≡ self.now.fixed }
+    {
+        self.fixed
+    }
+
+    /// Its dynamic address, if it has one.
     pub fn address(&self) -> Option<Addr7>
         ensures { result ≡ self.now.address }
     {
@@ -140,7 +183,7 @@ impl Attached {
         }
     }
 
-    /// All addresses are reset: it has none any more, and no wish for the role (I3C Basic 5.1.9.3.3).
+    /// All dynamic addresses are reset: it has none any more, and no wish for the role (I3C Basic 5.1.9.3.3).
     pub fn lose_address(&mut self)
         ensures { self.new ≡ unaddressed_device self.old }
     {
@@ -189,7 +232,18 @@ impl Attached {
         }
     }
 
-    /// It has won this address, hears no more and has lost its join wish. No dynamic address is below `08`.
+    /// The mark of its static address, or of none.
+    pub(crate) fn static_mark(&self) -> u8
+        ensures { result ≡ static_mark self.now.fixed }
+    {
+        match self.fixed {
+            Some(address) => address.get(),
+            None => NO_STATIC,
+        }
+    }
+
+    /// It takes this address, which it won in a round or was set by SETDASA: it hears no more and has lost its join wish.
+    /// No dynamic address is below `08`.
     pub fn take_address(&mut self, address: Addr7)
         requires { 8 ≤ address }
         ensures { self.new ≡ winner address self.old }
@@ -197,6 +251,15 @@ impl Attached {
         self.address = Some(address);
         self.hearing = false;
         self.join_wish = false;
+    }
+
+    /// It has this dynamic address from now on, and nothing else of it changes (SETNEWDA, I3C Basic 5.1.9.3.11). No dynamic
+    /// address is below `08`.
+    pub fn readdress(&mut self, address: Addr7)
+        requires { 8 ≤ address }
+        ensures { self.new ≡ readdressed address self.old }
+    {
+        self.address = Some(address);
     }
 
     /// Whether it may raise an interrupt with this byte now, where its interrupts are enabled or aren't: the first fault,

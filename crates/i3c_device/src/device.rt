@@ -33,12 +33,13 @@ impl Device {
     ghost use Rattle.i3c_device.specs.Hearing.{heard};
     ghost use Rattle.i3c_device.specs.Raising.{front_byte, next_fault, raise_fault, wishing_join, wishing_role, with_raise};
 
-    /// A device that was just attached: all kinds of its events are enabled, and its registers are `00`.
-    pub fn new(setup: Setup) -> Device
-        ensures { result ≡ attached setup }
+    /// A device that was just attached, with this static address: all kinds of its events are enabled, and its registers
+    /// are `00`.
+    pub fn new(setup: Setup, fixed: Option<Addr7>) -> Device
+        ensures { result ≡ attached fixed setup }
     {
         Device {
-            attached: Attached::new(setup),
+            attached: Attached::new(setup, fixed),
             kinds: OwnKinds::all(),
         }
     }
@@ -57,7 +58,8 @@ impl Device {
     }
 
     /// It hears a command and its words (I3C Basic 5.1.9.3): ENEC and DISEC enable and disable the kinds of their byte,
-    /// ENTDAA opens a session, and RSTDAA takes its address and its wish for the role. Other codes change nothing of it.
+    /// ENTDAA opens a session, and RSTDAA takes its address and its wish for the role. Other codes change nothing of it: what
+    /// SETDASA gives it, it takes by `take_address`.
     pub fn hear(&mut self, code: Code, words: &[Word])
         ensures { self.new ≡ heard code words.now self.old }
     {
@@ -66,7 +68,7 @@ impl Device {
             Code::Disec | Code::DisecDirect => self.kinds = self.kinds.without(named(words)),
             Code::Entdaa => self.attached.hear_opening(),
             Code::Rstdaa => self.attached.lose_address(),
-            Code::Deftgts | Code::Getacccr | Code::Other(_) => {}
+            Code::Deftgts | Code::Setdasa | Code::Setnewda | Code::Getacccr | Code::Other(_) => {}
         }
     }
 
@@ -84,7 +86,14 @@ impl Device {
         self.attached.is_hearing()
     }
 
-    /// Its address, if it has one.
+    /// Its static address, if it has one.
+    pub fn fixed(&self) -> Option<Addr7>
+        ensures { result ≡ self.now.fixed }
+    {
+        self.attached.fixed()
+    }
+
+    /// Its dynamic address, if it has one.
     pub fn address(&self) -> Option<Addr7>
         ensures { result ≡ self.now.address }
     {
@@ -151,7 +160,8 @@ impl Device {
         self.attached.write(bytes);
     }
 
-    /// It has won this address, hears no more and has lost its join wish. No dynamic address is below `08`.
+    /// It takes this address, which it won in a round or was set by SETDASA: it hears no more and has lost its join wish.
+    /// No dynamic address is below `08`.
     pub fn take_address(&mut self, address: Addr7)
         requires { 8 ≤ address }
         ensures { self.new ≡ winner address self.old }

@@ -6,8 +6,8 @@ use crate::occupants::Occupants;
 use crate::places::{address_in, byte_in, front_in, identity_in, waiting_in};
 use crate::sets::{SlotSet, lost_slots};
 use crate::walks::{
-    Accepted, Ended, FrontLost, JoinWished, Lost, Opened, Reset, RoleLost, RoleWished, SlotUpdate,
-    Willing, Won, Written,
+    Accepted, Ended, FrontLost, JoinWished, Lost, Opened, Readdressed, Reset, RoleLost, RoleWished,
+    SlotUpdate, Willing, Won, Written,
 };
 use i3c_base::{
     Addr7, Change, Cuts, Identity, Kinds, REGISTERS, RaiseRefusal, Request, Slot, Waiting,
@@ -44,7 +44,7 @@ impl Devices {
     ghost use Rattle.i3c_base.specs.Frames.{changed_kinds};
     ghost use Rattle.i3c_base.specs.Places.{changed};
     ghost use Rattle.i3c_device.specs.Holding.{address_in, byte_in, front_in, identity_in, waiting_in};
-    ghost use Rattle.i3c_device.specs.Walks.{accepted_at, heard_at, left_at, taken_at, AreDrivers, AreHearers, AreReached, AreWillingLost, IsFirstDriven, IsLowestWilling, NobodyDrives, SomeReached, rekinded_at, written_at};
+    ghost use Rattle.i3c_device.specs.Walks.{accepted_at, heard_at, left_at, readdressed_at, taken_at, AreDrivers, AreHearers, AreReached, AreTakers, AreWillingLost, IsFirstDriven, IsLowestWilling, NobodyDrives, SomeReached, rekinded_at, written_at};
     ghost use Rattle.i3c_device.specs.Reading.{AreReadOf, IsRegisterOf};
     ghost use Rattle.i3c_device.specs.Sets.{has};
     ghost use Rattle.i3c_device.specs.Wishing.{asks_some};
@@ -62,6 +62,52 @@ impl Devices {
             occupants: Occupants::new(),
             enabled: Enabled::new(),
         }
+    }
+
+    /// The same devices once more.
+    pub fn copied(&self) -> Devices
+        ensures { result ≡ self.now }
+    {
+        Devices {
+            occupants: self.occupants.copied(),
+            enabled: self.enabled,
+        }
+    }
+
+    /// Whether the other devices are the same: each slot holds the same device in both, or no device in either.
+    pub fn is_same(&self, other: &Devices) -> bool
+        ensures { IsTrue result ↔ (self.now ≡ other.now) }
+    {
+        let mut left = self.present().or(other.present());
+        while let Some(index) = left.take_lowest() {
+            if !self.is_same_in(other, Slot::from_index(index)) {
+                return false;
+            }
+        }
+        true
+    }
+
+    /// Whether a slot holds the same device in both, with the same kinds of events enabled, or no device in either.
+    fn is_same_in(&self, other: &Devices, slot: Slot) -> bool
+        ensures { IsTrue result ↔ (slice_index_or self.now slot None ≡ slice_index_or other.now slot None) }
+    {
+        match (self.occupants.at(slot), other.occupants.at(slot)) {
+            (None, None) => true,
+            (Some(device), Some(twin)) => {
+                let index = slot.index();
+                device.is_same(twin) && self.enabled.at(index).are_same(other.enabled.at(index))
+            }
+            (None, Some(_)) => false,
+            (Some(_), None) => false,
+        }
+    }
+
+    /// The slots that hold a device.
+    fn present(&self) -> SlotSet
+        ensures present { (s : ℕ) → s < SLOT_COUNT → has result s ≡ is_some (slice_index_or self.now s None) }
+        ensures slots { length self.now ≡ SLOT_COUNT }
+    {
+        self.occupants.marks().present
     }
 
     /// How many slots there are.
@@ -128,25 +174,28 @@ impl Devices {
         byte_in(self.occupants.at(slot))
     }
 
-    /// Whether interrupts of the slot's device are enabled.
+    /// Whether a slot holds a device whose interrupts are enabled.
     pub fn may_interrupt(&self, slot: Slot) -> bool
-        ensures { (d : DeviceState) → slice_index_or self.now slot None ≡ Some d → result ≡ d.kinds.interrupt }
+        ensures { result ≡ in_slot (λ d. d.kinds.interrupt) (slice_index_or self.now slot None) }
     {
-        self.enabled.interrupts.has(slot.index())
+        let present = self.occupants.marks().present;
+        present.and(self.enabled.interrupts).has(slot.index())
     }
 
-    /// Whether joins of the slot's device are enabled.
+    /// Whether a slot holds a device whose joins are enabled.
     pub fn may_join(&self, slot: Slot) -> bool
-        ensures { (d : DeviceState) → slice_index_or self.now slot None ≡ Some d → result ≡ d.kinds.join }
+        ensures { result ≡ in_slot (λ d. d.kinds.join) (slice_index_or self.now slot None) }
     {
-        self.enabled.joins.has(slot.index())
+        let present = self.occupants.marks().present;
+        present.and(self.enabled.joins).has(slot.index())
     }
 
-    /// Whether role requests of the slot's device are enabled.
+    /// Whether a slot holds a device whose role requests are enabled.
     pub fn may_ask_role(&self, slot: Slot) -> bool
-        ensures { (d : DeviceState) → slice_index_or self.now slot None ≡ Some d → result ≡ d.kinds.role }
+        ensures { result ≡ in_slot (λ d. d.kinds.role) (slice_index_or self.now slot None) }
     {
-        self.enabled.roles.has(slot.index())
+        let present = self.occupants.marks().present;
+        present.and(self.enabled.roles).has(slot.index())
     }
 
     /// A device enters a slot.
@@ -306,6 +355,15 @@ impl Devices {
         }
     }
 
+    /// The slots of the devices that take SETDASA at a static address: they have it and no dynamic address (I3C Basic
+    /// 5.1.9.3.10). The active controller is none of them.
+    pub fn unaddressed_at(&self, active: Slot, fixed: Addr7) -> SlotSet
+        ensures takers { AreTakers active fixed result self.now }
+        ensures slots { length self.now ≡ SLOT_COUNT }
+    {
+        self.occupants.unaddressed_at(active, fixed)
+    }
+
     /// The devices that a command reaches, all but the active controller or those of them at one address, hear it and
     /// its words (I3C Basic 5.1.9.3). What they keep of a list (DEFTGTS) isn't part of it: the bus has that.
     pub fn hear(&mut self, active: Slot, to: &Option<Addr7>, code: Code, words: &[Word])
@@ -321,7 +379,7 @@ impl Devices {
             }
             Code::Entdaa => self.occupants.each(reached, &Opened),
             Code::Rstdaa => self.occupants.each(reached, &Reset),
-            Code::Deftgts | Code::Getacccr | Code::Other(_) => {}
+            Code::Deftgts | Code::Setdasa | Code::Setnewda | Code::Getacccr | Code::Other(_) => {}
         }
     }
 
@@ -360,12 +418,22 @@ impl Devices {
         self.occupants.marks().hearing
     }
 
-    /// The devices in these slots won a round: each takes the address (I3C Basic 5.1.4.2).
+    /// The devices in these slots take the address, which they won in a round (I3C Basic 5.1.4.2) or were set by SETDASA:
+    /// each hears no more and has lost its join wish. No dynamic address is below `08`.
     pub fn take_address(&mut self, winners: SlotSet, address: Addr7)
         requires { 8 ≤ address }
         ensures { self.new ≡ changed (taken_at winners address) self.old }
     {
         self.occupants.each(winners, &Won { address });
+    }
+
+    /// The devices in these slots have another dynamic address, and nothing else of them changes (SETNEWDA, I3C Basic
+    /// 5.1.9.3.11). No dynamic address is below `08`.
+    pub fn readdress(&mut self, slots: SlotSet, address: Addr7)
+        requires { 8 ≤ address }
+        ensures { self.new ≡ changed (readdressed_at slots address) self.old }
+    {
+        self.occupants.each(slots, &Readdressed { address });
     }
 
     /// A frame ends: the devices lost by this bit are gone.

@@ -1,6 +1,6 @@
 use crate::attached::Attached;
 use crate::marks::Marks;
-use crate::places::{raise, register_from};
+use crate::places::{copied, raise, register_from};
 use crate::sets::SlotSet;
 use crate::walks::{SlotUpdate, Sought, happen_in};
 use i3c_base::{Addr7, Cuts, RaiseRefusal, SLOTS, Slot};
@@ -36,7 +36,9 @@ impl Occupants {
     ghost use Rattle.i3c_device.specs.Marks.{AreMarks};
     ghost use Rattle.i3c_device.specs.Raising.{interrupting_if, next_fault, with_raise};
     ghost use Rattle.i3c_device.specs.Reading.{AreAt, IsRegisterOf};
-    ghost use Rattle.std.specs.Prelude.{◌≡◌, ◌<◌, is_some, length, suc, true, Some, None, option_map, slice_index_or, slice_set, MatchOption, MatchResult, OnOk, OnErr};
+    ghost use Rattle.i3c_device.specs.Sets.{has};
+    ghost use Rattle.i3c_device.specs.Walks.{AreTakers};
+    ghost use Rattle.std.specs.Prelude.{◌≡◌, ◌<◌, ◌&&◌, ℕ, is_some, length, suc, true, Some, None, option_map, slice_index_or, slice_set, MatchOption, MatchResult, OnOk, OnErr};
 
     /// Empty slots.
     pub fn new() -> Occupants
@@ -45,6 +47,21 @@ impl Occupants {
         Occupants {
             places: std::array::from_fn(|_| None),
             marks: Marks::new(),
+        }
+    }
+
+    /// The same devices once more.
+    pub fn copied(&self) -> Occupants
+        ensures { result ≡ self.now }
+    {
+        Occupants {
+            places: std::array::from_fn(
+                |index|
+                    requires { index < SLOT_COUNT }
+                    ensures { result ≡ slice_index_or self.entry.now index None }
+                { copied(&self.places[index]) },
+            ),
+            marks: self.marks,
         }
     }
 
@@ -115,6 +132,18 @@ impl Occupants {
         }
         let addressed = self.marks.present.without(self.marks.unaddressed);
         targets.and(addressed).but(active)
+    }
+
+    /// The slots of the devices that take SETDASA at this static address. The active controller is none of them.
+    pub fn unaddressed_at(&self, active: Slot, fixed: Addr7) -> SlotSet
+        ensures takers { AreTakers active fixed result self.now }
+        ensures slots { length self.now ≡ SLOT_COUNT }
+    {
+        let mut takers = SlotSet::none();
+        for (index, mark) in self.marks.statics.iter().enumerate() {
+            takers = takers.with(index, *mark == fixed.get());
+        }
+        takers.and(self.marks.unaddressed).but(active)
     }
 
     /// A register of these slots' devices, as the lines give it from this bit of a frame on.

@@ -1,18 +1,30 @@
 ghost use Rattle.std.specs.Prelude.{◌≡◌, ◌≤◌, ◌<◌, ◌+◌, ◌^◌, ◌&&◌, ℕ, suc, true, false, Some, None, option_map, length, is_none, is_some, MatchResult, OnErr, OnOk};
 ghost use Rattle.i3c_base.specs.declared.device.TheConstants.{REGISTERS as REGISTER_COUNT};
 ghost use Rattle.i3c_base.specs.declared.range.TheConstants.{SLOTS as SLOT_COUNT};
-ghost use Rattle.i3c_base.specs.Frames.{unaddressed_device};
+ghost use Rattle.i3c_base.specs.Frames.{readdressed, unaddressed_device};
 ghost use Rattle.i3c_base.specs.Round.{hears, unhearing, winner};
 ghost use Rattle.i3c_base.specs.Serve.{without_front, without_role};
 ghost use Rattle.i3c_base.specs.State.{Device as DeviceState, in_slot};
+ghost use Rattle.i3c_device.specs.Addressing.{IsDynamicIn};
 ghost use Rattle.i3c_device.specs.Holding.{address_in, byte_in, front_in, identity_in, waiting_in};
+ghost use Rattle.i3c_device.specs.Marks.{key_in};
 ghost use Rattle.i3c_device.specs.Raising.{interrupting_if, next_fault, wishing_join, wishing_role, with_raise};
 ghost use Rattle.i3c_device.specs.Reading.{IsDrivenFrom, IsRegisterFrom};
 ghost use Rattle.i3c_device.specs.Walks.{reaches_at, taken_from, willing_at, written_at};
-ghost use Rattle.i3c_device.specs.Wishing.{wishes_interrupt};
+ghost use Rattle.i3c_device.specs.Wishing.{wishes_interrupt, wishes_join, wishes_role};
 
 use crate::attached::Attached;
 use i3c_base::{Addr7, Identity, RaiseRefusal, Request, Slot, Waiting};
+
+/// The same place once more.
+pub(crate) fn copied(place: &Option<Attached>) -> Option<Attached>
+    ensures { result ≡ place.now }
+{
+    match place {
+        Some(device) => Some(device.copied()),
+        None => None,
+    }
+}
 
 /// What the device here is, if there is one.
 pub(crate) fn identity_in(place: &Option<Attached>) -> Option<Identity>
@@ -228,7 +240,7 @@ pub(crate) fn open(place: &mut Option<Attached>)
     }
 }
 
-/// All addresses are reset: the device here has none any more.
+/// All dynamic addresses are reset: the device here has none any more.
 pub(crate) fn reset(place: &mut Option<Attached>)
     ensures { place.new ≡ option_map unaddressed_device place.old }
 {
@@ -266,7 +278,48 @@ pub(crate) fn wishes_interrupt(place: &Option<Attached>) -> bool
     }
 }
 
-/// The device here, if there is one, has won this address.
+/// Whether a device that wishes for the role, and has an address, stands in this slot.
+pub(crate) fn wishes_role(place: &Option<Attached>) -> bool
+    ensures { result ≡ in_slot wishes_role place.now }
+{
+    match place {
+        Some(device) => device.wishes_role(),
+        None => false,
+    }
+}
+
+/// Whether a device that wishes to join, and has no address, stands in this slot.
+pub(crate) fn wishes_join(place: &Option<Attached>) -> bool
+    ensures { result ≡ in_slot wishes_join place.now }
+{
+    match place {
+        Some(device) => device.wishes_join(),
+        None => false,
+    }
+}
+
+/// The key of the request that the device here drives when it drives one.
+pub(crate) fn key_in(place: &Option<Attached>) -> u8
+    ensures key { result ≡ key_in place.now }
+    ensures dynamic { IsDynamicIn place.now }
+{
+    match place {
+        Some(device) => device.key(),
+        None => 0,
+    }
+}
+
+/// The device here, if there is one, has another dynamic address.
+pub(crate) fn readdress(place: &mut Option<Attached>, address: Addr7)
+    requires { 8 ≤ address }
+    ensures { place.new ≡ option_map (readdressed address) place.old }
+{
+    if let Some(device) = place {
+        device.readdress(address);
+    }
+}
+
+/// The device here, if there is one, takes this address.
 pub(crate) fn win(place: &mut Option<Attached>, address: Addr7)
     requires { 8 ≤ address }
     ensures { place.new ≡ option_map (winner address) place.old }

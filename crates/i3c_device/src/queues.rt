@@ -1,4 +1,4 @@
-ghost use Rattle.std.specs.Prelude.{◌≡◌};
+ghost use Rattle.std.specs.Prelude.{◌≡◌, ◌↔◌, IsTrue};
 
 use arrayvec::ArrayVec;
 use i3c_base::{WAITING, Waiting};
@@ -12,4 +12,14 @@ pub(crate) fn copied(waiting: &ArrayVec<Waiting, WAITING>) -> ArrayVec<Waiting, 
         queue.push(*interrupt);
     }
     queue
+}
+
+/// Whether the same interrupts wait in both, in the same order.
+pub(crate) fn are_same(
+    waiting: &ArrayVec<Waiting, WAITING>,
+    others: &ArrayVec<Waiting, WAITING>,
+) -> bool
+    ensures { IsTrue result ↔ (waiting.now.items ≡ others.now.items) }
+{
+    waiting.as_slice() == others.as_slice()
 }

@@ -20,12 +20,19 @@ impl SlotSet {
         SlotSet { bits: 0 }
     }
 
-    /// Whether a slot is in it.
+    /// Whether the slot with this index is in it.
     pub(crate) fn has(self, index: usize) -> bool
         requires { index < SLOT_COUNT }
         ensures { result ≡ has self index }
     {
         self.bits >> index & 1 == 1
+    }
+
+    /// Whether a slot is in it.
+    pub fn contains(self, slot: Slot) -> bool
+        ensures { result ≡ has self slot }
+    {
+        self.has(slot.index())
     }
 
     /// The set in which a slot is, or isn't.

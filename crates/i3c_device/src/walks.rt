@@ -1,7 +1,7 @@
 ghost use Rattle.std.specs.Prelude.{◌≡◌, ◌≤◌, ◌<◌, ℕ, Bool, List, Option, None, false, length, option_map, slice_index_or, slice_set};
 ghost use Rattle.i3c_base.specs.declared.device.TheConstants.{REGISTERS as REGISTER_COUNT};
 ghost use Rattle.i3c_base.specs.declared.range.TheConstants.{SLOTS as SLOT_COUNT};
-ghost use Rattle.i3c_base.specs.Frames.{unaddressed_device};
+ghost use Rattle.i3c_base.specs.Frames.{readdressed, unaddressed_device};
 ghost use Rattle.i3c_base.specs.Round.{hears, unhearing, winner};
 ghost use Rattle.i3c_base.specs.Serve.{without_front, without_role};
 ghost use Rattle.i3c_base.specs.State.{Device as DeviceState};
@@ -12,8 +12,8 @@ ghost use Rattle.i3c_device.specs.Walks.{taken_from, willing_at, written_at};
 use crate::attached::Attached;
 use crate::marks::Marks;
 use crate::places::{
-    accept, is_willing, lose_front, lose_role_wish, open, reaches, reset, silence, win, wish_join,
-    wish_role, write,
+    accept, is_willing, lose_front, lose_role_wish, open, reaches, readdress, reset, silence, win,
+    wish_join, wish_role, write,
 };
 use i3c_base::{Addr7, Request, Slot};
 
@@ -144,7 +144,7 @@ impl SlotUpdate for RoleLost {
     }
 }
 
-/// All addresses are reset.
+/// All dynamic addresses are reset.
 #[derive(Drop)]
 pub(crate) struct Reset;
 
@@ -157,6 +157,10 @@ impl SlotUpdate for Reset {
 
     fn happen(&self, place: &mut Option<Attached>, _index: usize) {
         reset(place);
+    }
+
+    fn noted(&self, marks: Marks, index: usize, place: &Option<Attached>) -> Marks {
+        marks.reset(index, place)
     }
 }
 
@@ -200,7 +204,7 @@ impl SlotUpdate for Ended {
     }
 }
 
-/// The device won this address in a round. No dynamic address is below `08`.
+/// The device takes this address, which it won in a round or was set. No dynamic address is below `08`.
 #[derive(Drop)]
 pub(crate) struct Won {
     pub address: Addr7,
@@ -216,6 +220,29 @@ impl SlotUpdate for Won {
 
     fn happen(&self, place: &mut Option<Attached>, _index: usize) {
         win(place, self.address);
+    }
+
+    fn noted(&self, marks: Marks, index: usize, place: &Option<Attached>) -> Marks {
+        marks.won(index, place)
+    }
+}
+
+/// The device has another dynamic address. None is below `08`.
+#[derive(Drop)]
+pub(crate) struct Readdressed {
+    pub address: Addr7,
+    ghost dynamic: { 8 ≤ address },
+}
+
+impl SlotUpdate for Readdressed {
+    ghost after = { λ h s place. option_map (readdressed h.address) place };
+
+    fn concerns(&self, _place: &Option<Attached>, _index: usize) -> bool {
+        true
+    }
+
+    fn happen(&self, place: &mut Option<Attached>, _index: usize) {
+        readdress(place, self.address);
     }
 }
 

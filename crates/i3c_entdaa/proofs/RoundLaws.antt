@@ -33,14 +33,14 @@ unmapped f (Some x) e = absurd (none-some (f x) (sym e))
 lvr_at : (st : State) (table : Table) (a : ℕ) → IsTable st table → slice_index_or table.legacy a None ≡ option_map (λ (t : LegacyTarget). t.lvr) (slice_index_or st.legacy a None)
 lvr_at st table a is = ap (λ ls. slice_index_or ls a None) is.1 ∙ get_or-map (option_map (λ (t : LegacyTarget). t.lvr)) st.legacy a None
 
-pub pickable_here : (st : State) (table : Table) (a : ℕ) → IsTable st table → IsPickableIn table.given table.legacy a → IsPickable st a
+pub pickable_here : (st : State) (table : Table) (a : ℕ) → IsTable st table → IsPickableIn table.given table.legacy table.declared a → IsPickable st a
 pickable_here st table a is p =
-    (p.0, ap (λ es. slice_index_or es a None) (sym is.0) ∙ p.1, unmapped (λ (t : LegacyTarget). t.lvr) (slice_index_or st.legacy a None) (sym (lvr_at st table a is) ∙ p.2))
+    (p.0, ap (λ es. slice_index_or es a None) (sym is.0) ∙ p.1, unmapped (λ (t : LegacyTarget). t.lvr) (slice_index_or st.legacy a None) (sym (lvr_at st table a is) ∙ p.2), ap (λ ds. slice_index_or ds a None) (sym is.3) ∙ p.3)
 
-pub pickable_there : (st : State) (table : Table) (a : ℕ) → IsTable st table → IsPickable st a → IsPickableIn table.given table.legacy a
-pickable_there st table a is p = (p.0, ap (λ es. slice_index_or es a None) is.0 ∙ p.1, lvr_at st table a is ∙ ap (option_map (λ (t : LegacyTarget). t.lvr)) p.2)
+pub pickable_there : (st : State) (table : Table) (a : ℕ) → IsTable st table → IsPickable st a → IsPickableIn table.given table.legacy table.declared a
+pickable_there st table a is p = (p.0, ap (λ es. slice_index_or es a None) is.0 ∙ p.1, lvr_at st table a is ∙ ap (option_map (λ (t : LegacyTarget). t.lvr)) p.2, ap (λ ds. slice_index_or ds a None) is.3 ∙ p.3)
 
-pick_here : (st : State) (table : Table) (a : ℕ) → IsTable st table → IsPickIn table.given table.legacy a → IsPick st a
+pick_here : (st : State) (table : Table) (a : ℕ) → IsTable st table → IsPickIn table.given table.legacy table.declared a → IsPick st a
 pick_here st table a is p = (pickable_here st table a is p.0, λ b l q. p.1 b l (pickable_there st table b is q))
 
 -- the address that the table has for an identity
@@ -57,11 +57,11 @@ emptied_here st table lost devices left same is e =
 
 -- the same after the winners took an address
 assigned_here : (st : State) (table after : Table) (lost : Lost) (i : Identity) (a : ℕ) (devices taken left : List (Option Device)) → st.devices ≡ devices → IsTable st table
-    → taken ≡ changed (assigned_at lost i a) devices → left ≡ changed (left_at lost) taken → after ≡ record table { given = set table.given a (Some (kept_entry_of i)); listed = false }
+    → taken ≡ changed (assigned_at lost i a) devices → left ≡ changed (left_at lost) taken → after ≡ record table { given = set table.given a (Some (kept_entry_of table.declared i)); listed = false }
     → record st { devices = left; given = after.given; listed = after.listed } ≡ emptied lost (assigned lost i a st)
 assigned_here st table after lost i a devices taken left same is e f put =
     let gone : left ≡ changed (left_at lost) (changed (assigned_at lost i a) st.devices) = f ∙ ap (changed (left_at lost)) (e ∙ ap (changed (assigned_at lost i a)) (sym same)) in
-    let given : after.given ≡ set st.given a (Some (kept_entry_of i)) = ap (λ (t : Table). t.given) put ∙ ap (λ es. set es a (Some (kept_entry_of i))) is.0 in
+    let given : after.given ≡ set st.given a (Some (kept_entry_of st.declared i)) = ap (λ (t : Table). t.given) put ∙ (λ t. set (is.0 t) a (Some (kept_entry_of (is.3 t) i))) in
     let listed : after.listed ≡ false = ap (λ (t : Table). t.listed) put in
     λ t. record st { devices = gone t; given = given t; listed = listed t }
 
@@ -113,7 +113,7 @@ any_hears : (st : State) (cuts : CutList) → IsHeard st cuts → AnyHears st
 any_hears st cuts heard = (heard.1.0, heard.1.1, heard.1.2)
 
 -- no address is left
-pub no_address_round : (st : State) (table : Table) (cuts : CutList) (devices : List (Option Device)) → st.devices ≡ devices → IsTable st table → ((a : ℕ) → ¬ IsPickableIn table.given table.legacy a)
+pub no_address_round : (st : State) (table : Table) (cuts : CutList) (devices : List (Option Device)) → st.devices ≡ devices → IsTable st table → ((a : ℕ) → ¬ IsPickableIn table.given table.legacy table.declared a)
     → Rounds st cuts RoundReply.NoAddress (record st { devices = devices; given = table.given; listed = table.listed })
 no_address_round st table cuts devices same is none = ((λ a p. none a (pickable_there st table a is p)), λ t. record st { devices = sym same t; given = is.0 t; listed = is.2 t })
 
@@ -122,13 +122,13 @@ pub heard_not : (st : State) (cuts : CutList) → AllHearersLost st (lost_by cut
 heard_not st cuts lost heard = both_ways (lost_by cuts 0 heard.1.0) heard.1.3 (lost heard.1.0 heard.1.1 heard.1.2)
 
 -- nobody acknowledged the header
-pub done_round : (st : State) (table : Table) (cuts : CutList) (picked : ℕ) (devices left : List (Option Device)) → st.devices ≡ devices → IsTable st table → IsPickIn table.given table.legacy picked
+pub done_round : (st : State) (table : Table) (cuts : CutList) (picked : ℕ) (devices left : List (Option Device)) → st.devices ≡ devices → IsTable st table → IsPickIn table.given table.legacy table.declared picked
     → AllHearersLost st (lost_by cuts 0) → left ≡ changed (left_at (lost_by cuts 0)) devices → Rounds st cuts RoundReply.Done (record st { devices = left; given = table.given; listed = table.listed })
 done_round st table cuts picked devices left same is pick lost e =
     ((picked, pickable_here st table picked is pick.0), lost, emptied_here st table (lost_by cuts 0) devices left same is e)
 
 -- nobody acknowledged the address
-pub nobody_round : (st : State) (table : Table) (cuts : CutList) (picked bits : ℕ) (devices left : List (Option Device)) (acknowledged : Bool) → st.devices ≡ devices → IsTable st table → IsPickIn table.given table.legacy picked
+pub nobody_round : (st : State) (table : Table) (cuts : CutList) (picked bits : ℕ) (devices left : List (Option Device)) (acknowledged : Bool) → st.devices ≡ devices → IsTable st table → IsPickIn table.given table.legacy table.declared picked
     → IsContest st cuts bits acknowledged → acknowledged ≡ false → left ≡ changed (left_at (lost_by cuts 73)) devices
     → Rounds st cuts RoundReply.Nobody (record st { devices = left; given = table.given; listed = table.listed })
 nobody_round st table cuts picked bits devices left acknowledged same is pick contest untook e =
@@ -153,8 +153,8 @@ won_here st cuts i bits acknowledged contest took number in_range =
     subst (λ (j : Identity). IsWinner st (lost_by cuts 73) j) same w.3
 
 pub assigned_round : (st : State) (table after : Table) (cuts : CutList) (i : Identity) (picked bits a : ℕ) (devices taken left : List (Option Device)) (acknowledged : Bool) → st.devices ≡ devices → IsTable st table
-    → IsPickIn table.given table.legacy picked → IsContest st cuts bits acknowledged → acknowledged ≡ true → number_of i ≡ bits → IsInRange i → IsAddressIn table i a
-    → taken ≡ changed (assigned_at (lost_by cuts 73) i a) devices → left ≡ changed (left_at (lost_by cuts 73)) taken → after ≡ record table { given = set table.given a (Some (kept_entry_of i)); listed = false }
+    → IsPickIn table.given table.legacy table.declared picked → IsContest st cuts bits acknowledged → acknowledged ≡ true → number_of i ≡ bits → IsInRange i → IsAddressIn table i a
+    → taken ≡ changed (assigned_at (lost_by cuts 73) i a) devices → left ≡ changed (left_at (lost_by cuts 73)) taken → after ≡ record table { given = set table.given a (Some (kept_entry_of table.declared i)); listed = false }
     → Rounds st cuts (RoundReply.Assigned a i) (record st { devices = left; given = after.given; listed = after.listed })
 assigned_round st table after cuts i picked bits a devices taken left acknowledged same is pick contest took number in_range address e f put = (
   (picked, pickable_here st table picked is pick.0),

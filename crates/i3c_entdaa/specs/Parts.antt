@@ -14,7 +14,7 @@ use Rattle.i3c_entdaa.specs.Rounds.{IsContested, IsHeard, IsTaken}
 
 -- the address that a table has for an identity: the one kept for it, else the pick
 abbrev pub IsAddressIn : Table → Identity → ℕ → Type 0
-IsAddressIn table i a = IsKeptIn table.given i a ⊎ (IsUnknownIn table.given i × IsPickIn table.given table.legacy a)
+IsAddressIn table i a = IsKeptIn table.given i a ⊎ (IsUnknownIn table.given i × IsPickIn table.given table.legacy table.declared a)
 
 -- a contest behind an acknowledged header read these bits, and the address byte after them is acknowledged or not
 pub record IsContest (st : State) (cuts : CutList) (bits : ℕ) (acknowledged : Bool) : Type 0 where

@@ -16,7 +16,7 @@ use i3c_table::{Row, Table};
 
 /// The address that the controller sends to this identity: the one kept for it, else the one that it picked.
 fn address_for(table: &Table, identity: &Identity, picked: Addr7) -> Addr7
-    requires { IsPickIn table.now.given table.now.legacy picked }
+    requires { IsPickIn table.now.given table.now.legacy table.now.declared picked }
     ensures chosen { IsAddressIn table.now identity.now result }
     ensures dynamic { 8 ≤ result }
 {
@@ -37,7 +37,7 @@ fn give(
     requires chosen { IsAddressIn table.old identity address }
     requires dynamic { 8 ≤ address }
     ensures taken { devices.new ≡ changed (taken_at takers address) devices.old }
-    ensures put { table.new ≡ record table.old { given = slice_set table.old.given address (Some (kept_entry_of identity)); listed = false } }
+    ensures put { table.new ≡ record table.old { given = slice_set table.old.given address (Some (kept_entry_of table.old.declared identity)); listed = false } }
 {
     devices.take_address(takers, address);
     table.put(Row {
@@ -45,6 +45,7 @@ fn give(
         bcr: identity.bcr,
         dcr: identity.dcr,
         identity: Some(identity),
+        fixed: table.legacies().fixed_of(&identity),
     });
 }
 
@@ -59,6 +60,7 @@ pub fn round(devices: &mut Devices, table: &mut Table, cuts: &Cuts) -> Round
     ensures rounds { (st : State) → st.devices ≡ devices.old → IsTable st table.old
         → Rounds st cuts.now (reply_of result) (record st { devices = devices.new; given = table.new.given; listed = table.new.listed }) }
     ensures legacy { table.new.legacy ≡ table.old.legacy }
+    ensures declared { table.new.declared ≡ table.old.declared }
     ensures read { (st : State) → st.devices ≡ devices.old → IsTable st table.old → IsRead st cuts.now result }
     ensures acknowledged { (st : State) → st.devices ≡ devices.old → IsAcknowledged st cuts.now result }
 {

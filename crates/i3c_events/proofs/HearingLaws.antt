@@ -5,9 +5,9 @@ use Rattle.i3c_base.specs.Cutting.{Lost}
 use Rattle.i3c_base.specs.Numbers.{KindSet}
 use Rattle.i3c_base.specs.Places.{changed}
 use Rattle.i3c_base.specs.State.{Device, HasDevices, State}
-use Rattle.i3c_base.specs.Frames.{AllLostAt, AnyAt, IsHeard, Rekinds, SomeLeftAt, reaches, rekinded}
-use Rattle.i3c_device.specs.Walks.{SomeReached, rekinded_at}
-use Rattle.i3c_device.proofs.Targets.{other_slot, reached_target, slot_other, target_reached}
+use Rattle.i3c_base.specs.Frames.{AllLostAt, AllUnaddressedLostAt, AnyAt, AnyUnaddressedAt, Rekinds, SomeLeftAt, SomeUnaddressedLeftAt, reaches, rekinded}
+use Rattle.i3c_device.specs.Walks.{SomeReached, SomeTakes, rekinded_at}
+use Rattle.i3c_device.proofs.Targets.{reached_target, taker_unaddressed, target_reached, unaddressed_taker}
 
 -- whoever is reached at an address is a target there that is left, and the other way round
 left_at_own : (st : State) (a : ℕ) (lost : Lost) → SomeReached st.active (Some a) lost st.devices → SomeLeftAt st a lost
@@ -47,7 +47,7 @@ carried_out to f st lost devices more active has m any = go to (turned_all to f 
     go (Some at) all any = inl (refl, any at refl, all)
 
 -- nobody at the address is left
-all_lost : (st : State) (a : ℕ) (lost : Lost) → ¬ SomeLeftAt st a lost → AllLostAt st a lost
+pub all_lost : (st : State) (a : ℕ) (lost : Lost) → ¬ SomeLeftAt st a lost → AllLostAt st a lost
 all_lost st a lost none s d h = go (lost s) refl
   where
     go : (b : Bool) → lost s ≡ b → lost s ≡ true
@@ -63,3 +63,26 @@ unanswered to at f st lost devices active has e none =
 -- some of those at the address are there
 pub left_any : (st : State) (a : ℕ) (lost : Lost) → SomeLeftAt st a lost → AnyAt st a
 left_any st a lost h = (h.0, h.1, h.2)
+
+-- whoever takes SETDASA and is left has the static address and no dynamic one, and the other way round
+pub takes_left : (st : State) (f : ℕ) (lost : Lost) (devices : List (Option Device)) (active : ℕ) → HasDevices st devices active → SomeTakes active f lost devices → SomeUnaddressedLeftAt st f lost
+takes_left st f lost devices active has h = go (subst (λ ds. SomeTakes st.active f lost ds) (sym has.0) (subst (λ s. SomeTakes s f lost devices) (sym has.1) h))
+  where
+    go : SomeTakes st.active f lost st.devices → SomeUnaddressedLeftAt st f lost
+    go t = (t.0, t.1, taker_unaddressed st f t.0 t.1 t.2 t.3, t.4)
+
+pub left_takes : (st : State) (f : ℕ) (lost : Lost) (devices : List (Option Device)) (active : ℕ) → HasDevices st devices active → SomeUnaddressedLeftAt st f lost → SomeTakes active f lost devices
+left_takes st f lost devices active has h =
+    subst (λ ds. SomeTakes active f lost ds) has.0 (subst (λ s. SomeTakes s f lost st.devices) has.1 (h.0, h.1, h.2.0, unaddressed_taker st f h.0 h.1 h.2, h.3))
+
+-- nobody with the static address and no dynamic one is left
+pub all_unaddressed_lost : (st : State) (f : ℕ) (lost : Lost) → ¬ SomeUnaddressedLeftAt st f lost → AllUnaddressedLostAt st f lost
+all_unaddressed_lost st f lost none s d h = go (lost s) refl
+  where
+    go : (b : Bool) → lost s ≡ b → lost s ≡ true
+    go true e = e
+    go false e = absurd (none (s, d, h, e))
+
+-- some of them are there
+pub any_unaddressed : (st : State) (f : ℕ) (lost : Lost) → SomeUnaddressedLeftAt st f lost → AnyUnaddressedAt st f
+any_unaddressed st f lost h = (h.0, h.1, h.2)

@@ -1,3 +1,4 @@
 pub mod Words
 pub mod Hearing
 pub mod Telling
+pub mod Setting

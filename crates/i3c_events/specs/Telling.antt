@@ -1,5 +1,5 @@
--- What ENEC and DISEC put on the wire.
-use Rattle.std.specs.Prelude.{◌≡◌, ℕ, true, false, List, [], ◌∷◌, Option, Some, None}
+-- What ENEC, DISEC, SETDASA and SETNEWDA put on the wire.
+use Rattle.std.specs.Prelude.{◌≡◌, ℕ, ◌*◌, true, false, List, [], ◌∷◌, Option, Some, None}
 use Rattle.i3c_base.specs.declared.answers.Answer.{Answer}
 use Rattle.i3c_base.specs.declared.kinds.Change.{Change}
 use Rattle.i3c_base.specs.declared.kinds.Kinds.{Kinds}
@@ -24,3 +24,14 @@ IsKindsWire change (Some a) kinds (Answer.NoAnswer b) wire =
 IsKindsWire change (Some a) kinds answer wire =
     (code : Word) × (byte : Word) × IsWord (code_byte change (Some a)) code × IsWord (kinds_byte (kind_set kinds)) byte
     × (wire ≡ Symbol.Word code ∷ Repeated ∷ Header a false true ∷ Symbol.Word byte ∷ Stop ∷ [])
+
+-- SETDASA or SETNEWDA to a target that nobody acknowledges: the code and a header
+abbrev pub IsUnsetWire : ℕ → ℕ → List Symbol → Type 0
+IsUnsetWire code target wire = (word : Word) × IsWord code word × (wire ≡ Symbol.Word word ∷ Repeated ∷ Header target false false ∷ Stop ∷ [])
+
+-- SETDASA or SETNEWDA with this code to a target: the code, a header, and where it was acknowledged the new address in bits 7:1
+abbrev pub IsSettingWire : ℕ → ℕ → ℕ → Answer → List Symbol → Type 0
+IsSettingWire code target new (Answer.NoAnswer a) wire = IsUnsetWire code target wire
+IsSettingWire code target new answer wire =
+    (word : Word) × (byte : Word) × IsWord code word × IsWord (2 * new) byte
+    × (wire ≡ Symbol.Word word ∷ Repeated ∷ Header target false true ∷ Symbol.Word byte ∷ Stop ∷ [])

@@ -1,9 +1,10 @@
--- ENEC and DISEC as words.
+-- ENEC, DISEC, SETDASA and SETNEWDA as words.
 use Rattle.std.specs.Prelude.{ℕ, ◌+◌, ◌*◌, Option, Some, None}
 use Rattle.i3c_base.specs.Numbers.{KindSet}
 use Rattle.i3c_word.specs.Parity.{bit_of}
 use Rattle.i3c_ccc.specs.declared.codes.Code.{Code}
 use Rattle.i3c_ccc.specs.declared.codes.Code.TheVariants.{Enec, Disec, EnecDirect, DisecDirect}
+use Rattle.i3c_events.specs.declared.words.Setting.{Setting}
 use Rattle.i3c_base.specs.declared.kinds.Change.{Change}
 use Rattle.i3c_base.specs.declared.kinds.Change.TheVariants.{Enable, Disable}
 
@@ -24,3 +25,8 @@ code_byte Disable (Some a) = 0x81
 -- the byte that names kinds: bit 0 interrupts, bit 1 role requests, bit 3 Hot-Join, and no other bit
 abbrev pub kinds_byte : KindSet → ℕ
 kinds_byte kinds = bit_of kinds.interrupt + 2 * bit_of kinds.role + 8 * bit_of kinds.join
+
+-- the byte of the code that sets an address
+abbrev pub setting_byte : Setting → ℕ
+setting_byte Setting.Static = 0x87
+setting_byte Setting.New = 0x88

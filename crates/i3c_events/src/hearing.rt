@@ -10,7 +10,7 @@ use i3c_word::{HEADER_BITS, WORD_BITS};
 use thiserror::Error;
 
 /// How many bits a direct command has up to its target's acknowledgement: a word and a header.
-const ACK_BITS: u16 = WORD_BITS + HEADER_BITS;
+pub(crate) const ACK_BITS: u16 = WORD_BITS + HEADER_BITS;
 
 /// No device other than the active controller has the address, or none of them was left to acknowledge it.
 #[derive(Clone, Copy, Debug, PartialEq, Eq, Drop, Error)]

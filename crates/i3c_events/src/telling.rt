@@ -1,11 +1,12 @@
 ghost use Rattle.std.specs.Prelude.{Some, None};
 ghost use Rattle.i3c_base.specs.declared.answers.Answer.{Answer as AnswerValue};
 ghost use Rattle.i3c_events.specs.Hearing.{answer_of};
-ghost use Rattle.i3c_events.specs.Telling.{IsKindsWire};
+ghost use Rattle.i3c_events.specs.Telling.{IsKindsWire, IsSettingWire, IsUnsetWire};
+ghost use Rattle.i3c_events.specs.Words.{setting_byte};
 ghost use Rattle.i3c_frame.specs.Taps.{Tells};
 
 use crate::hearing::NoAnswer;
-use crate::words::{code_word, kinds_word};
+use crate::words::{Setting, address_word, code_word, kinds_word, setting_word};
 use i3c_base::{Addr7, Change, Kinds};
 use i3c_frame::{Symbol, Tap};
 
@@ -61,6 +62,51 @@ fn tell_unanswered<T: Tap>(tap: &mut T, change: Change, address: Addr7, kinds: K
     tap.note(Symbol::Repeated);
     tap.note(Symbol::Header {
         address,
+        read: false,
+        ack: false,
+    });
+    tap.note(Symbol::Stop);
+}
+
+/// Tells SETDASA or SETNEWDA to a target as it was heard, up to its STOP (I3C Basic 5.1.9.3.10 and 5.1.9.3.11).
+pub fn tell_setting<T: Tap>(
+    tap: &mut T,
+    setting: Setting,
+    target: Addr7,
+    new: Addr7,
+    heard: &Result<(), NoAnswer>,
+)
+    ensures { Tells T.note_gives tap.old tap.new (IsSettingWire (setting_byte setting) target new (answer_of heard.now)) }
+{
+    match heard {
+        Ok(()) => tell_set(tap, setting, target, new),
+        Err(NoAnswer(_)) => tell_unset(tap, setting, target),
+    }
+}
+
+/// Tells SETDASA or SETNEWDA to a target that acknowledges, up to its STOP.
+fn tell_set<T: Tap>(tap: &mut T, setting: Setting, target: Addr7, new: Addr7)
+    ensures { Tells T.note_gives tap.old tap.new (IsSettingWire (setting_byte setting) target new AnswerValue.Done) }
+{
+    tap.note(Symbol::Word(setting_word(setting)));
+    tap.note(Symbol::Repeated);
+    tap.note(Symbol::Header {
+        address: target,
+        read: false,
+        ack: true,
+    });
+    tap.note(Symbol::Word(address_word(new)));
+    tap.note(Symbol::Stop);
+}
+
+/// Tells SETDASA or SETNEWDA to a target that nobody acknowledges, up to its STOP.
+fn tell_unset<T: Tap>(tap: &mut T, setting: Setting, target: Addr7)
+    ensures { Tells T.note_gives tap.old tap.new (IsUnsetWire (setting_byte setting) target) }
+{
+    tap.note(Symbol::Word(setting_word(setting)));
+    tap.note(Symbol::Repeated);
+    tap.note(Symbol::Header {
+        address: target,
         read: false,
         ack: false,
     });

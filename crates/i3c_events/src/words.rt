@@ -1,8 +1,8 @@
-ghost use Rattle.std.specs.Prelude.{◌≡◌, ◌∷◌, []};
+ghost use Rattle.std.specs.Prelude.{◌≡◌, ◌*◌, ◌∷◌, []};
 ghost use Rattle.i3c_base.specs.Numbers.{kind_set};
 ghost use Rattle.i3c_word.specs.Parity.{HasOddParity};
 ghost use Rattle.i3c_device.specs.Hearing.{named_kinds};
-ghost use Rattle.i3c_events.specs.Words.{code_byte, command, kinds_byte};
+ghost use Rattle.i3c_events.specs.Words.{code_byte, command, kinds_byte, setting_byte};
 
 use bitflags::Flags;
 use i3c_base::{Addr7, Change, Kinds};
@@ -11,6 +11,15 @@ use i3c_word::{Word, write_word};
 
 /// The bits that stand for kinds: interrupts, role requests and Hot-Join.
 const NAMED: u8 = 0b1011;
+
+/// A command that sets the dynamic address of a device.
+#[derive(Clone, Copy, Debug, PartialEq, Eq)]
+pub enum Setting {
+    /// SETDASA, to a static address (I3C Basic 5.1.9.3.10).
+    Static,
+    /// SETNEWDA, to a dynamic address (I3C Basic 5.1.9.3.11).
+    New,
+}
 
 /// The command's code: broadcast, or direct to one address.
 pub(crate) fn code_for(change: Change, to: Option<Addr7>) -> Code
@@ -41,4 +50,23 @@ pub fn kinds_word(kinds: Kinds) -> Word
     ensures odd { HasOddParity result }
 {
     write_word(kinds.bits() & NAMED)
+}
+
+/// The word of the code of a command that sets an address: `87` (SETDASA) or `88` (SETNEWDA) (I3C Basic 5.1.9.3).
+pub fn setting_word(setting: Setting) -> Word
+    ensures byte { result.byte ≡ setting_byte setting }
+    ensures odd { HasOddParity result }
+{
+    match setting {
+        Setting::Static => write_word(byte_of(Code::Setdasa)),
+        Setting::New => write_word(byte_of(Code::Setnewda)),
+    }
+}
+
+/// The word that gives a device its new dynamic address, in bits 7:1; bit 0 is 0 (I3C Basic 5.1.9.3.10).
+pub fn address_word(address: Addr7) -> Word
+    ensures byte { result.byte ≡ 2 * address }
+    ensures odd { HasOddParity result }
+{
+    write_word(2 * address.get())
 }

@@ -26,7 +26,7 @@ SomeTakes st a lost = (s : ℕ) × IsWillingAt st a s × (lost s ≡ false)
 
 -- in a frame that loses these devices the role passes to the slot, or is kept by the active controller
 abbrev pub IsOffered : State → ℕ → Lost → Offer → Type 0
-IsOffered st a lost (Taken s) = Hands a lost st (handed s st)
+IsOffered st a lost (Taken s) = Hands a lost st (handed s a st)
 IsOffered st a lost (Torn byte) = KeepsRole a lost st st × IsRefusedBits st a 27
 IsOffered st a lost Nobody = KeepsRole a lost st st × IsRefusedBits st a 18
 

@@ -3,7 +3,7 @@ use Rattle.std.proofs.Common.{◌≡◌, ℕ, suc, ◌+◌, ◌-◌, ◌*◌, �
 use Rattle.std.specs.List.{All, AllByRecursion, filter}
 use Rattle.std.proofs.lemmas.Bool.{cases_lt, eqb-false, eqb-true}
 use Rattle.std.proofs.lemmas.List.Elements.{All-append, All-nil, All-cons, All-from_recursion, recursion_from_All, All-get_or}
-use Rattle.std.proofs.lemmas.List.{get_or_default, take_all, take_more}
+use Rattle.std.proofs.lemmas.List.{get_or_default, take_more}
 use Rattle.i3c_base.specs.declared.requests.Request.{Request}
 use Rattle.i3c_base.specs.declared.requests.Request.TheVariants.{Join, Role, Interrupt}
 use Rattle.i3c_base.specs.Cutting.{CutList, IsUncut}
@@ -35,9 +35,6 @@ keyed_more rs r i e = sym (keyed_push 0 rs r ∙ ap (λ k. keyed 0 rs ++ (k, key
 pub record KeyedSoFar (requests : List Request) (i : ℕ) (keys : List (ℕ × ℕ)) : Type 0 where
   pub keys_are : keys ≡ keyed 0 (take i requests)
   pub fit : All (λ (e : ℕ × ℕ). e.1 < 2 ^ 8) keys
-
-pub keyed_none : (requests : List Request) → KeyedSoFar requests 0 []
-keyed_none requests = record { keys_are = refl; fit = All-nil (λ (e : ℕ × ℕ). e.1 < 2 ^ 8) }
 
 pub keyed_next : (requests : List Request) (i : ℕ) (keys more : List (ℕ × ℕ)) (r : Request) (s k : ℕ) → KeyedSoFar requests i keys → i < length requests → r ≡ get_or requests i r
     → s ≡ i → k ≡ key_of r → k < 256 → more ≡ keys ++ (s, k) ∷ [] → KeyedSoFar requests (i + 1) more

@@ -212,7 +212,7 @@ front_held (Some d) w first = front_at (Some d) d w refl first
 pub due_byte : (devices : List (Option Device)) (active : ℕ) (cuts : CutList) (at : ℕ) (due : Bool) (r : Record) → HaveBytes active devices at due
     → ((st : State) → st.devices ≡ devices → st.active ≡ active → IsReading st cuts at r) → is_some r.byte ≡ due
 due_byte devices active cuts at due r fitting read =
-    let st : State = record { devices = devices; raised = []; active = active; legacy = []; given = []; in_session = false; listed = false; records = [] } in
+    let st : State = record { devices = devices; raised = []; active = active; legacy = []; declared = []; given = []; in_session = false; listed = false; records = [] } in
     let h : IsReading st cuts at r = read st refl refl in
     h.present ∙ fitting r.slot h.front h.lowest.0 h.fronted
 

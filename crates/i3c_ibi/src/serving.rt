@@ -98,9 +98,9 @@ fn accept(
     }
 }
 
-/// Serves the first request of a frame, in which these devices are cut: the policy decides on it, unless its address
-/// has no row in the table; its drivers lose what was accepted, and the mandatory byte is read where the table says that
-/// one is due (I3C Basic 5.1.6.2).
+/// Serves the first request of a frame, in which these devices are cut. The policy decides on it, unless its address has
+/// no row in the table. Its drivers lose what was accepted, and the mandatory byte is read where the table says that one
+/// is due (I3C Basic 5.1.6.2).
 #[inline(always)]
 pub fn serve<P: Policy>(
     devices: &mut Devices,

@@ -1,21 +1,22 @@
--- The declared targets, seen as the LVRs at their addresses.
-use Rattle.std.proofs.Common.{◌≡◌, ◌≢◌, ℕ, ◌<◌, Bool, true, false, not, List, [], ◌∷◌, ◌++◌, length, get_or, set, take, Option, Some, None, option_map, is_some, count_by, nat_le, IsTrue, IfSome, ◌+◌, ◌≤◌, sym, refl, ap, ◌∙◌, arith, if◌then◌else◌, inl, inr}
+-- Rows, seen as what stands at their addresses, and what is wrong with one row more.
+use Rattle.std.proofs.Common.{◌≡◌, ◌≢◌, ℕ, ◌<◌, Bool, true, false, not, List, [], ◌∷◌, ◌++◌, length, get_or, set, take, Option, Some, None, option_map, is_some, count_by, nat_le, IsTrue, IfSome, ◌+◌, ◌≤◌, sym, refl, ap, ◌∙◌, arith, if◌then◌else◌}
 use Rattle.std.specs.List.{All, HoldsAt}
-use Rattle.std.proofs.lemmas.Bool.{and_parts, cases_eq, le-leb, leb-true, lt-leb}
-use Rattle.std.proofs.lemmas.List.{get_or-set_other, get_or-set_same, take_all}
+use Rattle.std.proofs.lemmas.Bool.{le-leb, lt-leb}
+use Rattle.std.proofs.lemmas.List.{take_all}
 use Rattle.std.proofs.lemmas.List.Elements.{All-contains, All-push}
-use Rattle.i3c_base.specs.declared.range.TheConstants.{ADDRESSES}
+use Rattle.i3c_base.specs.declared.identity.Identity.{Identity}
 use Rattle.i3c_base.specs.declared.identity.Lvr.{Lvr}
-use Rattle.i3c_base.specs.Sets.{is_in}
-use Rattle.i3c_base.specs.State.{no_lvrs}
-use Rattle.i3c_base.proofs.Lookups.{replicate_at}
+use Rattle.i3c_base.specs.declared.range.TheConstants.{ADDRESSES}
+use Rattle.i3c_base.specs.State.{Board, fixed_of, is_static, no_identities, no_lvrs}
+use Rattle.i3c_legacy.specs.declared.faults.DeclareFault.{DeclareFault}
 use Rattle.i3c_legacy.specs.declared.faults.LegacyFault.{LegacyFault}
-use Rattle.i3c_legacy.specs.declared.faults.LegacyFault.TheVariants.{LegacyAddress, LegacyTwice, TooManyLegacy}
 use Rattle.i3c_legacy.specs.declared.legacies.Declared.{Declared}
-use Rattle.i3c_legacy.specs.declared.legacies.TheConstants.{LEGACIES}
-use Rattle.i3c_legacy.specs.Declaring.{first_fault, is_static}
-use Rattle.i3c_legacy.specs.Rows.{places, row_at, HasOwnAddresses, IsSetOf}
-use Rattle.i3c_legacy.proofs.RowLaws.{length-places, no_rows, places-nil, places_at, places_more, places_push, row_from, row_here, row_none, row_missing, own_push, count-places}
+use Rattle.i3c_legacy.specs.declared.legacies.DeclaredIdentity.{DeclaredIdentity}
+use Rattle.i3c_legacy.specs.declared.legacies.TheConstants.{DECLARED, LEGACIES}
+use Rattle.i3c_legacy.specs.Declaring.{first_declare_fault, first_fault, is_taken}
+use Rattle.i3c_legacy.specs.Rows.{places, row_at, HasOwnAddresses}
+use Rattle.i3c_legacy.proofs.FixedLaws.{static_below}
+use Rattle.i3c_legacy.proofs.RowLaws.{length-places, places-nil, places_at, places_more, places_push, row_from, row_here, row_none, row_missing, own_push, count-places}
 
 abbrev pub address_of : Declared → ℕ
 address_of d = d.address
@@ -23,104 +24,100 @@ address_of d = d.address
 abbrev pub lvrs_of : List Declared → List (Option Lvr)
 lvrs_of rows = places address_of (λ d. d.lvr) rows
 
--- no targets
-pub own_none : (rows : List Declared) → rows ≡ [] → HasOwnAddresses address_of rows
-own_none rows e = rw e (no_rows address_of)
+abbrev pub home_of : DeclaredIdentity → ℕ
+home_of d = d.address
 
+abbrev pub identities_of : List DeclaredIdentity → List (Option Identity)
+identities_of rows = places home_of (λ d. d.identity) rows
+
+-- no rows
 pub view_none : (rows : List Declared) → rows ≡ [] → lvrs_of rows ≡ no_lvrs
 unfolding no_lvrs
 view_none rows e = rw e (places-nil address_of (λ d. d.lvr))
 
-pub set_none : (rows : List Declared) (none : ℕ) → rows ≡ [] → ((a : ℕ) → is_in none a ≡ false) → IsSetOf (lvrs_of rows) none
-unfolding no_lvrs
-set_none rows none e nothing a = nothing a ∙ ap is_some (sym (at_none a) ∙ ap (λ places. get_or places a None) (sym (view_none rows e)))
-  where
-    at_none : (k : ℕ) → ◌≡◌ {A = Option Lvr} (get_or no_lvrs k None) None
-    at_none k = elim (replicate_at ADDRESSES k None None) [ inl e ↦ e | inr e ↦ e ]
+pub identities_none : (rows : List DeclaredIdentity) → rows ≡ [] → identities_of rows ≡ no_identities
+unfolding no_identities
+identities_none rows e = rw e (places-nil home_of (λ d. d.identity))
 
-pub found : (rows : List Declared) (legacy : List (Option Lvr)) (i a : ℕ) (d : Declared) → HasOwnAddresses address_of rows → lvrs_of rows ≡ legacy → i < length rows → HoldsAt (λ r. r.address ≡ a) rows i → ◌≡◌ {A = Option Lvr} (Some (get_or rows i d).lvr) (get_or legacy a None)
-found rows legacy i a d own view l same =
-    let here = row_here address_of rows i d own.distinct l in
-    let at : row_at address_of rows a ≡ Some (get_or rows i d) = ap (row_at address_of rows) (sym (same d)) ∙ here in
-    ap (option_map (λ (r : Declared). r.lvr)) (sym at) ∙ (sym (places_at address_of (λ r. r.lvr) rows a own.in_range) ∙ ap (λ g. get_or g a None) view)
+module _ {R A : Type 0} (address : R → ℕ) (value : R → A) where
+  pub found : (rows : List R) (there : List (Option A)) (i a : ℕ) (d : R) → HasOwnAddresses address rows → places address value rows ≡ there → i < length rows → HoldsAt (λ r. address r ≡ a) rows i
+      → ◌≡◌ {A = Option A} (Some (value (get_or rows i d))) (get_or there a None)
+  found rows there i a d own view l same =
+      let here = row_here address rows i d own.distinct l in
+      let at : row_at address rows a ≡ Some (get_or rows i d) = ap (row_at address rows) (sym (same d)) ∙ here in
+      ap (option_map value) (sym at) ∙ (sym (places_at address value rows a own.in_range) ∙ ap (λ g. get_or g a None) view)
 
-pub missing : (rows : List Declared) (legacy : List (Option Lvr)) (a : ℕ) → HasOwnAddresses address_of rows → lvrs_of rows ≡ legacy → All (λ d. d.address ≢ a) rows → ◌≡◌ {A = Option Lvr} None (get_or legacy a None)
-missing rows legacy a own view none =
-    ap (option_map (λ (d : Declared). d.lvr)) (sym (row_none address_of rows a none)) ∙ (sym (places_at address_of (λ d. d.lvr) rows a own.in_range) ∙ ap (λ g. get_or g a None) view)
+  pub missing : (rows : List R) (there : List (Option A)) (a : ℕ) → HasOwnAddresses address rows → places address value rows ≡ there → All (λ d. address d ≢ a) rows → ◌≡◌ {A = Option A} None (get_or there a None)
+  missing rows there a own view none =
+      ap (option_map value) (sym (row_none address rows a none)) ∙ (sym (places_at address value rows a own.in_range) ∙ ap (λ g. get_or g a None) view)
 
-pub long : (rows : List Declared) (legacy : List (Option Lvr)) → lvrs_of rows ≡ legacy → length legacy ≡ ADDRESSES
-long rows legacy view = ap length (sym view) ∙ length-places address_of (λ d. d.lvr) rows
+  pub long : (rows : List R) (there : List (Option A)) → places address value rows ≡ there → length there ≡ ADDRESSES
+  long rows there view = ap length (sym view) ∙ length-places address value rows
 
--- the tests before one more target is declared
-abbrev chosen : Bool → Bool → Bool → Option LegacyFault
-chosen static taken full = if not static then Some LegacyAddress else (if taken then Some LegacyTwice else (if full then Some TooManyLegacy else None))
+  pub counted : (rows : List R) (there : List (Option A)) → HasOwnAddresses address rows → places address value rows ≡ there → count_by is_some there ≡ length rows
+  counted rows there own view = ap (count_by is_some) (sym view) ∙ count-places address value rows own
 
-chosen_full : (static taken full : Bool) → static ≡ true → taken ≡ false → full ≡ true → chosen static taken full ≡ Some TooManyLegacy
-chosen_full static taken full s t f = rw (s, t, f) refl
+  none_there : (rows : List R) (there : List (Option A)) (a : ℕ) → HasOwnAddresses address rows → places address value rows ≡ there → is_some (get_or there a None) ≡ false → row_at address rows a ≡ None
+  none_there rows there a own view n = row_missing address value rows a own.in_range (ap (λ g. is_some (get_or g a None)) view ∙ n)
 
-chosen_none : (static taken full : Bool) → static ≡ true → taken ≡ false → full ≡ false → chosen static taken full ≡ None
-chosen_none static taken full s t f = rw (s, t, f) refl
+  -- one more row
+  pub own_more : (rows : List R) (there : List (Option A)) (d : R) → HasOwnAddresses address rows → places address value rows ≡ there → is_static (address d) ≡ true → is_some (get_or there (address d) None) ≡ false → HasOwnAddresses address (rows ++ d ∷ [])
+  own_more rows there d own view s n = own_push address rows d own (static_below (address d) s) (none_there rows there (address d) own view n)
 
-pub counted : (rows : List Declared) (legacy : List (Option Lvr)) → HasOwnAddresses address_of rows → lvrs_of rows ≡ legacy → count_by is_some legacy ≡ length rows
-counted rows legacy own view = ap (count_by is_some) (sym view) ∙ count-places address_of (λ d. d.lvr) rows own
+  pub view_more : (rows : List R) (there : List (Option A)) (d : R) → HasOwnAddresses address rows → places address value rows ≡ there → is_static (address d) ≡ true → is_some (get_or there (address d) None) ≡ false
+      → places address value (rows ++ d ∷ []) ≡ set there (address d) (Some (value d))
+  view_more rows there d own view s n =
+      places_push address value rows d (static_below (address d) s) (none_there rows there (address d) own view n) ∙ ap (λ g. set g (address d) (Some (value d))) view
 
-pub no_room : (rows : List Declared) (legacy : List (Option Lvr)) (a : ℕ) → HasOwnAddresses address_of rows → lvrs_of rows ≡ legacy → is_static a ≡ true → is_some (get_or legacy a None) ≡ false → length rows ≡ LEGACIES → first_fault legacy a ≡ Some TooManyLegacy
-no_room rows legacy a own view s n f =
-    let many = counted rows legacy own view in
-    chosen_full (is_static a) (is_some (get_or legacy a None)) (nat_le LEGACIES (count_by is_some legacy)) s n (le-leb LEGACIES (count_by is_some legacy) (omega (arith, many, f)))
+  -- the rows so far, seen by address
+  pub first_more : (rows : List R) (there : List (Option A)) (i : ℕ) (d : R) → HasOwnAddresses address rows → i < length rows → d ≡ get_or rows i d → there ≡ places address value (take i rows) → set there (address d) (Some (value d)) ≡ places address value (take (i + 1) rows)
+  first_more rows there i d own l is so_far = rw so_far (sym (places_more address value rows i d own l is))
 
-pub no_fault : (rows : List Declared) (legacy : List (Option Lvr)) (a : ℕ) → HasOwnAddresses address_of rows → lvrs_of rows ≡ legacy → is_static a ≡ true → is_some (get_or legacy a None) ≡ false → length rows < LEGACIES → first_fault legacy a ≡ None
-no_fault rows legacy a own view s n f =
-    let many = counted rows legacy own view in
-    chosen_none (is_static a) (is_some (get_or legacy a None)) (nat_le LEGACIES (count_by is_some legacy)) s n (lt-leb LEGACIES (count_by is_some legacy) (omega (arith, many, f)))
+  pub first_all : (rows : List R) (there so_far : List (Option A)) (i : ℕ) → places address value rows ≡ there → length rows ≤ i → so_far ≡ places address value (take i rows) → so_far ≡ there
+  first_all rows there so_far i view past is = is ∙ (ap (places address value) (take_all i rows past) ∙ view)
 
--- no target stands at an address that isn't in their set
-pub not_there : (rows : List Declared) (legacy : List (Option Lvr)) (had a : ℕ) → lvrs_of rows ≡ legacy → IsSetOf (lvrs_of rows) had → is_in had a ≡ false → is_some (get_or legacy a None) ≡ false
-not_there rows legacy had a view is out = ap (λ places. is_some (get_or places a None)) (sym view) ∙ (sym (is a) ∙ out)
-
--- a static address is one of 7 bits
-static_below : (a : ℕ) → is_static a ≡ true → a < ADDRESSES
-static_below a s = let at_most = leb-true a 0x77 (and_parts (nat_le 0x08 a) (nat_le a 0x77) s).1 in omega arith
-
-none_there : (rows : List Declared) (legacy : List (Option Lvr)) (a : ℕ) → HasOwnAddresses address_of rows → lvrs_of rows ≡ legacy → is_some (get_or legacy a None) ≡ false → row_at address_of rows a ≡ None
-none_there rows legacy a own view n = row_missing address_of (λ d. d.lvr) rows a own.in_range (ap (λ g. is_some (get_or g a None)) view ∙ n)
-
--- one more target
-pub own_more : (rows : List Declared) (legacy : List (Option Lvr)) (d : Declared) → HasOwnAddresses address_of rows → lvrs_of rows ≡ legacy → is_static d.address ≡ true → is_some (get_or legacy d.address None) ≡ false → HasOwnAddresses address_of (rows ++ d ∷ [])
-own_more rows legacy d own view s n = own_push address_of rows d own (static_below d.address s) (none_there rows legacy d.address own view n)
-
-pub view_more : (rows : List Declared) (legacy : List (Option Lvr)) (d : Declared) → HasOwnAddresses address_of rows → lvrs_of rows ≡ legacy → is_static d.address ≡ true → is_some (get_or legacy d.address None) ≡ false → lvrs_of (rows ++ d ∷ []) ≡ set legacy d.address (Some d.lvr)
-view_more rows legacy d own view s n =
-    places_push address_of (λ r. r.lvr) rows d (static_below d.address s) (none_there rows legacy d.address own view n) ∙ ap (λ g. set g d.address (Some d.lvr)) view
+  -- a row stands at static addresses alone
+  pub static_alone : (rows : List R) (there : List (Option A)) (a : ℕ) → HasOwnAddresses address rows → All (λ r. IsTrue (is_static (address r))) rows → places address value rows ≡ there → IfSome (get_or there a None) (λ _. IsTrue (is_static a))
+  static_alone rows there a own all view = from (row_at address rows a) refl (sym (places_at address value rows a own.in_range) ∙ ap (λ g. get_or g a None) view)
+    where
+      from : (o : Option R) → row_at address rows a ≡ o → option_map value (row_at address rows a) ≡ get_or there a None → IfSome (get_or there a None) (λ _. IsTrue (is_static a))
+      from None e h = rw (sym h ∙ ap (option_map value) e) tt
+      from (Some d) e h =
+          let at = row_from address rows a d e in
+          let its : IsTrue (is_static (address d)) = All-contains (λ r. IsTrue (is_static (address r))) rows d all at.1 in
+          rw (sym h ∙ ap (option_map value) e) (rw (sym at.0) its)
 
 pub static_more : (rows : List Declared) (d : Declared) → All (λ r. IsTrue (is_static r.address)) rows → is_static d.address ≡ true → All (λ r. IsTrue (is_static r.address)) (rows ++ d ∷ [])
 static_more rows d all s = All-push (λ r. IsTrue (is_static r.address)) rows d all s
 
--- and one more address in their set
-pub set_more : (rows : List Declared) (legacy : List (Option Lvr)) (d : Declared) (had more : ℕ) → HasOwnAddresses address_of rows → lvrs_of rows ≡ legacy → is_static d.address ≡ true → is_some (get_or legacy d.address None) ≡ false
-    → IsSetOf (lvrs_of rows) had → is_in more d.address ≡ true → ((a : ℕ) → a ≢ d.address → is_in more a ≡ is_in had a) → IsSetOf (lvrs_of (rows ++ d ∷ [])) more
-set_more rows legacy d had more own view s n was has others a = elim (cases_eq a d.address) [
-  | inl e ↦ rw e (has ∙ ap is_some (sym (at d.address ∙ get_or-set_same legacy d.address (Some d.lvr) None (omega (arith, static_below d.address s, long rows legacy view)))))
-  | inr other ↦ others a other ∙ (was a ∙ ap is_some (ap (λ places. get_or places a None) view ∙ sym (at a ∙ get_or-set_other legacy d.address a (Some d.lvr) None other)))
-]
-  where
-    at : (k : ℕ) → get_or (lvrs_of (rows ++ d ∷ [])) k None ≡ get_or (set legacy d.address (Some d.lvr)) k None
-    at k = ap (λ places. get_or places k None) (view_more rows legacy d own view s n)
+-- ---- the tests before one more target is declared
 
--- the targets so far, seen by address
-pub first_more : (rows : List Declared) (lvrs : List (Option Lvr)) (i : ℕ) (d : Declared) → HasOwnAddresses address_of rows → i < length rows → d ≡ get_or rows i d → lvrs ≡ lvrs_of (take i rows) → set lvrs d.address (Some d.lvr) ≡ lvrs_of (take (i + 1) rows)
-first_more rows lvrs i d own l is so_far = rw so_far (sym (places_more address_of (λ r. r.lvr) rows i d own l is))
+abbrev chosen : Bool → Bool → Bool → Option LegacyFault
+chosen static taken full = if not static then Some LegacyFault.LegacyAddress else (if taken then Some LegacyFault.LegacyTwice else (if full then Some LegacyFault.TooManyLegacy else None))
 
-pub first_all : (rows : List Declared) (legacy lvrs : List (Option Lvr)) (i : ℕ) → lvrs_of rows ≡ legacy → length rows ≤ i → lvrs ≡ lvrs_of (take i rows) → lvrs ≡ legacy
-first_all rows legacy lvrs i view past so_far = so_far ∙ (ap lvrs_of (take_all i rows past) ∙ view)
+chosen_by : (board : Board) (a : ℕ) (full : Bool) → is_static a ≡ true → is_taken board a ≡ false → nat_le LEGACIES (count_by is_some board.legacy) ≡ full → first_fault board a ≡ chosen true false full
+chosen_by board a full s t f = λ k. chosen (s k) (t k) (f k)
 
--- a target stands at static addresses alone
-pub static_alone : (rows : List Declared) (legacy : List (Option Lvr)) (a : ℕ) → HasOwnAddresses address_of rows → All (λ r. IsTrue (is_static r.address)) rows → lvrs_of rows ≡ legacy → IfSome (get_or legacy a None) (λ _. IsTrue (is_static a))
-static_alone rows legacy a own all view = from (row_at address_of rows a) refl (sym (places_at address_of (λ r. r.lvr) rows a own.in_range) ∙ ap (λ g. get_or g a None) view)
-  where
-    from : (o : Option Declared) → row_at address_of rows a ≡ o → option_map (λ (r : Declared). r.lvr) (row_at address_of rows a) ≡ get_or legacy a None → IfSome (get_or legacy a None) (λ _. IsTrue (is_static a))
-    from None e h = rw (sym h ∙ ap (option_map (λ (r : Declared). r.lvr)) e) tt
-    from (Some d) e h =
-        let at = row_from address_of rows a d e in
-        let its : IsTrue (is_static d.address) = All-contains (λ (r : Declared). IsTrue (is_static r.address)) rows d all at.1 in
-        rw (sym h ∙ ap (option_map (λ (r : Declared). r.lvr)) e) (rw (sym at.0) its)
+pub no_room : (board : Board) (a n : ℕ) → is_static a ≡ true → is_taken board a ≡ false → count_by is_some board.legacy ≡ n → n ≡ LEGACIES → first_fault board a ≡ Some LegacyFault.TooManyLegacy
+no_room board a n s t many f = chosen_by board a true s t (le-leb LEGACIES (count_by is_some board.legacy) (omega (arith, many, f)))
+
+pub no_fault : (board : Board) (a n : ℕ) → is_static a ≡ true → is_taken board a ≡ false → count_by is_some board.legacy ≡ n → n < LEGACIES → first_fault board a ≡ None
+no_fault board a n s t many f = chosen_by board a false s t (lt-leb LEGACIES (count_by is_some board.legacy) (omega (arith, many, f)))
+
+-- ---- and those before one more identity is
+
+abbrev chosen_declare : Bool → Bool → Bool → Bool → Option DeclareFault
+chosen_declare static taken twice full =
+    if not static then Some DeclareFault.LegacyAddress else (if taken then Some DeclareFault.LegacyTwice else (if twice then Some DeclareFault.IdentityTwice else (if full then Some DeclareFault.TooManyDeclared else None)))
+
+chosen_declare_by : (board : Board) (a : ℕ) (i : Identity) (twice full : Bool) → is_static a ≡ true → is_taken board a ≡ false → is_some (fixed_of board.declared i) ≡ twice
+    → nat_le DECLARED (count_by is_some board.declared) ≡ full → first_declare_fault board a i ≡ chosen_declare true false twice full
+chosen_declare_by board a i twice full s t w f = λ k. chosen_declare (s k) (t k) (w k) (f k)
+
+pub declare_full : (board : Board) (a n : ℕ) (i : Identity) → is_static a ≡ true → is_taken board a ≡ false → is_some (fixed_of board.declared i) ≡ false → count_by is_some board.declared ≡ n → n ≡ DECLARED
+    → first_declare_fault board a i ≡ Some DeclareFault.TooManyDeclared
+declare_full board a n i s t w many f = chosen_declare_by board a i false true s t w (le-leb DECLARED (count_by is_some board.declared) (omega (arith, many, f)))
+
+pub no_declare_fault : (board : Board) (a n : ℕ) (i : Identity) → is_static a ≡ true → is_taken board a ≡ false → is_some (fixed_of board.declared i) ≡ false → count_by is_some board.declared ≡ n → n < DECLARED
+    → first_declare_fault board a i ≡ None
+no_declare_fault board a n i s t w many f = chosen_declare_by board a i false false s t w (lt-leb DECLARED (count_by is_some board.declared) (omega (arith, many, f)))

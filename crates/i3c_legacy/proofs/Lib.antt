@@ -1,4 +1,9 @@
 pub mod RowLaws
+pub mod LeastLaws
+pub mod FixedLaws
 pub mod LegacyLaws
+pub mod BoardLaws
+pub mod DeclaredLaws
+pub mod SameLaws
 pub mod TargetLaws
 pub mod WriteLaws

@@ -1,2 +1,3 @@
-pub mod Rows
 pub mod Declaring
+pub mod Rows
+pub mod Boards

@@ -1,71 +1,116 @@
 ghost use Rattle.std.specs.Prelude.{◌≡◌, ◌≢◌, ◌<◌, All, HoldsAt, MatchOption, length};
-ghost use Rattle.i3c_legacy.specs.Declaring.{is_static};
+ghost use Rattle.i3c_base.specs.State.{is_static};
 
-use crate::LegacyFault;
+use crate::comparing::{identities_among, targets_among};
+use crate::copying::{identities_again, targets_again};
+use crate::{DeclareFault, LegacyFault};
 use arrayvec::ArrayVec;
-use i3c_base::{ADDRESSES, Addr7, Addresses, Lvr};
+use i3c_base::{ADDRESSES, Addr7, Addresses, Identity, Lvr};
 use std::marker::Model;
 
 /// How many legacy targets a bus may have (this project's choice).
 pub const LEGACIES: usize = 16;
 
+/// How many identities may be declared at static addresses (this project's choice).
+pub const DECLARED: usize = 16;
+
 // a legacy target, as it is declared
-#[derive(Clone, Copy, Default)]
+#[derive(Clone, Copy, PartialEq, Eq, Default)]
 pub(crate) struct Declared {
     pub address: Addr7,
     pub lvr: Lvr,
 }
 
-/// The legacy I2C targets of a bus: their LVRs, by their static addresses (I3C Basic 5.1.1.2.3).
+// an identity at its static address
+#[derive(Clone, Copy, PartialEq, Eq, Default)]
+pub(crate) struct DeclaredIdentity {
+    pub address: Addr7,
+    pub identity: Identity,
+}
+
+/// What has a static address: legacy I2C targets with their LVRs, and I3C devices by their identities (I3C Basic
+/// 5.1.1.2.3 and 5.1.2.1).
 ///
-/// Clauses see a place for each of the 128 addresses.
+/// Clauses see a place for each of the 128 addresses, of each kind.
 #[derive(Drop)]
 pub struct Legacies {
     pub(crate) targets: ArrayVec<Declared, LEGACIES>,
-    // the addresses of these
+    identities: ArrayVec<DeclaredIdentity, DECLARED>,
+    // the addresses of all these
     addresses: Addresses,
 }
 
 impl Model for Legacies {
-    ghost use Rattle.std.specs.Prelude.{List, Option};
-    ghost use Rattle.i3c_base.specs.declared.identity.Lvr.{Lvr as LvrValue};
+    ghost use Rattle.i3c_base.specs.State.{Board};
 
-    ghost Value = { List (Option LvrValue) };
+    ghost Value = { Board };
 
-    ghost use Rattle.std.specs.Prelude.{All, IsTrue};
-    ghost use Rattle.i3c_legacy.specs.Declaring.{is_static};
-    ghost use Rattle.i3c_legacy.specs.Rows.{places, HasOwnAddresses, IsSetOf};
+    ghost use Rattle.i3c_legacy.specs.Boards.{board_of, AreDeclared};
 
-    ghost view = { λ l. places (λ d. d.address) (λ d. d.lvr) l.targets.items };
+    ghost view = { λ l. board_of l.targets.items l.identities.items };
 
-    ghost invariant = { λ l. HasOwnAddresses (λ d. d.address) l.targets.items
-        × All (λ d. IsTrue (is_static d.address)) l.targets.items
-        × IsSetOf (places (λ d. d.address) (λ d. d.lvr) l.targets.items) l.addresses.0 };
+    ghost invariant = { λ l. AreDeclared l.targets.items l.identities.items l.addresses.0 };
 }
 
 impl Legacies {
-    ghost use Rattle.std.specs.Prelude.{◌≡◌, ℕ, ◌≤◌, ◌↔◌, IsTrue, count_by, is_some, None, Some, length, slice_set, slice_index_or, IfSome, MatchResult, OnOk, OnErr};
+    ghost use Rattle.std.specs.Prelude.{◌≡◌, ℕ, ◌≤◌, ◌↔◌, ◌||◌, false, IsTrue, count_by, is_some, None, Some, length, slice_set, slice_index_or, IfSome, MatchResult, OnOk, OnErr};
     ghost use Rattle.i3c_base.specs.declared.range.TheConstants.{ADDRESSES};
-    ghost use Rattle.i3c_base.specs.State.{no_lvrs};
-    ghost use Rattle.i3c_legacy.specs.declared.legacies.TheConstants.{LEGACIES};
-    ghost use Rattle.i3c_legacy.specs.Declaring.{first_fault, is_static};
-    ghost use Rattle.i3c_legacy.specs.Rows.{IsSetOf};
+    ghost use Rattle.i3c_base.specs.Sets.{is_in};
+    ghost use Rattle.i3c_base.specs.State.{declared_in, fixed_of, is_static, no_board, IsBoard, IsFree};
+    ghost use Rattle.i3c_legacy.specs.declared.legacies.TheConstants.{DECLARED, LEGACIES};
+    ghost use Rattle.i3c_legacy.specs.Declaring.{first_declare_fault, first_fault, is_taken};
 
-    /// No legacy target.
-    #[tactic(auto, using(crate::proofs::LegacyLaws::own_none, crate::proofs::LegacyLaws::set_none, crate::proofs::LegacyLaws::view_none))]
+    /// Nothing has a static address.
     pub fn new() -> Legacies
-        ensures { result ≡ no_lvrs }
+        ensures { result ≡ no_board }
     {
         Legacies {
             targets: ArrayVec::new(),
+            identities: ArrayVec::new(),
             addresses: Addresses::new(),
         }
     }
 
+    /// The same once more.
+    pub fn copied(&self) -> Legacies
+        ensures { result ≡ self.now }
+    {
+        Legacies {
+            targets: targets_again(&self.targets),
+            identities: identities_again(&self.identities),
+            addresses: self.addresses,
+        }
+    }
+
+    /// Whether both declare the same at each static address, in any order.
+    pub fn is_same(&self, other: &Legacies) -> bool
+        ensures { IsTrue result ↔ (self.now ≡ other.now) }
+    {
+        self.has_same_targets(other) && self.has_same_identities(other)
+    }
+
+    // Whether both declare the same legacy targets.
+    fn has_same_targets(&self, other: &Legacies) -> bool
+        ensures { IsTrue result ↔ (self.now.legacy ≡ other.now.legacy) }
+    {
+        let ours = self.targets.as_slice();
+        let theirs = other.targets.as_slice();
+        targets_among(ours, theirs) && targets_among(theirs, ours)
+    }
+
+    // Whether both declare the same identities, each at the same address.
+    fn has_same_identities(&self, other: &Legacies) -> bool
+        ensures { IsTrue result ↔ (self.now.declared ≡ other.now.declared) }
+    {
+        let ours = self.identities.as_slice();
+        let theirs = other.identities.as_slice();
+        identities_among(ours, theirs) && identities_among(theirs, ours)
+    }
+
     /// The LVR of the target at a static address, if there is one.
     pub fn lvr_at(&self, address: Addr7) -> Option<Lvr>
-        ensures same { result ≡ slice_index_or self.now address None }
-        ensures all_places { length self.now ≡ ADDRESSES }
+        ensures same { result ≡ slice_index_or self.now.legacy address None }
+        ensures all_places { length self.now.legacy ≡ ADDRESSES }
     {
         let targets = self.targets.as_slice();
         match index_of(targets, address) {
@@ -74,18 +119,53 @@ impl Legacies {
         }
     }
 
-    /// The static addresses of the targets.
+    /// The identity that is declared at a static address, if one is.
+    pub fn declared_at(&self, address: Addr7) -> Option<Identity>
+        ensures same { result ≡ declared_in self.now.declared address }
+        ensures fixed { IfSome result (λ i. IsTrue (is_static address) × (fixed_of self.now.declared i ≡ Some address)) }
+        ensures all_places { length self.now.declared ≡ ADDRESSES }
+    {
+        let identities = self.identities.as_slice();
+        match index_at(identities, address) {
+            Some(index) => Some(identities[index].identity),
+            None => None,
+        }
+    }
+
+    /// The static address that is declared for an identity, if one is.
+    pub fn fixed_of(&self, identity: &Identity) -> Option<Addr7>
+        ensures same { result ≡ fixed_of self.now.declared identity.now }
+        ensures static_alone { IfSome result (λ a. IsTrue (is_static a)) }
+    {
+        let identities = self.identities.as_slice();
+        match index_for(identities, identity) {
+            Some(index) => Some(identities[index].address),
+            None => None,
+        }
+    }
+
+    /// Whether an identity is declared.
+    pub fn has_declared(&self) -> bool
+        ensures { (result ≡ false) ↔ ((a : ℕ) → IsFree self.now.declared a) }
+    {
+        !self.identities.is_empty()
+    }
+
+    /// All static addresses, of targets and of declared identities.
     pub fn addresses(&self) -> Addresses
-        ensures { IsSetOf self.now result.0 }
+        ensures all { (a : ℕ) → is_in result.0 a ≡ (is_some (slice_index_or self.now.legacy a None) || is_some (declared_in self.now.declared a)) }
+        ensures board { IsBoard self.now }
+        ensures few { count_by is_some self.now.legacy ≤ LEGACIES }
+        ensures few_declared { count_by is_some self.now.declared ≤ DECLARED }
     {
         self.addresses
     }
 
     /// The LVRs of all targets, each at its static address.
     pub fn by_address(&self) -> [Option<Lvr>; ADDRESSES]
-        ensures same { result ≡ self.now }
-        ensures few { count_by is_some self.now ≤ LEGACIES }
-        ensures static_alone { (a : ℕ) → IfSome (slice_index_or self.now a None) (λ _. IsTrue (is_static a)) }
+        ensures same { result ≡ self.now.legacy }
+        ensures few { count_by is_some self.now.legacy ≤ LEGACIES }
+        ensures static_alone { (a : ℕ) → IfSome (slice_index_or self.now.legacy a None) (λ _. IsTrue (is_static a)) }
     {
         let mut lvrs = [None; ADDRESSES];
         for target in self.targets.iter() {
@@ -96,31 +176,31 @@ impl Legacies {
 
     /// How many targets are declared.
     pub fn len(&self) -> usize
-        ensures count { result ≡ count_by is_some self.now }
+        ensures count { result ≡ count_by is_some self.now.legacy }
         ensures few { result ≤ LEGACIES }
     {
         self.targets.len()
     }
 
-    /// Whether none is declared.
+    /// Whether no target is declared.
     pub fn is_empty(&self) -> bool
-        ensures { IsTrue result ↔ (count_by is_some self.now ≡ 0) }
+        ensures { IsTrue result ↔ (count_by is_some self.now.legacy ≡ 0) }
     {
         self.len() == 0
     }
 
-    /// Declares a target at a static address: one of `08` to `77`, where none stands, while there are fewer than
-    /// `LEGACIES`. What of this fails first is the fault, and then nothing has changed.
+    /// Declares a target at a static address: one of `08` to `77`, where nothing is declared, while there are fewer than
+    /// `LEGACIES` targets. What of this fails first is the fault, and then nothing has changed.
     pub fn add(&mut self, address: Addr7, lvr: Lvr) -> Result<(), LegacyFault>
         ensures fault { MatchResult result (λ _. first_fault self.old address ≡ None)
             (λ fault. first_fault self.old address ≡ Some fault) }
-        ensures added { OnOk result (self.new ≡ slice_set self.old address (Some lvr)) }
+        ensures added { OnOk result (self.new ≡ record self.old { legacy = slice_set self.old.legacy address (Some lvr) }) }
         ensures unchanged { OnErr result (self.new ≡ self.old) }
     {
         if !is_static(address) {
             return Err(LegacyFault::LegacyAddress);
         }
-        if self.addresses.has(address) {
+        if self.is_taken(address) {
             return Err(LegacyFault::LegacyTwice);
         }
         if self.targets.is_full() {
@@ -130,10 +210,43 @@ impl Legacies {
         self.addresses = self.addresses.with(address);
         Ok(())
     }
+
+    /// Declares an identity at a static address: one of `08` to `77`, where nothing is declared, if the identity has none
+    /// and while there are fewer than `DECLARED` identities. What of this fails first is the fault, and then nothing has
+    /// changed.
+    pub fn declare(&mut self, address: Addr7, identity: Identity) -> Result<(), DeclareFault>
+        ensures fault { MatchResult result (λ _. first_declare_fault self.old address identity ≡ None)
+            (λ fault. first_declare_fault self.old address identity ≡ Some fault) }
+        ensures declared { OnOk result (self.new ≡ record self.old { declared = slice_set self.old.declared address (Some identity) }) }
+        ensures unchanged { OnErr result (self.new ≡ self.old) }
+    {
+        if !is_static(address) {
+            return Err(DeclareFault::LegacyAddress);
+        }
+        if self.is_taken(address) {
+            return Err(DeclareFault::LegacyTwice);
+        }
+        if self.fixed_of(&identity).is_some() {
+            return Err(DeclareFault::IdentityTwice);
+        }
+        if self.identities.is_full() {
+            return Err(DeclareFault::TooManyDeclared);
+        }
+        self.identities.push(DeclaredIdentity { address, identity });
+        self.addresses = self.addresses.with(address);
+        Ok(())
+    }
+
+    // Whether something is declared at a static address.
+    fn is_taken(&self, address: Addr7) -> bool
+        ensures { result ≡ is_taken self.now address }
+    {
+        self.addresses.has(address)
+    }
 }
 
-// Whether a legacy target may have the address: none of the reserved ones, `00` to `07` and `78` to `7F`.
-fn is_static(address: Addr7) -> bool
+/// Whether something may have the static address: `08` to `77`, and none of the reserved ones.
+pub fn is_static(address: Addr7) -> bool
     ensures { result ≡ is_static address }
 {
     matches!(address.get(), 0x08..=0x77)
@@ -145,4 +258,24 @@ fn index_of(targets: &[Declared], address: Addr7) -> Option<usize>
         (λ i. (i < length targets.now) × HoldsAt (λ d. d.address ≡ address) targets.now i) }
 {
     targets.iter().position(|target| target.address == address)
+}
+
+// The index of the identity at an address.
+fn index_at(identities: &[DeclaredIdentity], address: Addr7) -> Option<usize>
+    ensures { MatchOption result (All (λ d. d.address ≢ address) identities.now)
+        (λ i. (i < length identities.now) × HoldsAt (λ d. d.address ≡ address) identities.now i) }
+{
+    identities
+        .iter()
+        .position(|declared| declared.address == address)
+}
+
+// The index of an identity.
+fn index_for(identities: &[DeclaredIdentity], identity: &Identity) -> Option<usize>
+    ensures { MatchOption result (All (λ d. d.identity ≢ identity.now) identities.now)
+        (λ i. (i < length identities.now) × HoldsAt (λ d. d.identity ≡ identity.now) identities.now i) }
+{
+    identities
+        .iter()
+        .position(|declared| declared.identity == *identity)
 }

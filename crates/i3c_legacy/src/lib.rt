@@ -1,11 +1,13 @@
-//! The legacy I2C targets that are declared before a bus starts, by their static addresses.
+//! The legacy I2C targets and the devices that are declared before a bus starts, by their static addresses.
 #![tactic(auto)]
 
+mod comparing;
+mod copying;
 mod faults;
 mod legacies;
 mod targets;
 
-pub use faults::LegacyFault;
+pub use faults::{DeclareFault, LegacyFault};
 pub use i3c_base::LegacyTarget;
-pub use legacies::{LEGACIES, Legacies};
+pub use legacies::{DECLARED, LEGACIES, Legacies, is_static};
 pub use targets::LegacyTargets;

@@ -1,4 +1,4 @@
-ghost use Rattle.std.specs.Prelude.{◌≡◌, ◌≢◌, ◌<◌, ◌≤◌, All, HoldsAt, MatchOption, length};
+ghost use Rattle.std.specs.Prelude.{◌≡◌, ◌≢◌, ◌<◌, ◌≤◌, ◌↔◌, All, Contains, HoldsAt, IsTrue, MatchOption, length};
 ghost use Rattle.i3c_base.specs.declared.device.TheConstants.{REGISTERS as REGISTER_COUNT};
 ghost use Rattle.i3c_base.specs.Frames.{overwritten};
 
@@ -8,7 +8,7 @@ use i3c_base::{Addr7, LegacyTarget, REGISTERS};
 use std::marker::Model;
 
 // a legacy target at its address
-#[derive(Clone, Copy, Default)]
+#[derive(Clone, Copy, PartialEq, Eq, Default)]
 struct Placed {
     address: Addr7,
     target: LegacyTarget,
@@ -35,14 +35,14 @@ impl Model for LegacyTargets {
 }
 
 impl LegacyTargets {
-    ghost use Rattle.std.specs.Prelude.{◌≡◌, ◌≤◌, length, None, slice_index_or, slice_set};
+    ghost use Rattle.std.specs.Prelude.{◌≡◌, ◌≤◌, ◌↔◌, IsTrue, length, None, slice_index_or, slice_set};
     ghost use Rattle.i3c_base.specs.declared.device.TheConstants.{REGISTERS as REGISTER_COUNT};
     ghost use Rattle.i3c_base.specs.Frames.{legacy_written};
     ghost use Rattle.i3c_base.specs.State.{legacy_targets_of};
 
     /// The declared targets as they are at the start: all registers are `00`.
     pub fn new(legacies: &Legacies) -> LegacyTargets
-        ensures { result ≡ legacy_targets_of legacies.now }
+        ensures { result ≡ legacy_targets_of legacies.now.legacy }
     {
         let mut placed = ArrayVec::new();
         for declared in legacies.targets.iter() {
@@ -55,6 +55,26 @@ impl LegacyTargets {
             });
         }
         LegacyTargets { placed }
+    }
+
+    /// The same targets once more.
+    pub fn copied(&self) -> LegacyTargets
+        ensures { result ≡ self.now }
+    {
+        let mut placed = ArrayVec::new();
+        let Ok(()) = placed.try_extend_from_slice(self.placed.as_slice()) else {
+            unreachable!()
+        };
+        LegacyTargets { placed }
+    }
+
+    /// Whether both have the same targets with the same registers, in any order.
+    pub fn is_same(&self, other: &LegacyTargets) -> bool
+        ensures { IsTrue result ↔ (self.now ≡ other.now) }
+    {
+        let ours = self.placed.as_slice();
+        let theirs = other.placed.as_slice();
+        are_among(ours, theirs) && are_among(theirs, ours)
     }
 
     /// The target at a static address, if there is one.
@@ -86,6 +106,25 @@ fn index_of(placed: &[Placed], address: Addr7) -> Option<usize>
         (λ i. (i < length placed.now) × HoldsAt (λ p. p.address ≡ address) placed.now i) }
 {
     placed.iter().position(|placed| placed.address == address)
+}
+
+// Whether each of these targets is one of the others.
+fn are_among(placed: &[Placed], others: &[Placed]) -> bool
+    ensures { IsTrue result ↔ All (Contains others.now) placed.now }
+{
+    for target in placed {
+        if !is_among(target, others) {
+            return false;
+        }
+    }
+    true
+}
+
+// Whether a target is one of the others.
+fn is_among(placed: &Placed, others: &[Placed]) -> bool
+    ensures { IsTrue result ↔ Contains others.now placed.now }
+{
+    others.contains(placed)
 }
 
 // These bytes go into a target's first registers.

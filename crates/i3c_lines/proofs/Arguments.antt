@@ -4,15 +4,16 @@ use Rattle.std.proofs.lemmas.Bool.{false≢true}
 use Rattle.std.specs.Option.{IfSome, IsSome}
 use Rattle.arrayvec.specs.ArrayVec.{ArrayVec}
 use Rattle.i3c_base.specs.declared.device.Setup.{Setup}
+use Rattle.i3c_base.specs.declared.identity.Identity.{Identity}
 use Rattle.i3c_base.specs.declared.kinds.Kinds.{Kinds}
 use Rattle.i3c_base.specs.declared.requests.Fixed.{Fixed}
 use Rattle.i3c_lines.specs.declared.command.Command.{Command}
 use Rattle.i3c_lines.specs.declared.names.Name.{Name}
-use Rattle.i3c_lines.specs.Forms.{AreAddress, AreByte, AreDevice, AreKinds, AreWritten, IsForm, IsNamed, IsPolicy, WritesAddress, tokens}
+use Rattle.i3c_lines.specs.Forms.{AreAddress, AreAddresses, AreByte, AreDeclared, AreDevice, AreKinds, AreWritten, IsForm, IsNamed, IsPolicy, WritesAddress, tokens}
 use Rattle.i3c_lines.specs.Parsing.{AreKept, AreNamed, Reads, joined}
 use Rattle.i3c_lines.specs.Words.{AreBytes, IsHex, pair_values}
 use Rattle.i3c_lines.proofs.LineLaws.{line_is, one_word, word_left}
-use Rattle.i3c_lines.proofs.Meanings.{as_meant, first_of, hex, kinds_of, named, number_of, policy_of, rest_of, setup_of, written_of}
+use Rattle.i3c_lines.proofs.Meanings.{as_meant, first_of, hex, identity_of, kinds_of, named, number_of, policy_of, rest_of, setup_of, written_of}
 use Rattle.i3c_lines.proofs.SplitLaws.{pairs_no_space, take_joined}
 
 pub drop_args : (rest : List (List ℕ)) (command : Command) → IsForm (codes "drop" ∷ rest) command → (name : Name) × AreNamed rest name
@@ -36,6 +37,21 @@ pub attach_args : (rest : List (List ℕ)) (command : Command) → IsForm (codes
 attach_args rest command form =
     let f = as_meant (codes "attach" ∷ rest) command form in
     (named (first_of rest), setup_of (rest_of rest), subst (λ ws. AreDevice ws (named (first_of rest)) (setup_of (rest_of rest))) (sym (ap rest_of f.1)) f.2)
+
+pub declare_args : (rest : List (List ℕ)) (command : Command) → IsForm (codes "declare" ∷ rest) command → (address : ℕ) × (identity : Identity) × AreDeclared rest address identity
+declare_args rest command form =
+    let f = as_meant (codes "declare" ∷ rest) command form in
+    (hex (first_of rest), identity_of (rest_of rest), subst (λ ws. AreDeclared ws (hex (first_of rest)) (identity_of (rest_of rest))) (sym (ap rest_of f.1)) f.2)
+
+pub setdasa_args : (rest : List (List ℕ)) (command : Command) → IsForm (codes "setdasa" ∷ rest) command → (at to : ℕ) × AreAddresses rest at to
+setdasa_args rest command form =
+    let f = as_meant (codes "setdasa" ∷ rest) command form in
+    (hex (first_of rest), hex (first_of (rest_of rest)), subst (λ ws. AreAddresses ws (hex (first_of rest)) (hex (first_of (rest_of rest)))) (sym (ap rest_of f.1)) f.2)
+
+pub setnewda_args : (rest : List (List ℕ)) (command : Command) → IsForm (codes "setnewda" ∷ rest) command → (at to : ℕ) × AreAddresses rest at to
+setnewda_args rest command form =
+    let f = as_meant (codes "setnewda" ∷ rest) command form in
+    (hex (first_of rest), hex (first_of (rest_of rest)), subst (λ ws. AreAddresses ws (hex (first_of rest)) (hex (first_of (rest_of rest)))) (sym (ap rest_of f.1)) f.2)
 
 pub enec_args : (rest : List (List ℕ)) (command : Command) → IsForm (codes "enec" ∷ rest) command → (to : Option ℕ) × (kinds : Kinds) × AreKinds rest to kinds
 enec_args rest command form =

@@ -6,7 +6,7 @@ use Rattle.i3c_lines.specs.declared.command.Command.{Command}
 use Rattle.i3c_lines.specs.Forms.{IsForm, tokens, with_first}
 use Rattle.i3c_lines.specs.Parsing.{Becomes, BecomesOther, IsOther}
 use Rattle.i3c_lines.proofs.LineLaws.{line_is, line_of, some_word}
-use Rattle.i3c_lines.proofs.Meanings.{are_same, as_meant, first_of, hex, kinds_of, meant, meant_is, named, number_of, rest_of, shown_by, written_of}
+use Rattle.i3c_lines.proofs.Meanings.{are_same, as_meant, first_of, hex, identity_of, kinds_of, meant, meant_is, named, number_of, rest_of, shown_by, written_of}
 
 abbrev tail_of : List ℕ → List ℕ
 tail_of [] = []
@@ -82,6 +82,7 @@ shown word (next ∷ words) e = inr e
 
 -- behind `s`
 pub only_s : (tail : List ℕ) (command : Command) → IsForm (tokens (115 ∷ tail)) command → (tail ≡ codes "erve") ⊎ (tail ≡ codes "how") ⊎ (tail ≡ codes "ymbols") ⊎ (tail ≡ codes "how all")
+    ⊎ GoesOn tail (codes "etdasa") ⊎ GoesOn tail (codes "etnewda")
 only_s tail command form =
     let (word, words, e, here) = begun 115 tail command refl form in
     elim (either (are_same word (codes "erve")) (Command.Frame Frame.Serve) _ _ here) [
@@ -90,13 +91,21 @@ only_s tail command form =
           elim (either (are_same word (codes "ymbols")) Command.Symbols _ _ other) [
             | inl is ↦ inr (inr (inl (alone 115 tail (codes "ymbols") (e ∙ is))))
             | inr third ↦
-                elim (either (are_same word (codes "how")) (shown_by words) Command.Show _ third) [
+                elim (either (are_same word (codes "how")) (shown_by words) _ _ third) [
                   | inl shows ↦
                       elim (shown (115 ∷ word) words shows) [
                         | inl is ↦ inr (inl (alone 115 tail (codes "how") (e ∙ is)))
-                        | inr is ↦ inr (inr (inr (ap tail_of (line_is (115 ∷ tail) (codes "show" ∷ codes "all" ∷ []) (e ∙ is)))))
+                        | inr is ↦ inr (inr (inr (inl (ap tail_of (line_is (115 ∷ tail) (codes "show" ∷ codes "all" ∷ []) (e ∙ is))))))
                       ]
-                  | inr is ↦ inr (inl (alone 115 tail (codes "how") (e ∙ is)))
+                  | inr fourth ↦
+                      elim (either (are_same word (codes "etdasa")) (Command.Frame (Frame.SetStatic (hex (first_of words)) (hex (first_of (rest_of words))))) _ _ fourth) [
+                        | inl is ↦ inr (inr (inr (inr (inl (goes_on 115 tail (codes "etdasa") is.2.0 (is.2.1 ∷ []) (e ∙ is.1 ∙ ap (λ ws. codes "setdasa" ∷ ws) is.2.2))))))
+                        | inr fifth ↦
+                            elim (either (are_same word (codes "etnewda")) (Command.Frame (Frame.SetNew (hex (first_of words)) (hex (first_of (rest_of words))))) Command.Show _ fifth) [
+                              | inl is ↦ inr (inr (inr (inr (inr (goes_on 115 tail (codes "etnewda") is.2.0 (is.2.1 ∷ []) (e ∙ is.1 ∙ ap (λ ws. codes "setnewda" ∷ ws) is.2.2))))))
+                              | inr is ↦ inr (inl (alone 115 tail (codes "how") (e ∙ is)))
+                            ]
+                      ]
                 ]
           ]
     ]
@@ -139,9 +148,13 @@ only_d tail command form =
           elim (either_is (are_same word (codes "aa")) Command.Daa _ command _ second.0 second.1) [
             | inl daa ↦ inr (inl (alone 100 tail (codes "aa") (e ∙ daa.1)))
             | inr third ↦
-                elim (either_is (are_same word (codes "rop")) (Command.DropOff (named (first_of words))) Command.Show command _ third.0 third.1) [
+                elim (either_is (are_same word (codes "rop")) (Command.DropOff (named (first_of words))) _ command _ third.0 third.1) [
                   | inl drops ↦ inr (inr (subst IsOther drops.0 tt))
-                  | inr show ↦ absurd (omega (arith, ap first_letter show.1))
+                  | inr fourth ↦
+                      elim (either_is (are_same word (codes "eclare")) (Command.Declare (hex (first_of words)) (identity_of (rest_of words))) Command.Show command _ fourth.0 fourth.1) [
+                        | inl declares ↦ inr (inr (subst IsOther declares.0 tt))
+                        | inr show ↦ absurd (omega (arith, ap first_letter show.1))
+                      ]
                 ]
           ]
     ]

@@ -9,6 +9,7 @@ use mathlib.Core.List.{is_set}
 use native.Mathlib.Bridge.{le_prop}
 use native.Mathlib.Nat.{ℕ_set}
 use Rattle.i3c_base.specs.declared.device.Setup.{Setup}
+use Rattle.i3c_base.specs.declared.identity.Identity.{Identity}
 use Rattle.i3c_base.specs.declared.kinds.Kinds.{Kinds}
 use Rattle.i3c_base.specs.declared.requests.Fixed.{Fixed}
 use Rattle.i3c_base.specs.declared.requests.Verdict.TheVariants.{Accept, Refuse}
@@ -84,9 +85,11 @@ shown_by (word ∷ words) = Command.ShowAll
 abbrev pub kinds_of : List ℕ → Kinds
 kinds_of word = record { 0 = bit_and (hex word) 11 }
 
+abbrev pub identity_of : List (List ℕ) → Identity
+identity_of words = record { pid = hex (first_of words); bcr = record { 0 = hex (first_of (rest_of words)) }; dcr = record { 0 = hex (first_of (rest_of (rest_of words))) } }
+
 abbrev pub setup_of : List (List ℕ) → Setup
-setup_of words =
-    record { identity = record { pid = hex (first_of words); bcr = record { 0 = hex (first_of (rest_of words)) }; dcr = record { 0 = hex (first_of (rest_of (rest_of words))) } }; willing = willing_of (rest_of (rest_of (rest_of words))) }
+setup_of words = record { identity = identity_of words; willing = willing_of (rest_of (rest_of (rest_of words))) }
 
 abbrev pub are_same : List ℕ → List ℕ → Bool
 are_same one other = pointwise nat_eq one other
@@ -105,11 +108,14 @@ meant_by word args =
     (cond (are_same word (codes "serve")) (Command.Frame Frame.Serve)
     (cond (are_same word (codes "symbols")) Command.Symbols
     (cond (are_same word (codes "show")) (shown_by args)
+    (cond (are_same word (codes "setdasa")) (Command.Frame (Frame.SetStatic (hex (first_of args)) (hex (first_of (rest_of args)))))
+    (cond (are_same word (codes "setnewda")) (Command.Frame (Frame.SetNew (hex (first_of args)) (hex (first_of (rest_of args)))))
     (cond (are_same word (codes "enec")) (Command.Frame (Frame.Enec (number_of (rest_of args)) (kinds_of (first_of args))))
     (cond (are_same word (codes "end")) Command.End
     (cond (are_same word (codes "disec")) (Command.Frame (Frame.Disec (number_of (rest_of args)) (kinds_of (first_of args))))
     (cond (are_same word (codes "daa")) Command.Daa
     (cond (are_same word (codes "drop")) (Command.DropOff (named (first_of args)))
+    (cond (are_same word (codes "declare")) (Command.Declare (hex (first_of args)) (identity_of (rest_of args)))
     (cond (are_same word (codes "list")) (Command.Frame Frame.SendList)
     (cond (are_same word (codes "legacy")) (Command.Legacy (named (first_of args)) (hex (first_of (rest_of args))) (record { 0 = hex (first_of (rest_of (rest_of args))) }))
     (cond (are_same word (codes "open")) Command.Open
@@ -121,7 +127,7 @@ meant_by word args =
     (cond (are_same word (codes "handover")) (Command.HandOver (hex (first_of args)))
     (cond (are_same word (codes "policy")) (Command.Policy (policy_of (first_of args)))
     (cond (are_same word (codes "cut")) (Command.Cut (named (first_of args)) (digits_value 10 (first_of (rest_of args))))
-    (cond (are_same word (codes "frames")) (Command.Frames (digits_value 10 (first_of args))) Command.Show)))))))))))))))))))))))
+    (cond (are_same word (codes "frames")) (Command.Frames (digits_value 10 (first_of args))) Command.Show))))))))))))))))))))))))))
 
 -- the command that these words can be at most
 abbrev pub meant : List (List ℕ) → Command
@@ -150,10 +156,13 @@ policy_is word policy (inr (inr (inl (e, is)))) = ap policy_of e ∙ sym is
 policy_is word policy (inr (inr (inr (inl (e, is))))) = ap policy_of e ∙ sym is
 policy_is word policy (inr (inr (inr (inr (e, is))))) = ap policy_of e ∙ sym is
 
+identity_is : (pid bcr dcr : List ℕ) (identity : Identity) → WritesIdentity pid bcr dcr identity → identity_of (pid ∷ bcr ∷ dcr ∷ []) ≡ identity
+identity_is pid bcr dcr identity is = λ i. record { pid = sym is.0.1 i; bcr = record { 0 = sym is.1.1 i }; dcr = record { 0 = sym is.2.1 i } }
+
 setup_is : (word pid bcr dcr : List ℕ) (words : List (List ℕ)) (name : Name) (setup : Setup) → words ≡ word ∷ pid ∷ bcr ∷ dcr ∷ willing_words setup.willing → WritesIdentity pid bcr dcr setup.identity → setup_of (rest_of words) ≡ setup
 setup_is word pid bcr dcr words name setup e is =
     ap (λ ws. setup_of (rest_of ws)) e
-    ∙ (λ i. record { identity = record { pid = sym is.0.1 i; bcr = record { 0 = sym is.1.1 i }; dcr = record { 0 = sym is.2.1 i } }; willing = willing_is setup.willing i })
+    ∙ (λ i. record { identity = identity_is pid bcr dcr setup.identity is i; willing = willing_is setup.willing i })
 
 kinds_is : (word : List ℕ) (kinds : Kinds) → WritesKinds word kinds → kinds_of word ≡ kinds
 kinds_is word kinds is = λ i. record { 0 = sym is.1 i }
@@ -169,10 +178,16 @@ frame_is words Frame.SendList e = ap meant e
 frame_is words (Frame.ReadFrom at) (word, e, is) = ap meant e ∙ ap (λ n. Command.Frame (Frame.ReadFrom n)) (sym is.0.1)
 frame_is words (Frame.WriteTo at bytes) (word, rest, e, is, are) =
     ap meant e ∙ (λ i. Command.Frame (Frame.WriteTo (sym is.0.1 i) (record { items = written_is rest bytes.items are i })))
+frame_is words (Frame.SetStatic at to) (rest, e, (one, other, e', first, second)) =
+    ap meant (e ∙ ap (λ ws. codes "setdasa" ∷ ws) e') ∙ (λ i. Command.Frame (Frame.SetStatic (sym first.0.1 i) (sym second.0.1 i)))
+frame_is words (Frame.SetNew at to) (rest, e, (one, other, e', first, second)) =
+    ap meant (e ∙ ap (λ ws. codes "setnewda" ∷ ws) e') ∙ (λ i. Command.Frame (Frame.SetNew (sym first.0.1 i) (sym second.0.1 i)))
 
 -- words are no other command's than the one that they mean
 pub meant_is : (words : List (List ℕ)) (command : Command) → IsForm words command → meant words ≡ command
 meant_is words (Command.Legacy name address lvr) (word, at, byte, e, is, a, b) = ap meant e ∙ (λ i. Command.Legacy (named_is word name is i) (sym a.0.1 i) (record { 0 = sym b.1 i }))
+meant_is words (Command.Declare address identity) (rest, e, (at, pid, bcr, dcr, e', a, is)) =
+    ap meant (e ∙ ap (λ ws. codes "declare" ∷ ws) e') ∙ (λ i. Command.Declare (sym a.0.1 i) (identity_is pid bcr dcr identity is i))
 meant_is words (Command.Main name setup) (rest, e, (word, pid, bcr, dcr, e', is, identity)) =
     ap meant e ∙ (λ i. Command.Main ((ap (λ ws. named (first_of ws)) e' ∙ named_is word name is) i) (setup_is word pid bcr dcr rest name setup e' identity i))
 meant_is words (Command.Attach name setup) (rest, e, (word, pid, bcr, dcr, e', is, identity)) =

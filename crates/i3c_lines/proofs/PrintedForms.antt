@@ -4,16 +4,17 @@ use Rattle.std.proofs.lemmas.List.{take_all}
 use Rattle.std.proofs.lemmas.Nat.{and_le_r}
 use Rattle.std.specs.Fmt.{decimal}
 use Rattle.i3c_base.specs.declared.device.Setup.{Setup}
+use Rattle.i3c_base.specs.declared.identity.Identity.{Identity}
 use Rattle.i3c_base.specs.declared.kinds.Kinds.{Kinds}
 use Rattle.i3c_base.specs.declared.requests.Fixed.{Fixed}
 use Rattle.i3c_base.specs.Numbers.{IsInRange}
 use Rattle.i3c_step.specs.declared.events.Command.{Command as Frame}
 use Rattle.i3c_lines.specs.declared.command.Command.{Command}
 use Rattle.i3c_lines.specs.declared.names.Name.{Name}
-use Rattle.i3c_lines.specs.Forms.{AreAddress, AreByte, AreDevice, AreKinds, AreWritten, IsCommand, IsForm, IsPolicy, tokens, willing_words}
+use Rattle.i3c_lines.specs.Forms.{AreAddress, AreAddresses, AreByte, AreDeclared, AreDevice, AreKinds, AreWritten, IsCommand, IsForm, IsPolicy, tokens, willing_words}
 use Rattle.i3c_text.specs.Hex.{byte_text, bytes_text, hex_text}
 use Rattle.i3c_lines.specs.Naming.{letters}
-use Rattle.i3c_lines.specs.Printing.{AreKnown, HasLine, IsWithin, IsNamable, byte_words, command_text, command_words, device_words, spaced, verdicts_word, written_words}
+use Rattle.i3c_lines.specs.Printing.{AreKnown, HasLine, IsWithin, IsNamable, byte_words, command_text, command_words, device_words, identity_words, spaced, verdicts_word, written_words}
 use Rattle.i3c_lines.proofs.Meanings.{as_meant}
 use Rattle.i3c_lines.proofs.PrintedLines.{Apart, byte_writes, decimal_writes, pairs_are, pairs_length, pid_writes, plain, spaced_length, tokens_spaced, total}
 use Rattle.i3c_lines.proofs.SplitLaws.{HasNoSpace, hex_no_space, name_no_space, pairs_no_space}
@@ -59,6 +60,23 @@ device_fits name setup is h =
       omega (arith, is.1, pid.0.0, willing.1),
     )
 
+declared_fits : (address : ℕ) (identity : Identity) → address < 128 → IsInRange identity → Fit (AreDeclared (byte_text address ∷ identity_words identity) address identity) (byte_text address ∷ identity_words identity) 22
+declared_fits address identity h within =
+    let small : address < 256 = omega (arith, h) in
+    let pid = pid_writes identity.pid within.0 in
+    let bcr = byte_writes identity.bcr.0 within.1 in
+    let dcr = byte_writes identity.dcr.0 within.2 in (
+      (byte_text address, hex_text 12 identity.pid, byte_text identity.bcr.0, byte_text identity.dcr.0, refl, (byte_writes address small, h), (pid, bcr, dcr)),
+      (byte_apart address small, (hex_no_space (hex_text 12 identity.pid) pid.0.1, (byte_apart identity.bcr.0 within.1, (byte_apart identity.dcr.0 within.2, tt)))),
+      omega (arith, pid.0.0),
+    )
+
+addresses_fit : (at to : ℕ) → at < 128 → to < 128 → Fit (AreAddresses (byte_text at ∷ byte_text to ∷ []) at to) (byte_text at ∷ byte_text to ∷ []) 6
+addresses_fit at to h h' =
+    let small : at < 256 = omega (arith, h) in
+    let small' : to < 256 = omega (arith, h') in
+    ((byte_text at, byte_text to, refl, (byte_writes at small, h), (byte_writes to small', h')), (byte_apart at small, (byte_apart to small', tt)), omega arith)
+
 kinds_fit : (to : Option ℕ) (kinds : Kinds) → AreKnown kinds → IsWithin 128 to → Fit (AreKinds (byte_text kinds.0 ∷ byte_words to) to kinds) (byte_text kinds.0 ∷ byte_words to) 6
 kinds_fit to kinds known h =
     let small : kinds.0 < 256 = omega (arith, known, and_le_r kinds.0 11) in
@@ -97,6 +115,8 @@ frame_prints (Frame.WriteTo at bytes) h =
     let small : at < 256 = omega (arith, h.0) in
     let fit = written_fits bytes.items h.1 h.2 in
     ((byte_text at, written_words bytes.items, refl, (byte_writes at small, h.0), fit.0), (plain (codes "write") tt, (byte_apart at small, fit.1)), omega (arith, fit.2))
+frame_prints (Frame.SetStatic at to) h = let fit = addresses_fit at to h.0 h.1 in ((byte_text at ∷ byte_text to ∷ [], refl, fit.0), (plain (codes "setdasa") tt, fit.1), omega (arith, fit.2))
+frame_prints (Frame.SetNew at to) h = let fit = addresses_fit at to h.0 h.1 in ((byte_text at ∷ byte_text to ∷ [], refl, fit.0), (plain (codes "setnewda") tt, fit.1), omega (arith, fit.2))
 
 prints : (command : Command) → HasLine command → Prints command
 prints (Command.Legacy name address lvr) h =
@@ -106,6 +126,8 @@ prints (Command.Legacy name address lvr) h =
       (plain (codes "legacy") tt, (fit.0.0, (byte_apart address small, (byte_apart lvr.0 h.2, tt)))),
       omega (arith, fit.1),
     )
+prints (Command.Declare address identity) h =
+    let fit = declared_fits address identity h.0 h.1 in ((byte_text address ∷ identity_words identity, refl, fit.0), (plain (codes "declare") tt, fit.1), omega (arith, fit.2))
 prints (Command.Main name setup) h = let fit = device_fits name setup h.0 h.1 in ((device_words name setup, refl, fit.0), (plain (codes "main") tt, fit.1), omega (arith, fit.2))
 prints (Command.Attach name setup) h = let fit = device_fits name setup h.0 h.1 in ((device_words name setup, refl, fit.0), (plain (codes "attach") tt, fit.1), omega (arith, fit.2))
 prints (Command.DropOff name) h = let fit = named_fits name h in ((letters name, refl, (h, refl)), (plain (codes "drop") tt, fit.0), omega (arith, fit.1))

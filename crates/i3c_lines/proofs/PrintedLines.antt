@@ -1,15 +1,12 @@
 -- Commands that are printed, and read again.
-use Rattle.std.proofs.Common.{◌≡◌, ◌∙◌, ℕ, zero, suc, ◌+◌, ◌-◌, ◌*◌, ◌/◌, ◌%◌, ◌^◌, ◌<◌, ◌≤◌, Bool, true, ◌&&◌, T, not, eqb, eq-zero-or-pos, inl, inr, List, [], ◌∷◌, ◌++◌, Some, All, length, length-append, ap, append_assoc, arith, refl, sym, subst}
-use Rattle.std.proofs.Math.Nat.{pow-succ'}
+use Rattle.std.proofs.Common.{◌≡◌, ◌∙◌, ℕ, zero, suc, ◌+◌, ◌*◌, ◌/◌, ◌%◌, ◌^◌, ◌<◌, ◌≤◌, Bool, true, ◌&&◌, T, not, eqb, List, [], ◌∷◌, ◌++◌, Some, All, length, length-append, ap, append_assoc, arith, refl, sym, subst}
 use Rattle.std.proofs.lemmas.List.{append-nil}
-use Rattle.std.proofs.lemmas.List.Elements.{All-cons, All-nil, All-push}
+use Rattle.std.proofs.lemmas.List.Elements.{All-cons, All-nil}
 use Rattle.std.proofs.lemmas.Str.Parse.{digit_from_value}
-use Rattle.std.proofs.lemmas.Int.Digits.{digits_value_push}
 use Rattle.std.proofs.lemmas.Fmt.{decimal_is_IsNumeral, length-decimal-le}
 use lib.Ieee.Fits.{and_r}
-use Rattle.std.specs.Char.{digit_value}
 use Rattle.std.specs.Fmt.{decimal, digit_glyph}
-use Rattle.std.specs.Str.Parse.{AllDigits, digits_value}
+use Rattle.std.specs.Str.Parse.{AllDigits}
 use Rattle.i3c_lines.specs.Forms.{Writes, WritesBit, tokens}
 use Rattle.i3c_text.specs.Hex.{byte_text, bytes_text, hex_text}
 use Rattle.i3c_text.proofs.DigitLaws.{hex_is, length-hex_text}
@@ -22,6 +19,16 @@ use Rattle.i3c_lines.proofs.SplitLaws.{HasNoSpace, joined_tokens}
 pub behind_space : (old mid new word : List ℕ) → mid ≡ old ++ 32 ∷ [] → new ≡ mid ++ word → new ≡ old ++ behind (word ∷ [])
 behind_space old mid new word first then =
     then ∙ ap (λ t. t ++ word) first ∙ append_assoc old (32 ∷ []) word ∙ ap (λ w. old ++ 32 ∷ w) (sym (append-nil word))
+
+behind_more : (words more : List (List ℕ)) → behind words ++ behind more ≡ behind (words ++ more)
+behind_more [] more = refl
+behind_more (word ∷ words) more = ap (λ t. 32 ∷ t) (append_assoc word (behind words) (behind more) ∙ ap (λ t. word ++ t) (behind_more words more))
+
+-- words are put behind others
+pub spaced_behind : (old mid new word : List ℕ) (words more : List (List ℕ)) → mid ≡ old ++ spaced (word ∷ words) → new ≡ mid ++ behind more → new ≡ old ++ spaced (word ∷ (words ++ more))
+spaced_behind old mid new word words more first then =
+    then ∙ ap (λ t. t ++ behind more) first ∙ append_assoc old (word ++ behind words) (behind more)
+    ∙ ap (λ t. old ++ t) (append_assoc word (behind words) (behind more) ∙ ap (λ t. word ++ t) (behind_more words more))
 
 -- a byte's two digits
 pub byte_writes : (byte : ℕ) → byte < 256 → Writes 2 (byte_text byte) byte

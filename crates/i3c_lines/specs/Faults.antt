@@ -1,5 +1,5 @@
 -- Why a line has no form.
-use Rattle.std.specs.Prelude.{⊤, ◌≡◌, ℕ, ◌-◌, ◌<◌, List, ◌∷◌, ◌++◌, Some, codes, length, slice_get, ◌==◌, true}
+use Rattle.std.specs.Prelude.{⊤, ◌≡◌, ℕ, ◌-◌, ◌<◌, List, ◌∷◌, Some, codes, length, slice_get, ◌==◌, true}
 use Rattle.std.specs.List.{list_any}
 use Rattle.std.specs.Str.Parse.{digits_value}
 use Rattle.i3c_base.specs.declared.requests.Fixed.{Fixed}
@@ -16,6 +16,8 @@ IsField Field.Bcr word = IsHex 2 word
 IsField Field.Dcr word = IsHex 2 word
 IsField Field.Lvr word = IsHex 2 word
 IsField Field.Addr word = IsHex 2 word × (digits_value 16 word < 128)
+IsField Field.Old word = IsHex 2 word × (digits_value 16 word < 128)
+IsField Field.New word = IsHex 2 word × (digits_value 16 word < 128)
 IsField Field.Byte word = IsHex 2 word
 IsField Field.Bytes word = (0 < length word) × AreBytes word
 IsField Field.Bit word = IsDecimal word × (digits_value 10 word < 65536)

@@ -75,6 +75,14 @@ AreAddress words (Some address) = (word : List ℕ) × (words ≡ word ∷ []) �
 abbrev pub AreKinds : List (List ℕ) → Option ℕ → Kinds → Type 0
 AreKinds words to kinds = (word : List ℕ) × (rest : List (List ℕ)) × (words ≡ word ∷ rest) × WritesKinds word kinds × AreAddress rest to
 
+-- `ADDR ADDR`
+abbrev pub AreAddresses : List (List ℕ) → ℕ → ℕ → Type 0
+AreAddresses words first second = (one other : List ℕ) × (words ≡ one ∷ other ∷ []) × WritesAddress one first × WritesAddress other second
+
+-- `ADDR PID BCR DCR`
+abbrev pub AreDeclared : List (List ℕ) → ℕ → Identity → Type 0
+AreDeclared words address identity = (at pid bcr dcr : List ℕ) × (words ≡ at ∷ pid ∷ bcr ∷ dcr ∷ []) × WritesAddress at address × WritesIdentity pid bcr dcr identity
+
 -- `[BYTES]`: of more than seventeen bytes the first ones are kept
 abbrev pub AreWritten : List (List ℕ) → List ℕ → Type 0
 AreWritten words bytes = ((words ≡ []) × (bytes ≡ []))
@@ -94,11 +102,14 @@ IsFrameForm words Frame.Reset = words ≡ codes "reset" ∷ []
 IsFrameForm words Frame.SendList = words ≡ codes "list" ∷ []
 IsFrameForm words (Frame.ReadFrom at) = (word : List ℕ) × (words ≡ codes "read" ∷ word ∷ []) × WritesAddress word at
 IsFrameForm words (Frame.WriteTo at bytes) = (word : List ℕ) × (rest : List (List ℕ)) × (words ≡ codes "write" ∷ word ∷ rest) × WritesAddress word at × AreWritten rest bytes.items
+IsFrameForm words (Frame.SetStatic at to) = (rest : List (List ℕ)) × (words ≡ codes "setdasa" ∷ rest) × AreAddresses rest at to
+IsFrameForm words (Frame.SetNew at to) = (rest : List (List ℕ)) × (words ≡ codes "setnewda" ∷ rest) × AreAddresses rest at to
 
 -- these words are this command's line
 abbrev pub IsForm : List (List ℕ) → Command → Type 0
 IsForm words (Command.Legacy name address lvr) =
     (word at byte : List ℕ) × (words ≡ codes "legacy" ∷ word ∷ at ∷ byte ∷ []) × IsNamed word name × WritesAddress at address × Writes 2 byte lvr.0
+IsForm words (Command.Declare address identity) = (rest : List (List ℕ)) × (words ≡ codes "declare" ∷ rest) × AreDeclared rest address identity
 IsForm words (Command.Main name setup) = (rest : List (List ℕ)) × (words ≡ codes "main" ∷ rest) × AreDevice rest name setup
 IsForm words (Command.Attach name setup) = (rest : List (List ℕ)) × (words ≡ codes "attach" ∷ rest) × AreDevice rest name setup
 IsForm words (Command.DropOff name) = (word : List ℕ) × (words ≡ codes "drop" ∷ word ∷ []) × IsNamed word name

@@ -57,6 +57,7 @@ Becomes words result old new = MatchOption result (((command : Command) → IsFo
 -- a command whose line is read word by word
 abbrev pub IsOther : Command → Type 0
 IsOther (Command.Legacy name address lvr) = ⊤
+IsOther (Command.Declare address identity) = ⊤
 IsOther (Command.Main name setup) = ⊤
 IsOther (Command.Attach name setup) = ⊤
 IsOther (Command.DropOff name) = ⊤

@@ -3,6 +3,7 @@ use Rattle.std.specs.Prelude.{◌≡◌, ℕ, ◌^◌, ◌<◌, ◌≤◌, ⊤, 
 use Rattle.std.specs.Fmt.{decimal}
 use Rattle.i3c_base.specs.Numbers.{IsInRange}
 use Rattle.i3c_base.specs.declared.device.Setup.{Setup}
+use Rattle.i3c_base.specs.declared.identity.Identity.{Identity}
 use Rattle.i3c_base.specs.declared.kinds.Kinds.{Kinds}
 use Rattle.i3c_base.specs.declared.requests.Verdict.{Verdict}
 use Rattle.i3c_base.specs.declared.requests.Verdict.TheVariants.{Accept, Refuse}
@@ -34,6 +35,10 @@ abbrev pub written_words : List ℕ → List (List ℕ)
 written_words [] = []
 written_words (byte ∷ bytes) = bytes_text (byte ∷ bytes) ∷ []
 
+-- an identity
+abbrev pub identity_words : Identity → List (List ℕ)
+identity_words identity = hex_text 12 identity.pid ∷ byte_text identity.bcr.0 ∷ byte_text identity.dcr.0 ∷ []
+
 -- a device's name and identity, and whether it takes the controller role
 abbrev pub device_words : Name → Setup → List (List ℕ)
 device_words name setup = letters name ∷ hex_text 12 setup.identity.pid ∷ byte_text setup.identity.bcr.0 ∷ byte_text setup.identity.dcr.0 ∷ willing_words setup.willing
@@ -58,10 +63,13 @@ frame_words Frame.Reset = codes "reset" ∷ []
 frame_words Frame.SendList = codes "list" ∷ []
 frame_words (Frame.ReadFrom at) = codes "read" ∷ byte_text at ∷ []
 frame_words (Frame.WriteTo at bytes) = codes "write" ∷ byte_text at ∷ written_words bytes.items
+frame_words (Frame.SetStatic at to) = codes "setdasa" ∷ byte_text at ∷ byte_text to ∷ []
+frame_words (Frame.SetNew at to) = codes "setnewda" ∷ byte_text at ∷ byte_text to ∷ []
 
 -- the words of a command's line
 abbrev pub command_words : Command → List (List ℕ)
 command_words (Command.Legacy name address lvr) = codes "legacy" ∷ letters name ∷ byte_text address ∷ byte_text lvr.0 ∷ []
+command_words (Command.Declare address identity) = codes "declare" ∷ byte_text address ∷ identity_words identity
 command_words (Command.Main name setup) = codes "main" ∷ device_words name setup
 command_words (Command.Attach name setup) = codes "attach" ∷ device_words name setup
 command_words (Command.DropOff name) = codes "drop" ∷ letters name ∷ []
@@ -107,10 +115,13 @@ FrameHasLine Frame.Reset = ⊤
 FrameHasLine Frame.SendList = ⊤
 FrameHasLine (Frame.ReadFrom at) = at < 128
 FrameHasLine (Frame.WriteTo at bytes) = (at < 128) × (length bytes.items ≤ 17) × All (λ byte. byte < 256) bytes.items
+FrameHasLine (Frame.SetStatic at to) = (at < 128) × (to < 128)
+FrameHasLine (Frame.SetNew at to) = (at < 128) × (to < 128)
 
 -- a command that a line can ask for: its names have letters, its numbers are in range, and its policy has a word
 abbrev pub HasLine : Command → Type 0
 HasLine (Command.Legacy name address lvr) = IsNamable name × (address < 128) × (lvr.0 < 256)
+HasLine (Command.Declare address identity) = (address < 128) × IsInRange identity
 HasLine (Command.Main name setup) = IsNamable name × IsInRange setup.identity
 HasLine (Command.Attach name setup) = IsNamable name × IsInRange setup.identity
 HasLine (Command.DropOff name) = IsNamable name

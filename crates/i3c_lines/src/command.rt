@@ -1,5 +1,5 @@
 ghost use Rattle.std.specs.Prelude.{◌≡◌, ◌∷◌, Some, codes, option_copied};
-ghost use Rattle.i3c_lines.specs.Forms.{AreAddress, AreByte, AreDevice, AreKinds, IsForm, IsNamed, Writes, tokens};
+ghost use Rattle.i3c_lines.specs.Forms.{AreAddress, AreAddresses, AreByte, AreDeclared, AreDevice, AreKinds, IsForm, IsNamed, Writes, tokens};
 ghost use Rattle.i3c_lines.specs.Parsing.{AreKept, AreNamed, AreWilling, Becomes, BecomesOther, IsOtherForm, Reads, TakesIdentity, TakesWord, left_words, words_of};
 
 use crate::names::Name;
@@ -25,6 +25,10 @@ const SHOW: &[u8] = b"how";
 const SHOW_ALL: &[u8] = b"how all";
 
 const SYMBOLS: &[u8] = b"ymbols";
+
+const SETDASA: &[u8] = b"etdasa ";
+
+const SETNEWDA: &[u8] = b"etnewda ";
 
 const ENEC: &[u8] = b"nec ";
 
@@ -57,6 +61,8 @@ const POLICY: &[u8] = b"policy";
 
 const LEGACY: &[u8] = b"legacy";
 
+const DECLARE: &[u8] = b"declare";
+
 const MAIN: &[u8] = b"main";
 
 const FRAMES: &[u8] = b"frames";
@@ -69,6 +75,11 @@ pub enum Command {
         name: Name,
         address: Addr7,
         lvr: Lvr,
+    },
+    /// `declare ADDR PID BCR DCR`: an identity is declared at a static address.
+    Declare {
+        address: Addr7,
+        identity: Identity,
     },
     /// `main NAME PID BCR DCR [decline]`: the bus starts, with its main controller in slot 0.
     Main {
@@ -98,7 +109,8 @@ pub enum Command {
         name: Name,
     },
     /// A line that sends a frame under the role: `serve`, `enec BYTE [ADDR]`, `disec BYTE [ADDR]`, `reset`, `list`,
-    /// `read ADDR` or `write ADDR [BYTES]`. Of more bytes than may be written one more is kept.
+    /// `read ADDR`, `write ADDR [BYTES]`, `setdasa ADDR NEW` or `setnewda OLD NEW`. Of more bytes than may be written one
+    /// more is kept.
     Frame(Frame),
     /// `handover ADDR`: the role is offered to the device at an address.
     HandOver {
@@ -202,6 +214,12 @@ impl Command {
         }
         if is_word(tail, SHOW_ALL) {
             return self.set(Command::ShowAll);
+        }
+        if let Some(line) = after(tail, SETDASA) {
+            return self.read_setdasa::<K>(line);
+        }
+        if let Some(line) = after(tail, SETNEWDA) {
+            return self.read_setnewda::<K>(line);
         }
         None
     }
@@ -314,6 +332,24 @@ impl Command {
         Some(())
     }
 
+    /// Becomes SETDASA, by the words behind its first: a static address and a dynamic one.
+    fn read_setdasa<K>(&mut self, line: &[u8]) -> Option<()>
+        ensures { Becomes (codes "setdasa" ∷ tokens line.now) result self.old self.new }
+    {
+        let (at, to) = parse_addresses(line)?;
+        *self = Command::Frame(Frame::SetStatic(at, to));
+        Some(())
+    }
+
+    /// Becomes SETNEWDA, by the words behind its first: a dynamic address and another one.
+    fn read_setnewda<K>(&mut self, line: &[u8]) -> Option<()>
+        ensures { Becomes (codes "setnewda" ∷ tokens line.now) result self.old self.new }
+    {
+        let (at, to) = parse_addresses(line)?;
+        *self = Command::Frame(Frame::SetNew(at, to));
+        Some(())
+    }
+
     /// Becomes any other command of several words, if the line has its form.
     // kept apart, so that no other line pays for the room that these take on the stack
     #[inline(never)]
@@ -354,6 +390,9 @@ fn parse_words(words: &mut Tokens<'_>) -> Option<Command>
     if is_word(word, LEGACY) {
         return parse_legacy(words);
     }
+    if is_word(word, DECLARE) {
+        return parse_declare(words);
+    }
     if is_word(word, MAIN) {
         return parse_main(words);
     }
@@ -372,6 +411,24 @@ fn parse_legacy(words: &mut Tokens<'_>) -> Option<Command>
     let lvr = Lvr(parse_byte(words)?);
     words.end()?;
     Some(Command::Legacy { name, address, lvr })
+}
+
+/// The words of `declare`.
+fn parse_declare(words: &mut Tokens<'_>) -> Option<Command>
+    ensures { Reads IsForm (codes "declare" ∷ left_words words.old) result }
+{
+    let (address, identity) = parse_declared(words)?;
+    Some(Command::Declare { address, identity })
+}
+
+/// A static address and the identity that is declared at it.
+fn parse_declared(words: &mut Tokens<'_>) -> Option<(Addr7, Identity)>
+    ensures { Reads (λ words parts. AreDeclared words parts.0 parts.1) (left_words words.old) result }
+{
+    let address = tokens::address(words.next()?)?;
+    let identity = parse_identity(words)?;
+    words.end()?;
+    Some((address, identity))
 }
 
 /// The words of `main`.
@@ -516,6 +573,17 @@ fn parse_kinds(line: &[u8]) -> Option<(Option<Addr7>, Kinds)>
     let kinds = tokens::kinds(byte)?;
     let to = parse_to(rest)?;
     Some((to, kinds))
+}
+
+/// The words of `setdasa` and of `setnewda`: two addresses.
+fn parse_addresses(line: &[u8]) -> Option<(Addr7, Addr7)>
+    ensures { Reads (λ words parts. AreAddresses words parts.0 parts.1) (tokens line.now) result }
+{
+    let (first, rest) = tokens::split_two(line)?;
+    let at = tokens::address(first)?;
+    let second = rest?;
+    let to = tokens::address(second)?;
+    Some((at, to))
 }
 
 /// The last words of `raise`: a byte, if one is given.

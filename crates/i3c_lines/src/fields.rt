@@ -25,6 +25,10 @@ pub enum Field {
     Lvr,
     /// A 7-bit address.
     Addr,
+    /// The dynamic address that a device has.
+    Old,
+    /// The dynamic address that a device gets.
+    New,
     /// A byte.
     Byte,
     /// The bytes of a private write.
@@ -52,7 +56,7 @@ impl Field {
             Field::Name => Name::parse(word).is_some(),
             Field::Pid => tokens::pid(word).is_some(),
             Field::Bcr | Field::Dcr | Field::Lvr | Field::Byte => tokens::byte(word).is_some(),
-            Field::Addr => tokens::address(word).is_some(),
+            Field::Addr | Field::Old | Field::New => tokens::address(word).is_some(),
             Field::Bytes => !word.is_empty() && tokens::bytes(word).is_some(),
             Field::Bit => tokens::bit(word).is_some(),
             Field::Count => tokens::count(word).is_some(),
@@ -71,6 +75,8 @@ impl Field {
             Field::Dcr => "DCR",
             Field::Lvr => "LVR",
             Field::Addr => "ADDR",
+            Field::Old => "OLD",
+            Field::New => "NEW",
             Field::Byte => "BYTE",
             Field::Bytes => "BYTES",
             Field::Bit => "BIT",
@@ -88,7 +94,7 @@ impl Field {
             Field::Bcr | Field::Dcr | Field::Lvr | Field::Byte => {
                 "two hexadecimal digits in capitals"
             }
-            Field::Addr => "two hexadecimal digits in capitals, up to 7F",
+            Field::Addr | Field::Old | Field::New => "two hexadecimal digits in capitals, up to 7F",
             Field::Bytes => "two hexadecimal digits in capitals for each byte",
             Field::Bit => "decimal digits, up to 65535",
             Field::Count => "decimal digits, 1 to 65535",
@@ -106,6 +112,8 @@ impl Field {
             | Field::Dcr
             | Field::Lvr
             | Field::Addr
+            | Field::Old
+            | Field::New
             | Field::Byte
             | Field::Bytes => true,
             Field::Name | Field::Bit | Field::Count | Field::Policy | Field::Decline | Field::All =>

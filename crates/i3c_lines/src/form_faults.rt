@@ -220,7 +220,7 @@ fn lesson(field: Field, word: &[u8]) -> &'static str {
     }
     match field {
         Field::Name if word.len() > 16 => "longer than 16 letters",
-        Field::Addr if Field::Byte.fits(word) => "above 7F",
+        Field::Addr | Field::Old | Field::New if Field::Byte.fits(word) => "above 7F",
         Field::Bit if word.iter().all(u8::is_ascii_digit) => "above 65535",
         _ => field.expected(),
     }

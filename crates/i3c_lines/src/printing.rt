@@ -3,12 +3,12 @@ ghost use Rattle.std.specs.Fmt.{decimal};
 ghost use Rattle.i3c_lines.specs.Forms.{willing_words};
 ghost use Rattle.i3c_text.specs.Hex.{byte_text, hex_text};
 ghost use Rattle.i3c_lines.specs.Naming.{letters};
-ghost use Rattle.i3c_lines.specs.Printing.{behind, byte_words, command_text, device_words, frame_words, spaced, verdicts_word, written_words};
+ghost use Rattle.i3c_lines.specs.Printing.{behind, byte_words, command_text, device_words, frame_words, identity_words, spaced, verdicts_word, written_words};
 
 use crate::command::Command;
 use crate::names::Name;
 use bitflags::Flags;
-use i3c_base::{Addr7, Fixed, Kinds, Lvr, Pid, Setup, Verdict};
+use i3c_base::{Addr7, Fixed, Identity, Kinds, Lvr, Pid, Setup, Verdict};
 use i3c_step::Command as Frame;
 use i3c_text::Text;
 use std::alloc::AllocError;
@@ -20,6 +20,7 @@ impl Command {
     {
         match self {
             Command::Legacy { name, address, lvr } => push_legacy(text, name, *address, *lvr),
+            Command::Declare { address, identity } => push_declare(text, *address, identity),
             Command::Main { name, setup } => push_device(text, b"main", name, setup),
             Command::Attach { name, setup } => push_device(text, b"attach", name, setup),
             Command::DropOff { name } => push_named(text, b"drop", name),
@@ -91,14 +92,29 @@ fn push_legacy(text: &mut Text, name: &Name, address: Addr7, lvr: Lvr) -> Result
     push_byte(text, lvr.0)
 }
 
+/// Appends an identity's three words, each behind a space.
+fn push_identity(text: &mut Text, identity: &Identity) -> Result<(), AllocError>
+    ensures { OnOk result (text.new ≡ text.old ++ behind (identity_words identity.now)) }
+{
+    push_pid(text, identity.pid)?;
+    push_byte(text, identity.bcr.0)?;
+    push_byte(text, identity.dcr.0)
+}
+
+/// Appends a declaration of an identity.
+fn push_declare(text: &mut Text, address: Addr7, identity: &Identity) -> Result<(), AllocError>
+    ensures { OnOk result (text.new ≡ text.old ++ spaced (codes "declare" ∷ byte_text address ∷ identity_words identity.now)) }
+{
+    push_addressed(text, b"declare", address)?;
+    push_identity(text, identity)
+}
+
 /// Appends a first word, and a device's words.
 fn push_device(text: &mut Text, first: &[u8], name: &Name, setup: &Setup) -> Result<(), AllocError>
     ensures { OnOk result (text.new ≡ text.old ++ spaced (first.now ∷ device_words name.now setup.now)) }
 {
     push_named(text, first, name)?;
-    push_pid(text, setup.identity.pid)?;
-    push_byte(text, setup.identity.bcr.0)?;
-    push_byte(text, setup.identity.dcr.0)?;
+    push_identity(text, &setup.identity)?;
     push_willing(text, setup.willing)
 }
 
@@ -136,6 +152,8 @@ fn push_frame(text: &mut Text, frame: &Frame) -> Result<(), AllocError>
         Frame::SendList => text.push(b"list"),
         Frame::ReadFrom(at) => push_addressed(text, b"read", *at),
         Frame::WriteTo(at, bytes) => push_write(text, *at, bytes.as_slice()),
+        Frame::SetStatic(at, to) => push_setting(text, b"setdasa", *at, *to),
+        Frame::SetNew(at, to) => push_setting(text, b"setnewda", *at, *to),
     }
 }
 
@@ -166,6 +184,14 @@ fn push_write(text: &mut Text, at: Addr7, bytes: &[u8]) -> Result<(), AllocError
     }
     text.push(b" ")?;
     text.push_bytes(bytes)
+}
+
+/// Appends a first word, and two addresses.
+fn push_setting(text: &mut Text, first: &[u8], at: Addr7, to: Addr7) -> Result<(), AllocError>
+    ensures { OnOk result (text.new ≡ text.old ++ spaced (first.now ∷ byte_text at ∷ byte_text to ∷ [])) }
+{
+    push_addressed(text, first, at)?;
+    push_byte(text, to.get())
 }
 
 /// Appends a policy's line.

@@ -1,13 +1,13 @@
 ghost use Rattle.std.specs.Prelude.{◌≡◌, ◌++◌, OnOk};
-ghost use Rattle.i3c_lines.specs.Refusing.{bus_word, legacy_word};
+ghost use Rattle.i3c_lines.specs.Refusing.{bus_word, declare_word, legacy_word};
 
-use i3c_legacy::LegacyFault;
+use i3c_legacy::{DeclareFault, LegacyFault};
 use i3c_step::Refusal as BusRefusal;
 use i3c_text::Text;
 use std::alloc::AllocError;
 
 /// Why a line was refused. A refused line changes nothing but the cuts that wait, which a frame's line takes. It is
-/// printed by this name, and one of the bus or of a legacy target by its own.
+/// printed by this name, and one of the bus or of a declaration by its own.
 #[derive(Clone, Copy, Debug, PartialEq, Eq, Drop)]
 pub enum Refusal {
     /// The line has no form.
@@ -22,6 +22,8 @@ pub enum Refusal {
     NoName,
     /// The legacy target can't be declared.
     Legacy(LegacyFault),
+    /// The identity can't be declared.
+    Declare(DeclareFault),
     /// The bus refuses it. A name that has no device, since it is a legacy target's or its device is gone, is refused as
     /// a slot without a device.
     Bus(BusRefusal),
@@ -43,6 +45,7 @@ impl Refusal {
             Refusal::NameTaken => "NameTaken",
             Refusal::NoName => "NoName",
             Refusal::Legacy(fault) => legacy_word(fault),
+            Refusal::Declare(fault) => declare_word(fault),
             Refusal::Bus(why) => bus_word(why),
             Refusal::NoEnd => "NoEnd",
         }
@@ -54,7 +57,7 @@ impl Refusal {
     {
         text.push(self.word().as_bytes())?;
         match self {
-            Refusal::Bus(BusRefusal::NoAnswer(address)) => {
+            Refusal::Bus(BusRefusal::NoAnswer(address) | BusRefusal::BadAddress(address)) => {
                 text.push(b" ")?;
                 text.push_byte(address.get())
             }
@@ -63,7 +66,7 @@ impl Refusal {
     }
 }
 
-/// The name of a refused declaration.
+/// The name of a refused declaration of a legacy target.
 fn legacy_word(fault: &LegacyFault) -> &'static str
     ensures { result.now ≡ legacy_word fault.now }
 {
@@ -71,6 +74,18 @@ fn legacy_word(fault: &LegacyFault) -> &'static str
         LegacyFault::LegacyAddress => "LegacyAddress",
         LegacyFault::LegacyTwice => "LegacyTwice",
         LegacyFault::TooManyLegacy => "TooManyLegacy",
+    }
+}
+
+/// The name of a refused declaration of an identity.
+fn declare_word(fault: &DeclareFault) -> &'static str
+    ensures { result.now ≡ declare_word fault.now }
+{
+    match fault {
+        DeclareFault::LegacyAddress => "LegacyAddress",
+        DeclareFault::LegacyTwice => "LegacyTwice",
+        DeclareFault::IdentityTwice => "IdentityTwice",
+        DeclareFault::TooManyDeclared => "TooManyDeclared",
     }
 }
 
@@ -94,6 +109,7 @@ fn bus_word(why: &BusRefusal) -> &'static str
         BusRefusal::ListStale => "ListStale",
         BusRefusal::NoAnswer(_) => "NoAnswer",
         BusRefusal::TooLong => "TooLong",
+        BusRefusal::BadAddress(_) => "BadAddress",
     }
 }
 
@@ -105,6 +121,17 @@ impl From<LegacyFault> for Refusal {
 
     fn from(fault: LegacyFault) -> Refusal {
         Refusal::Legacy(fault)
+    }
+}
+
+impl From<DeclareFault> for Refusal {
+    ghost use Rattle.std.specs.Prelude.{◌≡◌};
+    ghost use Rattle.i3c_lines.specs.declared.refusals.Refusal.{Refusal};
+
+    ghost from_gives = { λ fault refusal. refusal ≡ Refusal.Declare fault };
+
+    fn from(fault: DeclareFault) -> Refusal {
+        Refusal::Declare(fault)
     }
 }
 

@@ -11,10 +11,15 @@ pub(crate) struct Shape {
 }
 
 /// The commands, in the order of docs/FORMATS.md.
-static SHAPES: [Shape; 24] = [
+static SHAPES: [Shape; 27] = [
     Shape {
         word: "legacy",
         needed: &[Field::Name, Field::Addr, Field::Lvr],
+        further: None,
+    },
+    Shape {
+        word: "declare",
+        needed: &[Field::Addr, Field::Pid, Field::Bcr, Field::Dcr],
         further: None,
     },
     Shape {
@@ -91,6 +96,16 @@ static SHAPES: [Shape; 24] = [
         word: "write",
         needed: &[Field::Addr],
         further: Some(Field::Bytes),
+    },
+    Shape {
+        word: "setdasa",
+        needed: &[Field::Addr, Field::New],
+        further: None,
+    },
+    Shape {
+        word: "setnewda",
+        needed: &[Field::Old, Field::New],
+        further: None,
     },
     Shape {
         word: "handover",

@@ -1,5 +1,5 @@
 -- What is found among a map's entries, and what is in its slots: drivers, targets and hearers.
-use Rattle.std.proofs.Common.{◌≡◌, ◌≢◌, ◌↔◌, ℕ, zero, suc, ◌<◌, Bool, true, false, not, ◌==◌, ◌&&◌, ◌||◌, List, [], ◌∷◌, length, get_or, Option, Some, None, Contains, ◌⊎◌, inl, inr, sym, refl, ap, ◌∙◌, arith, nat_cmp}
+use Rattle.std.proofs.Common.{◌≡◌, ◌≢◌, ◌↔◌, ℕ, zero, suc, ◌<◌, Bool, true, false, not, ◌==◌, ◌&&◌, ◌||◌, List, [], ◌∷◌, length, get_or, Option, Some, None, is_none, Contains, ◌⊎◌, inl, inr, sym, refl, ap, ◌∙◌, arith, nat_cmp}
 use Rattle.std.specs.List.{list_any}
 use Rattle.std.specs.BTreeMap.{IsOrdered}
 use Rattle.std.proofs.Math.Bool.{beq}
@@ -9,7 +9,7 @@ use Rattle.std.proofs.lemmas.Map.Lookups.{exact_unsigned}
 use Rattle.std.proofs.lemmas.Map.Views.{btree_map_get_iff}
 use Rattle.i3c_base.specs.declared.requests.Request.{Request}
 use Rattle.i3c_base.specs.Cutting.{Lost}
-use Rattle.i3c_base.specs.Frames.{SomeLeftAt}
+use Rattle.i3c_base.specs.Frames.{SomeLeftAt, SomeUnaddressedLeftAt}
 use Rattle.i3c_base.specs.Serve.{asks, drives}
 use Rattle.i3c_base.specs.State.{Device, State, device_at, has_address, in_slot, is_the}
 use Rattle.i3c_model.specs.declared.plain.Plain.TheInside.{Inside}
@@ -91,6 +91,27 @@ targets_left st a lost active e = (
   λ h. let p = and_parts (not (h.0 == active)) _ h.3 in let q = and_parts (has_address a h.1) (not (lost h.0)) p.1 in
       (h.0, h.1, (h.2, the_address a h.1.address q.0, not_same h.0 st.active (ap (λ k. not (h.0 == k)) (sym e) ∙ p.0)), not-true (lost h.0) q.1),
   λ h. (h.0, h.1, h.2.0, and_join (not (h.0 == active)) _ (ap (λ k. not (h.0 == k)) e ∙ ap not (ne_eqb h.0 st.active h.2.2)) (and_join (has_address a h.1) (not (lost h.0)) (is_the-same a h.1.address h.2.1) (ap not h.3))),
+)
+
+no_address : (o : Option ℕ) → is_none o ≡ true → o ≡ None
+no_address None h = refl
+no_address (Some b) h = absurd (false≢true h)
+
+pub bare_left : (st : State) (f : ℕ) (lost : Lost) (active : ℕ) → active ≡ st.active
+    → ((s : ℕ) × (d : Device) × (device_at st s ≡ Some d) × ((not (s == active) && ((is_none d.address && is_the f d.fixed) && not (lost s))) ≡ true)) ↔ SomeUnaddressedLeftAt st f lost
+bare_left st f lost active e = (
+  λ h.
+      let p = and_parts (not (h.0 == active)) _ h.3 in
+      let q = and_parts (is_none h.1.address && is_the f h.1.fixed) (not (lost h.0)) p.1 in
+      let r = and_parts (is_none h.1.address) (is_the f h.1.fixed) q.0 in
+      (h.0, h.1, (h.2, no_address h.1.address r.0, the_address f h.1.fixed r.1, not_same h.0 st.active (ap (λ k. not (h.0 == k)) (sym e) ∙ p.0)), not-true (lost h.0) q.1),
+  λ h. (
+    h.0,
+    h.1,
+    h.2.0,
+    and_join (not (h.0 == active)) _ (ap (λ k. not (h.0 == k)) e ∙ ap not (ne_eqb h.0 st.active h.2.3))
+        (and_join (is_none h.1.address && is_the f h.1.fixed) (not (lost h.0)) (and_join (is_none h.1.address) (is_the f h.1.fixed) (ap is_none h.2.1) (is_the-same f h.1.fixed h.2.2)) (ap not h.3)),
+  ),
 )
 
 -- the test of hearers that are lost, or left

@@ -3,7 +3,7 @@ pub mod KindLaws
 pub mod States
 pub mod Entries
 pub mod Hearing
-pub mod Keeping
+pub mod KeptLaws
 pub mod Starts
 pub mod Requests
 pub mod Together
@@ -16,3 +16,6 @@ pub mod Counting
 pub mod Announcements
 pub mod Offering
 pub mod Transfers
+pub mod FirstLaws
+pub mod TableLaws
+pub mod SettingLaws

@@ -127,9 +127,9 @@ module _ (old : State) (to : ℕ) (cuts : CutList) (choice : Choice) (header : �
     settled = subst (λ o. MatchOption o ⊤ (IsTaken (MayStandFor Comes of_request) choice)) (sym (stands_none old (By 27) served old (serves (By 27)))) tt
 
     -- it is granted
-    module _ (heir : ℕ) (is_heir : IsHeir old to (By 27) heir) (new : State) (left : new ≡ emptied (By 27) (handed heir old)) where
+    module _ (heir : ℕ) (is_heir : IsHeir old to (By 27) heir) (new : State) (left : new ≡ emptied (By 27) (handed heir to old)) where
       granted_frame : Frame old refuse_all cuts served (header_bits served + 27) (Hands to) new
-      granted_frame = frame 27 (Hands to) (handed heir old) new (heir, is_heir.0, is_heir.1, is_heir.2, refl) left
+      granted_frame = frame 27 (Hands to) (handed heir to old) new (heir, is_heir.0, is_heir.1, is_heir.2, refl) left
 
       some : NoHeir old to (By 27) → ⊥
       some none = both_ways _ is_heir.1 (none heir is_heir.0)

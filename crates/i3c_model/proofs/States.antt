@@ -16,7 +16,7 @@ use Rattle.i3c_base.specs.Places.{changed}
 use Rattle.i3c_base.specs.declared.device.LegacyTarget.{LegacyTarget}
 use Rattle.i3c_base.specs.Frames.{legacy_written, overwritten}
 use Rattle.i3c_base.specs.Serve.{asks, drives, emptied, recorded}
-use Rattle.i3c_base.specs.State.{change, Device, Entry, State, device_at, each, entry_at, in_slot, legacy_target_at, raised_at}
+use Rattle.i3c_base.specs.State.{change, Device, Entry, State, declared_at, device_at, each, entry_at, in_slot, legacy_target_at, raised_at}
 use Rattle.i3c_model.specs.declared.plain.Plain.TheInside.{Inside}
 use Rattle.i3c_model.specs.Views.{IsKeyedBelow, IsWithinPlaces, places_of, state_of}
 use Rattle.i3c_model.proofs.PlaceLaws.{below_put, written_puts, places_at, places_changed, places_left, places_put, places_same}
@@ -37,21 +37,27 @@ is_there None p e = (λ h. absurd (false≢true h), λ h. absurd (none-some h.0 
 is_there (Some x) p e = (λ h. (x, e), λ h. refl)
 
 -- no key is new
-pub within_fewer : (p q : Inside) → q.legacy ≡ p.legacy → ((k : ℕ) → IsSome (get nat_cmp q.devices k) → IsSome (get nat_cmp p.devices k)) → ((k : ℕ) → IsSome (get nat_cmp q.given k) → IsSome (get nat_cmp p.given k)) → IsWithinPlaces p → IsWithinPlaces q
+pub within_fewer : (p q : Inside) → (q.legacy ≡ p.legacy) × (q.declared ≡ p.declared) → ((k : ℕ) → IsSome (get nat_cmp q.devices k) → IsSome (get nat_cmp p.devices k)) → ((k : ℕ) → IsSome (get nat_cmp q.given k) → IsSome (get nat_cmp p.given k)) → IsWithinPlaces p → IsWithinPlaces q
 within_fewer p q same devices given within =
-    record { slots = λ k h. within.slots k (devices k h); statics = subst (IsKeyedBelow ADDRESSES) (sym same) within.statics; addresses = λ k h. within.addresses k (given k h) }
+    record {
+      slots = λ k h. within.slots k (devices k h);
+      statics = subst (IsKeyedBelow ADDRESSES) (sym same.0) within.statics;
+      declarations = subst (IsKeyedBelow ADDRESSES) (sym same.1) within.declarations;
+      addresses = λ k h. within.addresses k (given k h);
+    }
 
 -- a device is put into a slot
-pub within_put : (p q : Inside) (s : ℕ) (d : Device) → q.legacy ≡ p.legacy → q.given ≡ p.given → s < SLOTS → Updates nat_cmp p.devices q.devices s (Some d) → IsWithinPlaces p → IsWithinPlaces q
-within_put p q s d legacy given l put within = record {
+pub within_put : (p q : Inside) (s : ℕ) (d : Device) → (q.legacy ≡ p.legacy) × (q.declared ≡ p.declared) → q.given ≡ p.given → s < SLOTS → Updates nat_cmp p.devices q.devices s (Some d) → IsWithinPlaces p → IsWithinPlaces q
+within_put p q s d same given l put within = record {
   slots = below_put SLOTS p.devices q.devices s d within.slots l put;
-  statics = subst (IsKeyedBelow ADDRESSES) (sym legacy) within.statics;
+  statics = subst (IsKeyedBelow ADDRESSES) (sym same.0) within.statics;
+  declarations = subst (IsKeyedBelow ADDRESSES) (sym same.1) within.declarations;
   addresses = subst (IsKeyedBelow ADDRESSES) (sym given) within.addresses;
 }
 
 -- a device is changed in its slot
-pub within_written : (p q : Inside) (s : ℕ) (d w : Device) → q.legacy ≡ p.legacy → q.given ≡ p.given → s < SLOTS → WritesThrough nat_cmp (nat_cmp s) p.devices w q.devices → Some d ≡ get nat_cmp p.devices s → IsWithinPlaces p → IsWithinPlaces q
-within_written p q s d w legacy given l written at within = within_put p q s w legacy given l (written_puts p.devices q.devices s d w written at) within
+pub within_written : (p q : Inside) (s : ℕ) (d w : Device) → (q.legacy ≡ p.legacy) × (q.declared ≡ p.declared) → q.given ≡ p.given → s < SLOTS → WritesThrough nat_cmp (nat_cmp s) p.devices w q.devices → Some d ≡ get nat_cmp p.devices s → IsWithinPlaces p → IsWithinPlaces q
+within_written p q s d w same given l written at within = within_put p q s w same given l (written_puts p.devices q.devices s d w written at) within
 
 -- p is a machine's inside, which is seen as the abstract bus st
 module _ (p : Inside) (st : State) (seen : state_of p ≡ st) (within : IsWithinPlaces p) where
@@ -64,6 +70,9 @@ module _ (p : Inside) (st : State) (seen : state_of p ≡ st) (within : IsWithin
 
   pub target_there : (a : ℕ) → legacy_target_at st a ≡ get nat_cmp p.legacy a
   target_there a = ap (λ x. legacy_target_at x a) (sym seen) ∙ places_at ADDRESSES p.legacy a within.statics
+
+  pub declared_there : (a : ℕ) → declared_at st a ≡ get nat_cmp p.declared a
+  declared_there a = ap (λ x. declared_at x a) (sym seen) ∙ places_at ADDRESSES p.declared a within.declarations
 
   -- the slot of a device that is there drives what the device asks for
   pub drives_there : (s : ℕ) (d : Device) (r : Request) → get nat_cmp p.devices s ≡ Some d → drives st r s ≡ (not (s == p.active) && asks d r)
@@ -128,6 +137,7 @@ module _ (p : Inside) (st : State) (seen : state_of p ≡ st) (within : IsWithin
   pub within_target : (new : BTreeMap ℕ LegacyTarget) (a : ℕ) (t w : LegacyTarget) → WritesThrough nat_cmp (nat_cmp a) p.legacy w new → Some t ≡ get nat_cmp p.legacy a → IsWithinPlaces (record p { legacy = new })
   within_target new a t w written at = record {
     slots = within.slots;
+    declarations = within.declarations;
     statics = below_put ADDRESSES p.legacy new a w within.statics (low_target a t at) (written_puts p.legacy new a t w written at);
     addresses = within.addresses;
   }

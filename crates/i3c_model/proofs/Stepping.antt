@@ -1,5 +1,5 @@
 -- Steps, and what decides them.
-use Rattle.std.proofs.Common.{◌≡◌, ◌≢◌, ◌↔◌, ℕ, ◌⊎◌, IsTrue, Bool, true, false, not, ◌&&◌, ◌∷◌, Option, Some, None, is_none, is_some, MatchBool, MatchOption, sym, refl, ap, ◌∙◌, subst, inl, inr}
+use Rattle.std.proofs.Common.{◌≡◌, ◌↔◌, ℕ, ◌⊎◌, IsTrue, Bool, true, false, not, ◌&&◌, ◌∷◌, Option, Some, None, is_none, is_some, MatchBool, MatchOption, sym, refl, ap, ◌∙◌, subst, inl, inr}
 use Rattle.std.specs.Option.{unwrap_or}
 use Rattle.std.proofs.lemmas.Bool.{and_parts, cond-true, false≢true, not-true}
 use Rattle.std.proofs.lemmas.Option.{none-some}
@@ -7,16 +7,16 @@ use Rattle.i3c_base.specs.declared.identity.Identity.{Identity}
 use denote.Enum.Bare.{sameb}
 use Rattle.i3c_base.specs.Cutting.{Lost as LostDevices}
 use Rattle.i3c_base.specs.Round.{AllHearersLost, AnyHears, IsAddressFor, IsHearer}
-use Rattle.i3c_base.specs.State.{Device, State, IsKept, IsPick, IsPickable, IsUnknown, IsUsable, device_at, entry_at, legacy_target_at}
+use Rattle.i3c_base.specs.State.{Device, State, IsKept, IsPick, IsPickable, IsUnknown, IsUsable, declared_at, device_at, entry_at, is_usable, legacy_target_at}
 use Rattle.i3c_step.specs.declared.events.Event.{Event}
-use Rattle.i3c_step.specs.declared.events.Event.TheVariants.{Attach, AskJoin, AskRole, Disec, DropOff, EndDaa, Enec, HandOver, OpenDaa, Raise, ReadFrom, Reset, Round, SendList, Serve, WriteTo}
-use Rattle.i3c_step.specs.declared.replies.Refusal.{Refusal}
 use Rattle.i3c_step.specs.declared.replies.Refusal.TheVariants.{NoDevice}
 use Rattle.i3c_step.specs.declared.replies.Reply.{Reply}
 use Rattle.i3c_model.specs.contracts.plain.Choice.{the_type}
 use Rattle.i3c_model.specs.declared.plain.Choice.{Choice}
 use Rattle.i3c_model.specs.declared.plain.Choice.TheVariants.{Heard, Lost, Silent}
-use Rattle.i3c_step.specs.Step.{Acts, Checks, IsShort, Step, checks, first_refusal}
+use Rattle.i3c_base.proofs.SetLaws.{is_usable-true}
+use Rattle.i3c_step.specs.Step.{Acts, Checks, IsShort, Step, checks, first_refusal, is_pickable}
+use Rattle.i3c_step.proofs.Addresses.{IsSettled, pickable_settled}
 
 -- an event that no test refuses acts, and one that a test refuses changes nothing
 pub acts_there : (old : State) (event : Event) (reply : Reply) (new : State) → first_refusal (checks old event) ≡ None → Acts old event reply new → Step old event reply new
@@ -27,19 +27,43 @@ pub address_for : (st : State) (i : Identity) (pick : ℕ) (o : Option ℕ) (a :
 address_for st i pick None a picked unknown e = subst (IsAddressFor st i) (sym e) (inr (unknown, picked))
 address_for st i pick (Some b) a picked kept e = subst (IsAddressFor st i) (sym e) (inl kept)
 
--- an address may be picked if it is usable, wasn't given and is no legacy target's
+-- an address may be picked if it is usable, wasn't given and is no static one
 none_from : {A : Type 0} (o : Option A) → is_some o ≡ false → o ≡ None
 none_from None e = refl
 none_from (Some x) e = absurd (false≢true (sym e))
 
-pub pickable_if_usable : (st : State) (a : ℕ) (usable : Bool) → (IsTrue usable ↔ IsUsable a) → is_some (entry_at st a) ≡ false → is_some (legacy_target_at st a) ≡ false → IsTrue usable ↔ IsPickable st a
-pickable_if_usable st a usable u given legacy = ((λ h. (u.0 h, none_from (entry_at st a) given, none_from (legacy_target_at st a) legacy)), λ p. u.1 p.0)
+pub pickable_if_usable : (st : State) (a : ℕ) (usable : Bool) → (IsTrue usable ↔ IsUsable a) → is_some (entry_at st a) ≡ false → is_some (legacy_target_at st a) ≡ false → is_some (declared_at st a) ≡ false → IsTrue usable ↔ IsPickable st a
+pickable_if_usable st a usable u given legacy declared =
+    ((λ h. (u.0 h, none_from (entry_at st a) given, none_from (legacy_target_at st a) legacy, none_from (declared_at st a) declared)), λ p. u.1 p.0)
 
 pub given_not_pickable : (st : State) (a : ℕ) → is_some (entry_at st a) ≡ true → IsPickable st a → ⊥
 given_not_pickable st a given p = false≢true (sym (ap is_some p.1) ∙ given)
 
 pub legacy_not_pickable : (st : State) (a : ℕ) → is_some (legacy_target_at st a) ≡ true → IsPickable st a → ⊥
 legacy_not_pickable st a legacy p = false≢true (sym (ap is_some p.2) ∙ legacy)
+
+pub declared_not_pickable : (st : State) (a : ℕ) → is_some (declared_at st a) ≡ true → IsPickable st a → ⊥
+declared_not_pickable st a declared p = false≢true (sym (ap is_some p.3) ∙ declared)
+
+-- the test of a pickable address
+same_truth : (b c : Bool) → (b ≡ true → c ≡ true) → (c ≡ true → b ≡ true) → b ≡ c
+same_truth true c to from = sym (to refl)
+same_truth false true to from = from refl
+same_truth false false to from = refl
+
+and_join : (b c : Bool) → b ≡ true → c ≡ true → (b && c) ≡ true
+and_join b c p q = ap (λ x. x && c) p ∙ q
+
+settled_same : (st : State) → IsSettled st st
+settled_same st = record { given = refl; legacy = refl; declared = refl; active = λ a h. h }
+
+test_passes : (st : State) (a : ℕ) → IsPickable st a → is_pickable st a ≡ true
+test_passes st a p =
+    and_join (is_usable a) _ (is_usable-true a p.0)
+    (and_join (is_none (entry_at st a)) _ (ap is_none p.1) (and_join (is_none (legacy_target_at st a)) (is_none (declared_at st a)) (ap is_none p.2) (ap is_none p.3)))
+
+pub pickable_test : (st : State) (a : ℕ) (b : Bool) → (IsTrue b ↔ IsPickable st a) → b ≡ is_pickable st a
+pickable_test st a b may = same_truth b (is_pickable st a) (λ h. test_passes st a (may.0 h)) (λ h. may.1 (pickable_settled st st a (settled_same st) h))
 
 -- where no test refuses, of which the first is that no device is there, a device is there
 pub present_there : (old : State) (s : ℕ) (rest : Checks) → first_refusal ((is_none (device_at old s), NoDevice) ∷ rest) ≡ None → device_at old s ≡ None → ⊥

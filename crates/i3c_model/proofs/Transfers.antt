@@ -13,7 +13,7 @@ use Rattle.i3c_base.specs.declared.requests.Request.TheVariants.{Join, Role, Int
 use Rattle.i3c_base.specs.declared.requests.Served.{Served}
 use Rattle.i3c_base.specs.declared.requests.Served.TheVariants.{Quiet, Recorded, Refused, Torn, Joining, WantsRole}
 use Rattle.i3c_base.specs.Cutting.{CutList, Lost, cut_of, lost_by}
-use Rattle.i3c_base.specs.Frames.{AllLostAt, AnyAt, DrivesRegister, IsReadOf, NobodyLeftAt, Reads, SomeLeftAt, Writes, read_bits, write_bits, written}
+use Rattle.i3c_base.specs.Frames.{AllLostAt, AllUnaddressedLostAt, AnyAt, AnyUnaddressedAt, DrivesRegister, IsReadOf, IsUnaddressedAt, NobodyLeftAt, Reads, SomeLeftAt, Writes, read_bits, write_bits, written}
 use Rattle.i3c_base.specs.Serve.{Frame, IsAnd, IsWordBits, Serves, drives, each_driver, header_bits, without}
 use Rattle.i3c_base.specs.State.{Device, IsTargetAt, State, device_at, legacy_target_at}
 use Rattle.i3c_base.proofs.Lookups.{each_at, each_from}
@@ -31,23 +31,36 @@ use Rattle.i3c_model.proofs.Together.{Below, and_alike, and_past, and_start, and
 abbrev pub Finds : State → State → Type 0
 Finds st new = (a s : ℕ) (d : Device) → IsTargetAt st a s d → (e : Device) × IsTargetAt new a s e × (e.registers ≡ d.registers)
 
--- all targets stay, with their registers
+-- each device that takes SETDASA there takes it in the other state
+abbrev pub FindsBare : State → State → Type 0
+FindsBare st new = (f s : ℕ) (d : Device) → IsUnaddressedAt st f s d → (e : Device) × IsUnaddressedAt new f s e
+
+-- all targets stay, with their registers, and all devices without addresses
 pub record Stay (old new : State) : Type 0 where
   pub legacy : (a : ℕ) → legacy_target_at new a ≡ legacy_target_at old a
   pub to : Finds old new
   pub from : Finds new old
+  pub bare_to : FindsBare old new
+  pub bare_from : FindsBare new old
 
 pub Stay-back : (old new : State) → Stay old new → Stay new old
-Stay-back old new h = record { legacy = λ a. sym (h.legacy a); to = h.from; from = h.to }
+Stay-back old new h = record { legacy = λ a. sym (h.legacy a); to = h.from; from = h.to; bare_to = h.bare_from; bare_from = h.bare_to }
 
 Stay-same : (old new : State) → new ≡ old → Stay old new
-Stay-same old new e = subst (Stay old) (sym e) (record { legacy = λ a. refl; to = λ a s d t. (d, t, refl); from = λ a s d t. (d, t, refl) })
+Stay-same old new e =
+    subst (Stay old) (sym e) (record { legacy = λ a. refl; to = λ a s d t. (d, t, refl); from = λ a s d t. (d, t, refl); bare_to = λ f s d t. (d, t); bare_from = λ f s d t. (d, t) })
 
 address_without : (b : Bool) (r : Request) (d : Device) → (if b then without r d else d).address ≡ d.address
 address_without true Join d = refl
 address_without true (Role a) d = refl
 address_without true (Interrupt a) d = refl
 address_without false r d = refl
+
+fixed_without : (b : Bool) (r : Request) (d : Device) → (if b then without r d else d).fixed ≡ d.fixed
+fixed_without true Join d = refl
+fixed_without true (Role a) d = refl
+fixed_without true (Interrupt a) d = refl
+fixed_without false r d = refl
 
 registers_without : (b : Bool) (r : Request) (d : Device) → (if b then without r d else d).registers ≡ d.registers
 registers_without true Join d = refl
@@ -69,6 +82,25 @@ Stay-driver r st new devices legacy active = record {
         x.0,
         (x.1, sym (address_without (drives st r s) r x.0) ∙ (ap (λ (y : Device). y.address) x.2 ∙ t.1), λ e. t.2 (e ∙ sym active)),
         sym (registers_without (drives st r s) r x.0) ∙ ap (λ (y : Device). y.registers) x.2,
+      );
+  bare_to = λ f s d t. (
+    lose s d,
+    (
+      at s ∙ (each_at lose st s ∙ ap (option_map (lose s)) t.0),
+      address_without (drives st r s) r d ∙ t.1,
+      fixed_without (drives st r s) r d ∙ t.2,
+      λ e. t.3 (e ∙ active),
+    ),
+  );
+  bare_from = λ f s d t.
+      let x = each_from lose st s d (sym (at s) ∙ t.0) in (
+        x.0,
+        (
+          x.1,
+          sym (address_without (drives st r s) r x.0) ∙ (ap (λ (y : Device). y.address) x.2 ∙ t.1),
+          sym (fixed_without (drives st r s) r x.0) ∙ (ap (λ (y : Device). y.fixed) x.2 ∙ t.2),
+          λ e. t.3 (e ∙ sym active),
+        ),
       );
 }
   where
@@ -93,6 +125,12 @@ any_in st new a h any = let t = h.to a any.0 any.1 any.2 in (any.0, t.0, t.1)
 
 pub all_in : (st new : State) (a : ℕ) (lost : Lost) → Stay st new → AllLostAt st a lost → AllLostAt new a lost
 all_in st new a lost h all s d t = let x = h.from a s d t in all s x.0 x.1
+
+pub any_bare_in : (st new : State) (f : ℕ) → Stay st new → AnyUnaddressedAt st f → AnyUnaddressedAt new f
+any_bare_in st new f h any = let t = h.bare_to f any.0 any.1 any.2 in (any.0, t.0, t.1)
+
+pub all_bare_in : (st new : State) (f : ℕ) (lost : Lost) → Stay st new → AllUnaddressedLostAt st f lost → AllUnaddressedLostAt new f lost
+all_bare_in st new f lost h all s d t = let x = h.bare_from f s d t in all s x.0 x.1
 
 pub nobody_in : (st new : State) (a : ℕ) (lost : Lost) → Stay st new → NobodyLeftAt st a lost → NobodyLeftAt new a lost
 nobody_in st new a lost h n = (h.legacy a ∙ n.0, all_in st new a lost h n.1)
@@ -194,19 +232,19 @@ reads_of st mid done a cuts begin Answer.Done h may e = absurd may
 unwritten : (st : State) (a : ℕ) (lost : Lost) (answer : Answer) → answer ≢ Answer.Done → ((b : ℕ) → answer ≢ Answer.NoAnswer b) → MayWrite st a lost answer → ⊥
 unwritten st a lost answer not_done answered may = elim may [ inl x ↦ not_done x.0 | inr x ↦ answered a x.0 ]
 
-bytes≢done : (bytes : List ℕ) → Answer.Bytes bytes ≢ Answer.Done
+pub bytes≢done : (bytes : List ℕ) → Answer.Bytes bytes ≢ Answer.Done
 bytes≢done bytes e = cc
 
-bytes≢no_answer : (bytes : List ℕ) (b : ℕ) → Answer.Bytes bytes ≢ Answer.NoAnswer b
+pub bytes≢no_answer : (bytes : List ℕ) (b : ℕ) → Answer.Bytes bytes ≢ Answer.NoAnswer b
 bytes≢no_answer bytes b e = cc
 
-no_end≢done : Answer.NoEnd ≢ Answer.Done
+pub no_end≢done : Answer.NoEnd ≢ Answer.Done
 no_end≢done e = cc
 
-no_end≢no_answer : (b : ℕ) → Answer.NoEnd ≢ Answer.NoAnswer b
+pub no_end≢no_answer : (b : ℕ) → Answer.NoEnd ≢ Answer.NoAnswer b
 no_end≢no_answer b e = cc
 
-done≢no_answer : (b : ℕ) → Answer.Done ≢ Answer.NoAnswer b
+pub done≢no_answer : (b : ℕ) → Answer.Done ≢ Answer.NoAnswer b
 done≢no_answer b e = cc
 
 -- a legacy target, or a device, is at the address
@@ -231,13 +269,13 @@ writes_of st mid done a bytes cuts begin (Answer.Bytes read) h may did not_did =
 writes_of st mid done a bytes cuts begin Answer.NoEnd h may did not_did = absurd (unwritten st a (lost_by cuts (begin + 9)) Answer.NoEnd no_end≢done no_end≢no_answer may)
 
 -- an answer that stands for a choice, and its own part, which begins behind this bit
-record Other (old : State) (bits : Answer → ℕ) (Own : Answer → Lost → State → State → Type 0) (cuts : CutList) (begin : ℕ) (c : Choice) : Type 0 where
-  answer : Answer
-  stands : of_answer answer ≡ Some c
-  mid : State
-  done : State
-  stay : Stay old mid
-  own : Own answer (lost_by cuts (begin + bits answer)) mid done
+pub record Other (old : State) (bits : Answer → ℕ) (Own : Answer → Lost → State → State → Type 0) (cuts : CutList) (begin : ℕ) (c : Choice) : Type 0 where
+  pub answer : Answer
+  pub stands : of_answer answer ≡ Some c
+  pub mid : State
+  pub done : State
+  pub stay : Stay old mid
+  pub own : Own answer (lost_by cuts (begin + bits answer)) mid done
 
 -- a transfer follows the choice where its own part does
 module _ (old : State) (bits : Answer → ℕ) (Own : Answer → Lost → State → State → Type 0) (policy : Fixed) (cuts : CutList) (choice : Choice) (served : Served) (answer : Answer) (word header : ℕ) (new : State)
@@ -268,12 +306,12 @@ module _ (old : State) (bits : Answer → ℕ) (Own : Answer → Lost → State 
       }
 
   -- this answer stands for its choice
-  itself : (c : Choice) → of_answer answer ≡ Some c → MayStandFor Comes of_own_part c
+  pub itself : (c : Choice) → of_answer answer ≡ Some c → MayStandFor (Transfers old bits Own policy cuts) of_own_part c
   itself c e = (Reply.Framed framed, new, (framed, refl, frame), e)
 
-  transfer_follows : (choice ≡ Choice.Lost → (other : Answer) (lost : Lost) (mid done : State) → Stay old mid → Own other lost mid done → bits other ≤ bits answer)
-      → (((c : Choice) → MayStandFor Comes of_own_part c → Other old bits Own cuts (word + header) c) → MatchOption (of_answer answer) ⊤ (IsTaken (MayStandFor Comes of_own_part) choice))
-      → Follows (Transfers old bits Own policy cuts) choice (Reply.Framed (record { served = served; answer = answer }))
+  pub transfer_follows : (choice ≡ Choice.Lost → (other : Answer) (lost : Lost) (mid done : State) → Stay old mid → Own other lost mid done → bits other ≤ bits answer)
+      → (((c : Choice) → MayStandFor (Transfers old bits Own policy cuts) of_own_part c → Other old bits Own cuts (word + header) c)
+      → MatchOption (of_answer answer) ⊤ (IsTaken (MayStandFor (Transfers old bits Own policy cuts) of_own_part) choice)) → Follows (Transfers old bits Own policy cuts) choice (Reply.Framed (record { served = served; answer = answer }))
   transfer_follows most own_taken = follows Comes choice (Reply.Framed framed)
       (request_taken (MayStandFor Comes of_request) old policy (lost_by cuts (word + header + bits answer)) choice served served_as (λ c e. (Reply.Framed framed, new, (framed, refl, frame), e)) tear
       (λ l. never_silent l.2.0.served (sym (ap (stands_for of_request) l.2.1) ∙ l.3)))

@@ -6,7 +6,7 @@ use Rattle.i3c_base.specs.declared.requests.Fixed.{Fixed}
 use Rattle.i3c_base.specs.declared.requests.Served.{Served}
 use Rattle.i3c_base.specs.declared.device.LegacyTarget.{LegacyTarget}
 use Rattle.i3c_base.specs.Cutting.{CutList, Lost as LostDevices, lost_by}
-use Rattle.i3c_base.specs.Frames.{AllLostAt, AnyAt, Hands, IsWillingAt, KeepsRole}
+use Rattle.i3c_base.specs.Frames.{AllLostAt, AllUnaddressedLostAt, AnyAt, AnyUnaddressedAt, Hands, IsWillingAt, KeepsRole}
 use Rattle.i3c_base.specs.Serve.{Frame, Serves, header_bits, refuse_all}
 use Rattle.i3c_base.specs.State.{State, legacy_target_at}
 use Rattle.i3c_step.specs.declared.events.Event.{Event}
@@ -79,6 +79,11 @@ abbrev pub AnswersAsChosen : State → Option ℕ → LostDevices → Choice →
 AnswersAsChosen st None lost choice answer = ⊤
 AnswersAsChosen st (Some a) lost choice Answer.Done = choice ≡ Silent → ¬ AllLostAt st a lost
 AnswersAsChosen st (Some a) lost choice _ = ¬ (choice ≡ Silent) → ¬ AnyAt st a
+
+-- nor is the header of SETDASA
+abbrev pub TakesAsChosen : State → ℕ → LostDevices → Choice → Answer → Type 0
+TakesAsChosen st f lost choice Answer.Done = choice ≡ Silent → ¬ AllUnaddressedLostAt st f lost
+TakesAsChosen st f lost choice _ = ¬ (choice ≡ Silent) → ¬ AnyUnaddressedAt st f
 
 -- nor is the header of a write, where no legacy target is there
 abbrev pub WritesAsChosen : State → ℕ → LostDevices → Choice → Answer → Type 0

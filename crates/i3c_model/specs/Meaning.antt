@@ -1,13 +1,14 @@
 -- Whom a command means, what it may be answered, who contends in a round, and who takes the role.
-use Rattle.std.specs.Prelude.{◌≡◌, ℕ, ◌+◌, ◌<◌, Bool, true, false, ◌⊎◌, List, Option, Some, None, if◌then◌else◌}
+use Rattle.std.specs.Prelude.{◌≡◌, ℕ, ◌+◌, ◌<◌, Bool, true, false, ◌⊎◌, List, Option, Some, None, option_map, if◌then◌else◌}
 use Rattle.i3c_base.specs.declared.answers.Answer.{Answer}
 use Rattle.i3c_base.specs.declared.identity.Identity.{Identity}
 use Rattle.i3c_base.specs.declared.device.LegacyTarget.{LegacyTarget}
 use Rattle.i3c_base.specs.Cutting.{CutList, Lost, lost_by}
-use Rattle.i3c_base.specs.Frames.{AllLostAt, AnyAt, DrivesRegister, IsReadOf, IsWillingAt, NobodyLeftAt, overwritten, reaches}
+use Rattle.i3c_base.specs.Frames.{AllLostAt, AllUnaddressedLostAt, AnyAt, AnyUnaddressedAt, DrivesRegister, IsReadOf, IsWillingAt, NobodyLeftAt, overwritten, reaches, readdressed, takes_static}
 use Rattle.i3c_base.specs.Numbers.{IsBelow}
-use Rattle.i3c_base.specs.Round.{IsHearer}
-use Rattle.i3c_base.specs.State.{Device, State, IsTargetAt, has_address, legacy_target_at}
+use Rattle.i3c_base.specs.Places.{changed}
+use Rattle.i3c_base.specs.Round.{IsHearer, winner}
+use Rattle.i3c_base.specs.State.{Device, State, IsTargetAt, has_address, legacy_target_at, unkept}
 use Rattle.i3c_model.specs.declared.plain.Choice.{Choice}
 use Rattle.i3c_model.specs.declared.plain.Choice.TheVariants.{Silent}
 
@@ -20,6 +21,22 @@ is_meant (Some a) d = has_address a d
 abbrev pub MayAnswer : State → Option ℕ → Lost → Answer → Type 0
 MayAnswer st None lost answer = answer ≡ Answer.Done
 MayAnswer st (Some a) lost answer = ((answer ≡ Answer.Done) × AnyAt st a) ⊎ ((answer ≡ Answer.NoAnswer a) × AllLostAt st a lost)
+
+-- the answers that SETDASA may have, where `lost` are those who are lost by the end of its header to the static address
+abbrev pub MayTake : State → ℕ → Lost → Answer → Type 0
+MayTake st f lost answer = ((answer ≡ Answer.Done) × AnyUnaddressedAt st f) ⊎ ((answer ≡ Answer.NoAnswer f) × AllUnaddressedLostAt st f lost)
+
+-- a device after SETDASA, where the slot `active` is the active controller's
+abbrev pub settling : ℕ → ℕ → ℕ → ℕ → Device → Device
+settling active f new s d = if takes_static active f s d then winner new d else d
+
+-- a device after SETNEWDA
+abbrev pub moving : State → ℕ → ℕ → ℕ → Device → Device
+moving st old new s d = if reaches st (Some old) s d then readdressed new d else d
+
+-- no address is kept for an identity
+abbrev pub forgotten : State → State
+forgotten st = record st { given = changed (λ a place. option_map unkept place) st.given }
 
 -- the answers that a transfer may have which isn't refused: a write, whose header ends with `lost`
 abbrev pub MayWrite : State → ℕ → Lost → Answer → Type 0

@@ -1,15 +1,16 @@
 -- Which events store something, and so may want memory.
-use Rattle.std.specs.Prelude.{◌≡◌, ℕ, None, ⊤}
+use Rattle.std.specs.Prelude.{◌≡◌, ◌⊎◌, ℕ, None, ⊤}
 use Rattle.i3c_base.specs.declared.identity.Identity.{Identity}
 use Rattle.i3c_base.specs.declared.requests.Fixed.{Fixed}
 use Rattle.i3c_base.specs.declared.requests.Request.TheVariants.{Interrupt}
 use Rattle.i3c_base.specs.declared.requests.Verdict.TheVariants.{Accept}
 use Rattle.i3c_base.specs.Cutting.{CutList, lost_by}
+use Rattle.i3c_base.specs.Frames.{AnyAt, AnyUnaddressedAt}
 use Rattle.i3c_base.specs.Round.{AnyPickable, IsWinner}
 use Rattle.i3c_base.specs.Serve.{IsFirst, verdict}
 use Rattle.i3c_base.specs.State.{State}
 use Rattle.i3c_step.specs.declared.events.Event.{Event}
-use Rattle.i3c_step.specs.declared.events.Event.TheVariants.{Attach, DropOff, Raise, AskJoin, AskRole, Serve, Enec, Disec, Reset, SendList, ReadFrom, WriteTo, OpenDaa, Round, EndDaa, HandOver}
+use Rattle.i3c_step.specs.declared.events.Event.TheVariants.{Attach, DropOff, Raise, AskJoin, AskRole, Serve, Enec, Disec, Reset, SendList, ReadFrom, WriteTo, SetStatic, SetNew, OpenDaa, Round, EndDaa, HandOver}
 use Rattle.i3c_step.specs.Step.{checks, first_refusal}
 
 -- an interrupt comes first and is accepted, so a record may be due
@@ -20,7 +21,7 @@ IsRecordDue st policy = (a : ℕ) × IsFirst st (Interrupt a) × (verdict st pol
 abbrev pub MayAssign : State → CutList → Type 0
 MayAssign st cuts = AnyPickable st × ((i : Identity) × IsWinner st (lost_by cuts 73) i)
 
--- what the event stores: a device, an interrupt, a record, or an entry for a winner
+-- what the event stores: a device, an interrupt, a record, or an entry for who gets an address
 abbrev pub Stores : State → Event → Type 0
 Stores st (Attach s setup) = ⊤
 Stores st (Raise s byte) = ⊤
@@ -31,6 +32,8 @@ Stores st (Reset policy cuts) = IsRecordDue st policy
 Stores st (SendList policy cuts) = IsRecordDue st policy
 Stores st (ReadFrom a policy cuts) = IsRecordDue st policy
 Stores st (WriteTo a bytes policy cuts) = IsRecordDue st policy
+Stores st (SetStatic f new policy cuts) = IsRecordDue st policy ⊎ AnyUnaddressedAt st f
+Stores st (SetNew old new policy cuts) = IsRecordDue st policy ⊎ AnyAt st old
 Stores st (Round cuts) = MayAssign st cuts
 Stores st (DropOff s) = ⊥
 Stores st (AskJoin s) = ⊥

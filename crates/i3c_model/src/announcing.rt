@@ -6,7 +6,6 @@ use i3c_step::{Framed, Reply};
 impl Plain {
     ghost use Rattle.std.specs.Prelude.{◌≡◌, ◌+◌, ◌≤◌, count_by, is_some, IfOk, OnErr};
     ghost use Rattle.i3c_base.specs.Frames.{list, list_bits, reset};
-    ghost use Rattle.i3c_base.specs.State.{forgotten};
     ghost use Rattle.i3c_step.specs.Step.{Announces};
     ghost use Rattle.i3c_model.specs.Choosing.{Follows};
     ghost use Rattle.i3c_model.specs.Storing.{IsRecordDue};
@@ -86,16 +85,5 @@ impl Plain {
         self.given.retain(|address, _| own == Some(*address));
         self.listed = false;
         self.forget();
-    }
-
-    // No address is kept for an identity any more.
-    pub(crate) fn forget(&mut self)
-        ensures { self.new ≡ forgotten self.old }
-    {
-        // every entry stays
-        self.given.retain(|_, entry| {
-            entry.forget();
-            true
-        });
     }
 }

@@ -9,8 +9,8 @@ impl Plain {
     ghost use Rattle.i3c_base.specs.Cutting.{lost_by};
     ghost use Rattle.i3c_base.specs.Round.{AllHearersLost, AnyHears, IsBeatenByLost, IsWinner, Rounds, assigned, ended, opened};
     ghost use Rattle.i3c_base.specs.Serve.{Frame, header_bits, refuse_all};
-    ghost use Rattle.i3c_base.specs.State.{IsKept, IsPick, IsPickable, IsUnknown};
-    ghost use Rattle.i3c_step.specs.Step.{Acts, Becomes};
+    ghost use Rattle.i3c_base.specs.State.{IsPick, IsPickable};
+    ghost use Rattle.i3c_step.specs.Step.{Acts, Becomes, is_pickable};
     ghost use Rattle.i3c_step.specs.declared.events.Event.{Event};
     ghost use Rattle.i3c_step.specs.declared.replies.Reply.{Reply};
     ghost use Rattle.i3c_model.specs.declared.plain.Choice.{Choice as ChoiceValue};
@@ -85,14 +85,18 @@ impl Plain {
         None
     }
 
-    // Whether an address is usable, was not given, and is no legacy target's.
-    fn is_pickable(&self, address: Addr7) -> bool
-        ensures { IsTrue result ↔ IsPickable self.now address }
+    // Whether an address is usable, has no entry, and is no static one.
+    pub(crate) fn is_pickable(&self, address: Addr7) -> bool
+        ensures may { IsTrue result ↔ IsPickable self.now address }
+        ensures test { result ≡ is_pickable self.now address }
     {
         if self.is_given(address) {
             return false;
         }
         if self.legacy.contains_key(&address) {
+            return false;
+        }
+        if self.declared.contains_key(&address) {
             return false;
         }
         is_usable(address)
@@ -135,16 +139,6 @@ impl Plain {
         }
     }
 
-    // The least address that is kept for an identity.
-    fn address_kept(&self, identity: &Identity) -> Option<Addr7>
-        ensures { MatchOption result (IsUnknown self.now identity.now) (IsKept self.now identity.now) }
-    {
-        self.given
-            .iter()
-            .find(|(_, entry)| entry.is_kept_for(identity))
-            .map(|(address, _)| *address)
-    }
-
     // The hearers of an identity that the round doesn't lose take an address, which is kept for it from now on.
     fn assign(
         &mut self,
@@ -156,7 +150,8 @@ impl Plain {
         ensures done { OnOk result (self.new ≡ assigned (lost_by cuts.now 73) identity.now address self.old) }
         ensures unchanged { OnErr result (self.new ≡ self.old) }
     {
-        self.given.insert(address, PlainEntry::kept(identity))?;
+        let entry = PlainEntry::kept(identity, self.fixed_of(identity));
+        self.given.insert(address, entry)?;
         self.listed = false;
         // every device stays
         self.devices.retain(|slot, device| {

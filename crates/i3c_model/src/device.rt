@@ -1,8 +1,8 @@
-ghost use Rattle.std.specs.Prelude.{◌≡◌, ◌≤◌, ◌↔◌, ◌++◌, ◌∷◌, [], false, true, length, slice_get, IfSome, IsTrue, MatchOption, OnErr, OnOk, Some};
-ghost use Rattle.i3c_base.specs.Frames.{changed_kinds, overwritten, unaddressed_device};
+ghost use Rattle.std.specs.Prelude.{◌≡◌, ◌≤◌, ◌↔◌, ◌&&◌, ◌++◌, ◌∷◌, [], false, is_none, true, length, slice_get, IfSome, IsTrue, MatchOption, None, OnErr, OnOk, Some, ⊤};
+ghost use Rattle.i3c_base.specs.Frames.{changed_kinds, overwritten, readdressed, unaddressed_device};
 ghost use Rattle.i3c_base.specs.Round.{hears, unhearing, winner};
 ghost use Rattle.i3c_base.specs.Serve.{asks, without, without_role};
-ghost use Rattle.i3c_base.specs.State.{attached, has_address};
+ghost use Rattle.i3c_base.specs.State.{attached, has_address, is_the};
 ghost use Rattle.i3c_base.specs.declared.requests.Request.{Request as RequestValue};
 ghost use Rattle.i3c_model.specs.Meaning.{is_meant};
 
@@ -10,7 +10,7 @@ use crate::faults::OutOfMemory;
 use crate::kinds::PlainKinds;
 use crate::transferring::overwrite;
 use i3c_base::{Addr7, Bcr, Change, Dcr, Identity, Kinds, REGISTERS, Request, Setup, Waiting};
-use std::alloc::Global;
+use std::alloc::{AllocError, Global};
 use std::marker::Model;
 
 // A device in its slot.
@@ -18,6 +18,9 @@ use std::marker::Model;
 pub(crate) struct PlainDevice {
     identity: Identity,
     willing: bool,
+    // its static address
+    fixed: Option<Addr7>,
+    // its dynamic address
     address: Option<Addr7>,
     kinds: PlainKinds,
     // its interrupts that wait, the oldest first
@@ -37,6 +40,7 @@ impl Model for PlainDevice {
     ghost view = { λ d. record {
       identity = d.identity;
       willing = d.willing;
+      fixed = d.fixed;
       address = d.address;
       kinds = d.kinds;
       waiting = d.waiting.items;
@@ -48,13 +52,14 @@ impl Model for PlainDevice {
 }
 
 impl PlainDevice {
-    // A device just attached.
-    pub(crate) fn new(alloc: Global, setup: &Setup) -> PlainDevice
-        ensures { result ≡ attached setup.now }
+    // A device just attached, with this static address.
+    pub(crate) fn new(alloc: Global, fixed: Option<Addr7>, setup: &Setup) -> PlainDevice
+        ensures { result ≡ attached fixed setup.now }
     {
         PlainDevice {
             identity: setup.identity,
             willing: setup.willing,
+            fixed,
             address: None,
             kinds: PlainKinds::all(),
             waiting: Vec::new(alloc),
@@ -172,6 +177,13 @@ impl PlainDevice {
         self.address == Some(address)
     }
 
+    // Whether it has this static address and no dynamic one.
+    pub(crate) fn is_unaddressed(&self, fixed: Addr7) -> bool
+        ensures { result ≡ (is_none self.now.address && is_the fixed self.now.fixed) }
+    {
+        self.address.is_none() && self.fixed == Some(fixed)
+    }
+
     // Whether a command means it: it has the address, if one is named.
     pub(crate) fn is_meant(&self, to: &Option<Addr7>) -> bool
         ensures { result ≡ is_meant to.now self.now }
@@ -281,6 +293,13 @@ impl PlainDevice {
         self.hearing = false;
         self.join_wish = false;
     }
+
+    // It has this address in place of its own.
+    pub(crate) fn change_address(&mut self, new: Addr7)
+        ensures { self.new ≡ readdressed new self.old }
+    {
+        self.address = Some(new);
+    }
 }
 
 // What the table keeps of an address that was given.
@@ -290,6 +309,8 @@ pub(crate) struct PlainEntry {
     pub(crate) dcr: Dcr,
     // the identity that the address is kept for
     pub(crate) kept: Option<Identity>,
+    // the static address of who got it
+    pub(crate) fixed: Option<Addr7>,
 }
 
 impl Model for PlainEntry {
@@ -301,40 +322,88 @@ impl Model for PlainEntry {
       bcr = e.bcr;
       dcr = e.dcr;
       kept = e.kept;
+      fixed = e.fixed;
     } };
+}
+
+impl Clone for PlainEntry {
+    ghost is_clone = { λ entry copy. copy ≡ entry };
+
+    ghost is_infallible = { λ _. ⊤ };
+
+    fn clone(&self) -> Result<PlainEntry, AllocError> {
+        Ok(PlainEntry {
+            bcr: self.bcr,
+            dcr: self.dcr,
+            kept: self.kept,
+            fixed: self.fixed,
+        })
+    }
 }
 
 impl PlainEntry {
     ghost use Rattle.i3c_base.specs.Numbers.{has_byte, is_capable};
-    ghost use Rattle.i3c_base.specs.State.{entry_of, kept_entry_of, unkept};
+    ghost use Rattle.i3c_base.specs.State.{has_fixed, is_identity, released, unkept};
 
-    // The entry for an identity, which isn't kept for it.
-    pub(crate) fn new(identity: &Identity) -> PlainEntry
-        ensures { result ≡ entry_of identity.now }
+    // The entry for an identity with this static address, which isn't kept for it.
+    pub(crate) fn new(identity: &Identity, fixed: Option<Addr7>) -> PlainEntry
+        ensures { result ≡ record { bcr = identity.now.bcr; dcr = identity.now.dcr; kept = None; fixed = fixed } }
     {
         PlainEntry {
             bcr: identity.bcr,
             dcr: identity.dcr,
             kept: None,
+            fixed,
         }
     }
 
-    // The entry for an identity, which is kept for it.
-    pub(crate) fn kept(identity: &Identity) -> PlainEntry
-        ensures { result ≡ kept_entry_of identity.now }
+    // The entry for an identity with this static address, which is kept for it.
+    pub(crate) fn kept(identity: &Identity, fixed: Option<Addr7>) -> PlainEntry
+        ensures { result ≡ record { bcr = identity.now.bcr; dcr = identity.now.dcr; kept = Some identity.now; fixed = fixed } }
     {
         PlainEntry {
             bcr: identity.bcr,
             dcr: identity.dcr,
             kept: Some(*identity),
+            fixed,
         }
     }
 
     // Whether the address is kept for an identity.
     pub(crate) fn is_kept_for(&self, identity: &Identity) -> bool
-        ensures { IsTrue result ↔ (self.now.kept ≡ Some identity.now) }
+        ensures kept { IsTrue result ↔ (self.now.kept ≡ Some identity.now) }
+        ensures test { result ≡ is_identity identity.now self.now.kept }
     {
-        self.kept == Some(*identity)
+        match &self.kept {
+            Some(kept) => *kept == *identity,
+            None => false,
+        }
+    }
+
+    // Whether who got the address has this static address.
+    pub(crate) fn has_fixed(&self, fixed: Addr7) -> bool
+        ensures { result ≡ has_fixed fixed (Some self.now) }
+    {
+        self.fixed == Some(fixed)
+    }
+
+    // The same entry, for an address that nobody is known to have.
+    pub(crate) fn released(&self) -> PlainEntry
+        ensures { result ≡ released self.now }
+    {
+        PlainEntry {
+            bcr: self.bcr,
+            dcr: self.dcr,
+            kept: None,
+            fixed: None,
+        }
+    }
+
+    // The address is kept for this identity from now on, or for nobody.
+    pub(crate) fn keep(&mut self, kept: Option<Identity>)
+        ensures { self.new ≡ record self.old { kept = kept } }
+    {
+        self.kept = kept;
     }
 
     // The address is kept for nobody any more.

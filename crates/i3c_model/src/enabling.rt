@@ -99,7 +99,7 @@ impl Plain {
 }
 
 // The bits of a command with this answer: two words, or a word, a header and after its ACK a word.
-fn kinds_bits(to: &Option<Addr7>, answer: &Answer) -> u16
+pub(crate) fn kinds_bits(to: &Option<Addr7>, answer: &Answer) -> u16
     ensures { result ≡ kinds_bits to.now answer.now }
 {
     match (to, answer) {

@@ -1,7 +1,7 @@
 ghost use Rattle.std.specs.Prelude.{◌≡◌};
 ghost use Rattle.i3c_model.specs.declared.faults.PlainFault.TheVariants.{OutOfMemory as PlainOutOfMemory};
 
-use std::alloc::AllocFailed;
+use std::alloc::{AllocError, AllocFailed};
 use thiserror::Error;
 
 /// Why a machine can't start.
@@ -30,6 +30,12 @@ pub struct OutOfMemory;
 
 impl<T: Drop> From<AllocFailed<T>> for OutOfMemory {
     fn from(_failed: AllocFailed<T>) -> OutOfMemory {
+        OutOfMemory
+    }
+}
+
+impl From<AllocError> for OutOfMemory {
+    fn from(_failed: AllocError) -> OutOfMemory {
         OutOfMemory
     }
 }

@@ -21,7 +21,7 @@ impl Plain {
         let served = self.refuse_first();
         let begin = self.header_bits();
         if let Some(slot) = self.heir(to, cuts, begin + 27) {
-            self.give_role(slot);
+            self.give_role(slot, to);
             self.empty(cuts, begin + 27);
             return Reply::Handed(served);
         }
@@ -70,10 +70,11 @@ impl Plain {
         }
     }
 
-    // The slot's device is the active controller. It got no identities with its list, which the others haven't got.
-    fn give_role(&mut self, slot: Slot)
+    // The slot's device, at its own address, is the active controller. It got no identities with its list, which the
+    // others haven't got.
+    fn give_role(&mut self, slot: Slot, own: Addr7)
         requires present { IsPresent self.old slot }
-        ensures { self.new ≡ handed slot self.old }
+        ensures { self.new ≡ handed slot own self.old }
     {
         prove!(slot.index() < SLOTS);
         let Some(device) = self.devices.get_mut(&slot) else {
@@ -82,6 +83,6 @@ impl Plain {
         device.lose_role_wish();
         self.active = slot;
         self.listed = false;
-        self.forget();
+        self.take_over(own);
     }
 }

@@ -11,12 +11,14 @@ mod device;
 mod enabling;
 mod faults;
 mod handing;
+mod keeping;
 mod kinds;
 mod local;
 mod plain;
 mod reading;
 mod refusals;
 mod serving;
+mod setting;
 mod starting;
 mod transferring;
 

@@ -16,7 +16,8 @@ impl Plain {
         ensures unchanged { OnErr result (self.new ≡ self.old) }
     {
         prove!(slot.index() < SLOTS);
-        let device = PlainDevice::new(self.alloc, setup);
+        let fixed = self.fixed_of(&setup.identity);
+        let device = PlainDevice::new(self.alloc, fixed, setup);
         self.devices.insert(slot, device)?;
         Ok(())
     }

@@ -1,6 +1,6 @@
 use crate::device::{PlainDevice, PlainEntry};
 use crate::faults::OutOfMemory;
-use i3c_base::{Addr7, Change, LegacyTarget, Record, SLOTS, Slot};
+use i3c_base::{Addr7, Change, Identity, LegacyTarget, Record, SLOTS, Slot};
 use i3c_step::{Event, Reply};
 use std::alloc::Global;
 use std::collections::BTreeMap;
@@ -33,6 +33,8 @@ pub struct Plain {
     pub(crate) active: Slot,
     // by static address
     pub(crate) legacy: BTreeMap<Addr7, LegacyTarget>,
+    // the identities of devices that have a static address, by it
+    pub(crate) declared: BTreeMap<Addr7, Identity>,
     pub(crate) given: BTreeMap<Addr7, PlainEntry>,
     pub(crate) in_session: bool,
     // the list of DEFTGTS is current
@@ -55,7 +57,7 @@ impl Model for Plain {
 impl Plain {
     ghost use Rattle.std.specs.Prelude.{◌≡◌, ◌≢◌, ◌↔◌, IfOk, IsTrue, MatchOption, None, OnErr, length, is_some, option_and_then, option_map};
     ghost use Rattle.i3c_base.specs.declared.range.TheConstants.{SLOTS as SLOT_COUNT};
-    ghost use Rattle.i3c_base.specs.State.{device_at, entry_at, legacy_target_at, IsPresent};
+    ghost use Rattle.i3c_base.specs.State.{declared_at, device_at, entry_at, fixed_of, legacy_target_at, IsPresent};
     ghost use Rattle.i3c_step.specs.Step.{Acts, Step, checks, first_refusal};
     ghost use Rattle.i3c_step.specs.declared.replies.Reply.{Reply};
     ghost use Rattle.i3c_model.specs.Choosing.{EndsAsChosen, Follows};
@@ -172,6 +174,12 @@ impl Plain {
             Event::WriteTo(at, bytes, policy, cuts) => {
                 self.write(*at, bytes.as_slice(), policy, cuts, choice)
             }
+            Event::SetStatic(fixed, new, policy, cuts) => {
+                self.set_static(*fixed, *new, policy, cuts, choice)
+            }
+            Event::SetNew(old, new, policy, cuts) => {
+                self.set_new(*old, *new, policy, cuts, choice)
+            }
             Event::HandOver(to, cuts) => Ok(self.hand_over(*to, cuts, choice)),
             Event::OpenDaa(cuts) => Ok(Reply::Opened(self.open_daa(cuts))),
             Event::Round(cuts) => Ok(Reply::Round(self.round(cuts, choice)?)),
@@ -210,6 +218,23 @@ impl Plain {
         ensures { option_map (λ t. t.now) result ≡ legacy_target_at self.now address }
     {
         self.legacy.get(&address)
+    }
+
+    // The identity that is declared at a static address, if one is.
+    pub(crate) fn declared_at(&self, address: Addr7) -> Option<Identity>
+        ensures { result ≡ declared_at self.now address }
+    {
+        self.declared.get(&address).copied()
+    }
+
+    // The static address that is declared for an identity, if one is.
+    pub(crate) fn fixed_of(&self, identity: &Identity) -> Option<Addr7>
+        ensures { result ≡ fixed_of self.now.declared identity.now }
+    {
+        self.declared
+            .iter()
+            .find(|(_, declared)| **declared == *identity)
+            .map(|(address, _)| *address)
     }
 
     // Whether an address was given.

@@ -1,13 +1,13 @@
 use crate::plain::Plain;
-use i3c_base::{Addr7, Cuts, Slot, WAITING};
+use i3c_base::{Addr7, Cuts, Identity, Slot, WAITING};
 use i3c_step::{Event, Refusal, TRANSFER};
 
 impl Plain {
-    ghost use Rattle.std.specs.Prelude.{◌≡◌, ◌++◌};
+    ghost use Rattle.std.specs.Prelude.{◌≡◌, ◌++◌, Some};
     ghost use Rattle.i3c_base.specs.declared.device.Setup.{Setup};
     ghost use Rattle.i3c_base.specs.Frames.{active_has};
     ghost use Rattle.i3c_base.specs.State.{entry_at};
-    ghost use Rattle.i3c_step.specs.Step.{checks, first_refusal, frame_checks, is_no_controller, is_no_partner, is_no_target, read_checks, target_checks, write_checks};
+    ghost use Rattle.i3c_step.specs.Step.{checks, first_refusal, frame_checks, is_kept_for, is_no_controller, is_no_partner, is_no_target, new_checks, read_checks, static_checks, target_checks, write_checks};
     ghost use Rattle.i3c_step.specs.declared.events.Event.{Event as EventValue};
 
     // Why an event is refused, if it is.
@@ -29,6 +29,8 @@ impl Plain {
             Event::WriteTo(at, bytes, _, cuts) => {
                 self.write_refusal(*at, bytes.as_slice(), cuts)
             }
+            Event::SetStatic(fixed, new, _, cuts) => self.static_refusal(*fixed, *new, cuts),
+            Event::SetNew(old, new, _, cuts) => self.new_refusal(*old, *new, cuts),
             Event::HandOver(to, cuts) => self.hand_refusal(*to, cuts),
             Event::OpenDaa(cuts) => self.frame_refusal(cuts),
             Event::Round(cuts) => self.round_refusal(cuts),
@@ -200,6 +202,46 @@ impl Plain {
         ensures { result ≡ is_no_partner self.now address }
     {
         self.target(address).is_none() && self.is_no_target(address)
+    }
+
+    // Why SETDASA isn't sent: nobody is declared at the static address, or the new one may not be picked and isn't kept for
+    // who is declared.
+    fn static_refusal(&self, fixed: Addr7, new: Addr7, cuts: &Cuts) -> Option<Refusal>
+        ensures { result ≡ first_refusal (frame_checks self.now cuts.now ++ static_checks self.now fixed new) }
+    {
+        if let Some(refusal) = self.frame_refusal(cuts) {
+            return Some(refusal);
+        }
+        let Some(identity) = self.declared_at(fixed) else {
+            return Some(Refusal::NoAnswer(fixed));
+        };
+        if !self.is_pickable(new) && !self.is_kept_for(&identity, new) {
+            return Some(Refusal::BadAddress(new));
+        }
+        None
+    }
+
+    // Whether an address is the one that is kept for an identity.
+    fn is_kept_for(&self, identity: &Identity, address: Addr7) -> bool
+        ensures { result ≡ is_kept_for self.now (Some identity.now) address }
+    {
+        self.address_kept(identity) == Some(address)
+    }
+
+    // Why SETNEWDA isn't sent.
+    fn new_refusal(&self, old: Addr7, new: Addr7, cuts: &Cuts) -> Option<Refusal>
+        ensures { result ≡ first_refusal (frame_checks self.now cuts.now ++ new_checks self.now old new) }
+    {
+        if let Some(refusal) = self.frame_refusal(cuts) {
+            return Some(refusal);
+        }
+        if self.is_no_target(old) {
+            return Some(Refusal::NoAnswer(old));
+        }
+        if !self.is_pickable(new) {
+            return Some(Refusal::BadAddress(new));
+        }
+        None
     }
 
     // Whether an address is the active controller's own.

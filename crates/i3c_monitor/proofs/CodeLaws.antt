@@ -20,6 +20,8 @@ named byte Code.Entdaa h = ap code_at (sym h.0)
 named byte Code.Deftgts h = ap code_at (sym h.0)
 named byte Code.EnecDirect h = ap code_at (sym h.0)
 named byte Code.DisecDirect h = ap code_at (sym h.0)
+named byte Code.Setdasa h = ap code_at (sym h.0)
+named byte Code.Setnewda h = ap code_at (sym h.0)
 named byte Code.Getacccr h = ap code_at (sym h.0)
 named byte (Code.Other b) h = ap code_at (sym h.0) ∙ other_at b h.1
 

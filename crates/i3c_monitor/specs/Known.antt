@@ -55,15 +55,23 @@ silenced a symbol known = with_status a (record { owner = (status_of a known).ow
 abbrev pub heard : ℕ → Known → Known
 heard a known = with_status a (record { owner = (status_of a known).owner; silent = None }) known
 
--- whoever was given the address has it, whatever a list says
-abbrev pub listed_owner : Owner → Owner
-listed_owner Owner.Nobody = Owner.Listed
-listed_owner Owner.Listed = Owner.Listed
-listed_owner (Owner.Given identity) = Owner.Given identity
+-- the owner of an address that is shown to have one: whoever was given it, or somebody
+abbrev pub some_owner : Owner → Owner
+some_owner Owner.Nobody = Owner.Somebody
+some_owner Owner.Somebody = Owner.Somebody
+some_owner (Owner.Given identity) = Owner.Given identity
+
+-- SETDASA gave the address: to which identity isn't shown
+abbrev pub given_to_somebody : ℕ → Known → Known
+given_to_somebody a known = with_status a (record { owner = Owner.Somebody; silent = None }) known
+
+-- SETNEWDA gave who had the address `old` a new one
+abbrev pub moved : ℕ → ℕ → Known → Known
+moved old new known = with_status new (record { owner = some_owner (status_of old known).owner; silent = None }) (with_status old nobodys known)
 
 -- a list names the address
 abbrev pub listed : ℕ → Known → Known
-listed a known = with_status a (record { owner = listed_owner (status_of a known).owner; silent = (status_of a known).silent }) known
+listed a known = with_status a (record { owner = some_owner (status_of a known).owner; silent = (status_of a known).silent }) known
 
 -- a list has these entries
 abbrev pub all_listed : List (Option Entry) → Known → Known
@@ -82,15 +90,20 @@ list_shown symbols known =
     let words = words_in (drop 1 symbols) in
     list_read (first_fault words) (entries_in (bytes words)) known
 
--- the codes of SETAASA, RSTACT, RSTDAA to one target, SETDASA, SETNEWDA, SETBRGTGT and SETGRPA, after which addresses may be others'
+-- the codes of SETAASA, RSTACT, RSTDAA to one target, SETBRGTGT and SETGRPA, after which addresses may be others'
 abbrev pub moves_addresses : ℕ → Bool
 moves_addresses byte =
-    (byte == 0x29) || (byte == 0x2A) || (byte == 0x86) || (byte == 0x87) || (byte == 0x88) || (byte == 0x93) || (byte == 0x9A) || (byte == 0x9B)
+    (byte == 0x29) || (byte == 0x2A) || (byte == 0x86) || (byte == 0x93) || (byte == 0x9A) || (byte == 0x9B)
 
--- the address of a target that answered, or asked
+-- the dynamic address in a header of a command to one target: SETDASA's is a static one
+abbrev pub dynamic_in : Direct → ℕ → Option ℕ
+dynamic_in Direct.Setdasa a = None
+dynamic_in command a = Some a
+
+-- the dynamic address of a target that answered, or asked
 abbrev pub present : Decoded → Option ℕ
 present (Decoded.Transfer a read (Some span)) = Some a
-present (Decoded.Single command a (Some byte)) = Some a
+present (Decoded.Single command a (Some byte)) = dynamic_in command a
 present (Decoded.Request (Request.Interrupt a) accepted byte) = Some a
 present (Decoded.Request (Request.Role a) accepted byte) = Some a
 present _ = None
@@ -100,6 +113,7 @@ abbrev pub absent : Decoded → Option ℕ
 absent (Decoded.Transfer a read None) = Some a
 absent (Decoded.Single Direct.Enec a None) = Some a
 absent (Decoded.Single Direct.Disec a None) = Some a
+absent (Decoded.Single Direct.Setnewda a None) = Some a
 absent _ = None
 
 -- what is known after an address answered
@@ -119,6 +133,8 @@ learned symbol behind (Decoded.Deftgts count) known = list_shown behind known
 learned symbol behind (Decoded.Other byte) known = if moves_addresses byte then forgotten else known
 learned symbol behind (Decoded.Refused fault) known = forgotten
 learned symbol behind (Decoded.Round identity byte true) known = given (byte / 2) identity known
+learned symbol behind (Decoded.Single Direct.Setdasa a (Some byte)) known = given_to_somebody (byte / 2) known
+learned symbol behind (Decoded.Single Direct.Setnewda a (Some byte)) known = moved a (byte / 2) known
 learned symbol behind decoded known = after_absent symbol (absent decoded) (after_present (present decoded) known)
 
 -- the same, where nothing was told

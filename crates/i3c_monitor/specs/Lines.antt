@@ -47,6 +47,8 @@ taken_text false = codes " not taken"
 abbrev pub command_text : Direct → List ℕ
 command_text Direct.Enec = codes "ENEC "
 command_text Direct.Disec = codes "DISEC "
+command_text Direct.Setdasa = codes "SETDASA "
+command_text Direct.Setnewda = codes "SETNEWDA "
 command_text Direct.Getacccr = codes "GETACCCR "
 
 -- the byte behind a header of such a command, unless nobody answered

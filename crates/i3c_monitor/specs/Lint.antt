@@ -5,6 +5,7 @@ use Rattle.i3c_base.specs.Sets.{is_in}
 use Rattle.i3c_ccc.specs.declared.codes.Code.{Code}
 use Rattle.i3c_frame.specs.declared.symbols.Symbol.{Symbol}
 use Rattle.i3c_monitor.specs.declared.decoded.Decoded.{Decoded}
+use Rattle.i3c_monitor.specs.declared.decoded.Direct.{Direct}
 use Rattle.i3c_monitor.specs.declared.decoded.Fault.{Fault}
 use Rattle.i3c_monitor.specs.declared.header.Header.{Header}
 use Rattle.i3c_monitor.specs.declared.header.Mode.{Mode}
@@ -14,7 +15,7 @@ use Rattle.i3c_monitor.specs.declared.known.Owner.{Owner}
 use Rattle.i3c_monitor.specs.declared.known.Status.{Status}
 use Rattle.i3c_monitor.specs.declared.lint_fault.Breach.{Breach}
 use Rattle.i3c_monitor.specs.declared.lint_fault.LintFault.{LintFault}
-use Rattle.i3c_monitor.specs.Known.{forgotten, learned_of, present, status_of}
+use Rattle.i3c_monitor.specs.Known.{dynamic_in, forgotten, learned_of, present, status_of}
 use Rattle.i3c_monitor.specs.Told.{code_at, told}
 use Rattle.i3c_monitor.specs.Trace.{behind, count_behind}
 
@@ -66,10 +67,10 @@ fault_at frame symbol breach = record { frame = frame; symbol = symbol; breach =
 abbrev pub fault_if : Bool → ℕ → ℕ → Breach → Option LintFault
 fault_if wrong frame symbol breach = if wrong then Some (fault_at frame symbol breach) else None
 
--- the address of a single target to which a header speaks
+-- the dynamic address of a single target to which a header speaks
 abbrev pub spoken_to : Decoded → Option ℕ
 spoken_to (Decoded.Transfer a read span) = Some a
-spoken_to (Decoded.Single command a byte) = Some a
+spoken_to (Decoded.Single command a byte) = dynamic_in command a
 spoken_to _ = None
 
 -- nobody has it
@@ -118,6 +119,17 @@ abbrev pub twice_fault : Known → ℕ → ℕ → List Symbol → Option LintFa
 twice_fault known frame number (Symbol.Identity identity ∷ Symbol.AddressByte byte true ∷ rest) =
     fault_if (is_others identity (status_of (byte / 2) known).owner) frame (number + 2) (Breach.Twice (byte / 2))
 twice_fault known frame number _ = None
+
+-- two addresses were given to different identities
+abbrev pub are_others : Owner → Owner → Bool
+are_others (Owner.Given identity) owner = is_others identity owner
+are_others _ owner = false
+
+-- SETNEWDA gives an address that another identity was given
+abbrev pub moved_fault : Known → ℕ → ℕ → Decoded → Option LintFault
+moved_fault known frame number (Decoded.Single Direct.Setnewda a (Some byte)) =
+    fault_if (are_others (status_of a known).owner (status_of (byte / 2) known).owner) frame (number + 1) (Breach.Twice (byte / 2))
+moved_fault known frame number _ = None
 
 -- nobody acknowledged a header whose answer counts: that of 7E/W doesn't
 abbrev pub is_unanswered : Header → Bool
@@ -219,6 +231,7 @@ checks legacies known mode frame number header symbols decoded =
     ∷ ended_fault frame number header rest
     ∷ parity_fault frame number rest
     ∷ twice_fault known frame number rest
+    ∷ option_and_then (moved_fault known frame number) decoded
     ∷ []
 
 -- what is found of it

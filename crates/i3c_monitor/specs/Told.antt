@@ -43,6 +43,8 @@ transfer_of header count before =
 abbrev pub single_byte : Direct → List Symbol → ℕ → Result ℕ Fault
 single_byte Direct.Enec symbols before = written_byte symbols before
 single_byte Direct.Disec symbols before = written_byte symbols before
+single_byte Direct.Setdasa symbols before = written_byte symbols before
+single_byte Direct.Setnewda symbols before = written_byte symbols before
 single_byte Direct.Getacccr symbols before = go_on (due_word symbols before) (λ word. Ok word.byte)
 
 -- a header of such a command
@@ -70,6 +72,8 @@ command_of Code.Entdaa symbols before = one Mode.Rounds Decoded.Entdaa
 command_of Code.Deftgts symbols before = go_on (entries_told symbols before) (λ count. one Mode.Plain (Decoded.Deftgts count))
 command_of Code.EnecDirect symbols before = Ok (nothing (Mode.Single Direct.Enec))
 command_of Code.DisecDirect symbols before = Ok (nothing (Mode.Single Direct.Disec))
+command_of Code.Setdasa symbols before = Ok (nothing (Mode.Single Direct.Setdasa))
+command_of Code.Setnewda symbols before = Ok (nothing (Mode.Single Direct.Setnewda))
 command_of Code.Getacccr symbols before = Ok (nothing (Mode.Single Direct.Getacccr))
 command_of (Code.Other byte) symbols before = one Mode.Skipped (Decoded.Other byte)
 
@@ -78,7 +82,8 @@ abbrev pub code_at : ℕ → Code
 code_at byte =
     if byte == 0x00 then Code.Enec else if byte == 0x01 then Code.Disec else if byte == 0x06 then Code.Rstdaa
     else if byte == 0x07 then Code.Entdaa else if byte == 0x08 then Code.Deftgts else if byte == 0x80 then Code.EnecDirect
-    else if byte == 0x81 then Code.DisecDirect else if byte == 0x91 then Code.Getacccr else Code.Other byte
+    else if byte == 0x81 then Code.DisecDirect else if byte == 0x87 then Code.Setdasa else if byte == 0x88 then Code.Setnewda
+    else if byte == 0x91 then Code.Getacccr else Code.Other byte
 
 -- what follows 7E/W
 abbrev pub code_of : List Symbol → ℕ → Result Told Fault

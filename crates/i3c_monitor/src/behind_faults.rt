@@ -132,6 +132,7 @@ fn words_taken(code: &Code) -> Option<usize>
         Code::Deftgts | Code::Other(_) => None,
         Code::Rstdaa | Code::Entdaa => Some(0),
         Code::EnecDirect | Code::DisecDirect | Code::Getacccr => Some(0),
+        Code::Setdasa | Code::Setnewda => Some(0),
     }
 }
 

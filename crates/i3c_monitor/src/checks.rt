@@ -1,6 +1,6 @@
 ghost use Rattle.std.specs.Prelude.{◌≡◌, ◌+◌, ◌<◌, ◌++◌, length, OnOk};
 ghost use Rattle.std.specs.Option.{option_and_then};
-ghost use Rattle.i3c_monitor.specs.Lint.{all_found, checks, nobody_fault, silence_fault};
+ghost use Rattle.i3c_monitor.specs.Lint.{all_found, checks, moved_fault, nobody_fault, silence_fault};
 
 use crate::behind_faults::{
     ended_fault, heeded, parity_fault, stray_fault, surplus_fault, unanswered_fault,
@@ -8,14 +8,14 @@ use crate::behind_faults::{
 use crate::decoded::Decoded;
 use crate::header::{Header, Mode};
 use crate::known::Known;
-use crate::lint::{Spot, nobody_fault, silence_fault, twice_fault};
+use crate::lint::{Spot, moved_fault, nobody_fault, silence_fault, twice_fault};
 use crate::lint_fault::LintFault;
 use i3c_base::Addresses;
 use i3c_frame::Symbol;
 use std::alloc::AllocError;
 
 /// How many faults are looked for at a header.
-const CHECKS: usize = 8;
+const CHECKS: usize = 9;
 
 /// What is found at a header, and in the symbols behind it, in the order in which it is told.
 pub(crate) fn checks(
@@ -40,6 +40,7 @@ pub(crate) fn checks(
         ended_fault(spot, header, rest),
         parity_fault(spot, rest),
         twice_fault(known, spot, rest),
+        moved_found(known, spot, decoded),
     ]
 }
 
@@ -65,6 +66,17 @@ fn silence_found(known: &Known, spot: Spot, decoded: &Option<Decoded>) -> Option
 {
     match decoded {
         Some(decoded) => silence_fault(known, spot, decoded),
+        None => None,
+    }
+}
+
+/// The fault of an address that SETNEWDA gives, if the header tells anything.
+fn moved_found(known: &Known, spot: Spot, decoded: &Option<Decoded>) -> Option<LintFault>
+    requires { spot.symbol < usize.MAX }
+    ensures { result ≡ option_and_then (moved_fault known.now spot.frame spot.symbol) decoded.now }
+{
+    match decoded {
+        Some(decoded) => moved_fault(known, spot, decoded),
         None => None,
     }
 }

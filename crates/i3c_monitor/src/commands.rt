@@ -40,6 +40,8 @@ fn read_command(alloc: Global, code: Code, symbols: &[Symbol], before: usize) ->
         ),
         Code::EnecDirect => return Ok(Told::nothing(Mode::Single(Direct::Enec))),
         Code::DisecDirect => return Ok(Told::nothing(Mode::Single(Direct::Disec))),
+        Code::Setdasa => return Ok(Told::nothing(Mode::Single(Direct::Setdasa))),
+        Code::Setnewda => return Ok(Told::nothing(Mode::Single(Direct::Setnewda))),
         Code::Getacccr => return Ok(Told::nothing(Mode::Single(Direct::Getacccr))),
         Code::Other(byte) => (Decoded::Other(byte), Mode::Skipped),
     };

@@ -1,4 +1,5 @@
 ghost use Rattle.std.specs.Prelude.{◌≡◌};
+ghost use Rattle.i3c_monitor.specs.Known.{dynamic_in};
 ghost use Rattle.i3c_monitor.specs.declared.decoded.Stop.TheVariants.{Refused as StopRefused, Memory};
 
 use i3c_base::{Addr7, Request};
@@ -14,6 +15,10 @@ pub enum Direct {
     Enec,
     /// Disable events.
     Disec,
+    /// Set dynamic address from static address.
+    Setdasa,
+    /// Set new dynamic address.
+    Setnewda,
     /// Get accept controller role.
     Getacccr,
 }
@@ -96,17 +101,22 @@ impl Decoded {
     ghost use Rattle.i3c_monitor.specs.Known.{absent, present};
     ghost use Rattle.i3c_monitor.specs.Lint.{spoken_to};
 
-    /// The address of a single target to which a header speaks.
+    /// The dynamic address of a single target to which a header speaks.
     pub(crate) fn spoken_to(&self) -> Option<Addr7>
         ensures { result ≡ spoken_to self.now }
     {
         match self {
-            Decoded::Transfer { address, .. } | Decoded::Single { address, .. } => Some(*address),
+            Decoded::Transfer { address, .. } => Some(*address),
+            Decoded::Single {
+                command,
+                address,
+                ..
+            } => dynamic_in(command, *address),
             _ => None,
         }
     }
 
-    /// The address of a target that answered, or asked.
+    /// The dynamic address of a target that answered, or asked.
     pub(crate) fn present(&self) -> Option<Addr7>
         ensures { result ≡ present self.now }
     {
@@ -116,20 +126,20 @@ impl Decoded {
                 span: Some(_),
                 ..
             }
-            | Decoded::Single {
-                address,
-                byte: Some(_),
-                ..
-            }
             | Decoded::Request {
                 request: Request::Interrupt(address) | Request::Role(address),
                 ..
             } => Some(*address),
+            Decoded::Single {
+                command,
+                address,
+                byte: Some(_),
+            } => dynamic_in(command, *address),
             _ => None,
         }
     }
 
-    /// The address of a target that had to answer and didn't. Whoever declines the role need not.
+    /// The dynamic address of a target that had to answer and didn't. Whoever declines the role need not.
     pub(crate) fn absent(&self) -> Option<Addr7>
         ensures { result ≡ absent self.now }
     {
@@ -140,12 +150,22 @@ impl Decoded {
                 ..
             }
             | Decoded::Single {
-                command: Direct::Enec | Direct::Disec,
+                command: Direct::Enec | Direct::Disec | Direct::Setnewda,
                 address,
                 byte: None,
             } => Some(*address),
             _ => None,
         }
+    }
+}
+
+/// The dynamic address in a header of a command to one target: SETDASA's is a static one (I3C Basic 5.1.9.3.10).
+fn dynamic_in(command: &Direct, address: Addr7) -> Option<Addr7>
+    ensures { result ≡ dynamic_in command.now address }
+{
+    match command {
+        Direct::Setdasa => None,
+        _ => Some(address),
     }
 }
 

@@ -210,7 +210,9 @@ fn single_byte(command: &Direct, symbols: &[Symbol], before: usize) -> Result<u8
     ensures { result ≡ single_byte command.now symbols.now before }
 {
     match command {
-        Direct::Enec | Direct::Disec => written_byte(symbols, before),
+        Direct::Enec | Direct::Disec | Direct::Setdasa | Direct::Setnewda => {
+            written_byte(symbols, before)
+        }
         Direct::Getacccr => Ok(due_word(symbols, before)?.byte),
     }
 }

@@ -1,5 +1,5 @@
 ghost use Rattle.std.specs.Prelude.{◌≡◌};
-ghost use Rattle.i3c_monitor.specs.Known.{listed_owner, moves_addresses};
+ghost use Rattle.i3c_monitor.specs.Known.{moves_addresses, some_owner};
 
 use crate::decoded::{Decoded, Direct};
 use crate::words::leading_words;
@@ -14,8 +14,8 @@ use std::alloc::{AllocError, Global};
 pub(crate) enum Owner {
     /// Nobody was given it.
     Nobody,
-    /// A list of devices names it (I3C Basic 5.1.9.3.7).
-    Listed,
+    /// Somebody has it: a list of devices names it (I3C Basic 5.1.9.3.7), or SETDASA gave it.
+    Somebody,
     /// A round gave it to this identity (I3C Basic 5.1.4.2).
     Given(u64),
 }
@@ -44,7 +44,7 @@ impl Known {
     ghost use Rattle.i3c_deftgts.specs.Layout.{bytes};
     ghost use Rattle.i3c_deftgts.specs.Reading.{entries_in, first_fault};
     ghost use Rattle.std.specs.Prelude.{◌≡◌, if◌then◌else◌, map, OnOk, Some};
-    ghost use Rattle.i3c_monitor.specs.Known.{after_absent, after_present, all_listed, all_nobodys, cleared, forgotten, given, heard, learned, learned_of, list_read, list_shown, listed, silenced, status_of, with_status, absent, moves_addresses, present};
+    ghost use Rattle.i3c_monitor.specs.Known.{after_absent, after_present, all_listed, all_nobodys, cleared, forgotten, given, given_to_somebody, heard, learned, learned_of, list_read, list_shown, listed, moved, silenced, status_of, with_status, absent, moves_addresses, present};
 
     /// Nothing is known, and the trace doesn't show who has an address.
     #[tactic(auto, unfolding(crate::specs::Known::all_nobodys))]
@@ -96,6 +96,35 @@ impl Known {
         );
     }
 
+    /// SETDASA gave an address: to which identity isn't shown.
+    fn give_somebody(&mut self, address: Addr7)
+        ensures { self.new ≡ given_to_somebody address self.old }
+    {
+        let owner = Owner::Somebody;
+        self.set(
+            address,
+            Status {
+                owner,
+                silent: None,
+            },
+        );
+    }
+
+    /// SETNEWDA gave who had an address a new one.
+    fn move_owner(&mut self, old: Addr7, new: Addr7)
+        ensures { self.new ≡ moved old new self.old }
+    {
+        let owner = some_owner(self.status(old).owner);
+        self.set(old, NOBODYS);
+        self.set(
+            new,
+            Status {
+                owner,
+                silent: None,
+            },
+        );
+    }
+
     /// An address didn't answer, by the header of this number.
     fn silence(&mut self, address: Addr7, symbol: usize)
         ensures { self.new ≡ silenced address symbol self.old }
@@ -124,7 +153,7 @@ impl Known {
         ensures { self.new ≡ listed address self.old }
     {
         let Status { owner, silent } = self.status(address);
-        let owner = listed_owner(owner);
+        let owner = some_owner(owner);
         self.set(address, Status { owner, silent });
     }
 
@@ -164,6 +193,16 @@ impl Known {
                 byte,
                 taken: true,
             } => self.give(Addr7::new(*byte / 2).unwrap(), *identity),
+            Decoded::Single {
+                command: Direct::Setdasa,
+                byte: Some(byte),
+                ..
+            } => self.give_somebody(Addr7::new(*byte / 2).unwrap()),
+            Decoded::Single {
+                command: Direct::Setnewda,
+                address,
+                byte: Some(byte),
+            } => self.move_owner(*address, Addr7::new(*byte / 2).unwrap()),
             _ => self.learn_answer(symbol, decoded),
         }
         Ok(())
@@ -227,12 +266,12 @@ impl Known {
     }
 }
 
-/// Whom a list leaves an address to: whoever was given it has it, whatever the list says.
-fn listed_owner(owner: Owner) -> Owner
-    ensures { result ≡ listed_owner owner }
+/// The owner of an address that is shown to have one: whoever was given it, or somebody.
+fn some_owner(owner: Owner) -> Owner
+    ensures { result ≡ some_owner owner }
 {
     match owner {
-        Owner::Nobody => Owner::Listed,
+        Owner::Nobody => Owner::Somebody,
         owner => owner,
     }
 }
@@ -241,5 +280,5 @@ fn listed_owner(owner: Owner) -> Owner
 fn moves_addresses(byte: u8) -> bool
     ensures { result ≡ moves_addresses byte }
 {
-    matches!(byte, 0x29 | 0x2A | 0x86..=0x88 | 0x93 | 0x9A | 0x9B)
+    matches!(byte, 0x29 | 0x2A | 0x86 | 0x93 | 0x9A | 0x9B)
 }

@@ -1,7 +1,7 @@
 ghost use Rattle.std.specs.Prelude.{◌≡◌, ◌+◌, ◌<◌, length};
-ghost use Rattle.i3c_monitor.specs.Lint.{begins_with, carries_more, fault_at, fault_if, is_nobodys, is_others, is_transfer, is_word, may_be_legacy, mode_at, nobody_fault, silence_fault, silent_since, twice_fault};
+ghost use Rattle.i3c_monitor.specs.Lint.{are_others, begins_with, carries_more, fault_at, fault_if, is_nobodys, is_others, is_transfer, is_word, may_be_legacy, mode_at, moved_fault, nobody_fault, silence_fault, silent_since, twice_fault};
 
-use crate::decoded::Decoded;
+use crate::decoded::{Decoded, Direct};
 use crate::header::{BROADCAST, Header, Mode};
 use crate::known::{Known, Owner};
 use crate::lint_fault::{Breach, LintFault};
@@ -104,7 +104,7 @@ fn silent_since(owner: &Owner, silent: Option<usize>) -> Option<usize>
 {
     match owner {
         Owner::Given(_) => silent,
-        Owner::Nobody | Owner::Listed => None,
+        Owner::Nobody | Owner::Somebody => None,
     }
 }
 
@@ -132,13 +132,42 @@ pub(crate) fn twice_fault(known: &Known, spot: Spot, symbols: &[Symbol]) -> Opti
     }
 }
 
+/// The fault of SETNEWDA that gives an address which another identity was given (I3C Basic 5.1.9.3.11).
+pub(crate) fn moved_fault(known: &Known, spot: Spot, decoded: &Decoded) -> Option<LintFault>
+    requires { spot.symbol < usize.MAX }
+    ensures { result ≡ moved_fault known.now spot.frame spot.symbol decoded.now }
+{
+    match decoded {
+        Decoded::Single {
+            command: Direct::Setnewda,
+            address,
+            byte: Some(byte),
+        } => {
+            let new = Addr7::new(*byte / 2).unwrap();
+            let are_others = are_others(&known.status(*address).owner, &known.status(new).owner);
+            fault_if(are_others, spot.frame, spot.symbol + 1, Breach::Twice(new))
+        }
+        _ => None,
+    }
+}
+
+/// Whether two addresses were given to different identities.
+fn are_others(one: &Owner, other: &Owner) -> bool
+    ensures { result ≡ are_others one.now other.now }
+{
+    match one {
+        Owner::Given(identity) => is_others(*identity, other),
+        Owner::Nobody | Owner::Somebody => false,
+    }
+}
+
 /// Whether an address is another identity's.
 fn is_others(identity: u64, owner: &Owner) -> bool
     ensures { result ≡ is_others identity owner.now }
 {
     match owner {
         Owner::Given(other) => *other != identity,
-        Owner::Nobody | Owner::Listed => false,
+        Owner::Nobody | Owner::Somebody => false,
     }
 }
 

@@ -179,6 +179,8 @@ fn command_words(command: &Direct) -> &'static [u8]
     match command {
         Direct::Enec => b"ENEC ",
         Direct::Disec => b"DISEC ",
+        Direct::Setdasa => b"SETDASA ",
+        Direct::Setnewda => b"SETNEWDA ",
         Direct::Getacccr => b"GETACCCR ",
     }
 }

@@ -1,8 +1,7 @@
 -- Runs as they are kept: a list of events with their replies.
-use Rattle.std.specs.Prelude.{List, map, Option}
+use Rattle.std.specs.Prelude.{List, map}
 use Rattle.i3c_base.specs.declared.device.Setup.{Setup}
-use Rattle.i3c_base.specs.declared.device.LegacyTarget.{LegacyTarget}
-use Rattle.i3c_base.specs.State.{IsStart, State}
+use Rattle.i3c_base.specs.State.{Board, IsStart, State}
 use Rattle.i3c_step.specs.declared.events.Event.{Event}
 use Rattle.i3c_step.specs.declared.replies.Reply.{Reply}
 use Rattle.i3c_step.specs.Runs.{IsLegalRun, IsRun}
@@ -20,8 +19,8 @@ Leads start run new = IsRun start (events_of run) (replies_of run) new
 
 -- a bus may start so
 abbrev pub IsBegun : State → Type 0
-IsBegun start = (main : Setup) × (legacy : List (Option LegacyTarget)) × IsStart main legacy start
+IsBegun start = (main : Setup) × (board : Board) × IsStart main board start
 
 -- the run is legal from some start, and leads to this state
 abbrev pub IsLegalTo : List Entry → State → Type 0
-IsLegalTo run new = (main : Setup) × (legacy : List (Option LegacyTarget)) × IsLegalRun main legacy (events_of run) (replies_of run) new
+IsLegalTo run new = (main : Setup) × (board : Board) × IsLegalRun main board (events_of run) (replies_of run) new

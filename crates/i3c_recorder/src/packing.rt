@@ -24,6 +24,8 @@ pub(crate) enum ShortEntry {
     Reset(Fixed),
     SendList(Fixed),
     ReadFrom(Addr7, Fixed),
+    SetStatic(Addr7, Addr7, Fixed),
+    SetNew(Addr7, Addr7, Fixed),
     HandOver(Addr7),
     OpenDaa,
     Round,
@@ -93,6 +95,12 @@ fn brief_frame(event: &Event) -> Option<ShortEntry>
         Event::SendList(policy, cuts) if cuts.is_empty() => Some(ShortEntry::SendList(*policy)),
         Event::ReadFrom(from, policy, cuts) if cuts.is_empty() => {
             Some(ShortEntry::ReadFrom(*from, *policy))
+        }
+        Event::SetStatic(fixed, new, policy, cuts) if cuts.is_empty() => {
+            Some(ShortEntry::SetStatic(*fixed, *new, *policy))
+        }
+        Event::SetNew(old, new, policy, cuts) if cuts.is_empty() => {
+            Some(ShortEntry::SetNew(*old, *new, *policy))
         }
         Event::HandOver(to, cuts) if cuts.is_empty() => Some(ShortEntry::HandOver(*to)),
         Event::OpenDaa(cuts) if cuts.is_empty() => Some(ShortEntry::OpenDaa),
@@ -164,6 +172,10 @@ pub(crate) fn event_in(brief: &ShortEntry) -> Event
         ShortEntry::Reset(policy) => Event::Reset(*policy, cuts),
         ShortEntry::SendList(policy) => Event::SendList(*policy, cuts),
         ShortEntry::ReadFrom(from, policy) => Event::ReadFrom(*from, *policy, cuts),
+        ShortEntry::SetStatic(fixed, new, policy) => {
+            Event::SetStatic(*fixed, *new, *policy, cuts)
+        }
+        ShortEntry::SetNew(old, new, policy) => Event::SetNew(*old, *new, *policy, cuts),
         ShortEntry::HandOver(to) => Event::HandOver(*to, cuts),
         ShortEntry::OpenDaa => Event::OpenDaa(cuts),
         ShortEntry::Round => Event::Round(cuts),
@@ -216,6 +228,12 @@ pub(crate) fn copied(event: &Event) -> Result<Event, AllocError>
         Event::ReadFrom(from, policy, cuts) => Event::ReadFrom(*from, *policy, cuts.clone()?),
         Event::WriteTo(to, bytes, policy, cuts) => {
             Event::WriteTo(*to, bytes.clone()?, *policy, cuts.clone()?)
+        }
+        Event::SetStatic(fixed, new, policy, cuts) => {
+            Event::SetStatic(*fixed, *new, *policy, cuts.clone()?)
+        }
+        Event::SetNew(old, new, policy, cuts) => {
+            Event::SetNew(*old, *new, *policy, cuts.clone()?)
         }
         Event::HandOver(to, cuts) => Event::HandOver(*to, cuts.clone()?),
         Event::OpenDaa(cuts) => Event::OpenDaa(cuts.clone()?),

@@ -4,7 +4,7 @@ ghost use Rattle.i3c_step.specs.Giving.{given_by};
 
 use crate::entry::Entry;
 use crate::run::Run;
-use i3c_base::{ADDRESSES, Addr7, Cuts, Fixed, Lvr, Served, Setup, Slot, Verdict};
+use i3c_base::{Addr7, Cuts, Fixed, Served, Setup, Slot, Verdict};
 use i3c_bus::{Bus, Hand, Policy, Records};
 use i3c_frame::Tap;
 use i3c_legacy::Legacies;
@@ -13,13 +13,13 @@ use std::alloc::Global;
 use std::marker::Model;
 use std::mem;
 
-/// What a bus began with: its main controller with its first address, and the legacy targets by theirs. From this and
+/// What a bus began with: its main controller with its first address, and what has a static one. From this and
 /// from the events of its run the bus could be made again.
 #[derive(Drop)]
 struct Beginning {
     main: Setup,
     address: Addr7,
-    legacies: [Option<Lvr>; ADDRESSES],
+    legacies: Legacies,
 }
 
 impl Beginning {
@@ -33,7 +33,7 @@ impl Beginning {
         Beginning {
             main: *main,
             address: Addr7::default(),
-            legacies: legacies.by_address(),
+            legacies: legacies.copied(),
         }
     }
 }
@@ -67,7 +67,7 @@ impl Model for Recorder {
 
     ghost invariant = { λ k. record {
       hand : (h : HandValue) × (k.hand ≡ Some h) × HandFits h k.bus.state;
-      begun : (main : _) × (legacy : _) × IsStart main legacy (first_state k.beginning.main k.beginning.address k.beginning.legacies);
+      begun : (main : _) × (board : _) × IsStart main board (first_state k.beginning.main k.beginning.address k.beginning.legacies);
       legal : Leads (first_state k.beginning.main k.beginning.address k.beginning.legacies) k.run.entries k.bus.state;
     } };
 }
@@ -75,7 +75,7 @@ impl Model for Recorder {
 impl Recorder {
     ghost use Rattle.std.specs.Prelude.{IfOk, IsOk, is_some, ◌↔◌};
     ghost use Rattle.i3c_base.specs.Numbers.{is_capable};
-    ghost use Rattle.i3c_base.specs.State.{IsStart, device_at, legacy_targets_of};
+    ghost use Rattle.i3c_base.specs.State.{IsStart, device_at};
     ghost use Rattle.i3c_bus.specs.Asking.{Asks};
     ghost use Rattle.i3c_bus.specs.Readings.{waiting_of};
     ghost use Rattle.i3c_bus.specs.Wire.{IsWire};
@@ -88,7 +88,7 @@ impl Recorder {
     /// A bus with its main controller, and an empty run.
     pub fn new(alloc: Global, main: Setup, legacies: Legacies) -> Result<Recorder, StartFault>
         ensures capable { IsOk result ↔ (is_capable main.identity.bcr ≡ true) }
-        ensures start { IfOk result (λ made. IsStart main (legacy_targets_of legacies) made.start × (made.state ≡ made.start)) }
+        ensures start { IfOk result (λ made. IsStart main legacies made.start × (made.state ≡ made.start)) }
         ensures run { IfOk result (λ made. made.run ≡ []) }
     {
         let mut beginning = Beginning::new(&main, &legacies);
@@ -270,5 +270,7 @@ fn event_of(command: Command, policy: Fixed, cuts: Cuts) -> Event
         Command::SendList => Event::SendList(policy, cuts),
         Command::ReadFrom(from) => Event::ReadFrom(from, policy, cuts),
         Command::WriteTo(to, bytes) => Event::WriteTo(to, bytes, policy, cuts),
+        Command::SetStatic(fixed, new) => Event::SetStatic(fixed, new, policy, cuts),
+        Command::SetNew(old, new) => Event::SetNew(old, new, policy, cuts),
     }
 }

@@ -1,7 +1,7 @@
 use crate::script::Script;
 use i3c_base::{Cuts, Identity, SLOTS, Slot};
-use i3c_bus::Refusal as BusRefusal;
-use i3c_legacy::LegacyFault;
+use i3c_bus::{Command as Frame, Refusal as BusRefusal};
+use i3c_legacy::{DeclareFault, LegacyFault};
 use i3c_lines::{Command, Name, Refusal, form_fault, is_skipped};
 use i3c_script::{Running, Stage, Stop};
 use i3c_text::Text;
@@ -186,11 +186,14 @@ fn explain_refusal(
 fn reason(command: &Command, why: &Refusal) -> &'static str {
     match why {
         Refusal::BadLine => "the line has no form",
-        Refusal::NoBus => "there is no bus before 'main', and only 'legacy' comes before it",
-        Refusal::BusMade => "the bus is made; 'main' comes once, and each 'legacy' before it",
+        Refusal::NoBus =>
+            "there is no bus before 'main', and only 'legacy' and 'declare' come before it",
+        Refusal::BusMade =>
+            "the bus is made; 'main' comes once, and each 'legacy' and 'declare' before it",
         Refusal::NameTaken => "a device that is there or a legacy target has this name",
         Refusal::NoName => "no line gave this name",
         Refusal::Legacy(fault) => legacy_reason(fault),
+        Refusal::Declare(fault) => declare_reason(fault),
         Refusal::Bus(why) => bus_reason(command, why),
         Refusal::NoEnd => "the last T said that more bytes would come",
     }
@@ -200,8 +203,18 @@ fn reason(command: &Command, why: &Refusal) -> &'static str {
 fn legacy_reason(fault: &LegacyFault) -> &'static str {
     match fault {
         LegacyFault::LegacyAddress => "the address of a legacy target is from 08 to 77",
-        LegacyFault::LegacyTwice => "another legacy target has this address",
+        LegacyFault::LegacyTwice => "a legacy target or a declared identity has this address",
         LegacyFault::TooManyLegacy => "16 legacy targets are there",
+    }
+}
+
+/// Why an identity isn't declared.
+fn declare_reason(fault: &DeclareFault) -> &'static str {
+    match fault {
+        DeclareFault::LegacyAddress => "a static address is from 08 to 77",
+        DeclareFault::LegacyTwice => "a legacy target or a declared identity has this address",
+        DeclareFault::IdentityTwice => "the identity is declared at another address",
+        DeclareFault::TooManyDeclared => "16 identities are declared",
     }
 }
 
@@ -225,6 +238,8 @@ fn bus_reason(command: &Command, why: &BusRefusal) -> &'static str {
         BusRefusal::ListStale => "the list of DEFTGTS isn't current; send 'list' first",
         BusRefusal::NoAnswer(_) => no_answer_reason(command),
         BusRefusal::TooLong => "a write has 16 bytes at most",
+        BusRefusal::BadAddress(_) =>
+            "no device may be given this address, or the table has it already",
     }
 }
 
@@ -265,6 +280,9 @@ fn not_capable_reason(command: &Command) -> &'static str {
 fn no_answer_reason(command: &Command) -> &'static str {
     match command {
         Command::HandOver { .. } => "the offer was sent, and nobody took the role",
+        Command::Frame(Frame::SetStatic(..)) => {
+            "no identity is declared there, or no device without a dynamic address acknowledged"
+        }
         _ => "the table has no target there, or it didn't acknowledge",
     }
 }

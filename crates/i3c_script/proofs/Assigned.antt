@@ -18,6 +18,7 @@ use Rattle.i3c_bus.specs.declared.tokens.Hand.{Hand}
 use Rattle.i3c_bus.specs.Hands.{HandFits, is_session}
 use Rattle.i3c_lines.specs.declared.refusals.Refusal.{Refusal}
 use Rattle.i3c_script.specs.declared.faults.Stop.{Stop}
+use Rattle.i3c_script.specs.declared.tenures.Tenure.{Tenure}
 use Rattle.i3c_script.specs.Assigning.{Assigns, GoOn, HasRounds, HasSession, Moves, Rounds, goes_on, rounds_text}
 use Rattle.i3c_script.specs.Printed.{request_text, round_text}
 use Rattle.i3c_script.specs.Ran.{Ran, ran_of}
@@ -41,15 +42,15 @@ not_refused st new cuts opened uncut step =
     open_round st new cuts st.in_session (cuts_active st cuts) opened (ap (λ list. is_some (cut_of list st.active)) uncut ∙ ap (λ one. is_some one) (none_uncut st.active)) step
 
 -- while a session is open none is opened
-pub stays_open : (hand : Hand) (session : ℕ) (st : State) (policy : Fixed) (cuts : CutList) (symbols : List Symbol) (text : List ℕ) → hand ≡ Hand.Session session → HandFits hand st
-    → Prints (λ said refused. Assigns (ran_of st policy cuts symbols) said refused (ran_of st policy no_cuts symbols)) text text (Err (Stop.Refused (Refusal.Bus BusRefusal.SessionOpen)))
-stays_open hand session st policy cuts symbols text is fits =
+pub stays_open : (hand : Hand) (session : ℕ) (st : State) (policy : Fixed) (cuts : CutList) (symbols : List Symbol) (ended : List Tenure) (text : List ℕ) → hand ≡ Hand.Session session → HandFits hand st
+    → Prints (λ said refused. Assigns (ran_of st policy cuts symbols ended) said refused (ran_of st policy no_cuts symbols ended)) text text (Err (Stop.Refused (Refusal.Bus BusRefusal.SessionOpen)))
+stays_open hand session st policy cuts symbols ended text is fits =
     let opened : st.in_session ≡ true = fits.1 ∙ ap is_session is in
     let refused : Step st (Event.OpenDaa cuts) (Reply.Refused BusRefusal.SessionOpen) st =
     subst (λ b. MatchOption (first_refusal ((b, BusRefusal.SessionOpen) ∷ (cuts_active st cuts, BusRefusal.ActiveStays) ∷ []))
     (IsShort st (Event.OpenDaa cuts) (Reply.Refused BusRefusal.SessionOpen) st ⊎ Acts st (Event.OpenDaa cuts) (Reply.Refused BusRefusal.SessionOpen) st)
     (λ why. (Reply.Refused BusRefusal.SessionOpen ≡ Reply.Refused why) × (st ≡ st))) (sym opened) (refl, refl) in
-    ([], sym (append-nil text), (ran_of st policy no_cuts symbols, Reply.Refused BusRefusal.SessionOpen, unsent st st policy cuts symbols (Event.OpenDaa cuts) (Reply.Refused BusRefusal.SessionOpen) refused refl, (refl, refl, refl)))
+    ([], sym (append-nil text), (ran_of st policy no_cuts symbols ended, Reply.Refused BusRefusal.SessionOpen, unsent st st policy cuts symbols ended (Event.OpenDaa cuts) (Reply.Refused BusRefusal.SessionOpen) refl refused refl, (refl, refl, refl)))
 
 -- so many rounds, each of which goes on, and what they printed
 pub record SoFar (old now : Ran) (before after : List ℕ) (count : ℕ) : Type 0 where
@@ -114,10 +115,10 @@ opened_on old opened new served before text next (Err (Stop.Refused why)) move t
 opened_on old opened new served before text next (Err Stop.Memory) move told h = tt
 
 -- the cuts that wait are taken before a session
-pub taken_before : (old : Ran) (st new : State) (policy : Fixed) (taken left : CutList) (symbols later : List Symbol) (before after : List ℕ) (result : Result (Unit {0}) Stop) → taken ≡ old.cuts
-    → ran_of st policy left symbols ≡ record old { cuts = no_cuts } → Prints (λ said refused. Assigns (ran_of st policy taken symbols) said refused (ran_of new policy no_cuts later)) before after result
-    → Prints (λ said refused. Assigns old said refused (ran_of new policy left later)) before after result
-taken_before old st new policy taken left symbols later before after result same rest assigns =
-    subst (λ ran. Prints (λ said refused. Assigns ran said refused (ran_of new policy left later)) before after result) (ap (λ (ran : Ran). record ran { cuts = old.cuts }) rest)
-    (subst (λ cuts. Prints (λ said refused. Assigns (ran_of st policy old.cuts symbols) said refused (ran_of new policy cuts later)) before after result) (sym (ap (λ (ran : Ran). ran.cuts) rest))
-    (subst (λ cuts. Prints (λ said refused. Assigns (ran_of st policy cuts symbols) said refused (ran_of new policy no_cuts later)) before after result) same assigns))
+pub taken_before : (old : Ran) (st new : State) (policy : Fixed) (taken left : CutList) (symbols later : List Symbol) (ended : List Tenure) (before after : List ℕ) (result : Result (Unit {0}) Stop) → taken ≡ old.cuts
+    → ran_of st policy left symbols ended ≡ record old { cuts = no_cuts } → Prints (λ said refused. Assigns (ran_of st policy taken symbols ended) said refused (ran_of new policy no_cuts later ended)) before after result
+    → Prints (λ said refused. Assigns old said refused (ran_of new policy left later ended)) before after result
+taken_before old st new policy taken left symbols later ended before after result same rest assigns =
+    subst (λ ran. Prints (λ said refused. Assigns ran said refused (ran_of new policy left later ended)) before after result) (ap (λ (ran : Ran). record ran { cuts = old.cuts }) rest)
+    (subst (λ cuts. Prints (λ said refused. Assigns (ran_of st policy old.cuts symbols ended) said refused (ran_of new policy cuts later ended)) before after result) (sym (ap (λ (ran : Ran). ran.cuts) rest))
+    (subst (λ cuts. Prints (λ said refused. Assigns (ran_of st policy cuts symbols ended) said refused (ran_of new policy no_cuts later ended)) before after result) same assigns))

@@ -1,5 +1,6 @@
 -- The symbols that are kept, and steps of a script with a bus.
-use Rattle.std.proofs.Common.{◌≡◌, ◌∙◌, ℕ, ◌+◌, ◌-◌, true, cond, List, [], ◌∷◌, ◌++◌, length, drop, Option, Some, None, Result, Ok, Err, ap, refl, sym, subst, arith, append_assoc, length-append, length-drop, drop-drop}
+use Rattle.std.proofs.Common.{◌≡◌, ◌∙◌, ℕ, ◌+◌, ◌-◌, Bool, true, false, cond, List, [], ◌∷◌, ◌++◌, length, drop, Option, Some, None, Result, Ok, Err, ap, refl, sym, subst, arith, append_assoc, length-append, length-drop, drop-drop}
+use Rattle.std.proofs.lemmas.Bool.{false≢true}
 use Rattle.std.proofs.lemmas.List.{append-nil, drop-append-le}
 use Rattle.std.specs.Option.{is_some}
 use Rattle.std.specs.Prelude.{MatchResult}
@@ -15,13 +16,16 @@ use Rattle.i3c_step.specs.declared.replies.Reply.{Reply}
 use Rattle.i3c_base.specs.declared.refusals.RaiseRefusal.{RaiseRefusal}
 use Rattle.i3c_step.specs.Commands.{event_of}
 use Rattle.i3c_step.specs.Replies.{raised_reply}
+use Rattle.i3c_step.specs.Slots.{is_handed}
 use Rattle.i3c_step.specs.Step.{Step, cuts_in}
+use Rattle.i3c_step.proofs.SlotLaws.{slots_kept}
 use Rattle.i3c_bus.specs.Wire.{IsWire}
 use Rattle.i3c_lines.specs.declared.names.Name.{Name}
 use Rattle.i3c_lines.specs.declared.names.Names.{Names}
 use Rattle.i3c_lines.specs.declared.refusals.Refusal.{Refusal}
 use Rattle.i3c_script.specs.declared.faults.Stop.{Stop}
 use Rattle.i3c_script.specs.declared.telling.Subject.{Subject}
+use Rattle.i3c_script.specs.declared.tenures.Tenure.{Tenure}
 use Rattle.i3c_script.specs.declared.wires.TheConstants.{SYMBOLS}
 use Rattle.i3c_script.specs.Asking.{slot_meant}
 use Rattle.i3c_script.specs.Printed.{subject_of}
@@ -29,6 +33,7 @@ use Rattle.i3c_script.specs.Assigning.{Moves, cuts_left}
 use Rattle.i3c_script.specs.Obeying.{Answers, AnswersIn, IsRefused}
 use Rattle.i3c_script.specs.Ran.{Ran, ran_of}
 use Rattle.i3c_script.specs.Telling.{IsTold, Prints}
+use Rattle.i3c_script.specs.Tenures.{ended_by}
 
 module _ {X : Type 0} where
   -- to keep the last ones twice is to keep them once
@@ -57,14 +62,26 @@ kept_by old (symbol ∷ wire) new (mid, noted, rest) =
     ∙ ap (λ l. keep_last SYMBOLS l) (append_assoc old (symbol ∷ []) wire) ∙ sym (keep_twice SYMBOLS old (symbol ∷ wire))
 
 -- a step of the bus, whose wire the symbols were told
-pub moved : (old new : State) (policy : Fixed) (cuts : CutList) (before after : List Symbol) (event : Event) (reply : Reply) → Step old event reply new → Tells note before after (IsWire old event reply new)
-    → Moves (ran_of old policy cuts before) event reply (ran_of new policy (cuts_left event cuts) after)
-moved old new policy cuts before after event reply step (wire, notes, is) = record { wire = wire; step = step; sent = is; kept = kept_by before wire after notes; policy = refl; cuts = refl }
+pub moved : (old new : State) (policy : Fixed) (cuts : CutList) (before after : List Symbol) (ended : List Tenure) (event : Event) (reply : Reply) → Step old event reply new → Tells note before after (IsWire old event reply new)
+    → Moves (ran_of old policy cuts before ended) event reply (ran_of new policy (cuts_left event cuts) after (ended_by reply old.active (length new.records) ended))
+moved old new policy cuts before after ended event reply step (wire, notes, is) = record { wire = wire; step = step; sent = is; kept = kept_by before wire after notes; policy = refl; cuts = refl; ended = refl }
+
+-- where the role isn't handed over, nobody's time ends
+ended_still : (reply : Reply) (slot records : ℕ) (ended : List Tenure) → is_handed reply ≡ false → ended_by reply slot records ended ≡ ended
+ended_still reply slot records ended same = ap (λ b. cond b (ended ++ record { slot = slot; records = records } ∷ []) ended) same
 
 -- a step that sends nothing
-pub unsent : (old new : State) (policy : Fixed) (cuts : CutList) (symbols : List Symbol) (event : Event) (reply : Reply) → Step old event reply new → IsWire old event reply new []
-    → Moves (ran_of old policy cuts symbols) event reply (ran_of new policy (cuts_left event cuts) symbols)
-unsent old new policy cuts symbols event reply step is = record { wire = []; step = step; sent = is; kept = keep_still SYMBOLS symbols; policy = refl; cuts = refl }
+pub unsent : (old new : State) (policy : Fixed) (cuts : CutList) (symbols : List Symbol) (ended : List Tenure) (event : Event) (reply : Reply) → is_handed reply ≡ false → Step old event reply new → IsWire old event reply new []
+    → Moves (ran_of old policy cuts symbols ended) event reply (ran_of new policy (cuts_left event cuts) symbols ended)
+unsent old new policy cuts symbols ended event reply still step is = record {
+  wire = [];
+  step = step;
+  sent = is;
+  kept = keep_still SYMBOLS symbols;
+  policy = refl;
+  cuts = refl;
+  ended = sym (ended_still reply old.active (length new.records) ended still);
+}
 
 -- a frame takes all cuts that wait
 pub all_taken : (event : Event) (cuts : CutList) → is_some (cuts_in event) ≡ true → cuts_left event cuts ≡ no_cuts
@@ -72,7 +89,7 @@ all_taken event cuts frame = ap (λ b. cond b no_cuts cuts) frame
 
 -- so its cuts may be taken before
 pub framed : (old new : Ran) (event : Event) (reply : Reply) → is_some (cuts_in event) ≡ true → Moves (record old { cuts = no_cuts }) event reply new → Moves old event reply new
-framed old new event reply frame m = record { wire = m.wire; step = m.step; sent = m.sent; kept = m.kept; policy = m.policy; cuts = m.cuts ∙ all_taken event no_cuts frame ∙ sym (all_taken event old.cuts frame) }
+framed old new event reply frame m = record { wire = m.wire; step = m.step; sent = m.sent; kept = m.kept; policy = m.policy; cuts = m.cuts ∙ all_taken event no_cuts frame ∙ sym (all_taken event old.cuts frame); ended = m.ended }
 
 -- what is printed is such, where it is something more exact
 pub prints_by : (Is Of : List ℕ → Option Refusal → Type 0) → ((said : List ℕ) (refused : Option Refusal) → Is said refused → Of said refused)
@@ -109,6 +126,8 @@ carries_cuts (Frame.Enec to kinds) policy cuts = refl
 carries_cuts (Frame.Disec to kinds) policy cuts = refl
 carries_cuts (Frame.ReadFrom a) policy cuts = refl
 carries_cuts (Frame.WriteTo a bytes) policy cuts = refl
+carries_cuts (Frame.SetStatic f new) policy cuts = refl
+carries_cuts (Frame.SetNew a new) policy cuts = refl
 
 no_subject : (frame : Frame) (policy : Fixed) (cuts : CutList) → Subject.Nothing ≡ subject_of (event_of frame policy cuts)
 no_subject Frame.Serve policy cuts = refl
@@ -118,18 +137,52 @@ no_subject (Frame.Enec to kinds) policy cuts = refl
 no_subject (Frame.Disec to kinds) policy cuts = refl
 no_subject (Frame.ReadFrom a) policy cuts = refl
 no_subject (Frame.WriteTo a bytes) policy cuts = refl
+no_subject (Frame.SetStatic f new) policy cuts = refl
+no_subject (Frame.SetNew a new) policy cuts = refl
+
+-- and hands no role over
+abbrev is_handover : Event → Bool
+is_handover (Event.HandOver to cuts) = true
+is_handover _ = false
+
+no_handover : (frame : Frame) (policy : Fixed) (cuts : CutList) → is_handover (event_of frame policy cuts) ≡ false
+no_handover Frame.Serve policy cuts = refl
+no_handover Frame.Reset policy cuts = refl
+no_handover Frame.SendList policy cuts = refl
+no_handover (Frame.Enec to kinds) policy cuts = refl
+no_handover (Frame.Disec to kinds) policy cuts = refl
+no_handover (Frame.ReadFrom a) policy cuts = refl
+no_handover (Frame.WriteTo a bytes) policy cuts = refl
+no_handover (Frame.SetStatic f new) policy cuts = refl
+no_handover (Frame.SetNew a new) policy cuts = refl
+
+unhanded : (old new : State) (frame : Frame) (policy : Fixed) (cuts : CutList) (reply : Reply) → Step old (event_of frame policy cuts) reply new → is_handed reply ≡ false
+unhanded old new frame policy cuts reply step = go (is_handed reply) refl
+  where
+    go : (b : Bool) → is_handed reply ≡ b → is_handed reply ≡ false
+    go false e = e
+    go true e =
+        let (to, others, is, there) = (slots_kept old (event_of frame policy cuts) reply new step).moved e in
+        absurd (false≢true (sym (no_handover frame policy cuts) ∙ ap is_handover is))
 
 -- a frame under the role
-pub sent : (old new : State) (policy : Fixed) (cuts left : CutList) (symbols later : List Symbol) (names : Names) (frame : Frame) (reply : Reply) (before after : List ℕ) (result : Result (Unit {0}) Stop)
+pub sent : (old new : State) (policy : Fixed) (cuts left : CutList) (symbols later : List Symbol) (ended : List Tenure) (names : Names) (frame : Frame) (reply : Reply) (before after : List ℕ) (result : Result (Unit {0}) Stop)
     → left ≡ no_cuts → Step old (event_of frame policy cuts) reply new → Tells note symbols later (IsWire old (event_of frame policy cuts) reply new) → Prints (IsTold names Subject.Nothing reply) before after result
-    → Prints (λ said refused. Answers (ran_of old policy cuts symbols) names (event_of frame policy cuts) said refused (ran_of new policy left later)) before after result
-sent old new policy cuts left symbols later names frame reply before after result none step wire told =
-    answered (ran_of old policy cuts symbols) (ran_of new policy left later) names (event_of frame policy cuts) reply before after result
-    (subst (λ rest. Moves (ran_of old policy cuts symbols) (event_of frame policy cuts) reply (ran_of new policy rest later)) (all_taken (event_of frame policy cuts) cuts (carries_cuts frame policy cuts) ∙ sym none)
-    (moved old new policy cuts symbols later (event_of frame policy cuts) reply step wire))
+    → Prints (λ said refused. Answers (ran_of old policy cuts symbols ended) names (event_of frame policy cuts) said refused (ran_of new policy left later ended)) before after result
+sent old new policy cuts left symbols later ended names frame reply before after result none step wire told =
+    answered (ran_of old policy cuts symbols ended) (ran_of new policy left later ended) names (event_of frame policy cuts) reply before after result
+    (subst (λ times. Moves (ran_of old policy cuts symbols ended) (event_of frame policy cuts) reply (ran_of new policy left later times)) (ended_still reply old.active (length new.records) ended (unhanded old new frame policy cuts reply step))
+    (subst (λ rest. Moves (ran_of old policy cuts symbols ended) (event_of frame policy cuts) reply (ran_of new policy rest later (ended_by reply old.active (length new.records) ended)))
+    (all_taken (event_of frame policy cuts) cuts (carries_cuts frame policy cuts) ∙ sym none)
+    (moved old new policy cuts symbols later ended (event_of frame policy cuts) reply step wire)))
     (subst (λ subject. Prints (IsTold names subject reply) before after result) (no_subject frame policy cuts) told)
 
 -- a raise sends nothing
 pub raised_still : (old new : State) (event : Event) (raised : Result ℕ RaiseRefusal) → IsWire old event (raised_reply raised) new []
 raised_still old new event (Ok number) = refl
 raised_still old new event (Err why) = refl
+
+-- and hands no role over
+pub raised_unhanded : (raised : Result ℕ RaiseRefusal) → is_handed (raised_reply raised) ≡ false
+raised_unhanded (Ok number) = refl
+raised_unhanded (Err why) = refl

@@ -2,8 +2,9 @@
 use Rattle.std.proofs.Common.{◌≡◌, ◌∙◌, ℕ, List, [], ◌∷◌, ◌++◌, Option, None, Some, MatchOption, Result, Ok, Err, MatchResult, ap, append_assoc, append-nil, refl, subst, sym}
 use Rattle.i3c_base.specs.declared.answers.RoundReply.{RoundReply}
 use Rattle.i3c_base.specs.declared.device.Setup.{Setup}
+use Rattle.i3c_base.specs.declared.identity.Identity.{Identity}
 use Rattle.i3c_base.specs.declared.identity.Lvr.{Lvr}
-use Rattle.i3c_base.specs.State.{State, legacy_targets_of}
+use Rattle.i3c_base.specs.State.{Board, State}
 use Rattle.i3c_step.specs.declared.events.Event.{Event}
 use Rattle.i3c_step.specs.declared.replies.Reply.{Reply}
 use Rattle.i3c_step.specs.Runs.{IsLegalRun}
@@ -17,8 +18,8 @@ use Rattle.i3c_script.specs.Asking.{slot_meant, slot_of_device}
 use Rattle.i3c_script.specs.Assigning.{Assigns, Follows, HasSession, Moves, Rounds}
 use Rattle.i3c_script.specs.Leading.{AreLegal, Lead, Obeyed, made}
 use Rattle.i3c_script.specs.Making.{Made, assigns_made, command_made, does_made, enters_made, events_of, follows_made, on_bus_made, one, replies_of, rounds_made, session_made, slot_made}
-use Rattle.i3c_script.specs.Obeying.{Answers, Declares, Does, IsBegun, IsDone, IsRefused, NamesSlot, ObeysAt, ObeysBefore, ObeysOn, ScriptState, Starts, legacy_refusal, main_refusal, script}
-use Rattle.i3c_script.specs.Printed.{main_text}
+use Rattle.i3c_script.specs.Obeying.{AddsLegacy, Answers, Declares, Does, IsBegun, IsDone, IsRefused, NamesSlot, ObeysAt, ObeysBefore, ObeysOn, ScriptState, Starts, declare_refusal, legacy_refusal, main_refusal, script}
+use Rattle.i3c_script.specs.Printed.{declared_text, main_text}
 use Rattle.i3c_script.specs.Ran.{Ran}
 
 -- steps, one list behind the other
@@ -38,12 +39,12 @@ regroup a b c st r = subst (λ s. AreLegal s st) (append_assoc a b c) r
 
 -- a step goes on
 moves_on : (steps : List Made) (old new : Ran) (event : Event) (reply : Reply) → AreLegal steps old.state → Moves old event reply new → AreLegal (steps ++ one event reply) new.state
-moves_on steps old new event reply (main, legacy, run) m = (
+moves_on steps old new event reply (main, board, run) m = (
   main,
-  legacy,
-  subst (λ events. IsLegalRun main legacy events (replies_of (steps ++ one event reply)) new.state) (sym (events_both steps (one event reply)))
-      (subst (λ replies. IsLegalRun main legacy (events_of steps ++ event ∷ []) replies new.state) (sym (replies_both steps (one event reply)))
-      (legal_more main legacy (events_of steps) (replies_of steps) old.state event reply new.state run m.step)),
+  board,
+  subst (λ events. IsLegalRun main board events (replies_of (steps ++ one event reply)) new.state) (sym (events_both steps (one event reply)))
+      (subst (λ replies. IsLegalRun main board (events_of steps ++ event ∷ []) replies new.state) (sym (replies_both steps (one event reply)))
+      (legal_more main board (events_of steps) (replies_of steps) old.state event reply new.state run m.step)),
 )
 
 stays : (steps : List Made) (old new : Ran) → AreLegal steps old.state → new ≡ old → AreLegal (steps ++ []) new.state
@@ -107,6 +108,7 @@ does_on steps old new names Command.ShowAll said refused r h = stays steps old n
 does_on steps old new names Command.Symbols said refused r h = stays steps old new r h.0
 does_on steps old new names (Command.Frames count) said refused r h = stays steps old new r h.0
 does_on steps old new names (Command.Legacy name address lvr) said refused r h = stays steps old new r h.0
+does_on steps old new names (Command.Declare address identity) said refused r h = stays steps old new r h.0
 does_on steps old new names (Command.Main name setup) said refused r h = stays steps old new r h.0
 does_on steps old new names (Command.Attach name setup) said refused r h = absurd h
 
@@ -135,55 +137,62 @@ obeys_on steps old new names named Command.ShowAll said refused r (same, h) = do
 obeys_on steps old new names named Command.Symbols said refused r (same, h) = does_on steps old new names Command.Symbols said refused r h
 obeys_on steps old new names named (Command.Frames count) said refused r (same, h) = does_on steps old new names (Command.Frames count) said refused r h
 obeys_on steps old new names named (Command.Legacy name address lvr) said refused r (same, h) = does_on steps old new names (Command.Legacy name address lvr) said refused r h
+obeys_on steps old new names named (Command.Declare address identity) said refused r (same, h) = does_on steps old new names (Command.Declare address identity) said refused r h
 obeys_on steps old new names named (Command.Main name setup) said refused r (same, h) = does_on steps old new names (Command.Main name setup) said refused r h
 
 -- before the bus there was no step; where the script has a bus, its steps are a legal run to its state
 abbrev pub IsSound : List Made → Stage → Type 0
-IsSound steps (Stage.Before legacies) = steps ≡ []
+IsSound steps (Stage.Before board) = steps ≡ []
 IsSound steps (Stage.Running ran) = AreLegal steps ran.state
 
-before : (steps : List Made) (legacies : List (Option Lvr)) (stage : Stage) → steps ≡ [] → stage ≡ Stage.Before legacies → IsSound (steps ++ []) stage
-before steps legacies stage none is = subst (IsSound (steps ++ [])) (sym is) (append-nil steps ∙ none)
+before : (steps : List Made) (board : Board) (stage : Stage) → steps ≡ [] → stage ≡ Stage.Before board → IsSound (steps ++ []) stage
+before steps board stage none is = subst (IsSound (steps ++ [])) (sym is) (append-nil steps ∙ none)
 
-same_before : (steps : List Made) (legacies : List (Option Lvr)) (names : Names) (new : ScriptState) → steps ≡ [] → new ≡ script (Stage.Before legacies) names → IsSound (steps ++ []) new.stage
-same_before steps legacies names new none same = before steps legacies new.stage none (ap (λ (state : ScriptState). state.stage) same)
+same_before : (steps : List Made) (board : Board) (names : Names) (new : ScriptState) → steps ≡ [] → new ≡ script (Stage.Before board) names → IsSound (steps ++ []) new.stage
+same_before steps board names new none same = before steps board new.stage none (ap (λ (state : ScriptState). state.stage) same)
 
-declares_on : (steps : List Made) (why : Option Refusal) (legacies : List (Option Lvr)) (names : Names) (name : Name) (address : ℕ) (lvr : Lvr) (text said : List ℕ) (refused : Option Refusal) (new : ScriptState) → steps ≡ []
-    → MatchOption why (Declares legacies names name address lvr new × IsDone text said refused) (λ one. (new ≡ script (Stage.Before legacies) names) × IsRefused one said refused) → IsSound (steps ++ []) new.stage
-declares_on steps None legacies names name address lvr text said refused new none h = before steps _ new.stage none h.0.stage
-declares_on steps (Some why) legacies names name address lvr text said refused new none h = same_before steps legacies names new none h.0
+adds_on : (steps : List Made) (why : Option Refusal) (board : Board) (names : Names) (name : Name) (address : ℕ) (lvr : Lvr) (text said : List ℕ) (refused : Option Refusal) (new : ScriptState) → steps ≡ []
+    → MatchOption why (AddsLegacy board names name address lvr new × IsDone text said refused) (λ one. (new ≡ script (Stage.Before board) names) × IsRefused one said refused) → IsSound (steps ++ []) new.stage
+adds_on steps None board names name address lvr text said refused new none h = before steps _ new.stage none h.0.stage
+adds_on steps (Some why) board names name address lvr text said refused new none h = same_before steps board names new none h.0
 
-starts_on : (steps : List Made) (why : Option Refusal) (legacies : List (Option Lvr)) (names : Names) (name : Name) (setup : Setup) (text : State → List ℕ) (said : List ℕ) (refused : Option Refusal) (new : ScriptState) → steps ≡ []
-    → MatchOption why ((ran : Ran) × Starts legacies names name setup ran new × IsDone (text ran.state) said refused) (λ one. (new ≡ script (Stage.Before legacies) names) × IsRefused one said refused) → IsSound (steps ++ []) new.stage
-starts_on steps None legacies names name setup text said refused new none (ran, s, told) =
-    subst (IsSound (steps ++ [])) (sym s.stage) (subst (λ made. AreLegal made ran.state) (sym (append-nil steps ∙ none)) (setup, legacy_targets_of legacies, legal_none setup (legacy_targets_of legacies) ran.state s.start))
-starts_on steps (Some why) legacies names name setup text said refused new none h = same_before steps legacies names new none h.0
+declares_on : (steps : List Made) (why : Option Refusal) (board : Board) (names : Names) (address : ℕ) (identity : Identity) (text said : List ℕ) (refused : Option Refusal) (new : ScriptState) → steps ≡ []
+    → MatchOption why (Declares board names address identity new × IsDone text said refused) (λ one. (new ≡ script (Stage.Before board) names) × IsRefused one said refused) → IsSound (steps ++ []) new.stage
+declares_on steps None board names address identity text said refused new none h = same_before steps _ names new none h.0
+declares_on steps (Some why) board names address identity text said refused new none h = same_before steps board names new none h.0
 
-before_on : (steps : List Made) (legacies : List (Option Lvr)) (names : Names) (command : Command) (said : List ℕ) (refused : Option Refusal) (new : ScriptState) → steps ≡ [] → ObeysBefore legacies names command said refused new → IsSound (steps ++ []) new.stage
-before_on steps legacies names (Command.Legacy name address lvr) said refused new none h = declares_on steps (legacy_refusal legacies names name address) legacies names name address lvr _ said refused new none h
-before_on steps legacies names (Command.Main name setup) said refused new none h = starts_on steps (main_refusal names name setup.identity.bcr) legacies names name setup (main_text name) said refused new none h
-before_on steps legacies names (Command.Attach name setup) said refused new none h = same_before steps legacies names new none h.0
-before_on steps legacies names (Command.Frame frame) said refused new none h = same_before steps legacies names new none h.0
-before_on steps legacies names (Command.DropOff name) said refused new none h = same_before steps legacies names new none h.0
-before_on steps legacies names (Command.Raise name byte) said refused new none h = same_before steps legacies names new none h.0
-before_on steps legacies names (Command.AskJoin name) said refused new none h = same_before steps legacies names new none h.0
-before_on steps legacies names (Command.AskRole name) said refused new none h = same_before steps legacies names new none h.0
-before_on steps legacies names (Command.HandOver to) said refused new none h = same_before steps legacies names new none h.0
-before_on steps legacies names Command.Open said refused new none h = same_before steps legacies names new none h.0
-before_on steps legacies names Command.Round said refused new none h = same_before steps legacies names new none h.0
-before_on steps legacies names Command.End said refused new none h = same_before steps legacies names new none h.0
-before_on steps legacies names Command.Daa said refused new none h = same_before steps legacies names new none h.0
-before_on steps legacies names (Command.Policy policy) said refused new none h = same_before steps legacies names new none h.0
-before_on steps legacies names (Command.Cut name bit) said refused new none h = same_before steps legacies names new none h.0
-before_on steps legacies names Command.Show said refused new none h = same_before steps legacies names new none h.0
-before_on steps legacies names Command.ShowAll said refused new none h = same_before steps legacies names new none h.0
-before_on steps legacies names Command.Symbols said refused new none h = same_before steps legacies names new none h.0
-before_on steps legacies names (Command.Frames count) said refused new none h = same_before steps legacies names new none h.0
+starts_on : (steps : List Made) (why : Option Refusal) (board : Board) (names : Names) (name : Name) (setup : Setup) (text : State → List ℕ) (said : List ℕ) (refused : Option Refusal) (new : ScriptState) → steps ≡ []
+    → MatchOption why ((ran : Ran) × Starts board names name setup ran new × IsDone (text ran.state) said refused) (λ one. (new ≡ script (Stage.Before board) names) × IsRefused one said refused) → IsSound (steps ++ []) new.stage
+starts_on steps None board names name setup text said refused new none (ran, s, told) =
+    subst (IsSound (steps ++ [])) (sym s.stage) (subst (λ made. AreLegal made ran.state) (sym (append-nil steps ∙ none)) (setup, board, legal_none setup board ran.state s.start))
+starts_on steps (Some why) board names name setup text said refused new none h = same_before steps board names new none h.0
+
+before_on : (steps : List Made) (board : Board) (names : Names) (command : Command) (said : List ℕ) (refused : Option Refusal) (new : ScriptState) → steps ≡ [] → ObeysBefore board names command said refused new → IsSound (steps ++ []) new.stage
+before_on steps board names (Command.Legacy name address lvr) said refused new none h = adds_on steps (legacy_refusal board names name address) board names name address lvr _ said refused new none h
+before_on steps board names (Command.Declare address identity) said refused new none h = declares_on steps (declare_refusal board address identity) board names address identity (declared_text address) said refused new none h
+before_on steps board names (Command.Main name setup) said refused new none h = starts_on steps (main_refusal names name setup.identity.bcr) board names name setup (main_text name) said refused new none h
+before_on steps board names (Command.Attach name setup) said refused new none h = same_before steps board names new none h.0
+before_on steps board names (Command.Frame frame) said refused new none h = same_before steps board names new none h.0
+before_on steps board names (Command.DropOff name) said refused new none h = same_before steps board names new none h.0
+before_on steps board names (Command.Raise name byte) said refused new none h = same_before steps board names new none h.0
+before_on steps board names (Command.AskJoin name) said refused new none h = same_before steps board names new none h.0
+before_on steps board names (Command.AskRole name) said refused new none h = same_before steps board names new none h.0
+before_on steps board names (Command.HandOver to) said refused new none h = same_before steps board names new none h.0
+before_on steps board names Command.Open said refused new none h = same_before steps board names new none h.0
+before_on steps board names Command.Round said refused new none h = same_before steps board names new none h.0
+before_on steps board names Command.End said refused new none h = same_before steps board names new none h.0
+before_on steps board names Command.Daa said refused new none h = same_before steps board names new none h.0
+before_on steps board names (Command.Policy policy) said refused new none h = same_before steps board names new none h.0
+before_on steps board names (Command.Cut name bit) said refused new none h = same_before steps board names new none h.0
+before_on steps board names Command.Show said refused new none h = same_before steps board names new none h.0
+before_on steps board names Command.ShowAll said refused new none h = same_before steps board names new none h.0
+before_on steps board names Command.Symbols said refused new none h = same_before steps board names new none h.0
+before_on steps board names (Command.Frames count) said refused new none h = same_before steps board names new none h.0
 
 -- a command leads from a sound stage to a sound one
 pub at_on : (steps : List Made) (stage : Stage) (names : Names) (command : Command) (said : List ℕ) (refused : Option Refusal) (new : ScriptState) → IsSound steps stage → (h : ObeysAt stage names command said refused new)
     → IsSound (steps ++ command_made stage names command said refused new h) new.stage
-at_on steps (Stage.Before legacies) names command said refused new s h = before_on steps legacies names command said refused new s h
+at_on steps (Stage.Before board) names command said refused new s h = before_on steps board names command said refused new s h
 at_on steps (Stage.Running old) names command said refused new s (ran, is, h) =
     subst (IsSound (steps ++ on_bus_made old names command said refused ran new.names h)) (sym is) (obeys_on steps old ran names new.names command said refused s h)
 

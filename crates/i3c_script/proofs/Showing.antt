@@ -11,6 +11,8 @@ use Rattle.i3c_frame.specs.Texts.{text_of}
 use Rattle.i3c_lines.specs.declared.names.Names.{Names}
 use Rattle.i3c_lines.specs.Naming.{legacy_names, slot_names}
 use Rattle.i3c_script.specs.Details.{all_details_text, details_text}
+use Rattle.i3c_script.specs.declared.tenures.Tenure.{Tenure}
+use Rattle.i3c_script.specs.Tenures.{began_at, past_text, past_texts, records_at, tenure_text}
 use Rattle.i3c_script.specs.Printed.{device_text, devices_text, legacies_text, legacy_text, nth_text, numbered_text, record_text}
 
 after : (n : ℕ) → n + 1 ≡ suc n
@@ -34,6 +36,24 @@ details_more st names slot = ap (all_details_text st names) (after slot)
 pub details_none : (st : State) (names : Names) → all_details_text st names 0 ≡ []
 unfolding all_details_text
 details_none st names = refl
+
+-- an element by its index
+pub at_get : {X : Type 0} (xs : List X) (k : ℕ) (x : X) → k < length xs → x ≡ get_or xs k x → slice_get xs k ≡ Some x
+at_get [] k x l e = absurd (omega arith)
+at_get (y ∷ ys) zero x l e = ap Some (sym e)
+at_get (y ∷ ys) (suc k) x l e = at_get ys k x (omega arith) e
+
+-- one more time of a controller
+pub past_more : (ended : List Tenure) (k : ℕ) (tenure : Tenure) → slice_get ended k ≡ Some tenure → past_texts ended (k + 1) ≡ past_texts ended k ++ tenure_text tenure.slot (began_at ended k) tenure.records
+unfolding past_texts
+past_more ended k tenure is = ap (past_texts ended) (after k) ∙ ap (λ o. past_texts ended k ++ past_text (began_at ended k) o) is
+
+pub past_none : (ended : List Tenure) → past_texts ended 0 ≡ []
+unfolding past_texts
+past_none ended = refl
+
+pub began_next : (ended : List Tenure) (k : ℕ) (tenure : Tenure) → slice_get ended k ≡ Some tenure → tenure.records ≡ began_at ended (k + 1)
+began_next ended k tenure is = sym (ap (began_at ended) (after k) ∙ ap records_at is)
 
 -- one more static address
 pub legacies_more : (names : Names) (a : ℕ) → legacies_text names (a + 1) ≡ legacies_text names a ++ legacy_text (slice_index_or (legacy_names names) a None) a

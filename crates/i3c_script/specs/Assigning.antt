@@ -13,6 +13,7 @@ use Rattle.i3c_lines.specs.declared.refusals.Refusal.{Refusal}
 use Rattle.i3c_script.specs.Printed.{request_text, round_text}
 use Rattle.i3c_script.specs.Ran.{Ran}
 use Rattle.i3c_script.specs.Stops.{round_refusal}
+use Rattle.i3c_script.specs.Tenures.{ended_by}
 
 -- the cuts that wait after an event: a frame takes them all
 abbrev pub cuts_left : Event → CutList → CutList
@@ -26,6 +27,7 @@ pub record Moves (old : Ran) (event : Event) (reply : Reply) (new : Ran) : Type 
   pub kept : new.wire ≡ keep_last 256 (old.wire ++ wire)
   pub policy : new.policy ≡ old.policy
   pub cuts : new.cuts ≡ cuts_left event old.cuts
+  pub ended : new.ended ≡ ended_by reply old.state.active (length new.state.records) old.ended
 
 -- whether another round follows: one got an address, or didn't acknowledge it
 abbrev pub goes_on : RoundReply → Bool

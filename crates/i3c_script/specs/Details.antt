@@ -1,5 +1,5 @@
 -- What `show all` prints.
-use Rattle.std.specs.Prelude.{ℕ, zero, suc, Bool, true, false, List, [], ◌∷◌, ◌++◌, codes, Option, Some, None, slice_index_or}
+use Rattle.std.specs.Prelude.{ℕ, zero, suc, Bool, true, false, List, [], ◌∷◌, ◌++◌, codes, length, Option, Some, None, slice_index_or}
 use Rattle.i3c_base.specs.declared.identity.Identity.{Identity}
 use Rattle.i3c_base.specs.declared.range.TheConstants.{SLOTS}
 use Rattle.i3c_base.specs.declared.requests.Request.{Request}
@@ -10,7 +10,9 @@ use Rattle.i3c_lines.specs.declared.names.Name.{Name}
 use Rattle.i3c_lines.specs.declared.names.Names.{Names}
 use Rattle.i3c_lines.specs.Naming.{letters, slot_names}
 use Rattle.i3c_text.specs.Hex.{byte_text, hex_text}
+use Rattle.i3c_script.specs.declared.tenures.Tenure.{Tenure}
 use Rattle.i3c_script.specs.Printed.{show_text}
+use Rattle.i3c_script.specs.Tenures.{tenures_text}
 
 -- what a device is
 abbrev pub registers_text : Identity → List ℕ
@@ -59,6 +61,7 @@ abbrev pub session_text : Bool → List ℕ
 session_text true = codes "session open" ++ 10 ∷ []
 session_text false = codes "session closed" ++ 10 ∷ []
 
--- `show all`: what `show` prints, then the present devices, the list and the session
-abbrev pub show_all_text : State → Names → List ℕ
-show_all_text st names = show_text st names ++ (all_details_text st names SLOTS ++ (list_text st.listed ++ session_text st.in_session))
+-- `show all`: what `show` prints, then the present devices, the list, the session, and who was active at which records
+abbrev pub show_all_text : State → Names → List Tenure → List ℕ
+show_all_text st names ended =
+    show_text st names ++ (all_details_text st names SLOTS ++ (list_text st.listed ++ (session_text st.in_session ++ tenures_text ended st.active (length st.records))))

@@ -1,8 +1,7 @@
 -- Where the commands of a script lead.
 use Rattle.std.specs.Prelude.{◌≡◌, ℕ, List, [], ◌∷◌, ◌++◌, Option}
-use Rattle.i3c_base.specs.declared.device.LegacyTarget.{LegacyTarget}
 use Rattle.i3c_base.specs.declared.device.Setup.{Setup}
-use Rattle.i3c_base.specs.State.{State}
+use Rattle.i3c_base.specs.State.{Board, State}
 use Rattle.i3c_step.specs.Runs.{IsLegalRun}
 use Rattle.i3c_lines.specs.declared.command.Command.{Command}
 use Rattle.i3c_lines.specs.declared.refusals.Refusal.{Refusal}
@@ -29,7 +28,7 @@ made old (one ∷ rest) new (mid, obeys, lead) = command_made old.stage old.name
 
 -- these steps are a legal run from some start to this state of the bus
 abbrev pub AreLegal : List Made → State → Type 0
-AreLegal steps st = (main : Setup) × (legacy : List (Option LegacyTarget)) × IsLegalRun main legacy (events_of steps) (replies_of steps) st
+AreLegal steps st = (main : Setup) × (board : Board) × IsLegalRun main board (events_of steps) (replies_of steps) st
 
 -- Wherever commands lead from a script's start to a bus, their steps are a legal run to the state of that bus.
 abbrev pub ScriptsAreLegalRuns : Type 0

@@ -10,3 +10,4 @@ pub mod Assigning
 pub mod Obeying
 pub mod Making
 pub mod Leading
+pub mod Tenures

@@ -98,9 +98,10 @@ on_bus_made old names Command.ShowAll said refused new named (same, does) = does
 on_bus_made old names Command.Symbols said refused new named (same, does) = does_made old names Command.Symbols said refused new does
 on_bus_made old names (Command.Frames count) said refused new named (same, does) = does_made old names (Command.Frames count) said refused new does
 on_bus_made old names (Command.Legacy name address lvr) said refused new named (same, does) = does_made old names (Command.Legacy name address lvr) said refused new does
+on_bus_made old names (Command.Declare address identity) said refused new named (same, does) = does_made old names (Command.Declare address identity) said refused new does
 on_bus_made old names (Command.Main name setup) said refused new named (same, does) = does_made old names (Command.Main name setup) said refused new does
 
 -- those of a command: none before the bus
 abbrev pub command_made : (stage : Stage) (names : Names) (command : Command) (said : List ℕ) (refused : Option Refusal) (new : ScriptState) → ObeysAt stage names command said refused new → List Made
-command_made (Stage.Before legacies) names command said refused new obeys = []
+command_made (Stage.Before board) names command said refused new obeys = []
 command_made (Stage.Running old) names command said refused new (ran, is, obeys) = on_bus_made old names command said refused ran new.names obeys

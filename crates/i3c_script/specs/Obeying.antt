@@ -2,13 +2,14 @@
 use Rattle.std.specs.Prelude.{◌≡◌, ℕ, List, [], Option, Some, None, Result, MatchOption, MatchResult, if◌then◌else◌, is_some, option_map, slice_set, replicate}
 use Rattle.i3c_base.specs.declared.device.Setup.{Setup}
 use Rattle.i3c_base.specs.declared.identity.Bcr.{Bcr}
+use Rattle.i3c_base.specs.declared.identity.Identity.{Identity}
 use Rattle.i3c_base.specs.declared.identity.Lvr.{Lvr}
 use Rattle.i3c_base.specs.declared.range.TheConstants.{ADDRESSES, SLOTS}
 use Rattle.i3c_base.specs.declared.requests.Verdict.{Verdict}
 use Rattle.i3c_base.specs.Cutting.{CutList, cut_of, earlier, no_cuts}
 use Rattle.i3c_base.specs.Numbers.{is_capable}
-use Rattle.i3c_base.specs.State.{IsStart, legacy_targets_of, no_lvrs}
-use Rattle.i3c_legacy.specs.Declaring.{first_fault}
+use Rattle.i3c_base.specs.State.{Board, IsStart, no_board}
+use Rattle.i3c_legacy.specs.Declaring.{first_declare_fault, first_fault}
 use Rattle.i3c_step.specs.declared.events.Event.{Event}
 use Rattle.i3c_step.specs.declared.replies.Refusal.{Refusal as BusRefusal}
 use Rattle.i3c_step.specs.declared.replies.Reply.{Reply}
@@ -25,11 +26,11 @@ use Rattle.i3c_script.specs.declared.stage.Stage.{Stage}
 use Rattle.i3c_script.specs.Asking.{IsEntrance, slot_meant, slot_of_device}
 use Rattle.i3c_script.specs.Assigning.{Assigns, Moves}
 use Rattle.i3c_script.specs.Details.{show_all_text}
-use Rattle.i3c_script.specs.Printed.{declared_text, frames_text, main_text, show_text, subject_of, symbols_text}
+use Rattle.i3c_script.specs.Printed.{added_text, declared_text, frames_text, main_text, show_text, subject_of, symbols_text}
 use Rattle.i3c_script.specs.Ran.{Ran}
 use Rattle.i3c_script.specs.Telling.{IsTold, Prints}
 
--- where a script is between two lines: its bus, or the legacy targets that are declared so far, and its names
+-- where a script is between two lines: its bus, or what is declared so far, and its names
 pub record ScriptState : Type 0 where
   pub stage : Stage
   pub names : Names
@@ -37,9 +38,9 @@ pub record ScriptState : Type 0 where
 abbrev pub script : Stage → Names → ScriptState
 script stage names = record { stage = stage; names = names }
 
--- the start of a script: no bus, no legacy target, and no name
+-- the start of a script: no bus, nothing declared, and no name
 pub record IsBegun (state : ScriptState) : Type 0 where
-  pub stage : state.stage ≡ Stage.Before no_lvrs
+  pub stage : state.stage ≡ Stage.Before no_board
   pub unnamed : (name : Name) → place_named state.names name ≡ None
   pub slots : slot_names state.names ≡ replicate SLOTS None
   pub legacies : legacy_names state.names ≡ replicate ADDRESSES None
@@ -65,9 +66,13 @@ abbrev pub IsDone : List ℕ → List ℕ → Option Refusal → Type 0
 IsDone text said refused = (said ≡ text) × (refused ≡ None)
 
 -- before the bus: why `legacy` is refused, if it is
-abbrev pub legacy_refusal : List (Option Lvr) → Names → Name → ℕ → Option Refusal
-legacy_refusal legacies names name address =
-    if is_some (place_named names name) then Some Refusal.NameTaken else option_map Refusal.Legacy (first_fault legacies address)
+abbrev pub legacy_refusal : Board → Names → Name → ℕ → Option Refusal
+legacy_refusal board names name address =
+    if is_some (place_named names name) then Some Refusal.NameTaken else option_map Refusal.Legacy (first_fault board address)
+
+-- and `declare`
+abbrev pub declare_refusal : Board → ℕ → Identity → Option Refusal
+declare_refusal board address identity = option_map Refusal.Declare (first_declare_fault board address identity)
 
 -- and `main`
 abbrev pub main_refusal : Names → Name → Bcr → Option Refusal
@@ -75,29 +80,38 @@ main_refusal names name bcr =
     if is_some (place_named names name) then Some Refusal.NameTaken else
     (if is_capable bcr then None else Some (Refusal.Bus BusRefusal.NotCapable))
 
--- a legacy target is declared
-pub record Declares (legacies : List (Option Lvr)) (names : Names) (name : Name) (address : ℕ) (lvr : Lvr) (new : ScriptState) : Type 0 where
-  pub stage : new.stage ≡ Stage.Before (slice_set legacies address (Some lvr))
+-- a legacy target is declared, and has its name from then on
+pub record AddsLegacy (board : Board) (names : Names) (name : Name) (address : ℕ) (lvr : Lvr) (new : ScriptState) : Type 0 where
+  pub stage : new.stage ≡ Stage.Before (record board { legacy = slice_set board.legacy address (Some lvr) })
   pub named : NamesLegacy names new.names name address
 
--- the bus starts with its main controller: its frames accept each request, no cut waits, and nothing was sent
-pub record Starts (legacies : List (Option Lvr)) (names : Names) (name : Name) (setup : Setup) (ran : Ran) (new : ScriptState) : Type 0 where
+-- an identity is declared, and no name is given
+abbrev pub Declares : Board → Names → ℕ → Identity → ScriptState → Type 0
+Declares board names address identity new = new ≡ script (Stage.Before (record board { declared = slice_set board.declared address (Some identity) })) names
+
+-- the bus starts with its main controller: its frames accept each request, no cut waits, nothing was sent, and nobody was
+-- active before
+pub record Starts (board : Board) (names : Names) (name : Name) (setup : Setup) (ran : Ran) (new : ScriptState) : Type 0 where
   pub stage : new.stage ≡ Stage.Running ran
-  pub start : IsStart setup (legacy_targets_of legacies) ran.state
+  pub start : IsStart setup board ran.state
   pub policy : ran.policy ≡ each_kind Verdict.Accept
   pub cuts : ran.cuts ≡ no_cuts
   pub wire : ran.wire ≡ []
+  pub ended : ran.ended ≡ []
   pub named : NamesSlot names new.names name 0
 
 -- what a command does before the bus
-abbrev pub ObeysBefore : List (Option Lvr) → Names → Command → List ℕ → Option Refusal → ScriptState → Type 0
-ObeysBefore legacies names (Command.Legacy name address lvr) said refused new = MatchOption (legacy_refusal legacies names name address)
-    (Declares legacies names name address lvr new × IsDone (declared_text name address) said refused)
-    (λ why. (new ≡ script (Stage.Before legacies) names) × IsRefused why said refused)
-ObeysBefore legacies names (Command.Main name setup) said refused new = MatchOption (main_refusal names name setup.identity.bcr)
-    ((ran : Ran) × Starts legacies names name setup ran new × IsDone (main_text name ran.state) said refused)
-    (λ why. (new ≡ script (Stage.Before legacies) names) × IsRefused why said refused)
-ObeysBefore legacies names _ said refused new = (new ≡ script (Stage.Before legacies) names) × IsRefused Refusal.NoBus said refused
+abbrev pub ObeysBefore : Board → Names → Command → List ℕ → Option Refusal → ScriptState → Type 0
+ObeysBefore board names (Command.Legacy name address lvr) said refused new = MatchOption (legacy_refusal board names name address)
+    (AddsLegacy board names name address lvr new × IsDone (added_text name address) said refused)
+    (λ why. (new ≡ script (Stage.Before board) names) × IsRefused why said refused)
+ObeysBefore board names (Command.Declare address identity) said refused new = MatchOption (declare_refusal board address identity)
+    (Declares board names address identity new × IsDone (declared_text address) said refused)
+    (λ why. (new ≡ script (Stage.Before board) names) × IsRefused why said refused)
+ObeysBefore board names (Command.Main name setup) said refused new = MatchOption (main_refusal names name setup.identity.bcr)
+    ((ran : Ran) × Starts board names name setup ran new × IsDone (main_text name ran.state) said refused)
+    (λ why. (new ≡ script (Stage.Before board) names) × IsRefused why said refused)
+ObeysBefore board names _ said refused new = (new ≡ script (Stage.Before board) names) × IsRefused Refusal.NoBus said refused
 
 -- one step of the bus, whose reply is told
 abbrev pub Answers : Ran → Names → Event → List ℕ → Option Refusal → Ran → Type 0
@@ -135,10 +149,11 @@ Does old names (Command.Cut name bit) said refused new = MatchResult (slot_of_de
     (λ slot. (new ≡ record old { cuts = cut_at old.cuts slot bit }) × IsDone [] said refused)
     (λ why. (new ≡ old) × IsRefused why said refused)
 Does old names Command.Show said refused new = (new ≡ old) × IsDone (show_text old.state names) said refused
-Does old names Command.ShowAll said refused new = (new ≡ old) × IsDone (show_all_text old.state names) said refused
+Does old names Command.ShowAll said refused new = (new ≡ old) × IsDone (show_all_text old.state names old.ended) said refused
 Does old names Command.Symbols said refused new = (new ≡ old) × IsDone (symbols_text old.wire) said refused
 Does old names (Command.Frames count) said refused new = (new ≡ old) × IsDone (frames_text count old.wire) said refused
 Does old names (Command.Legacy name address lvr) said refused new = (new ≡ old) × IsRefused Refusal.BusMade said refused
+Does old names (Command.Declare address identity) said refused new = (new ≡ old) × IsRefused Refusal.BusMade said refused
 Does old names (Command.Main name setup) said refused new = (new ≡ old) × IsRefused Refusal.BusMade said refused
 Does old names (Command.Attach name setup) said refused new = ⊥
 
@@ -149,7 +164,7 @@ ObeysOn old names command said refused new named = (named ≡ names) × Does old
 
 -- the same by where the script is
 abbrev pub ObeysAt : Stage → Names → Command → List ℕ → Option Refusal → ScriptState → Type 0
-ObeysAt (Stage.Before legacies) names command said refused new = ObeysBefore legacies names command said refused new
+ObeysAt (Stage.Before board) names command said refused new = ObeysBefore board names command said refused new
 ObeysAt (Stage.Running old) names command said refused new = (ran : Ran) × (new.stage ≡ Stage.Running ran) × ObeysOn old names command said refused ran new.names
 
 -- what a command does, what it prints before its refusal, and why it is refused, if it is. A command that is short of memory ends the run, so it is none of these

@@ -106,6 +106,8 @@ subject_of (Event.Reset policy cuts) = Subject.Nothing
 subject_of (Event.SendList policy cuts) = Subject.Nothing
 subject_of (Event.ReadFrom a policy cuts) = Subject.Nothing
 subject_of (Event.WriteTo a bytes policy cuts) = Subject.Nothing
+subject_of (Event.SetStatic f new policy cuts) = Subject.Nothing
+subject_of (Event.SetNew a new policy cuts) = Subject.Nothing
 subject_of (Event.Serve policy cuts) = Subject.Nothing
 subject_of (Event.Enec to kinds policy cuts) = Subject.Nothing
 subject_of (Event.Disec to kinds policy cuts) = Subject.Nothing
@@ -154,8 +156,12 @@ byte_or_none None = codes "--"
 byte_or_none (Some byte) = byte_text byte
 
 -- `legacy`: a target that was declared
-abbrev pub declared_text : Name → ℕ → List ℕ
-declared_text name a = letters name ++ (codes " legacy at " ++ (byte_text a ++ 10 ∷ []))
+abbrev pub added_text : Name → ℕ → List ℕ
+added_text name a = letters name ++ (codes " legacy at " ++ (byte_text a ++ 10 ∷ []))
+
+-- `declare`: the static address at which an identity was declared
+abbrev pub declared_text : ℕ → List ℕ
+declared_text a = codes "declared " ++ (byte_text a ++ 10 ∷ [])
 
 -- `main`: the main controller, with the address that it has
 abbrev pub main_text : Name → State → List ℕ

@@ -1,10 +1,11 @@
-ghost use Rattle.std.specs.Prelude.{◌≡◌, ◌++◌, IfOk};
+ghost use Rattle.std.specs.Prelude.{◌≡◌, ◌++◌, List, IfOk};
 ghost use Rattle.i3c_base.specs.declared.requests.Fixed.{Fixed as FixedValue};
 ghost use Rattle.i3c_base.specs.Cutting.{no_cuts};
 ghost use Rattle.i3c_bus.specs.Hands.{HandFits};
 ghost use Rattle.i3c_bus.specs.declared.tokens.Hand.{Hand as HandValue};
 ghost use Rattle.i3c_step.specs.declared.events.Event.{Event as EventValue};
 ghost use Rattle.i3c_step.specs.declared.replies.Reply.{Reply as ReplyValue};
+ghost use Rattle.i3c_script.specs.declared.tenures.Tenure.{Tenure as TenureValue};
 ghost use Rattle.i3c_script.specs.Assigning.{Assigns, HasRounds, HasSession, Moves, goes_on};
 ghost use Rattle.i3c_script.specs.Printed.{round_text};
 ghost use Rattle.i3c_script.specs.Ran.{ran_of};
@@ -29,7 +30,7 @@ pub(crate) fn assign(
     text: &mut Text,
 ) -> (Hand, Result<(), Stop>)
     requires fits { HandFits hand bus.old.state }
-    ensures assigns { (policy : FixedValue) → Prints (λ said refused. Assigns (ran_of bus.old.state policy cuts.now wires.old) said refused (ran_of bus.new.state policy no_cuts wires.new)) text.old text.new result.1 }
+    ensures assigns { (policy : FixedValue) (ended : List TenureValue) → Prints (λ said refused. Assigns (ran_of bus.old.state policy cuts.now wires.old ended) said refused (ran_of bus.new.state policy no_cuts wires.new ended)) text.old text.new result.1 }
     ensures fits { HandFits result.0 bus.new.state }
 {
     let role = match hand {
@@ -61,7 +62,7 @@ fn finish(
     text: &mut Text,
 ) -> (Hand, Result<(), Stop>)
     requires fits { HandFits (HandValue.Session session) bus.old.state }
-    ensures session { (policy : FixedValue) → Prints (λ said refused. HasSession (ran_of bus.old.state policy no_cuts wires.old) said refused (ran_of bus.new.state policy no_cuts wires.new)) text.old text.new result.1 }
+    ensures session { (policy : FixedValue) (ended : List TenureValue) → Prints (λ said refused. HasSession (ran_of bus.old.state policy no_cuts wires.old ended) said refused (ran_of bus.new.state policy no_cuts wires.new ended)) text.old text.new result.1 }
     ensures fits { HandFits result.0 bus.new.state }
 {
     let outcome = run_rounds(&session, bus, wires, text);
@@ -78,7 +79,7 @@ fn run_rounds(
     text: &mut Text,
 ) -> Result<(), Stop>
     requires fits { HandFits (HandValue.Session session.now) bus.old.state }
-    ensures rounds { (policy : FixedValue) → Prints (λ said refused. HasRounds (ran_of bus.old.state policy no_cuts wires.old) said refused (ran_of bus.new.state policy no_cuts wires.new)) text.old text.new result }
+    ensures rounds { (policy : FixedValue) (ended : List TenureValue) → Prints (λ said refused. HasRounds (ran_of bus.old.state policy no_cuts wires.old ended) said refused (ran_of bus.new.state policy no_cuts wires.new ended)) text.old text.new result }
     ensures fits { HandFits (HandValue.Session session.now) bus.new.state }
 {
     let cuts = Cuts::new();
@@ -104,7 +105,7 @@ fn run_round(
 ) -> Result<RoundReply, AllocError>
     requires fits { HandFits (HandValue.Session session.now) bus.old.state }
     requires uncut { cuts.now ≡ no_cuts }
-    ensures moved { IfOk result (λ answer. (policy : FixedValue) → Moves (ran_of bus.old.state policy no_cuts wires.old) (EventValue.Round no_cuts) (ReplyValue.Round answer) (ran_of bus.new.state policy no_cuts wires.new)) }
+    ensures moved { IfOk result (λ answer. (policy : FixedValue) (ended : List TenureValue) → Moves (ran_of bus.old.state policy no_cuts wires.old ended) (EventValue.Round no_cuts) (ReplyValue.Round answer) (ran_of bus.new.state policy no_cuts wires.new ended)) }
     ensures told { IfOk result (λ answer. text.new ≡ text.old ++ round_text answer) }
     ensures fits { HandFits (HandValue.Session session.now) bus.new.state }
 {

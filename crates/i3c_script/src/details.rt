@@ -6,21 +6,28 @@ ghost use Rattle.i3c_text.specs.Hex.{byte_text};
 ghost use Rattle.i3c_script.specs.Details.{all_details_text, described_text, details_text, kinds_words, list_text, registers_text, session_text, show_all_text, wish_word};
 
 use crate::show::show;
+use crate::tenures::{Tenure, show_tenures};
 use i3c_base::{Identity, SLOTS, Slot};
 use i3c_bus::{Bus, Request};
 use i3c_lines::{Name, Names};
 use i3c_text::Text;
 use std::alloc::AllocError;
 
-/// Prints the bus as `show` does, then what each present device is, by slot, whether the list of devices is current, and
-/// whether a session is open.
-pub(crate) fn show_all(bus: &Bus, names: &Names, text: &mut Text) -> Result<(), AllocError>
-    ensures { OnOk result (text.new ≡ text.old ++ show_all_text bus.now.state names.now) }
+/// Prints the bus as `show` does, then what each present device is, by slot, whether the list of devices is current,
+/// whether a session is open, and who was active when interrupts were recorded.
+pub(crate) fn show_all(
+    bus: &Bus,
+    names: &Names,
+    ended: &[Tenure],
+    text: &mut Text,
+) -> Result<(), AllocError>
+    ensures { OnOk result (text.new ≡ text.old ++ show_all_text bus.now.state names.now ended.now) }
 {
     show(bus, names, text)?;
     show_details(bus, names, text)?;
     text.push(list_line(bus.listed()).as_bytes())?;
-    text.push(session_line(bus.in_session()).as_bytes())
+    text.push(session_line(bus.in_session()).as_bytes())?;
+    show_tenures(ended, bus.active(), bus.records().len(), text)
 }
 
 /// Prints what each present device is, by slot.

@@ -3,7 +3,7 @@
 //!
 //! A line of one event takes one path: `stage` hands its command to `running`, which makes the event and has the bus
 //! answer it, and `telling` prints the reply. `asking` finds the slots that names mean, `assigning` plays the whole
-//! session of a `daa`, `show` prints the bus and `details` all of it, `wires` keeps the last symbols, and `symbols` and
+//! session of a `daa`, `show` prints the bus and `details` all of it, with who was active when interrupts were recorded (`tenures`). `wires` keeps the last symbols, and `symbols` and
 //! `frames` print them. `stage` is where a script is, before its bus and with it. `laws` says that lines make legal runs.
 #![tactic(auto)]
 
@@ -18,6 +18,7 @@ mod show;
 mod stage;
 mod symbols;
 mod telling;
+mod tenures;
 mod wires;
 
 pub use faults::Stop;

@@ -7,18 +7,19 @@ use crate::details::show_all;
 use crate::faults::Stop;
 use crate::show::show;
 use crate::telling::{Subject, subject_of, tell, tell_raised};
+use crate::tenures::{Tenure, end_tenure};
 use crate::wires::Wires;
 use i3c_base::{Addr7, Cuts, Fixed, Setup};
 use i3c_bus::{Bus, Command as Frame, Event, Hand, Reply};
 use i3c_legacy::Legacies;
 use i3c_lines::{ACCEPT_ALL, Command, Name, Names, Refusal};
 use i3c_text::Text;
-use std::alloc::Global;
+use std::alloc::{AllocError, Global};
 use std::marker::Model;
 use std::mem;
 
-/// A bus, its role or session, the last symbols of its wire, which requests its frames accept, and the cuts that wait for
-/// the next frame.
+/// A bus, its role or session, the last symbols of its wire, which requests its frames accept, the cuts that wait for the
+/// next frame, and who was active before.
 ///
 /// Its role stands in an `Option`, so that an event can take it from a stage that is lent, and give one back.
 pub struct Running {
@@ -27,6 +28,8 @@ pub struct Running {
     wires: Wires,
     policy: Fixed,
     cuts: Cuts,
+    // the times of controllers that ended
+    ended: Vec<Tenure>,
 }
 
 impl Model for Running {
@@ -37,16 +40,16 @@ impl Model for Running {
 
     ghost Value = { Ran };
 
-    ghost view = { λ r. ran_of r.bus.state r.policy r.cuts r.wires };
+    ghost view = { λ r. ran_of r.bus.state r.policy r.cuts r.wires r.ended.items };
 
     ghost invariant = { λ r. (hand : HandValue) × (r.hand ≡ Some hand) × HandFits hand r.bus.state };
 }
 
 impl Running {
-    ghost use Rattle.std.specs.Prelude.{◌≡◌, [], true, Ok, Err, MatchResult};
+    ghost use Rattle.std.specs.Prelude.{◌≡◌, [], true, Ok, Err, IfOk, MatchResult};
     ghost use Rattle.i3c_base.specs.Numbers.{is_capable};
     ghost use Rattle.i3c_base.specs.Cutting.{no_cuts};
-    ghost use Rattle.i3c_base.specs.State.{IsStart, legacy_targets_of};
+    ghost use Rattle.i3c_base.specs.State.{IsStart};
     ghost use Rattle.i3c_base.specs.declared.requests.Verdict.TheVariants.{Accept};
     ghost use Rattle.i3c_step.specs.Commands.{event_of};
     ghost use Rattle.i3c_step.specs.declared.events.Event.{Event as EventValue};
@@ -62,10 +65,11 @@ impl Running {
     pub(crate) fn new(alloc: Global, main: Setup, legacies: Legacies, wires: Wires) -> Running
         requires capable { is_capable main.identity.bcr ≡ true }
         requires unused { wires ≡ [] }
-        ensures start { IsStart main (legacy_targets_of legacies) result.state }
+        ensures start { IsStart main legacies result.state }
         ensures policy { result.policy ≡ each_kind Accept }
         ensures cuts { result.cuts ≡ no_cuts }
         ensures wire { result.wire ≡ [] }
+        ensures ended { result.ended ≡ [] }
     {
         let Ok((bus, role)) = Bus::new(alloc, main, legacies) else {
             unreachable!();
@@ -76,6 +80,7 @@ impl Running {
             wires,
             policy: ACCEPT_ALL,
             cuts: Cuts::new(),
+            ended: Vec::new(alloc),
         }
     }
 
@@ -123,7 +128,9 @@ impl Running {
             Command::ShowAll => self.show_all(names, text),
             Command::Symbols => self.show_symbols(text),
             Command::Frames(count) => self.show_frames(*count, text),
-            Command::Legacy { .. } | Command::Main { .. } => Err(Refusal::BusMade.into()),
+            Command::Legacy { .. } | Command::Declare { .. } | Command::Main { .. } => Err(
+                Refusal::BusMade.into(),
+            ),
         }
     }
 
@@ -258,19 +265,23 @@ impl Running {
         requires { cuts_left event.now self.old.cuts ≡ self.old.cuts }
         ensures { Prints (λ said refused. Answers self.old names.now event.now said refused self.new) text.old text.new result }
     {
-        let reply = self.step(event);
-        tell(names, subject_of(event), &reply, text)
+        match self.step(event) {
+            Ok(reply) => tell(names, subject_of(event), &reply, text),
+            Err(_) => Err(Stop::Memory),
+        }
     }
 
     /// One event: the bus takes the role or session in hand, and gives one back.
-    fn step(&mut self, event: &Event) -> Reply
+    fn step(&mut self, event: &Event) -> Result<Reply, AllocError>
         requires { cuts_left event.now self.old.cuts ≡ self.old.cuts }
-        ensures { Moves self.old event.now result self.new }
+        ensures { IfOk result (λ reply. Moves self.old event.now reply self.new) }
     {
+        let active = self.bus.active();
         let hand = take(&mut self.hand);
         let (hand, reply) = self.bus.step(hand, event, &mut self.wires);
         give(&mut self.hand, hand);
-        reply
+        end_tenure(&mut self.ended, &reply, active, self.bus.records().len())?;
+        Ok(reply)
     }
 
     /// The cuts that wait, of which none is left.
@@ -323,9 +334,9 @@ impl Running {
     /// `show all`: the bus with all of its devices.
     #[inline(never)]
     fn show_all(&self, names: &Names, text: &mut Text) -> Result<(), Stop>
-        ensures { Prints (IsDone (show_all_text self.now.state names.now)) text.old text.new result }
+        ensures { Prints (IsDone (show_all_text self.now.state names.now self.now.ended)) text.old text.new result }
     {
-        match show_all(&self.bus, names, text) {
+        match show_all(&self.bus, names, self.ended.as_slice(), text) {
             Ok(()) => Ok(()),
             Err(_) => Err(Stop::Memory),
         }
@@ -363,6 +374,7 @@ impl Running {
             wires: _,
             policy: _,
             cuts: _,
+            ended: _,
         } = self;
         match hand {
             Some(hand) => {

@@ -5,7 +5,7 @@ ghost use Rattle.i3c_bus.specs.Readings.{AreAskers, address_of};
 ghost use Rattle.i3c_device.specs.Sets.{IsLowestOf};
 ghost use Rattle.i3c_base.specs.State.{IsPresent, device_at};
 ghost use Rattle.i3c_lines.specs.Naming.{legacy_names, letters, slot_names};
-ghost use Rattle.i3c_script.specs.Printed.{TellsAskers, asker_text, askers_text, byte_or_none, declared_text, device_text, devices_text, legacies_text, legacy_text, numbered_text, record_text, recorded_text, records_text, show_text};
+ghost use Rattle.i3c_script.specs.Printed.{TellsAskers, added_text, asker_text, askers_text, byte_or_none, declared_text, device_text, devices_text, legacies_text, legacy_text, numbered_text, record_text, recorded_text, records_text, show_text};
 
 use i3c_base::{ADDRESSES, Addr7, Record, SLOTS, Slot};
 use i3c_bus::{Bus, Request, SlotSet};
@@ -46,11 +46,18 @@ fn show_place(words: &[u8], address: Option<Addr7>, text: &mut Text) -> Result<(
 }
 
 /// Prints a legacy target that was declared.
-pub(crate) fn show_declared(name: &Name, address: Addr7, text: &mut Text) -> Result<(), AllocError>
-    ensures { OnOk result (text.new ≡ text.old ++ declared_text name.now address) }
+pub(crate) fn show_added(name: &Name, address: Addr7, text: &mut Text) -> Result<(), AllocError>
+    ensures { OnOk result (text.new ≡ text.old ++ added_text name.now address) }
 {
     text.push(name.as_bytes())?;
     show_place(b" legacy at ", Some(address), text)
+}
+
+/// Prints the static address at which an identity was declared.
+pub(crate) fn show_declared(address: Addr7, text: &mut Text) -> Result<(), AllocError>
+    ensures { OnOk result (text.new ≡ text.old ++ declared_text address) }
+{
+    show_place(b"declared ", Some(address), text)
 }
 
 /// Prints the main controller, with its address.
@@ -213,7 +220,7 @@ fn show_asker(names: &Names, slot: Slot, text: &mut Text) -> Result<(), AllocErr
 }
 
 /// Prints some words and a number.
-fn show_number(words: &[u8], number: u64, text: &mut Text) -> Result<(), AllocError>
+pub(crate) fn show_number(words: &[u8], number: u64, text: &mut Text) -> Result<(), AllocError>
     ensures { OnOk result (text.new ≡ text.old ++ (words.now ++ decimal number)) }
 {
     text.push(words)?;
@@ -221,12 +228,12 @@ fn show_number(words: &[u8], number: u64, text: &mut Text) -> Result<(), AllocEr
 }
 
 /// Prints a record, after its number.
-fn show_record(record: &Record, text: &mut Text) -> Result<(), AllocError>
-    ensures { OnOk result (text.new ≡ text.old ++ record_text record.now) }
+fn show_record(kept: &Record, text: &mut Text) -> Result<(), AllocError>
+    ensures { OnOk result (text.new ≡ text.old ++ record_text kept.now) }
 {
-    show_number(b" slot ", record.slot.index() as u64, text)?;
-    show_number(b" raise ", record.number, text)?;
-    show_recorded(record.at, record.byte, text)
+    show_number(b" slot ", kept.slot.index() as u64, text)?;
+    show_number(b" raise ", kept.number, text)?;
+    show_recorded(kept.at, kept.byte, text)
 }
 
 /// Prints at which address an interrupt was recorded, and its mandatory byte.

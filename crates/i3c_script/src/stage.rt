@@ -1,13 +1,14 @@
 ghost use Rattle.std.specs.Prelude.{◌≡◌};
 ghost use Rattle.i3c_lines.specs.declared.command.Command.{Command as CommandValue};
+ghost use Rattle.i3c_lines.specs.declared.names.Names.{Names as NamesValue};
 ghost use Rattle.i3c_script.specs.Obeying.{IsObeyed, ObeysBefore, main_refusal, script};
 ghost use Rattle.i3c_script.specs.Telling.{Prints};
 
 use crate::faults::Stop;
 use crate::running::Running;
-use crate::show::{show_declared, show_main};
+use crate::show::{show_added, show_declared, show_main};
 use crate::wires::Wires;
-use i3c_base::{Addr7, Bcr, Lvr, Setup, Slot};
+use i3c_base::{Addr7, Bcr, Identity, Lvr, Setup, Slot};
 use i3c_bus::Refusal as BusRefusal;
 use i3c_legacy::Legacies;
 use i3c_lines::{Command, Name, Names, Refusal};
@@ -18,18 +19,18 @@ use std::mem;
 /// Where a script stands. It holds the bus, so lines are run on a stage that is lent, and it is retired at the
 /// script's end.
 pub enum Stage {
-    /// Before the bus is made, legacy targets are declared.
+    /// Before the bus is made, legacy targets and identities are declared at static addresses.
     Before(Legacies),
     /// The bus runs.
     Running(Running),
 }
 
 impl Stage {
-    ghost use Rattle.i3c_base.specs.State.{no_lvrs};
+    ghost use Rattle.i3c_base.specs.State.{no_board};
 
-    /// A script's start: no bus, and no legacy target.
+    /// A script's start: no bus, and nothing declared.
     pub fn new() -> Stage
-        ensures { result ≡ Stage.Before no_lvrs }
+        ensures { result ≡ Stage.Before no_board }
     {
         Stage::Before(Legacies::new())
     }
@@ -48,8 +49,11 @@ impl Stage {
             Stage::Running(running) => running.obey::<K>(names, command, text),
             Stage::Before(legacies) => match command {
                 Command::Legacy { name, address, lvr } => {
-                    declare(legacies, names, name, *address, *lvr, text)
+                    add_legacy(legacies, names, name, *address, *lvr, text)
                 }
+                Command::Declare { address, identity } => declare(
+                    legacies, *address, *identity, text,
+                ),
                 Command::Main { name, setup } => self.begin(alloc, names, name, *setup, text),
                 _ => Err(Refusal::NoBus.into()),
             },
@@ -97,7 +101,7 @@ impl Stage {
 }
 
 /// `legacy`: declares a legacy target.
-fn declare(
+fn add_legacy(
     legacies: &mut Legacies,
     names: &mut Names,
     name: &Name,
@@ -114,7 +118,23 @@ fn declare(
         return Err(Stop::Refused(Refusal::Legacy(fault)));
     }
     names.give_address(name, address)?;
-    show_declared(name, address, text)?;
+    show_added(name, address, text)?;
+    Ok(())
+}
+
+/// `declare`: declares an identity at a static address.
+fn declare(
+    legacies: &mut Legacies,
+    address: Addr7,
+    identity: Identity,
+    text: &mut Text,
+) -> Result<(), Stop>
+    ensures { (names : NamesValue) → Prints (λ said refused. ObeysBefore legacies.old names (CommandValue.Declare address identity) said refused (script (Stage.Before legacies.new) names)) text.old text.new result }
+{
+    if let Err(fault) = legacies.declare(address, identity) {
+        return Err(Stop::Refused(Refusal::Declare(fault)));
+    }
+    show_declared(address, text)?;
     Ok(())
 }
 

@@ -1,10 +1,9 @@
 -- What became of a port's posts, over a whole run.
 use Rattle.std.specs.Prelude.{◌≡◌, ℕ, ◌+◌, ◌&&◌, List, [], ◌∷◌, ◌++◌, length, Option, Some, is_some, if◌then◌else◌}
 use Rattle.rtrb.specs.Ring.{sent}
-use Rattle.i3c_base.specs.declared.device.LegacyTarget.{LegacyTarget}
 use Rattle.i3c_base.specs.declared.device.Setup.{Setup}
 use Rattle.i3c_base.specs.declared.requests.Record.{Record}
-use Rattle.i3c_base.specs.State.{Device, IsStart, State, device_at}
+use Rattle.i3c_base.specs.State.{Board, Device, IsStart, State, device_at}
 use Rattle.i3c_step.specs.History.{AllDistinct, History, IsLegal, reached}
 use Rattle.i3c_step.specs.History as history
 use Rattle.i3c_step.specs.Stays.{is_attached, is_into, number_raised, recorded_in_stay}
@@ -35,8 +34,8 @@ refused_of s run = refused_from s [] run
 -- a legal history of this run, from a start to this state, in which devices present together always had distinct identities
 pub record IsHistoryOf (run : List Entry) (new start : State) (h : History) : Type 0 where
   pub main : Setup
-  pub legacy : List (Option LegacyTarget)
-  pub begun : IsStart main legacy start
+  pub board : Board
+  pub begun : IsStart main board start
   pub legal : IsLegal start h
   pub distinct : AllDistinct start h
   pub events : history.events_of h ≡ events_of run

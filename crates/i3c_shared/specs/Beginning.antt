@@ -1,10 +1,9 @@
 -- A bus that was just made.
-use Rattle.std.specs.Prelude.{◌≡◌, [], List, replicate, Option, None}
+use Rattle.std.specs.Prelude.{◌≡◌, [], replicate, None}
 use Rattle.rtrb.specs.Ring.{IsPair, sent}
 use Rattle.i3c_base.specs.declared.range.TheConstants.{SLOTS}
-use Rattle.i3c_base.specs.declared.device.LegacyTarget.{LegacyTarget}
 use Rattle.i3c_base.specs.declared.device.Setup.{Setup}
-use Rattle.i3c_base.specs.State.{IsStart}
+use Rattle.i3c_base.specs.State.{Board, IsStart}
 use Rattle.i3c_shared.specs.Rings.{put_out}
 use Rattle.i3c_shared.specs.Values.{HeldValue, KeptValue, PortValue, Reading, Rings}
 
@@ -13,8 +12,8 @@ unfoldable pub no_rings : Rings
 no_rings = replicate SLOTS None
 
 -- the main controller's port is out, with the other end of the ring and nothing posted, its role is held, and the run is empty
-pub record IsMade (main : Setup) (legacy : List (Option LegacyTarget)) (kept : KeptValue) (role : HeldValue) (port : PortValue) : Type 0 where
-  pub start : IsStart main legacy kept.log.start
+pub record IsMade (main : Setup) (board : Board) (kept : KeptValue) (role : HeldValue) (port : PortValue) : Type 0 where
+  pub start : IsStart main board kept.log.start
   pub state : kept.log.state ≡ kept.log.start
   pub run : kept.log.run ≡ []
   pub ring : Reading

@@ -68,8 +68,8 @@ IsOther event = Unit {0}
 abbrev pub PutsOut : ℕ → Reading → Reply → Log → Log → Type 0
 PutsOut s ring reply old new = new ≡ record old { rings = if is_attached reply then put_out s ring old.rings else old.rings }
 
--- the run is legal and leads to the bus, what was received from the ring of each port that is out are the bytes of its raises,
--- and the books are the active slot, 1 while a session is open, and the number of frame events in the run
+-- The run is legal and leads to the bus. What was received from the ring of each port that is out are the bytes of its
+-- raises. The books are the active slot, 1 while a session is open, and the number of frame events in the run.
 pub record IsKept (log : Log) (books : BooksValue) : Type 0 where
   pub begun : IsBegun log.start
   pub leads : Leads log.start log.run log.state

@@ -64,7 +64,6 @@ impl<L: Ledger, M: Ledger, N: Ledger> Kept<L, M, N> {
     ghost use mathlib.Core.List.{IsPrefix};
     ghost use Rattle.rtrb.specs.Ring.{sent};
     ghost use Rattle.i3c_base.specs.Numbers.{is_capable};
-    ghost use Rattle.i3c_base.specs.State.{legacy_targets_of};
     ghost use Rattle.i3c_step.specs.declared.events.Event.{Event as EventValue};
     ghost use Rattle.i3c_step.specs.declared.replies.Refusal.{Refusal as RefusalValue};
     ghost use Rattle.i3c_step.specs.declared.replies.Reply.{Reply as ReplyValue};
@@ -96,7 +95,7 @@ impl<L: Ledger, M: Ledger, N: Ledger> Kept<L, M, N> {
         requires session { (session.name ≡ M.name) × (session.parts ≡ M.parts) × (session.parts ≡ 1) }
         requires frames { (frames.name ≡ N.name) × (frames.parts ≡ N.parts) × (frames.parts ≡ 1) }
         ensures capable { IsErrOf result StartFaultValue.NotCapable ↔ (is_capable main.identity.bcr ≡ false) }
-        ensures made { IfOk result (λ made. IsMade main (legacy_targets_of legacies) made.0 made.1 made.2) }
+        ensures made { IfOk result (λ made. IsMade main legacies made.0 made.1 made.2) }
     {
         let Ok(recorder) = Recorder::new(alloc, main, legacies) else {
             return Err(StartFault::NotCapable);
@@ -455,9 +454,9 @@ impl<L: Ledger, M: Ledger, N: Ledger> Kept<L, M, N> {
         }
     }
 
-    /// The run is legal and leads to the bus, what was received from the ring of each port that is out are the bytes of
-    /// its raises, and the books are the active controller's slot, 1 while a session is open, and the number of frame
-    /// events in the run.
+    /// The run is legal and leads to the bus. What was received from the ring of each port that is out are the bytes of
+    /// its raises. The books are the active controller's slot, 1 while a session is open, and the number of frame events in
+    /// the run.
     pub fn keeps(&self)
         ensures { IsKept self.now.log self.now.books }
     {

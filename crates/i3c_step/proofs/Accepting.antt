@@ -18,12 +18,12 @@ use Rattle.i3c_step.specs.Records.{IsRecordedOrTorn, IsTornOff, RecordsFront}
 use Rattle.i3c_step.specs.Serving.{place_of, policy_of, served_of}
 use Rattle.i3c_step.specs.Step.{Acts, Step}
 use Rattle.i3c_step.specs.declared.events.Event.{Event}
-use Rattle.i3c_step.specs.declared.events.Event.TheVariants.{Attach, DropOff, Raise, AskJoin, AskRole, Serve, Enec, Disec, Reset, SendList, ReadFrom, WriteTo, OpenDaa, Round, EndDaa, HandOver}
+use Rattle.i3c_step.specs.declared.events.Event.TheVariants.{Attach, DropOff, Raise, AskJoin, AskRole, Serve, Enec, Disec, Reset, SendList, ReadFrom, WriteTo, SetStatic, SetNew, OpenDaa, Round, EndDaa, HandOver}
 use Rattle.i3c_step.specs.declared.replies.Reply.{Reply}
 use Rattle.i3c_step.proofs.Drivers.{accepted_served}
 use Rattle.i3c_step.proofs.Slots.{records_rekinds}
 use Rattle.i3c_step.proofs.Steps.{IsIdle, refused, short, step_cases}
-use Rattle.i3c_step.proofs.Transfers.{reads_keep, writes_keep}
+use Rattle.i3c_step.proofs.Transfers.{reads_keep, writes_keep, news_keep, statics_keep}
 use Rattle.i3c_step.proofs.Uniqueness.{first_unique}
 
 -- an accepted interrupt
@@ -127,6 +127,12 @@ acts_record old (ReadFrom t p cuts) reply new policy a acts e h =
     frame_accepts old p cuts acts.0.served _ _ reply new a (reads_keep (λ mid done. done.records ≡ mid.records) (λ st. refl) t acts.0.answer) acts.2 (ap served_of acts.1) policy (same_Some p policy e) h
 acts_record old (WriteTo t bytes p cuts) reply new policy a acts e h =
     frame_accepts old p cuts acts.0.served _ _ reply new a (writes_keep (λ mid done. done.records ≡ mid.records) t bytes.items (λ st. refl) (λ st. refl) acts.0.answer) acts.2
+    (ap served_of acts.1) policy (same_Some p policy e) h
+acts_record old (SetStatic f t p cuts) reply new policy a acts e h =
+    frame_accepts old p cuts acts.0.served _ _ reply new a (statics_keep (λ mid done. done.records ≡ mid.records) f t (λ st. refl) (λ i st. refl) acts.0.answer) acts.2
+    (ap served_of acts.1) policy (same_Some p policy e) h
+acts_record old (SetNew b t p cuts) reply new policy a acts e h =
+    frame_accepts old p cuts acts.0.served _ _ reply new a (news_keep (λ mid done. done.records ≡ mid.records) b t (λ st. refl) (λ st. refl) acts.0.answer) acts.2
     (ap served_of acts.1) policy (same_Some p policy e) h
 acts_record old (AskRole t) reply new policy a acts e h = absurd (none-some policy e)
 acts_record old (OpenDaa cuts) reply new policy a acts e h =

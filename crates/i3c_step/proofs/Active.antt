@@ -4,7 +4,6 @@ use Rattle.std.proofs.Common.{◌≡◌, ℕ, suc, ◌++◌, length, false, true
 use Rattle.i3c_base.specs.declared.answers.Answer.{Answer}
 use Rattle.i3c_base.specs.declared.answers.RoundReply.{RoundReply}
 use Rattle.i3c_base.specs.declared.device.Setup.{Setup}
-use Rattle.i3c_base.specs.declared.device.LegacyTarget.{LegacyTarget}
 use Rattle.i3c_base.specs.declared.identity.Identity.{Identity}
 use Rattle.i3c_base.specs.declared.range.TheConstants.{SLOTS}
 use Rattle.i3c_base.specs.declared.requests.Fixed.{Fixed}
@@ -13,20 +12,20 @@ use Rattle.i3c_base.specs.declared.requests.Served.{Served}
 use Rattle.i3c_base.specs.declared.requests.Served.TheVariants.{Quiet, Recorded, Refused, Torn, Joining, WantsRole}
 use Rattle.i3c_base.specs.Cutting.{CutList, Lost, lost_by}
 use Rattle.i3c_base.specs.Numbers.{KindSet}
-use Rattle.i3c_base.specs.State.{Device, State, IsPresent, IsStart, attached, change, device_at, each, no_devices, raised_at, unaddressed}
+use Rattle.i3c_base.specs.State.{Board, Device, State, IsPresent, IsStart, attached, change, device_at, each, no_devices, raised_at, unaddressed, fixed_of}
 use Rattle.i3c_base.specs.Serve.{Frame, Serves, drives, each_driver, emptied, without_front, without_join, without_role}
-use Rattle.i3c_base.specs.Frames.{Rekinds, handed, list, overwritten, reaches, rekinded, reset, unaddressed_device, written}
+use Rattle.i3c_base.specs.Frames.{Rekinds, handed, list, overwritten, reaches, rekinded, reset, unaddressed_device, written, readdressed, takes_static, with_new, with_static}
 use Rattle.i3c_base.specs.Round.{Rounds, assigned, hears, opened, unhearing, winner, wins}
 use Rattle.i3c_base.proofs.Lookups.{change_at, drop_off_at, each_at, emptied_at, length-no_devices, set_at, set_in}
 use Rattle.i3c_step.specs.declared.events.Event.{Event}
-use Rattle.i3c_step.specs.declared.events.Event.TheVariants.{Attach, DropOff, Raise, AskJoin, AskRole, Serve, Enec, Disec, Reset, SendList, ReadFrom, WriteTo, OpenDaa, Round, EndDaa, HandOver}
+use Rattle.i3c_step.specs.declared.events.Event.TheVariants.{Attach, DropOff, Raise, AskJoin, AskRole, Serve, Enec, Disec, Reset, SendList, ReadFrom, WriteTo, SetStatic, SetNew, OpenDaa, Round, EndDaa, HandOver}
 use Rattle.i3c_step.specs.declared.replies.Reply.{Reply}
 use Rattle.i3c_step.specs.Runs.{IsLegalRun}
 use Rattle.i3c_step.proofs.Handing.{declined, granted}
 use Rattle.i3c_step.proofs.Kept.{run_keeps}
-use Rattle.i3c_step.specs.Step.{Acts, Step, checks, first_refusal, hand_checks, read_checks, target_checks, write_checks}
+use Rattle.i3c_step.specs.Step.{Acts, Step, checks, first_refusal, hand_checks, read_checks, target_checks, write_checks, static_checks, new_checks}
 use Rattle.i3c_step.proofs.Steps.{active_left, no_test, step_cases}
-use Rattle.i3c_step.proofs.Transfers.{reads_keep, writes_keep}
+use Rattle.i3c_step.proofs.Transfers.{reads_keep, writes_keep, news_keep, statics_keep}
 
 -- the active slot is occupied
 abbrev pub HasActive : State → Type 0
@@ -97,6 +96,19 @@ Present-written a bytes st s h = Present-each (λ t d. if reaches st (Some a) t 
 Safe-written : (a : ℕ) (bytes : List ℕ) (lost : Lost) (st : State) → IsSafe lost st → IsSafe lost (written a bytes st)
 Safe-written a bytes lost st h = record { present = Present-written a bytes st _ h.present; left = h.left }
 
+-- and an address that is given
+pub Present-with_static : (f : ℕ) (i : Identity) (a : ℕ) (st : State) (s : ℕ) → IsPresent st s → IsPresent (with_static f i a st) s
+Present-with_static f i a st s h = Present-each (λ t d. if takes_static st.active f t d then winner a d else d) st s h
+
+Safe-with_static : (f : ℕ) (i : Identity) (a : ℕ) (lost : Lost) (st : State) → IsSafe lost st → IsSafe lost (with_static f i a st)
+Safe-with_static f i a lost st h = record { present = Present-with_static f i a st _ h.present; left = h.left }
+
+pub Present-with_new : (old a : ℕ) (st : State) (s : ℕ) → IsPresent st s → IsPresent (with_new old a st) s
+Present-with_new old a st s h = Present-each (λ t d. if reaches st (Some old) t d then readdressed a d else d) st s h
+
+Safe-with_new : (old a : ℕ) (lost : Lost) (st : State) → IsSafe lost st → IsSafe lost (with_new old a st)
+Safe-with_new old a lost st h = record { present = Present-with_new old a st _ h.present; left = h.left }
+
 Safe-opened : (lost : Lost) (mid done : State) → done ≡ opened mid → IsSafe lost mid → IsSafe lost done
 Safe-opened lost mid done e h = Safe-same lost (opened mid) done e (record { present = Present-each (λ s d. hears d) mid _ h.present; left = h.left })
 
@@ -117,7 +129,7 @@ Active-round old cuts (RoundReply.Assigned a i) new h uncut p = subst HasActive 
 
 Active-acts : (old : State) (event : Event) (reply : Reply) (new : State) → first_refusal (checks old event) ≡ None → Acts old event reply new → HasActive old → HasActive new
 Active-acts old (Attach s setup) reply new free h p = subst HasActive (sym h.1)
-    (elim (set_at old.devices s old.active (Some (attached setup)) None) [ inl e ↦ (attached setup, e.1) | inr e ↦ (p.0, e ∙ p.1) ])
+    (elim (set_at old.devices s old.active (Some (attached (fixed_of old.declared setup.identity) setup)) None) [ inl e ↦ (attached (fixed_of old.declared setup.identity) setup, e.1) | inr e ↦ (p.0, e ∙ p.1) ])
 Active-acts old (DropOff s) reply new free h p =
     let other : (s == old.active) ≡ false = no_test 1 (checks old (DropOff s)) free in
     subst HasActive (sym h.1) (p.0, drop_off_at s old old.active ∙ (cond-false (old.active == s) None (device_at old old.active) (ne_eqb old.active s (λ e. eqb-false s old.active other (sym e))) ∙ p.1))
@@ -139,12 +151,20 @@ Active-acts old (WriteTo a bytes policy cuts) reply new free h p =
     Active-frame old policy cuts _ _ _ new
     (λ lost. writes_keep (λ mid done. IsSafe lost mid → IsSafe lost done) a bytes.items (λ st safe. safe) (Safe-written a bytes.items lost) h.0.answer lost) h.2
     (λ last. active_left old cuts _ _ _ (write_checks old a bytes.items) last free) p
+Active-acts old (SetStatic f to policy cuts) reply new free h p =
+    Active-frame old policy cuts _ _ _ new
+    (λ lost. statics_keep (λ mid done. IsSafe lost mid → IsSafe lost done) f to (λ st safe. safe) (λ i st. Safe-with_static f i to lost st) h.0.answer lost) h.2
+    (λ last. active_left old cuts _ _ _ (static_checks old f to) last free) p
+Active-acts old (SetNew a to policy cuts) reply new free h p =
+    Active-frame old policy cuts _ _ _ new
+    (λ lost. news_keep (λ mid done. IsSafe lost mid → IsSafe lost done) a to (λ st safe. safe) (Safe-with_new a to lost) h.0.answer lost) h.2
+    (λ last. active_left old cuts _ _ _ (new_checks old a to) last free) p
 Active-acts old (OpenDaa cuts) reply new free h p = Active-frame old _ cuts _ _ _ new Safe-opened h.2 (λ last. active_left old cuts _ _ _ [] last free) p
 Active-acts old (Round cuts) reply new free h p = Active-round old cuts h.0 new h.2 (λ last. active_left old cuts _ _ _ [] last free) p
 Active-acts old (HandOver to cuts) reply new free h p = elim h [
   | inl g ↦
       let x = granted old to cuts reply new g in
-      subst HasActive (sym x.after) (Active-emptied (lost_by cuts x.last) (handed x.slot old)
+      subst HasActive (sym x.after) (Active-emptied (lost_by cuts x.last) (handed x.slot to old)
       (record { present = Present-change x.slot without_role old x.slot (x.willing.0, x.willing.1.0); left = x.left }))
   | inr g ↦
       let x = declined old to cuts reply new g in
@@ -157,13 +177,13 @@ pub Active-step : (old : State) (event : Event) (reply : Reply) (new : State) �
 Active-step old event reply new h p = step_cases old event reply new h (λ idle e. subst HasActive (sym e) p) (λ free acts. Active-acts old event reply new free acts p)
 
 -- a start's active controller is the main one, in slot 0
-pub Active-start : (main : Setup) (legacy : List (Option LegacyTarget)) (start : State) → IsStart main legacy start → HasActive start
-Active-start main legacy start h = subst HasActive (sym h.2)
-    (Present-change 0 (λ (d : Device). record d { address = Some h.0 }) (unaddressed main legacy) 0 (attached main, set_in no_devices 0 0 (Some (attached main)) None low))
+pub Active-start : (main : Setup) (board : Board) (start : State) → IsStart main board start → HasActive start
+Active-start main board start h = subst HasActive (sym h.2)
+    (Present-change 0 (λ (d : Device). record d { address = Some h.0 }) (unaddressed main board) 0 (attached (fixed_of board.declared main.identity) main, set_in no_devices 0 0 (Some (attached (fixed_of board.declared main.identity) main)) None low))
   where
     low : 0 < length no_devices
     low = let n : length no_devices ≡ SLOTS = length-no_devices in omega arith
 
 -- so a device is in the active slot of each state that a legal run leads to
-pub active_along : (main : Setup) (legacy : List (Option LegacyTarget)) (events : List Event) (replies : List Reply) (new : State) → IsLegalRun main legacy events replies new → HasActive new
-active_along main legacy events replies new run = run_keeps HasActive Active-step run.0 events replies new run.2 (Active-start main legacy run.0 run.1)
+pub active_along : (main : Setup) (board : Board) (events : List Event) (replies : List Reply) (new : State) → IsLegalRun main board events replies new → HasActive new
+active_along main board events replies new run = run_keeps HasActive Active-step run.0 events replies new run.2 (Active-start main board run.0 run.1)

@@ -8,7 +8,6 @@ use Rattle.std.proofs.Common.{◌≡◌, ℕ, zero, suc, ◌+◌, ◌≤◌, ◌
 use Rattle.std.specs.List.{All, Contains}
 use Rattle.i3c_base.specs.declared.answers.RoundReply.{RoundReply}
 use Rattle.i3c_base.specs.declared.device.Setup.{Setup}
-use Rattle.i3c_base.specs.declared.device.LegacyTarget.{LegacyTarget}
 use Rattle.i3c_base.specs.declared.identity.Identity.{Identity}
 use Rattle.i3c_base.specs.declared.range.TheConstants.{SLOTS}
 use Rattle.i3c_base.specs.Cutting.{CutList, IsUncut, Lost, lost_by}
@@ -16,10 +15,10 @@ use Rattle.i3c_base.specs.Numbers.{same_identity}
 use Rattle.i3c_base.specs.Round.{Rounds, assigned, winner, wins}
 use Rattle.i3c_base.specs.Serve.{emptied}
 use Rattle.i3c_base.specs.Local.{attach, drop_off, raise}
-use Rattle.i3c_base.specs.State.{Device, IsStart, State, attached, change, device_at, in_slot, no_devices, raised_at}
+use Rattle.i3c_base.specs.State.{Board, Device, IsStart, State, attached, change, device_at, in_slot, no_devices, raised_at, fixed_of}
 use Rattle.i3c_base.proofs.Lookups.{change_at, drop_off_from, each_at, each_from, emptied_at, emptied_from, length-no_devices, set_at}
 use Rattle.i3c_step.specs.declared.events.Event.{Event}
-use Rattle.i3c_step.specs.declared.events.Event.TheVariants.{Attach, DropOff, Raise, AskJoin, AskRole, Serve, Enec, Disec, Reset, SendList, ReadFrom, WriteTo, OpenDaa, Round, EndDaa, HandOver}
+use Rattle.i3c_step.specs.declared.events.Event.TheVariants.{Attach, DropOff, Raise, AskJoin, AskRole, Serve, Enec, Disec, Reset, SendList, ReadFrom, WriteTo, SetStatic, SetNew, OpenDaa, Round, EndDaa, HandOver}
 use Rattle.i3c_step.specs.declared.replies.Reply.{Reply}
 use Rattle.i3c_step.specs.declared.replies.Refusal.{Refusal}
 use Rattle.i3c_step.specs.Runs.{IsLegalRun, IsRun}
@@ -131,8 +130,8 @@ IsSlotted st = length st.devices ≡ SLOTS
 slotted_step : (old : State) (event : Event) (reply : Reply) (new : State) → Step old event reply new → IsSlotted old → IsSlotted new
 slotted_step old event reply new h e = (Came-step old event reply new h).1 ∙ e
 
-slotted_start : (main : Setup) (legacy : List (Option LegacyTarget)) (start : State) → IsStart main legacy start → IsSlotted start
-slotted_start main legacy start h = ap (λ (st : State). length st.devices) h.2 ∙ (length-set _ 0 _ ∙ (length-set no_devices 0 (Some (attached main)) ∙ length-no_devices))
+slotted_start : (main : Setup) (board : Board) (start : State) → IsStart main board start → IsSlotted start
+slotted_start main board start h = ap (λ (st : State). length st.devices) h.2 ∙ (length-set _ 0 _ ∙ (length-set no_devices 0 (Some (attached (fixed_of board.declared main.identity) main)) ∙ length-no_devices))
 
 -- what a round without cuts answers, if it isn't the last
 record Goes (old : State) (reply : Reply) (new : State) : Type 0 where
@@ -204,8 +203,8 @@ calm_same st = record { long = refl; within = λ k hears. hears; session = refl 
 
 calm_attached : (s : ℕ) (setup : Setup) (st : State) → Calm st (attach s setup st)
 calm_attached s setup st = record {
-  long = length-set st.devices s (Some (attached setup));
-  within = λ k hears. elim (set_at st.devices s k (Some (attached setup)) None) [
+  long = length-set st.devices s (Some (attached (fixed_of st.declared setup.identity) setup));
+  within = λ k hears. elim (set_at st.devices s k (Some (attached (fixed_of st.declared setup.identity) setup)) None) [
     | inl e ↦ absurd (false≢true (ap hears_at (sym e.1) ∙ hears))
     | inr e ↦ ap hears_at (sym e) ∙ hears
   ];
@@ -277,6 +276,8 @@ goes old (Reset policy cuts) reply new within busy h = calm_step old (Reset poli
 goes old (SendList policy cuts) reply new within busy h = calm_step old (SendList policy cuts) reply new refl busy (λ free acts. refused old (SendList policy cuts) busy refl free) h
 goes old (ReadFrom a policy cuts) reply new within busy h = calm_step old (ReadFrom a policy cuts) reply new refl busy (λ free acts. refused old (ReadFrom a policy cuts) busy refl free) h
 goes old (WriteTo a bytes policy cuts) reply new within busy h = calm_step old (WriteTo a bytes policy cuts) reply new refl busy (λ free acts. refused old (WriteTo a bytes policy cuts) busy refl free) h
+goes old (SetStatic f to policy cuts) reply new within busy h = calm_step old (SetStatic f to policy cuts) reply new refl busy (λ free acts. refused old (SetStatic f to policy cuts) busy refl free) h
+goes old (SetNew a to policy cuts) reply new within busy h = calm_step old (SetNew a to policy cuts) reply new refl busy (λ free acts. refused old (SetNew a to policy cuts) busy refl free) h
 goes old (OpenDaa cuts) reply new within busy h = calm_step old (OpenDaa cuts) reply new refl busy (λ free acts. refused old (OpenDaa cuts) busy refl free) h
 goes old (HandOver to cuts) reply new within busy h = calm_step old (HandOver to cuts) reply new refl busy (λ free acts. refused old (HandOver to cuts) busy refl free) h
 
@@ -294,12 +295,12 @@ ends old (event ∷ session) (answer ∷ answers) new all less busy run =
           (later.0, Contains-later answer answers later.0 later.1, later.2)
     ]
 
-pub sessions_end : (main : Setup) (legacy : List (Option LegacyTarget)) (events : List Event) (replies : List Reply) (mid : State) → IsLegalRun main legacy events replies mid → mid.in_session ≡ true
+pub sessions_end : (main : Setup) (board : Board) (events : List Event) (replies : List Reply) (mid : State) → IsLegalRun main board events replies mid → mid.in_session ≡ true
     → (session : List Event) (answers : List Reply) (new : State) → All IsInSession session → SLOTS ≤ count_by is_round session → IsRun mid session answers new
     → (answer : Reply) × Contains answers answer × IsLastRound answer
-sessions_end main legacy events replies mid legal busy session answers new all many run =
-    let active : HasActive mid = run_keeps HasActive active_step legal.0 events replies mid legal.2 (active_start main legacy legal.0 legal.1) in
-    let deaf : AllDeaf mid = run_keeps AllDeaf deaf_step legal.0 events replies mid legal.2 (deaf_start main legacy legal.0 legal.1) in
-    let slots : length mid.devices ≡ SLOTS = run_keeps IsSlotted slotted_step legal.0 events replies mid legal.2 (slotted_start main legacy legal.0 legal.1) in
+sessions_end main board events replies mid legal busy session answers new all many run =
+    let active : HasActive mid = run_keeps HasActive active_step legal.0 events replies mid legal.2 (active_start main board legal.0 legal.1) in
+    let deaf : AllDeaf mid = run_keeps AllDeaf deaf_step legal.0 events replies mid legal.2 (deaf_start main board legal.0 legal.1) in
+    let slots : length mid.devices ≡ SLOTS = run_keeps IsSlotted slotted_step legal.0 events replies mid legal.2 (slotted_start main board legal.0 legal.1) in
     let less : hearers mid.devices < length mid.devices = not_all mid.devices mid.active active.0 active.2 (deaf mid.active active.0 active.2 (ap is_some active.3)) in
     ends mid session answers new all (omega (arith, less, slots, many)) busy run

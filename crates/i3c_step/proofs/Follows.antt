@@ -1,7 +1,7 @@
 -- Devices stay in their slots; one that has an address hears no session, and the active controller keeps its.
-use Rattle.std.proofs.lemmas.Bool.{both_ways, eq-eqb}
+use Rattle.std.proofs.lemmas.Bool.{and_parts, both_ways, eq-eqb, false≢true}
 use Rattle.std.proofs.lemmas.List.{length-set}
-use Rattle.std.proofs.Common.{◌≡◌, ℕ, suc, Bool, true, false, List, [], ◌∷◌, ◌++◌, length, Option, Some, None, is_none, is_some, option_map, ◌==◌, ◌⊎◌, if◌then◌else◌, inl, inr, sym, refl, ap, ◌∙◌, subst}
+use Rattle.std.proofs.Common.{◌≡◌, ℕ, suc, Bool, true, false, List, [], ◌∷◌, ◌++◌, length, Option, Some, None, is_none, is_some, option_map, ◌==◌, ◌⊎◌, if◌then◌else◌, inl, inr, sym, refl, ap, ◌∙◌, subst, not}
 use Rattle.i3c_base.specs.declared.answers.Answer.{Answer}
 use Rattle.i3c_base.specs.declared.answers.RoundReply.{RoundReply}
 use Rattle.i3c_base.specs.declared.identity.Identity.{Identity}
@@ -11,21 +11,21 @@ use Rattle.i3c_base.specs.declared.requests.Request.TheVariants.{Join, Role, Int
 use Rattle.i3c_base.specs.declared.requests.Served.{Served}
 use Rattle.i3c_base.specs.declared.requests.Served.TheVariants.{Quiet, Recorded, Refused, Torn, Joining, WantsRole}
 use Rattle.i3c_base.specs.Cutting.{CutList, Lost, lost_by}
-use Rattle.i3c_base.specs.Frames.{Rekinds, handed, list, overwritten, reaches, rekinded, reset, unaddressed_device, written}
+use Rattle.i3c_base.specs.Frames.{Rekinds, handed, list, overwritten, reaches, readdressed, rekinded, reset, takes_static, unaddressed_device, with_new, with_static, written}
 use Rattle.i3c_base.specs.Local.{drop_off, raise}
 use Rattle.i3c_base.specs.Numbers.{KindSet}
 use Rattle.i3c_base.specs.Round.{Rounds, assigned, ended, hears, opened, unhearing, winner, wins}
 use Rattle.i3c_base.specs.Serve.{Frame, Serves, drives, each_driver, emptied, without_front, without_join, without_role}
-use Rattle.i3c_base.specs.State.{Device, State, change, device_at, each, raised_at}
+use Rattle.i3c_base.specs.State.{Device, State, change, device_at, each, has_address, is_the, raised_at}
 use Rattle.i3c_base.proofs.Lookups.{attach_from, change_from, drop_off_from, each_from, emptied_from, length-changed}
 use Rattle.i3c_step.specs.declared.events.Event.{Event}
-use Rattle.i3c_step.specs.declared.events.Event.TheVariants.{Attach, DropOff, Raise, AskJoin, AskRole, Serve, Enec, Disec, Reset, SendList, ReadFrom, WriteTo, OpenDaa, Round, EndDaa, HandOver}
+use Rattle.i3c_step.specs.declared.events.Event.TheVariants.{Attach, DropOff, Raise, AskJoin, AskRole, Serve, Enec, Disec, Reset, SendList, ReadFrom, WriteTo, SetStatic, SetNew, OpenDaa, Round, EndDaa, HandOver}
 use Rattle.i3c_step.specs.declared.replies.Reply.{Reply}
 use Rattle.i3c_step.specs.Slots.{HasAttached}
 use Rattle.i3c_step.specs.Step.{Acts, Step}
 use Rattle.i3c_step.proofs.Handing.{IsHandedOver, declined, granted}
 use Rattle.i3c_step.proofs.Steps.{step_cases}
-use Rattle.i3c_step.proofs.Transfers.{reads_keep, writes_keep}
+use Rattle.i3c_step.proofs.Transfers.{news_keep, reads_keep, statics_keep, writes_keep}
 
 -- a device with an address hears no session
 abbrev pub IsDeaf : Device → Type 0
@@ -123,6 +123,27 @@ Follows-written a bytes st =
     (λ s d. later_if _ (reaches st (Some a) s d) d (record d { registers = overwritten bytes d.registers }) (later_same _ d (record d { registers = overwritten bytes d.registers }) refl refl)) in
     record { devices = n.devices; active = refl; long = n.long }
 
+-- an address that is given takes none away
+pub Follows-with_static : (f : ℕ) (i : Identity) (a : ℕ) (st : State) → Follows st (with_static f i a st)
+Follows-with_static f i a st =
+    let n = Follows-each (λ s d. if takes_static st.active f s d then winner a d else d) st
+    (λ s d. later_if _ (takes_static st.active f s d) d (winner a d) (record { deaf = λ h k. refl; addressed = λ k h. refl })) in
+    record { devices = n.devices; active = refl; long = n.long }
+
+-- nor does a new one, whose device hears no session if it had one
+pub Follows-with_new : (old a : ℕ) (st : State) → Follows st (with_new old a st)
+Follows-with_new old a st =
+    let n = Follows-each (λ s d. if reaches st (Some old) s d then readdressed a d else d) st (λ s d. later_moved s d (reaches st (Some old) s d) refl) in
+    record { devices = n.devices; active = refl; long = n.long }
+  where
+    has : (o : Option ℕ) → is_the old o ≡ true → is_some o ≡ true
+    has None h = absurd (false≢true h)
+    has (Some x) h = refl
+
+    later_moved : (s : ℕ) (d : Device) (b : Bool) → reaches st (Some old) s d ≡ b → IsLater (s ≡ st.active) d (if b then readdressed a d else d)
+    later_moved s d true e = record { deaf = λ h k. h (has d.address (and_parts (not (s == st.active)) (has_address old d) e).1); addressed = λ k h. refl }
+    later_moved s d false e = later_same _ d d refl refl
+
 -- only a device without an address hears a session that is opened
 later_hears : (keeps : Type 0) (d : Device) → IsLater keeps d (hears d)
 later_hears keeps d = go d.address refl
@@ -188,10 +209,10 @@ came old event reply new h = (
 came_handed : (old : State) (to : ℕ) (cuts : CutList) (reply : Reply) (new : State) → IsHandedOver old to cuts new → Came old (HandOver to cuts) reply new × (length new.devices ≡ length old.devices)
 came_handed old to cuts reply new h = (
   λ s d p.
-      let left = emptied_from (lost_by cuts h.last) (handed h.slot old) s d (subst (λ (st : State). device_at st s ≡ Some d) h.after p) in
+      let left = emptied_from (lost_by cuts h.last) (handed h.slot to old) s d (subst (λ (st : State). device_at st s ≡ Some d) h.after p) in
       let x = change_from h.slot without_role old s d left.1 in
       inr (x.0, x.1, subst (IsLater (s ≡ new.active) x.0) x.2 (later_if _ (s == h.slot) x.0 (without_role x.0) (later_same _ x.0 (without_role x.0) refl refl))),
-  ap (λ (st : State). length st.devices) h.after ∙ (length-changed (λ s place. if lost_by cuts h.last s then None else place) (handed h.slot old).devices ∙ length-set old.devices h.slot _),
+  ap (λ (st : State). length st.devices) h.after ∙ (length-changed (λ s place. if lost_by cuts h.last s then None else place) (handed h.slot to old).devices ∙ length-set old.devices h.slot _),
 )
 
 Came-acts : (old : State) (event : Event) (reply : Reply) (new : State) → Acts old event reply new → Came old event reply new × (length new.devices ≡ length old.devices)
@@ -220,6 +241,10 @@ Came-acts old (ReadFrom a policy cuts) reply new h = came old (ReadFrom a policy
     (Follows-frame old policy cuts _ _ _ new (reads_keep Follows Follows-refl a h.0.answer) h.2)
 Came-acts old (WriteTo a bytes policy cuts) reply new h = came old (WriteTo a bytes policy cuts) reply new
     (Follows-frame old policy cuts _ _ _ new (writes_keep Follows a bytes.items Follows-refl (Follows-written a bytes.items) h.0.answer) h.2)
+Came-acts old (SetStatic f to policy cuts) reply new h = came old (SetStatic f to policy cuts) reply new
+    (Follows-frame old policy cuts _ _ _ new (statics_keep Follows f to Follows-refl (λ i st. Follows-with_static f i to st) h.0.answer) h.2)
+Came-acts old (SetNew a to policy cuts) reply new h = came old (SetNew a to policy cuts) reply new
+    (Follows-frame old policy cuts _ _ _ new (news_keep Follows a to Follows-refl (Follows-with_new a to) h.0.answer) h.2)
 Came-acts old (OpenDaa cuts) reply new h = came old (OpenDaa cuts) reply new
     (Follows-frame old _ cuts _ _ _ new (λ lost mid done e. subst (Follows mid) (sym e) (Follows-opened mid)) h.2)
 Came-acts old (Round cuts) reply new h = came old (Round cuts) reply new (Follows-round old cuts h.0 new h.2)

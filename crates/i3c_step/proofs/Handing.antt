@@ -27,7 +27,7 @@ pub record IsHandedOver (old : State) (a : ℕ) (cuts : CutList) (new : State) :
   pub last : ℕ
   pub willing : IsWillingAt old a slot
   pub left : lost_by cuts last slot ≡ false
-  pub after : new ≡ emptied (lost_by cuts last) (handed slot old)
+  pub after : new ≡ emptied (lost_by cuts last) (handed slot a old)
 
 pub granted : (old : State) (a : ℕ) (cuts : CutList) (reply : Reply) (new : State) → IsGranted old a cuts reply new → IsHandedOver old a cuts new
 granted old a cuts reply new g =

@@ -2,9 +2,8 @@
 use Rattle.std.proofs.lemmas.Bool.{both_ways}
 use Rattle.std.proofs.lemmas.Option.{none-some}
 use Rattle.std.proofs.Common.{◌≡◌, ℕ, true, List, Option, Some, None, is_some, inl, inr, sym, refl, ap, ◌∙◌, subst}
-use Rattle.i3c_base.specs.declared.device.LegacyTarget.{LegacyTarget}
 use Rattle.i3c_base.specs.declared.device.Setup.{Setup}
-use Rattle.i3c_base.specs.State.{Device, IsPresent, IsStart, State, device_at, in_slot}
+use Rattle.i3c_base.specs.State.{Board, Device, IsPresent, IsStart, State, device_at, in_slot}
 use Rattle.i3c_step.specs.declared.events.Event.{Event}
 use Rattle.i3c_step.specs.declared.replies.Reply.{Reply}
 use Rattle.i3c_step.specs.Slots.{is_handed}
@@ -51,10 +50,10 @@ active_step old event reply new step h =
     there : (x d : Device) (a : ℕ) → Some d ≡ Some x → d.address ≡ Some a → is_some x.address ≡ true
     there x d a same e = ap (in_slot (λ y. is_some y.address)) (sym same) ∙ ap is_some e
 
-pub active_start : (main : Setup) (legacy : List (Option LegacyTarget)) (start : State) → IsStart main legacy start → HasActive start
-active_start main legacy start h =
-    let present = Active-start main legacy start h in
-    let e = start_device main legacy h.0 start.active present.0 (subst (λ (st : State). device_at st start.active ≡ Some present.0) h.2 present.1) in
+pub active_start : (main : Setup) (board : Board) (start : State) → IsStart main board start → HasActive start
+active_start main board start h =
+    let present = Active-start main board start h in
+    let e = start_device main board h.0 start.active present.0 (subst (λ (st : State). device_at st start.active ≡ Some present.0) h.2 present.1) in
     (present.0, h.0, present.1, ap (λ (d : Device). d.address) e.1)
 
 -- each device that has an address is deaf
@@ -67,6 +66,6 @@ deaf_step old event reply new step all s d p = elim ((Came-step old event reply 
   | inr x ↦ x.2.deaf (all s x.0 x.1)
 ]
 
-pub deaf_start : (main : Setup) (legacy : List (Option LegacyTarget)) (start : State) → IsStart main legacy start → AllDeaf start
-deaf_start main legacy start h s d p =
-    let e = start_device main legacy h.0 s d (subst (λ (st : State). device_at st s ≡ Some d) h.2 p) in subst IsDeaf (sym e.1) (λ a. refl)
+pub deaf_start : (main : Setup) (board : Board) (start : State) → IsStart main board start → AllDeaf start
+deaf_start main board start h s d p =
+    let e = start_device main board h.0 s d (subst (λ (st : State). device_at st s ≡ Some d) h.2 p) in subst IsDeaf (sym e.1) (λ a. refl)

@@ -2,10 +2,9 @@
 use Rattle.std.proofs.lemmas.List.{append-nil, drop_at, length-set, map-append}
 use Rattle.std.proofs.Common.{◌≡◌, ℕ, length, List, [], ◌∷◌, ◌++◌, drop, filter, map, Option, Some, None, ◌==◌, sym, refl, ap, ◌∙◌, subst, append_assoc, arith}
 use Rattle.i3c_base.specs.declared.device.Setup.{Setup}
-use Rattle.i3c_base.specs.declared.device.LegacyTarget.{LegacyTarget}
 use Rattle.i3c_base.specs.declared.device.Waiting.{Waiting}
 use Rattle.i3c_base.specs.declared.requests.Record.{Record}
-use Rattle.i3c_base.specs.State.{Device, HasDistinctIdentities, IsStart, State, addressed, device_at, no_devices, raised_at, unaddressed}
+use Rattle.i3c_base.specs.State.{Board, Device, HasDistinctIdentities, IsStart, State, addressed, device_at, no_devices, raised_at, unaddressed}
 use Rattle.i3c_base.proofs.Lookups.{length-no_devices, length-no_raises, no_raises_at}
 use Rattle.i3c_step.specs.History.{AllDistinct, History, IsLegal, Moment, reached}
 use Rattle.i3c_step.specs.Records.{numbers_of, raise_of}
@@ -110,21 +109,21 @@ pub last_facts : (start : State) (m : Moment) (earlier : History) → IsLawful s
 last_facts start m earlier law = facts_from start m earlier law (numbered_reached start earlier (IsLawful-earlier start m earlier law))
 
 -- nothing waits at a start, and nothing was raised
-pub IsLawful-start : (main : Setup) (legacy : List (Option LegacyTarget)) (start : State) (h : History) → IsStart main legacy start → IsLegal start h → AllDistinct start h → IsLawful start h
-IsLawful-start main legacy start h begins legal distinct = record {
-  addresses = Addresses-start main legacy start begins;
+pub IsLawful-start : (main : Setup) (board : Board) (start : State) (h : History) → IsStart main board start → IsLegal start h → AllDistinct start h → IsLawful start h
+IsLawful-start main board start h begins legal distinct = record {
+  addresses = Addresses-start main board start begins;
   numbered = subst IsNumbered (sym begins.2) (record {
     rise = λ s. subst (λ ws. Between 0 (numbers ws) (raised_at first s)) (sym (nothing s (device_at first s) refl)) (subst (Between 0 []) (sym (no_raises_at s)) (omega arith));
     even = length-no_raises ∙ sym (length-set _ 0 _ ∙ (length-set no_devices 0 _ ∙ length-no_devices));
   });
-  empty = λ s d p. ap (λ (x : Device). x.waiting) (start_device main legacy begins.0 s d (subst (λ (st : State). device_at st s ≡ Some d) begins.2 p)).1;
+  empty = λ s d p. ap (λ (x : Device). x.waiting) (start_device main board begins.0 s d (subst (λ (st : State). device_at st s ≡ Some d) begins.2 p)).1;
   legal = legal;
   distinct = distinct;
 }
   where
     first : State
-    first = addressed 0 begins.0 main.identity (unaddressed main legacy)
+    first = addressed 0 begins.0 main.identity (unaddressed main board)
 
     nothing : (s : ℕ) (o : Option Device) → device_at first s ≡ o → waiting_in o ≡ []
     nothing s None e = refl
-    nothing s (Some d) e = ap (λ (x : Device). x.waiting) (start_device main legacy begins.0 s d e).1
+    nothing s (Some d) e = ap (λ (x : Device). x.waiting) (start_device main board begins.0 s d e).1

@@ -4,10 +4,9 @@ use Rattle.std.proofs.lemmas.List.Elements.{Contains-append_cases, Contains-appe
 use Rattle.std.proofs.Common.{◌≡◌, ℕ, Bool, true, false, List, [], ◌∷◌, ◌++◌, filter, map, Option, Some, None, ◌==◌, if◌then◌else◌, ◌⊎◌, inl, inr, sym, refl, ap, ◌∙◌, subst, arith}
 use Rattle.std.specs.List.{Contains}
 use Rattle.i3c_base.specs.declared.device.Setup.{Setup}
-use Rattle.i3c_base.specs.declared.device.LegacyTarget.{LegacyTarget}
 use Rattle.i3c_base.specs.declared.device.Waiting.{Waiting}
 use Rattle.i3c_base.specs.declared.requests.Record.{Record}
-use Rattle.i3c_base.specs.State.{Device, IsStart, State, device_at, raised_at}
+use Rattle.i3c_base.specs.State.{Board, Device, IsStart, State, device_at, raised_at}
 use Rattle.i3c_step.specs.History.{AllDistinct, History, IsAccepted, IsLegal, Moment, WasRaised, reached}
 use Rattle.i3c_step.specs.Records.{HasFaithfulRecords, IsRecordedFor, RecordsAt, RecordsGrow, numbers_of, raise_of}
 use Rattle.i3c_step.specs.Serving.{recorded_at}
@@ -127,9 +126,9 @@ records_grow start (m ∷ earlier) law =
       raised = waiting_raised start earlier (IsLawful-earlier start m earlier law) a.last.slot a.device (raise_of a.last) a.there a.waits;
     }
 
-pub faithful_records : (main : Setup) (legacy : List (Option LegacyTarget)) (start : State) (h : History)
-    → IsStart main legacy start → IsLegal start h → AllDistinct start h → HasFaithfulRecords start h
-faithful_records main legacy start h begins legal distinct = record {
+pub faithful_records : (main : Setup) (board : Board) (start : State) (h : History)
+    → IsStart main board start → IsLegal start h → AllDistinct start h → HasFaithfulRecords start h
+faithful_records main board start h begins legal distinct = record {
   grow = records_grow start h law;
   once = once-between (reached start h).records (λ s. (0, _, between s));
   rise = λ s. Increasing-between 0 (numbers_of s (reached start h).records) _ (between s);
@@ -137,7 +136,7 @@ faithful_records main legacy start h begins legal distinct = record {
 }
   where
     law : IsLawful start h
-    law = IsLawful-start main legacy start h begins legal distinct
+    law = IsLawful-start main board start h begins legal distinct
 
     between : (s : ℕ) → Between 0 (numbers_of s (reached start h).records) (raised_at (reached start h) s)
     between s = Between-front 0 (numbers_of s (reached start h).records) _ _ ((numbered_reached start h law).rise s)

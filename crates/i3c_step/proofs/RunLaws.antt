@@ -1,8 +1,7 @@
 -- Runs that go on.
 use Rattle.std.proofs.Common.{◌++◌, List, [], ◌∷◌, Option, subst, refl}
 use Rattle.i3c_base.specs.declared.device.Setup.{Setup}
-use Rattle.i3c_base.specs.declared.device.LegacyTarget.{LegacyTarget}
-use Rattle.i3c_base.specs.State.{IsStart, State}
+use Rattle.i3c_base.specs.State.{Board, IsStart, State}
 use Rattle.i3c_step.specs.declared.events.Event.{Event}
 use Rattle.i3c_step.specs.declared.replies.Reply.{Reply}
 use Rattle.i3c_step.specs.Step.{Step}
@@ -17,10 +16,10 @@ run_more old [] (x ∷ xs) mid event reply new r s = absurd r
 run_more old (e ∷ es) [] mid event reply new r s = absurd r
 
 -- a legal run is empty at a start
-pub legal_none : (main : Setup) (legacy : List (Option LegacyTarget)) (start : State) → IsStart main legacy start → IsLegalRun main legacy [] [] start
-legal_none main legacy start begins = (start, begins, refl)
+pub legal_none : (main : Setup) (board : Board) (start : State) → IsStart main board start → IsLegalRun main board [] [] start
+legal_none main board start begins = (start, begins, refl)
 
 -- a legal run goes on by one step
-pub legal_more : (main : Setup) (legacy : List (Option LegacyTarget)) (events : List Event) (replies : List Reply) (mid : State) (event : Event) (reply : Reply) (new : State)
-    → IsLegalRun main legacy events replies mid → Step mid event reply new → IsLegalRun main legacy (events ++ event ∷ []) (replies ++ reply ∷ []) new
-legal_more main legacy events replies mid event reply new r s = (r.0, r.1, run_more r.0 events replies mid event reply new r.2 s)
+pub legal_more : (main : Setup) (board : Board) (events : List Event) (replies : List Reply) (mid : State) (event : Event) (reply : Reply) (new : State)
+    → IsLegalRun main board events replies mid → Step mid event reply new → IsLegalRun main board (events ++ event ∷ []) (replies ++ reply ∷ []) new
+legal_more main board events replies mid event reply new r s = (r.0, r.1, run_more r.0 events replies mid event reply new r.2 s)

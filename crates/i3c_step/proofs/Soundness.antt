@@ -1,12 +1,11 @@
 -- Every bus is sound: waiting interrupts fit their devices, and each step keeps that.
 use Rattle.std.proofs.lemmas.Bool.{eq-eqb, eqb-true, not-false}
 use Rattle.std.proofs.lemmas.List.Elements.{All-append, All-cons, All-drop, All-nil}
-use Rattle.std.proofs.Common.{◌≡◌, ℕ, suc, Bool, true, false, not, List, [], ◌∷◌, ◌++◌, Option, Some, None, is_none, is_some, option_map, ◌==◌, if◌then◌else◌, inl, inr, sym, refl, ap, ◌∙◌, subst}
+use Rattle.std.proofs.Common.{◌≡◌, ℕ, suc, Bool, true, false, not, List, [], ◌∷◌, ◌++◌, Option, Some, None, is_none, is_some, option_map, ◌==◌, if◌then◌else◌, inl, inr, sym, refl, ap, ◌∙◌, subst, ◌||◌}
 use Rattle.std.specs.List.{All}
 use Rattle.i3c_base.specs.declared.answers.Answer.{Answer}
 use Rattle.i3c_base.specs.declared.answers.RoundReply.{RoundReply}
 use Rattle.i3c_base.specs.declared.device.Setup.{Setup}
-use Rattle.i3c_base.specs.declared.device.LegacyTarget.{LegacyTarget}
 use Rattle.i3c_base.specs.declared.device.Waiting.{Waiting}
 use Rattle.i3c_base.specs.declared.identity.Bcr.{Bcr}
 use Rattle.i3c_base.specs.declared.identity.Identity.{Identity}
@@ -15,26 +14,26 @@ use Rattle.i3c_base.specs.declared.requests.Request.{Request}
 use Rattle.i3c_base.specs.declared.requests.Served.{Served}
 use Rattle.i3c_base.specs.declared.requests.Served.TheVariants.{Quiet, Recorded, Refused, Torn, Joining, WantsRole}
 use Rattle.i3c_base.specs.Numbers.{KindSet, has_byte}
-use Rattle.i3c_base.specs.State.{Device, State, IsStart, change, device_at, each, in_slot, raised_at}
+use Rattle.i3c_base.specs.State.{Board, Device, State, IsStart, change, device_at, each, in_slot, raised_at, declared_at}
 use Rattle.i3c_base.specs.Cutting.{CutList, Lost, lost_by, nobody}
 use Rattle.i3c_base.specs.Local.{ask_join, ask_role, attach, drop_off, raise}
 use Rattle.i3c_base.specs.Serve.{Frame, Serves, drives, each_driver, emptied, tail, without_front, without_join, without_role}
-use Rattle.i3c_base.specs.Frames.{IsWillingAt, Rekinds, handed, list, overwritten, Reads, Writes, reaches, rekinded, reset, unaddressed_device, written}
+use Rattle.i3c_base.specs.Frames.{IsWillingAt, Rekinds, handed, list, overwritten, Reads, Writes, reaches, rekinded, reset, unaddressed_device, written, active_has, readdressed, takes_static, with_new, with_static}
 use Rattle.i3c_base.specs.Round.{Rounds, assigned, ended, hears, opened, unhearing, winner, wins}
 use Rattle.i3c_base.specs.Numbers.{same_bool}
 use Rattle.i3c_base.proofs.Lookups.{attach_from, change_at, change_from, drop_off_from, each_from, emptied_from}
 use Rattle.i3c_step.specs.declared.events.Event.{Event}
-use Rattle.i3c_step.specs.declared.events.Event.TheVariants.{Attach, DropOff, Raise, AskJoin, AskRole, Serve, Enec, Disec, Reset, SendList, ReadFrom, WriteTo, OpenDaa, Round, EndDaa, HandOver}
+use Rattle.i3c_step.specs.declared.events.Event.TheVariants.{Attach, DropOff, Raise, AskJoin, AskRole, Serve, Enec, Disec, Reset, SendList, ReadFrom, WriteTo, SetStatic, SetNew, OpenDaa, Round, EndDaa, HandOver}
 use Rattle.i3c_step.specs.declared.replies.Reply.{Reply}
-use Rattle.i3c_step.specs.Step.{Acts, Step, checks, first_refusal}
+use Rattle.i3c_step.specs.Step.{Acts, Step, checks, first_refusal, is_kept_for, is_pickable}
 use Rattle.i3c_step.specs.Sound.{IsFitting, IsSound}
-use Rattle.i3c_step.proofs.Active.{Active-emptied, Active-round, IsSafe, Present-change, Present-each, Present-written, Safe-rekinds, Safe-serves}
-use Rattle.i3c_step.proofs.Addresses.{Addresses-emptied, Addresses-none_new, Addresses-round, Addresses-start, Addresses-step, IsSteady, NoneNew-change, NoneNew-ended, NoneNew-handed, NoneNew-list, NoneNew-opened, NoneNew-rekinds, NoneNew-reset, NoneNew-serves, NoneNew-written, start_device}
-use Rattle.i3c_step.proofs.Follows.{Follows-change, Follows-emptied, Follows-ended, Follows-opened, Follows-rekinds, Follows-reset, Follows-round, Follows-serves, Follows-written}
+use Rattle.i3c_step.proofs.Active.{Active-emptied, Active-round, IsSafe, Present-change, Present-each, Present-written, Safe-rekinds, Safe-serves, Present-with_new, Present-with_static}
+use Rattle.i3c_step.proofs.Addresses.{Addresses-emptied, Addresses-none_new, Addresses-round, Addresses-start, Addresses-step, IsSteady, NoneNew-change, NoneNew-ended, NoneNew-handed, NoneNew-list, NoneNew-opened, NoneNew-rekinds, NoneNew-reset, NoneNew-serves, NoneNew-written, start_device, Addresses-with_new, Addresses-with_static, IsSettled, Suits-static, pickable_settled}
+use Rattle.i3c_step.proofs.Follows.{Follows-change, Follows-emptied, Follows-ended, Follows-opened, Follows-rekinds, Follows-reset, Follows-round, Follows-serves, Follows-written, Follows-with_new, Follows-with_static}
 use Rattle.i3c_step.proofs.Handing.{declined, granted}
 use Rattle.i3c_step.proofs.Holding.{active_follows, active_start, active_step}
 use Rattle.i3c_step.proofs.Steps.{no_test, step_cases}
-use Rattle.i3c_step.proofs.Transfers.{reads_keep, writes_keep}
+use Rattle.i3c_step.proofs.Transfers.{reads_keep, writes_keep, news_keep, statics_keep}
 
 -- what waits in each device fits it
 abbrev AllFit : State → Type 0
@@ -123,6 +122,14 @@ AllFit-written : (a : ℕ) (bytes : List ℕ) (st : State) → AllFit st → All
 AllFit-written a bytes st = AllFit-each (λ s d. if reaches st (Some a) s d then record d { registers = overwritten bytes d.registers } else d) st
     (λ s d h. Fits-if (reaches st (Some a) s d) d (record d { registers = overwritten bytes d.registers }) h h)
 
+AllFit-with_static : (f : ℕ) (i : Identity) (a : ℕ) (st : State) → AllFit st → AllFit (with_static f i a st)
+AllFit-with_static f i a st = AllFit-each (λ s d. if takes_static st.active f s d then winner a d else d) st
+    (λ s d h. Fits-if (takes_static st.active f s d) d (winner a d) h h)
+
+AllFit-with_new : (old a : ℕ) (st : State) → AllFit st → AllFit (with_new old a st)
+AllFit-with_new old a st = AllFit-each (λ s d. if reaches st (Some old) s d then readdressed a d else d) st
+    (λ s d h. Fits-if (reaches st (Some old) s d) d (readdressed a d) h h)
+
 AllFit-opened : (st : State) → AllFit st → AllFit (opened st)
 AllFit-opened st = AllFit-each (λ s d. hears d) st (λ s d h. Fits-if (is_none d.address) d (record d { hearing = true }) h h)
 
@@ -175,24 +182,28 @@ AllFit-acts old (ReadFrom a policy cuts) reply new free h all =
     AllFit-frame old policy cuts _ _ _ new (reads_keep (λ mid done. AllFit mid → AllFit done) (λ st fit. fit) a h.0.answer) h.2 all
 AllFit-acts old (WriteTo a bytes policy cuts) reply new free h all =
     AllFit-frame old policy cuts _ _ _ new (writes_keep (λ mid done. AllFit mid → AllFit done) a bytes.items (λ st fit. fit) (AllFit-written a bytes.items) h.0.answer) h.2 all
+AllFit-acts old (SetStatic f to policy cuts) reply new free h all =
+    AllFit-frame old policy cuts _ _ _ new (λ lost mid done. statics_keep (λ st next. AllFit st → AllFit next) f to (λ st fit. fit) (λ i st. AllFit-with_static f i to st) h.0.answer lost mid done) h.2 all
+AllFit-acts old (SetNew a to policy cuts) reply new free h all =
+    AllFit-frame old policy cuts _ _ _ new (λ lost mid done. news_keep (λ st next. AllFit st → AllFit next) a to (λ st fit. fit) (AllFit-with_new a to) h.0.answer lost mid done) h.2 all
 AllFit-acts old (OpenDaa cuts) reply new free h all =
     AllFit-frame old _ cuts _ _ _ new (λ lost mid done e fit. subst AllFit (sym e) (AllFit-opened mid fit)) h.2 all
 AllFit-acts old (Round cuts) reply new free h all = AllFit-round old cuts h.0 new h.2 all
 AllFit-acts old (HandOver to cuts) reply new free h all = elim h [
   | inl g ↦
       let x = granted old to cuts reply new g in
-      subst AllFit (sym x.after) (AllFit-emptied (lost_by cuts x.last) (handed x.slot old) (AllFit-change x.slot without_role old (λ d f. f) all))
+      subst AllFit (sym x.after) (AllFit-emptied (lost_by cuts x.last) (handed x.slot to old) (AllFit-change x.slot without_role old (λ d f. f) all))
   | inr g ↦ let x = declined old to cuts reply new g in subst AllFit (sym x.1) (AllFit-emptied (lost_by cuts x.0) old all)
 ]
 AllFit-acts old EndDaa reply new free h all = subst AllFit (sym h.1) (AllFit-each (λ s d. unhearing d) old (λ s d f. f) all)
 
 -- a start is sound: nothing waits there
-pub sound_start : (main : Setup) (legacy : List (Option LegacyTarget)) (st : State) → IsStart main legacy st → IsSound st
-sound_start main legacy st h = record {
-  addresses = Addresses-start main legacy st h;
-  active = active_start main legacy st h;
+pub sound_start : (main : Setup) (board : Board) (st : State) → IsStart main board st → IsSound st
+sound_start main board st h = record {
+  addresses = Addresses-start main board st h;
+  active = active_start main board st h;
   fitting = subst AllFit (sym h.2) (λ s d p.
-      subst IsFitting (sym (start_device main legacy h.0 s d p).1) (All-nil (FitsBcr main.identity.bcr)));
+      subst IsFitting (sym (start_device main board h.0 s d p).1) (All-nil (FitsBcr main.identity.bcr)));
 }
 
 -- the active controller is present, where nobody is lost
@@ -223,6 +234,23 @@ sound_written a bytes st sound = record {
   fitting = AllFit-written a bytes st sound.fitting;
 }
 
+-- and an address that is given at a declared static one, where it suits the identity
+pub sound_with_static : (f : ℕ) (i : Identity) (a : ℕ) (old st : State) → IsSettled old st → declared_at st f ≡ Some i → (is_pickable old a || is_kept_for old (Some i) a) ≡ true
+    → IsSound st → IsSound (with_static f i a st)
+sound_with_static f i a old st same declared given sound = record {
+  addresses = Addresses-with_static f i a st declared (Suits-static old st a i same given sound.addresses) sound.addresses;
+  active = active_follows st (with_static f i a st) (Follows-with_static f i a st) (Present-with_static f i a st st.active (sound.active.0, sound.active.2)) sound.active;
+  fitting = AllFit-with_static f i a st sound.fitting;
+}
+
+-- and one that is given in another's place
+pub sound_with_new : (was a : ℕ) (old st : State) → IsSettled old st → active_has old was ≡ false → is_pickable old a ≡ true → IsSound st → IsSound (with_new was a st)
+sound_with_new was a old st same other given sound = record {
+  addresses = Addresses-with_new was a st (same.active was other) (pickable_settled old st a same given) sound.addresses;
+  active = active_follows st (with_new was a st) (Follows-with_new was a st) (Present-with_new was a st st.active (sound.active.0, sound.active.2)) sound.active;
+  fitting = AllFit-with_new was a st sound.fitting;
+}
+
 -- so does a device that changes and keeps its identity and its address
 sound_changed : (s : ℕ) (f : Device → Device) (st : State) → ((d : Device) → IsSteady (f d) d) → ((d : Device) → ((f d).address ≡ d.address) × ((f d).hearing ≡ d.hearing))
     → ((d : Device) → IsFitting d → IsFitting (f d)) → IsSound st → IsSound (change s f st)
@@ -234,10 +262,10 @@ sound_changed s f st steady same keeps sound = record {
 
 -- such a one is one that wishes to join, and one that wishes for the role
 pub sound_wishes : (s : ℕ) (st : State) → IsSound st → IsSound (ask_join s st)
-sound_wishes s st sound = sound_changed s (λ d. record d { join_wish = true }) st (λ d. record { identity = refl; address = λ a p. p }) (λ d. (refl, refl)) (λ d f. f) sound
+sound_wishes s st sound = sound_changed s (λ d. record d { join_wish = true }) st (λ d. record { identity = refl; fixed = refl; address = λ a p. p }) (λ d. (refl, refl)) (λ d f. f) sound
 
 pub sound_role_wishes : (s : ℕ) (st : State) → IsSound st → IsSound (ask_role s st)
-sound_role_wishes s st sound = sound_changed s (λ d. record d { role_wish = true }) st (λ d. record { identity = refl; address = λ a p. p }) (λ d. (refl, refl)) (λ d f. f) sound
+sound_role_wishes s st sound = sound_changed s (λ d. record d { role_wish = true }) st (λ d. record { identity = refl; fixed = refl; address = λ a p. p }) (λ d. (refl, refl)) (λ d f. f) sound
 
 -- devices that are gone, if the active controller isn't among them
 pub sound_emptied : (lost : Lost) (st : State) → lost st.active ≡ false → IsSound st → IsSound (emptied lost st)
@@ -288,9 +316,9 @@ sound_list st sound = record {
 }
 
 -- a role that is handed to a device with an address
-pub sound_handed : (s a : ℕ) (st : State) → IsWillingAt st a s → IsSound st → IsSound (handed s st)
+pub sound_handed : (s a : ℕ) (st : State) → IsWillingAt st a s → IsSound st → IsSound (handed s a st)
 sound_handed s a st willing sound = record {
-  addresses = Addresses-none_new st (handed s st) (NoneNew-handed s st) sound.addresses;
+  addresses = Addresses-none_new st (handed s a st) (NoneNew-handed s a st) sound.addresses;
   active = (
     if s == s then without_role willing.0 else willing.0,
     a,

@@ -4,9 +4,8 @@ use Rattle.std.proofs.Common.{◌≡◌, ℕ, true, false, ◌&&◌, List, [], �
 use Rattle.std.proofs.lemmas.Option.{none-some}
 use Rattle.std.specs.List.{Contains}
 use Rattle.i3c_base.specs.declared.device.Setup.{Setup}
-use Rattle.i3c_base.specs.declared.device.LegacyTarget.{LegacyTarget}
 use Rattle.i3c_base.specs.declared.device.Waiting.{Waiting}
-use Rattle.i3c_base.specs.State.{Device, IsStart, State, device_at}
+use Rattle.i3c_base.specs.State.{Board, Device, IsStart, State, device_at}
 use Rattle.i3c_step.specs.History.{AllDistinct, History, IsLegal, Moment, reached}
 use Rattle.i3c_step.specs.Stays.{accepted_at, accepted_in_stay, recorded_in_stay, recorded_since, stays}
 use Rattle.i3c_step.proofs.Fates.{Fate}
@@ -64,7 +63,7 @@ stay_order start (m ∷ earlier) law s d p = go (λ e there. stay_order start ea
         ∙ (sym (append_assoc before since d.waiting)
         ∙ ap (λ (ws : List Waiting). ws ++ d.waiting) (sym (cond-true (stays old m.after s) (before ++ since) [] b))))))
 
-pub stays_in_order : (main : Setup) (legacy : List (Option LegacyTarget)) (start : State) (h : History)
-    → IsStart main legacy start → IsLegal start h → AllDistinct start h
+pub stays_in_order : (main : Setup) (board : Board) (start : State) (h : History)
+    → IsStart main board start → IsLegal start h → AllDistinct start h
     → (s : ℕ) (d : Device) → device_at (reached start h) s ≡ Some d → accepted_in_stay start h s ≡ recorded_in_stay start h s ++ d.waiting
-stays_in_order main legacy start h begins legal distinct s d p = stay_order start h (IsLawful-start main legacy start h begins legal distinct) s d p
+stays_in_order main board start h begins legal distinct s d p = stay_order start h (IsLawful-start main board start h begins legal distinct) s d p

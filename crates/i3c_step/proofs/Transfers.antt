@@ -4,9 +4,10 @@ use Rattle.std.proofs.lemmas.Grind.{same_number_lists}
 use Rattle.std.proofs.lemmas.Option.{none-some, same_Some}
 use Rattle.std.proofs.Common.{◌≡◌, ℕ, ◌<◌, List, Some, ◌⊎◌, inl, inr, sym, refl, ap, ◌∙◌, subst}
 use Rattle.i3c_base.specs.declared.answers.Answer.{Answer}
+use Rattle.i3c_base.specs.declared.identity.Identity.{Identity}
 use Rattle.i3c_base.specs.declared.device.LegacyTarget.{LegacyTarget}
 use Rattle.i3c_base.specs.Cutting.{Lost, nobody}
-use Rattle.i3c_base.specs.Frames.{AllLostAt, AnyAt, DrivesRegister, IsReadOf, NobodyLeftAt, Reads, Writes, written}
+use Rattle.i3c_base.specs.Frames.{AllLostAt, AllUnaddressedLostAt, AnyAt, AnyUnaddressedAt, DrivesRegister, IsReadOf, NobodyLeftAt, Reads, SetsNew, SetsStatic, Writes, with_new, with_static, written}
 use Rattle.i3c_base.specs.State.{State, legacy_target_at}
 use Rattle.i3c_step.proofs.Uniqueness.{and_unique}
 
@@ -24,6 +25,22 @@ writes_keep R a bytes same changed Answer.Done lost mid done h = subst (R mid) (
 writes_keep R a bytes same changed (Answer.NoAnswer b) lost mid done h = subst (R mid) (sym h.2) (same mid)
 writes_keep R a bytes same changed (Answer.Bytes read) lost mid done h = absurd h
 writes_keep R a bytes same changed Answer.NoEnd lost mid done h = absurd h
+
+-- SETDASA leaves this, or what it makes of it for some identity
+pub statics_keep : (R : State → State → Type 0) (f a : ℕ) → ((st : State) → R st st) → ((i : Identity) (st : State) → R st (with_static f i a st))
+    → (answer : Answer) (lost : Lost) (mid done : State) → SetsStatic f a answer lost mid done → R mid done
+statics_keep R f a same changed answer lost mid done h = elim h [
+  | inl e ↦ subst (R mid) (sym e.2.2) (changed e.2.0 mid)
+  | inr e ↦ subst (R mid) (sym e.2) (same mid)
+]
+
+-- and so does SETNEWDA
+pub news_keep : (R : State → State → Type 0) (old a : ℕ) → ((st : State) → R st st) → ((st : State) → R st (with_new old a st))
+    → (answer : Answer) (lost : Lost) (mid done : State) → SetsNew old a answer lost mid done → R mid done
+news_keep R old a same changed answer lost mid done h = elim h [
+  | inl e ↦ subst (R mid) (sym e.2) (changed mid)
+  | inr e ↦ subst (R mid) (sym e.2) (same mid)
+]
 
 -- somebody is there, and nobody is lost
 nobody_lost : (st : State) (a : ℕ) → AnyAt st a → AllLostAt st a nobody → ⊥
@@ -82,3 +99,27 @@ writes_unique a bytes (Answer.NoAnswer b) (Answer.Bytes read) mid done last h k 
 writes_unique a bytes (Answer.NoAnswer b) Answer.NoEnd mid done last h k = absurd k
 writes_unique a bytes (Answer.Bytes read) other mid done last h k = absurd h
 writes_unique a bytes Answer.NoEnd other mid done last h k = absurd h
+
+-- without losses SETDASA has one answer, and leaves one state
+pub statics_unique : (f a : ℕ) (answer other : Answer) (mid done last : State) → SetsStatic f a answer nobody mid done → SetsStatic f a other nobody mid last
+    → (answer ≡ other) × (done ≡ last)
+statics_unique f a answer other mid done last h k = elim h [
+  | inl x ↦ elim k [
+    | inl y ↦
+        let who : x.2.0 ≡ y.2.0 = same_Some x.2.0 y.2.0 (sym x.2.1 ∙ y.2.1) in
+        (x.0 ∙ sym y.0, x.2.2 ∙ (ap (λ i. with_static f i a mid) who ∙ sym y.2.2))
+    | inr y ↦ absurd (none_lost x.1 y.1)
+  ]
+  | inr x ↦ elim k [ inl y ↦ absurd (none_lost y.1 x.1) | inr y ↦ (x.0 ∙ sym y.0, x.2 ∙ sym y.2) ]
+]
+  where
+    none_lost : AnyUnaddressedAt mid f → AllUnaddressedLostAt mid f nobody → ⊥
+    none_lost any all = false≢true (all any.0 any.1 any.2)
+
+-- nor has SETNEWDA more
+pub news_unique : (old a : ℕ) (answer other : Answer) (mid done last : State) → SetsNew old a answer nobody mid done → SetsNew old a other nobody mid last
+    → (answer ≡ other) × (done ≡ last)
+news_unique old a answer other mid done last h k = elim h [
+  | inl x ↦ elim k [ inl y ↦ (x.0 ∙ sym y.0, x.2 ∙ sym y.2) | inr y ↦ absurd (nobody_lost mid old x.1 y.1) ]
+  | inr x ↦ elim k [ inl y ↦ absurd (nobody_lost mid old y.1 x.1) | inr y ↦ (x.0 ∙ sym y.0, x.2 ∙ sym y.2) ]
+]

@@ -9,10 +9,10 @@ use Rattle.i3c_base.specs.declared.identity.Identity.{Identity}
 use Rattle.i3c_base.specs.declared.requests.Request.{Request}
 use Rattle.i3c_base.specs.Cutting.{CutList, Lost, lost_by}
 use Rattle.i3c_base.specs.Numbers.{KindSet}
-use Rattle.i3c_base.specs.State.{Device, State, attached, device_at, each}
+use Rattle.i3c_base.specs.State.{Device, State, attached, device_at, each, fixed_of}
 use Rattle.i3c_base.specs.Local.{ask_join, ask_role, attach, drop_off}
 use Rattle.i3c_base.specs.Serve.{drives, each_driver, emptied, without_role}
-use Rattle.i3c_base.specs.Frames.{Rekinds, handed, list, overwritten, reaches, rekinded, reset, unaddressed_device, written}
+use Rattle.i3c_base.specs.Frames.{Rekinds, handed, list, overwritten, reaches, rekinded, reset, unaddressed_device, written, readdressed, takes_static, with_new, with_static}
 use Rattle.i3c_base.specs.Round.{Rounds, assigned, ended, hears, opened, unhearing, winner, wins}
 use Rattle.i3c_base.proofs.Lookups.{attach_from, change_from, drop_off_from, each_at, emptied_from, length-changed}
 
@@ -74,7 +74,7 @@ Unserved-attach s setup st empty = record {
   ];
   records = refl;
   raised = refl;
-  long = length-set st.devices s (Some (attached setup));
+  long = length-set st.devices s (Some (attached (fixed_of st.declared setup.identity) setup));
 }
 
 -- a slot that is emptied, and a device that wishes to join
@@ -103,8 +103,8 @@ Unserved-reset st = Unserved-each (λ s d. if s == st.active then without_role d
     kept true d = refl
     kept false d = refl
 
-pub Unserved-handed : (s : ℕ) (st : State) → Unserved st (handed s st)
-Unserved-handed s st = record {
+pub Unserved-handed : (s own : ℕ) (st : State) → Unserved st (handed s own st)
+Unserved-handed s own st = record {
   waiting = λ t d p.
       let x = change_from s without_role st t d p in
       ap (λ (y : Device). y.waiting) (sym x.2) ∙ (waiting-if (t == s) (without_role x.0) x.0 refl ∙ sym (ap waiting_in x.1));
@@ -140,6 +140,14 @@ Unserved-rekinds (Some a) f answer lost mid done h = elim h [
 pub Unserved-written : (a : ℕ) (bytes : List ℕ) (st : State) → Unserved st (written a bytes st)
 Unserved-written a bytes st = Unserved-each (λ s d. if reaches st (Some a) s d then record d { registers = overwritten bytes d.registers } else d) st _
     (λ s d. waiting-if (reaches st (Some a) s d) (record d { registers = overwritten bytes d.registers }) d refl) refl refl refl
+
+pub Unserved-with_static : (f : ℕ) (i : Identity) (a : ℕ) (st : State) → Unserved st (with_static f i a st)
+Unserved-with_static f i a st =
+    Unserved-each (λ s d. if takes_static st.active f s d then winner a d else d) st (with_static f i a st) (λ s d. waiting-if (takes_static st.active f s d) (winner a d) d refl) refl refl refl
+
+pub Unserved-with_new : (old a : ℕ) (st : State) → Unserved st (with_new old a st)
+Unserved-with_new old a st =
+    Unserved-each (λ s d. if reaches st (Some old) s d then readdressed a d else d) st (with_new old a st) (λ s d. waiting-if (reaches st (Some old) s d) (readdressed a d) d refl) refl refl refl
 
 pub Unserved-opened : (st : State) → Unserved st (opened st)
 Unserved-opened st = Unserved-each (λ s d. hears d) st (opened st) (λ s d. waiting-if (is_none d.address) (record d { hearing = true }) d refl) refl refl refl

@@ -22,3 +22,5 @@ event_of (Command.Enec to kinds) policy cuts = Event.Enec to kinds policy cuts
 event_of (Command.Disec to kinds) policy cuts = Event.Disec to kinds policy cuts
 event_of (Command.ReadFrom a) policy cuts = Event.ReadFrom a policy cuts
 event_of (Command.WriteTo a bytes) policy cuts = Event.WriteTo a bytes policy cuts
+event_of (Command.SetStatic f new) policy cuts = Event.SetStatic f new policy cuts
+event_of (Command.SetNew a new) policy cuts = Event.SetNew a new policy cuts

@@ -19,4 +19,6 @@ under policy (Event.Reset other cuts) = Event.Reset policy cuts
 under policy (Event.SendList other cuts) = Event.SendList policy cuts
 under policy (Event.ReadFrom a other cuts) = Event.ReadFrom a policy cuts
 under policy (Event.WriteTo a bytes other cuts) = Event.WriteTo a bytes policy cuts
+under policy (Event.SetStatic f new other cuts) = Event.SetStatic f new policy cuts
+under policy (Event.SetNew a new other cuts) = Event.SetNew a new policy cuts
 under policy event = event

@@ -2,13 +2,12 @@
 use Rattle.std.specs.Prelude.{◌≡◌, ◌≢◌, ◌≤◌, ℕ, true, List, ◌++◌, count_by, Option, Some, All, Contains}
 use Rattle.i3c_base.specs.declared.range.TheConstants.{SLOTS}
 use Rattle.i3c_base.specs.declared.device.Setup.{Setup}
-use Rattle.i3c_base.specs.declared.device.LegacyTarget.{LegacyTarget}
 use Rattle.i3c_base.specs.declared.requests.Fixed.{Fixed}
 use Rattle.i3c_base.specs.declared.requests.Request.{Request}
 use Rattle.i3c_base.specs.declared.requests.Served.{Served}
 use Rattle.i3c_base.specs.declared.requests.Verdict.{Verdict}
 use Rattle.i3c_base.specs.Serve.{IsFirst, verdict}
-use Rattle.i3c_base.specs.State.{Device, HasDistinctIdentities, HasUniqueAnswers, IsPresent, IsStart, State, device_at}
+use Rattle.i3c_base.specs.State.{Board, Device, HasDistinctIdentities, HasUniqueAnswers, IsPresent, IsStart, State, device_at}
 use Rattle.i3c_step.specs.declared.events.Event.{Event}
 use Rattle.i3c_step.specs.declared.replies.Reply.{Reply}
 use Rattle.i3c_step.specs.Step.{IsUncutEvent, Step}
@@ -24,13 +23,13 @@ use Rattle.i3c_step.specs.Stays.{accepted_in_stay, accepted_since_attachment, re
 -- No two devices answer to one address, legacy targets included, in a state that a legal run leads to
 -- and in which devices present together have distinct identities.
 abbrev pub AddressesAreUnique : Type 0
-AddressesAreUnique = (main : Setup) (legacy : List (Option LegacyTarget)) (events : List Event) (replies : List Reply) (new : State)
-    → IsLegalRun main legacy events replies new → HasDistinctIdentities new → HasUniqueAnswers new
+AddressesAreUnique = (main : Setup) (board : Board) (events : List Event) (replies : List Reply) (new : State)
+    → IsLegalRun main board events replies new → HasDistinctIdentities new → HasUniqueAnswers new
 
 -- In each state that a legal run leads to, a device is in the active slot. (The state names one slot, so no other is active.)
 abbrev pub OneIsActive : Type 0
-OneIsActive = (main : Setup) (legacy : List (Option LegacyTarget)) (events : List Event) (replies : List Reply) (new : State)
-    → IsLegalRun main legacy events replies new → IsPresent new new.active
+OneIsActive = (main : Setup) (board : Board) (events : List Event) (replies : List Reply) (new : State)
+    → IsLegalRun main board events replies new → IsPresent new new.active
 
 -- Each run is a legal history, with the states between, so what holds of histories holds of runs.
 abbrev pub RunsAreHistories : Type 0
@@ -40,8 +39,8 @@ RunsAreHistories = (start : State) (events : List Event) (replies : List Reply) 
 -- Each accepted interrupt is recorded once, under the address of the device that raised it while enabled, where
 -- devices present together always had distinct identities.
 abbrev pub InterruptsAreRecordedOnce : Type 0
-InterruptsAreRecordedOnce = (main : Setup) (legacy : List (Option LegacyTarget)) (start : State) (h : History)
-    → IsStart main legacy start → IsLegal start h → AllDistinct start h → HasFaithfulRecords start h
+InterruptsAreRecordedOnce = (main : Setup) (board : Board) (start : State) (h : History)
+    → IsStart main board start → IsLegal start h → AllDistinct start h → HasFaithfulRecords start h
 
 -- A frame that accepts its first request, an interrupt, records it, at its address, of the lowest driver's slot, with the
 -- number of its front; or it was torn, where a byte was due and each driver went in the frame.
@@ -52,8 +51,8 @@ AcceptedInterruptsAreRecorded = (old : State) (event : Event) (reply : Reply) (n
 
 -- Of a present device's stay, the accepted raises are the recorded ones and then those that wait, in order.
 abbrev pub RaisesStayInOrder : Type 0
-RaisesStayInOrder = (main : Setup) (legacy : List (Option LegacyTarget)) (start : State) (h : History)
-    → IsStart main legacy start → IsLegal start h → AllDistinct start h
+RaisesStayInOrder = (main : Setup) (board : Board) (start : State) (h : History)
+    → IsStart main board start → IsLegal start h → AllDistinct start h
     → (s : ℕ) (d : Device) → device_at (reached start h) s ≡ Some d → accepted_in_stay start h s ≡ recorded_in_stay start h s ++ d.waiting
 
 -- Without cuts, and where there is memory, the bus is a machine: the state and the event determine the reply and the next state.
@@ -79,6 +78,6 @@ StaysBeginByAttachments = (start : State) (h : History) → IsLegal start h
 -- Of as many rounds as there are slots, in one session and without cuts, one answers that nobody hears any more, or that no
 -- address is left, whatever else happens between them.
 abbrev pub SessionsEnd : Type 0
-SessionsEnd = (main : Setup) (legacy : List (Option LegacyTarget)) (events : List Event) (replies : List Reply) (mid : State) → IsLegalRun main legacy events replies mid → mid.in_session ≡ true
+SessionsEnd = (main : Setup) (board : Board) (events : List Event) (replies : List Reply) (mid : State) → IsLegalRun main board events replies mid → mid.in_session ≡ true
     → (session : List Event) (answers : List Reply) (new : State) → All IsInSession session → SLOTS ≤ count_by is_round session → IsRun mid session answers new
     → (answer : Reply) × Contains answers answer × IsLastRound answer

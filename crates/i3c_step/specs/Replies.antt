@@ -9,6 +9,7 @@ use Rattle.i3c_step.specs.declared.replies.ActiveStays.{ActiveStays}
 use Rattle.i3c_step.specs.declared.replies.DropRefusal.{DropRefusal}
 use Rattle.i3c_step.specs.declared.replies.Framed.{Framed}
 use Rattle.i3c_step.specs.declared.replies.FrameFault.{FrameFault}
+use Rattle.i3c_step.specs.declared.replies.SetFault.{SetFault}
 use Rattle.i3c_step.specs.declared.replies.SlotTaken.{SlotTaken}
 use Rattle.i3c_step.specs.declared.replies.TargetFault.{TargetFault}
 use Rattle.i3c_step.specs.declared.replies.WriteFault.{WriteFault}
@@ -101,6 +102,18 @@ write_fault_reply WriteFault.OutOfMemory = Reply.OutOfMemory
 abbrev pub wrote_reply : Result Framed WriteFault → Reply
 wrote_reply (Ok framed) = Reply.Framed framed
 wrote_reply (Err why) = write_fault_reply why
+
+-- of a fault of a frame that gives an address
+abbrev pub set_fault_reply : SetFault → Reply
+set_fault_reply SetFault.ActiveStays = Reply.Refused Refusal.ActiveStays
+set_fault_reply (SetFault.NoAnswer a) = Reply.Refused (Refusal.NoAnswer a)
+set_fault_reply (SetFault.BadAddress a) = Reply.Refused (Refusal.BadAddress a)
+set_fault_reply SetFault.OutOfMemory = Reply.OutOfMemory
+
+-- of `set_static` and `set_new`
+abbrev pub set_reply : Result Framed SetFault → Reply
+set_reply (Ok framed) = Reply.Framed framed
+set_reply (Err why) = set_fault_reply why
 
 -- of `reset` and `list`
 abbrev pub announced_reply : Result Framed FrameFault → Reply

@@ -1,8 +1,7 @@
 -- Whole runs.
 use Rattle.std.specs.Prelude.{◌≡◌, List, [], ◌∷◌, Option}
 use Rattle.i3c_base.specs.declared.device.Setup.{Setup}
-use Rattle.i3c_base.specs.declared.device.LegacyTarget.{LegacyTarget}
-use Rattle.i3c_base.specs.State.{IsStart, State}
+use Rattle.i3c_base.specs.State.{Board, IsStart, State}
 use Rattle.i3c_step.specs.declared.events.Event.{Event}
 use Rattle.i3c_step.specs.declared.replies.Reply.{Reply}
 use Rattle.i3c_step.specs.Step.{Step}
@@ -15,5 +14,5 @@ IsRun old [] (reply ∷ replies) new = ⊥
 IsRun old (event ∷ events) [] new = ⊥
 
 -- a legal run: the same from a start
-abbrev pub IsLegalRun : Setup → List (Option LegacyTarget) → List Event → List Reply → State → Type 0
-IsLegalRun main legacy events replies new = (start : State) × IsStart main legacy start × IsRun start events replies new
+abbrev pub IsLegalRun : Setup → Board → List Event → List Reply → State → Type 0
+IsLegalRun main board events replies new = (start : State) × IsStart main board start × IsRun start events replies new

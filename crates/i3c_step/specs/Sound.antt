@@ -1,24 +1,29 @@
 -- What every bus keeps, whatever happens on it.
-use Rattle.std.specs.Prelude.{◌≡◌, ℕ, length, Some, None, is_some}
+use Rattle.std.specs.Prelude.{◌≡◌, ℕ, List, length, Option, Some, None, is_some}
 use Rattle.std.specs.List.{All}
 use Rattle.i3c_base.specs.declared.range.TheConstants.{ADDRESSES}
 use Rattle.i3c_base.specs.declared.device.Waiting.{Waiting}
 use Rattle.i3c_base.specs.declared.identity.Identity.{Identity}
 use Rattle.i3c_base.specs.Numbers.{has_byte}
-use Rattle.i3c_base.specs.State.{Device, Entry, State, device_at, entry_at, legacy_target_at}
+use Rattle.i3c_base.specs.State.{Device, Entry, State, declared_at, declared_in, device_at, entry_at, fixed_of, legacy_target_at}
 
--- the entry says what the identity's device is, and is kept for no other identity
-pub record IsFor (i : Identity) (e : Entry) : Type 0 where
+-- the entry says what the identity's device is, is kept for no other identity, and has no other's static address
+pub record IsFor (declared : List (Option Identity)) (i : Identity) (e : Entry) : Type 0 where
   pub bcr : e.bcr ≡ i.bcr
   pub dcr : e.dcr ≡ i.dcr
   pub kept : (j : Identity) → e.kept ≡ Some j → j ≡ i
+  pub fixed : (f : ℕ) → e.fixed ≡ Some f → declared_in declared f ≡ Some i
 
 -- each address in use stands in the table under its device's identity and is kept for no other, devices of one address
--- have one identity, and no address of the table, which has a place for each, is a legacy target's
+-- have one identity, and no address of the table, which has a place for each, is a legacy target's or declared. Each device
+-- has the static address that is declared for its identity, and no legacy target has one that is declared
 pub record Addresses (st : State) : Type 0 where
-  pub used : (s a : ℕ) (d : Device) → device_at st s ≡ Some d → d.address ≡ Some a → (e : Entry) × (entry_at st a ≡ Some e) × IsFor d.identity e
+  pub used : (s a : ℕ) (d : Device) → device_at st s ≡ Some d → d.address ≡ Some a → (e : Entry) × (entry_at st a ≡ Some e) × IsFor st.declared d.identity e
   pub alike : (s t a : ℕ) (d e : Device) → device_at st s ≡ Some d → device_at st t ≡ Some e → d.address ≡ Some a → e.address ≡ Some a → d.identity ≡ e.identity
   pub free : (a : ℕ) (e : Entry) → entry_at st a ≡ Some e → legacy_target_at st a ≡ None
+  pub undeclared : (a : ℕ) (e : Entry) → entry_at st a ≡ Some e → declared_at st a ≡ None
+  pub placed : (s : ℕ) (d : Device) → device_at st s ≡ Some d → d.fixed ≡ fixed_of st.declared d.identity
+  pub lone : (a : ℕ) (i : Identity) → declared_at st a ≡ Some i → legacy_target_at st a ≡ None
   pub long : length st.given ≡ ADDRESSES
 
 -- a device's waiting interrupts have mandatory bytes exactly where its BCR says so

@@ -3,23 +3,24 @@ use Rattle.std.specs.Prelude.{◌≡◌, ℕ, suc, ◌+◌, ◌-◌, ◌^◌, Bo
 use Rattle.i3c_base.specs.declared.answers.Answer.{Answer}
 use Rattle.i3c_base.specs.declared.answers.RoundReply.{RoundReply}
 use Rattle.i3c_base.specs.declared.device.TheConstants.{WAITING}
+use Rattle.i3c_base.specs.declared.identity.Identity.{Identity}
 use Rattle.i3c_base.specs.declared.requests.Fixed.{Fixed}
 use Rattle.i3c_base.specs.declared.requests.Served.{Served}
 use Rattle.i3c_base.specs.declared.kinds.Change.{Change}
 use Rattle.i3c_base.specs.Numbers.{KindSet, can_interrupt, has_byte, is_capable, same_bool}
-use Rattle.i3c_base.specs.State.{Entry, State, device_at, entry_at, in_slot, legacy_target_at, raised_at}
+use Rattle.i3c_base.specs.State.{Entry, State, declared_at, device_at, entry_at, in_slot, is_the, is_usable, known_in, legacy_target_at, raised_at}
 use Rattle.i3c_base.specs.Cutting.{CutList, IsUncut, Lost, cut_of}
 use Rattle.i3c_base.specs.Local.{ask_join, ask_role, attach, drop_off, raise}
 use Rattle.i3c_base.specs.Serve.{Frame, header_bits, refuse_all}
-use Rattle.i3c_base.specs.Frames.{Hands, IsRefusedBits, KeepsRole, Reads, Rekinds, Writes, active_has, changed_kinds, kinds_bits, list, list_bits, read_bits, reset, write_bits}
+use Rattle.i3c_base.specs.Frames.{Hands, IsRefusedBits, KeepsRole, Reads, Rekinds, SetsNew, SetsStatic, Writes, active_has, changed_kinds, kinds_bits, list, list_bits, read_bits, reset, write_bits}
 use Rattle.i3c_base.specs.Refusing.{Tests, first_of, join_tests, renamed, role_tests}
 use Rattle.i3c_base.specs.Round.{Rounds, ended, opened}
 use Rattle.i3c_step.specs.declared.events.Event.{Event}
-use Rattle.i3c_step.specs.declared.events.Event.TheVariants.{Attach, DropOff, Raise, AskJoin, AskRole, Serve, Enec, Disec, Reset, SendList, ReadFrom, WriteTo, OpenDaa, Round, EndDaa, HandOver}
+use Rattle.i3c_step.specs.declared.events.Event.TheVariants.{Attach, DropOff, Raise, AskJoin, AskRole, Serve, Enec, Disec, Reset, SendList, ReadFrom, WriteTo, SetStatic, SetNew, OpenDaa, Round, EndDaa, HandOver}
 use Rattle.i3c_step.specs.declared.events.TheConstants.{TRANSFER}
 use Rattle.i3c_step.specs.declared.replies.Framed.{Framed}
 use Rattle.i3c_step.specs.declared.replies.Refusal.{Refusal}
-use Rattle.i3c_step.specs.declared.replies.Refusal.TheVariants.{SessionOpen, NoSession, ActiveStays, SlotTaken, NoDevice, IsActive, NoAddress, HasAddress, NotCapable, ByteMismatch, Masked, Full, ListStale, NoAnswer, TooLong}
+use Rattle.i3c_step.specs.declared.replies.Refusal.TheVariants.{SessionOpen, NoSession, ActiveStays, SlotTaken, NoDevice, IsActive, NoAddress, HasAddress, NotCapable, ByteMismatch, Masked, Full, ListStale, NoAnswer, TooLong, BadAddress}
 use Rattle.i3c_step.specs.declared.replies.Reply.{Reply}
 use Rattle.i3c_step.specs.Replies.{join_refusal, role_refusal}
 
@@ -64,6 +65,25 @@ read_checks st a = (is_no_partner st a, NoAnswer a) ∷ []
 abbrev pub write_checks : State → ℕ → List ℕ → Checks
 write_checks st a bytes = (is_too_long bytes, TooLong) ∷ (is_no_partner st a, NoAnswer a) ∷ []
 
+-- the address may be picked on this bus
+abbrev pub is_pickable : State → ℕ → Bool
+is_pickable st a = is_usable a && (is_none (entry_at st a) && (is_none (legacy_target_at st a) && is_none (declared_at st a)))
+
+-- the address is the one that is kept for the identity, if there is one
+abbrev pub is_kept_for : State → Option Identity → ℕ → Bool
+is_kept_for st None a = false
+is_kept_for st (Some i) a = is_the a (known_in st.given i)
+
+-- the refusals of SETDASA: nobody is declared at the static address, or the new one may not be picked and isn't kept for
+-- who is declared
+abbrev pub static_checks : State → ℕ → ℕ → Checks
+static_checks st f new =
+    (is_none (declared_at st f), NoAnswer f) ∷ (not (is_pickable st new || is_kept_for st (declared_at st f) new), BadAddress new) ∷ []
+
+-- the refusals of SETNEWDA
+abbrev pub new_checks : State → ℕ → ℕ → Checks
+new_checks st a new = (is_no_target st a, NoAnswer a) ∷ (not (is_pickable st new), BadAddress new) ∷ []
+
 -- no device that can be a controller got an address, as this entry has it
 abbrev pub is_no_controller : Option Entry → Bool
 is_no_controller None = true
@@ -93,6 +113,8 @@ checks st (Enec to kinds policy cuts) = frame_checks st cuts ++ target_checks st
 checks st (Disec to kinds policy cuts) = frame_checks st cuts ++ target_checks st to
 checks st (ReadFrom a policy cuts) = frame_checks st cuts ++ read_checks st a
 checks st (WriteTo a bytes policy cuts) = frame_checks st cuts ++ write_checks st a bytes.items
+checks st (SetStatic f new policy cuts) = frame_checks st cuts ++ static_checks st f new
+checks st (SetNew a new policy cuts) = frame_checks st cuts ++ new_checks st a new
 checks st (OpenDaa cuts) = frame_checks st cuts
 checks st (HandOver to cuts) = frame_checks st cuts ++ hand_checks st to
 checks st (Round cuts) = (not st.in_session, NoSession) ∷ (cuts_active st cuts, ActiveStays) ∷ []
@@ -107,6 +129,8 @@ may_want_memory (Reset policy cuts) = true
 may_want_memory (SendList policy cuts) = true
 may_want_memory (ReadFrom a policy cuts) = true
 may_want_memory (WriteTo a bytes policy cuts) = true
+may_want_memory (SetStatic f new policy cuts) = true
+may_want_memory (SetNew a new policy cuts) = true
 may_want_memory (AskRole s) = false
 may_want_memory (Attach s setup) = false
 may_want_memory (DropOff s) = false
@@ -136,7 +160,8 @@ abbrev pub Announces : State → ℕ → (State → State) → Fixed → CutList
 Announces old bits f policy cuts reply new =
     (served : Served) × (reply ≡ Reply.Framed (record { served = served; answer = Answer.Done })) × Frame old policy cuts served (header_bits served + bits) (Becomes f) new
 
--- a private transfer, where its answer says how many bits its own part has, and what this part leaves
+-- a private transfer, or a frame that gives an address, where its answer says how many bits its own part has, and what this
+-- part leaves
 abbrev pub Transfers : State → (Answer → ℕ) → (Answer → Lost → State → State → Type 0) → Fixed → CutList → Reply → State → Type 0
 Transfers old bits Own policy cuts reply new =
     (framed : Framed) × (reply ≡ Reply.Framed framed) × Frame old policy cuts framed.served (header_bits framed.served + bits framed.answer) (Own framed.answer) new
@@ -165,6 +190,8 @@ Acts old (Enec to kinds policy cuts) reply new = RekindsBy old to (changed_kinds
 Acts old (Disec to kinds policy cuts) reply new = RekindsBy old to (changed_kinds Change.Disable kinds) policy cuts reply new
 Acts old (ReadFrom a policy cuts) reply new = Transfers old read_bits (Reads a) policy cuts reply new
 Acts old (WriteTo a bytes policy cuts) reply new = Transfers old (write_bits bytes.items) (Writes a bytes.items) policy cuts reply new
+Acts old (SetStatic f to policy cuts) reply new = Transfers old (kinds_bits (Some f)) (SetsStatic f to) policy cuts reply new
+Acts old (SetNew a to policy cuts) reply new = Transfers old (kinds_bits (Some a)) (SetsNew a to) policy cuts reply new
 Acts old (OpenDaa cuts) reply new =
     (served : Served) × (reply ≡ Reply.Opened served) × Frame old refuse_all cuts served (header_bits served + 9) (Becomes opened) new
 Acts old (HandOver to cuts) reply new = IsGranted old to cuts reply new ⊎ IsDeclined old to cuts reply new
@@ -188,6 +215,8 @@ cuts_in (Reset policy cuts) = Some cuts
 cuts_in (SendList policy cuts) = Some cuts
 cuts_in (ReadFrom a policy cuts) = Some cuts
 cuts_in (WriteTo a bytes policy cuts) = Some cuts
+cuts_in (SetStatic f new policy cuts) = Some cuts
+cuts_in (SetNew a new policy cuts) = Some cuts
 cuts_in (AskRole s) = None
 cuts_in (OpenDaa cuts) = Some cuts
 cuts_in (HandOver to cuts) = Some cuts

@@ -42,6 +42,11 @@ pub enum Event {
     /// The active controller writes these bytes to the first registers of the same (private write, I3C Basic 5.1.2.2).
     /// Of a longer write they are its first.
     WriteTo(Addr7, ArrayVec<u8, WRITE_KEPT>, Fixed, Cuts),
+    /// The devices that have the first address as their static one, and no dynamic one, are given the second as their
+    /// dynamic address (SETDASA, I3C Basic 5.1.9.3.10).
+    SetStatic(Addr7, Addr7, Fixed, Cuts),
+    /// The devices at the first dynamic address are given the second in its place (SETNEWDA, I3C Basic 5.1.9.3.11).
+    SetNew(Addr7, Addr7, Fixed, Cuts),
     /// The active controller offers its role to a device at an address (GETACCCR, I3C Basic 5.1.9.3.16).
     HandOver(Addr7, Cuts),
     /// The active controller opens a session of dynamic address assignment (ENTDAA, I3C Basic 5.1.4.2).
@@ -69,6 +74,10 @@ pub enum Command {
     ReadFrom(Addr7),
     /// Writes these bytes to the first registers of the same; of a longer write they are its first.
     WriteTo(Addr7, ArrayVec<u8, WRITE_KEPT>),
+    /// Gives the devices at a static address, which have no dynamic one, this dynamic address.
+    SetStatic(Addr7, Addr7),
+    /// Gives the devices at a dynamic address another one in its place.
+    SetNew(Addr7, Addr7),
 }
 
 /// The bytes that an event or a command keeps of a write, once more.

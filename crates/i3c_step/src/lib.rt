@@ -15,6 +15,6 @@ pub use laws::{
     stays_begin_by_attachments, steps_are_given, uncut_steps_are_determined,
 };
 pub use replies::{
-    ActiveStays, DropRefusal, FrameFault, Framed, OutOfMemory, Refusal, Reply, RunFault, SlotTaken,
-    StartFault, TargetFault, WriteFault,
+    ActiveStays, DropRefusal, FrameFault, Framed, OutOfMemory, Refusal, Reply, RunFault, SetFault,
+    SlotTaken, StartFault, TargetFault, WriteFault,
 };

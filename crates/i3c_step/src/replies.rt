@@ -31,10 +31,12 @@ pub enum Refusal {
     /// The devices haven't got the list of the addresses as they are now.
     ListStale,
     /// No device of the active controller's table has this address, or it is the active controller's own; and for a
-    /// transfer it is no legacy target's.
+    /// transfer it is no legacy target's. For SETDASA: no identity is declared at the static address.
     NoAnswer(Addr7),
     /// The write has more bytes than a transfer may bring.
     TooLong,
+    /// The address that a device would be given may not be picked. SETDASA may give the one that is kept for its identity.
+    BadAddress(Addr7),
 }
 
 /// What a frame served, and the answer to its own part.
@@ -312,6 +314,54 @@ impl From<Result<Framed, WriteFault>> for Reply {
     ghost from_gives = { λ answer reply. reply ≡ wrote_reply answer };
 
     fn from(answer: Result<Framed, WriteFault>) -> Reply {
+        match answer {
+            Ok(framed) => Reply::Framed(framed),
+            Err(fault) => Reply::from(fault),
+        }
+    }
+}
+
+/// Why a frame that gives an address is not sent.
+#[derive(Clone, Copy, Debug, PartialEq, Eq, Drop, Error)]
+pub enum SetFault {
+    /// The active controller can't be cut.
+    #[error("the active controller stays")]
+    ActiveStays,
+    /// No identity is declared at the static address; or no device of the active controller's table has the dynamic
+    /// one, or it is the active controller's own.
+    #[error("no device answers to the address")]
+    NoAnswer(Addr7),
+    /// The new address may not be picked. SETDASA may give the one that is kept for the identity.
+    #[error("the address can't be given")]
+    BadAddress(Addr7),
+    /// There was no memory for a record.
+    #[error("out of memory")]
+    OutOfMemory,
+}
+
+impl From<SetFault> for Reply {
+    ghost use Rattle.std.specs.Prelude.{◌≡◌};
+    ghost use Rattle.i3c_step.specs.Replies.{set_fault_reply};
+
+    ghost from_gives = { λ fault reply. reply ≡ set_fault_reply fault };
+
+    fn from(fault: SetFault) -> Reply {
+        match fault {
+            SetFault::ActiveStays => Reply::Refused(Refusal::ActiveStays),
+            SetFault::NoAnswer(address) => Reply::Refused(Refusal::NoAnswer(address)),
+            SetFault::BadAddress(address) => Reply::Refused(Refusal::BadAddress(address)),
+            SetFault::OutOfMemory => Reply::OutOfMemory,
+        }
+    }
+}
+
+impl From<Result<Framed, SetFault>> for Reply {
+    ghost use Rattle.std.specs.Prelude.{◌≡◌};
+    ghost use Rattle.i3c_step.specs.Replies.{set_reply};
+
+    ghost from_gives = { λ answer reply. reply ≡ set_reply answer };
+
+    fn from(answer: Result<Framed, SetFault>) -> Reply {
         match answer {
             Ok(framed) => Reply::Framed(framed),
             Err(fault) => Reply::from(fault),

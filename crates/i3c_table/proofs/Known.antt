@@ -4,10 +4,11 @@ use Rattle.std.proofs.lemmas.Bool.{cond-true, cond-false}
 use Rattle.std.proofs.lemmas.List.Elements.{Contains-get_or}
 use Rattle.std.proofs.lemmas.Option.{none-some, same_Some}
 use Rattle.i3c_base.specs.declared.identity.Identity.{Identity}
-use Rattle.i3c_base.specs.declared.identity.Lvr.{Lvr}
 use Rattle.i3c_base.specs.Numbers.{IsInRange, number_of}
-use Rattle.i3c_base.specs.State.{IsKeptIn, IsUnknownIn, IsUsable, entry_in, kept_of}
-use Rattle.i3c_table.specs.declared.table.Registers.{Registers}
+use Rattle.i3c_base.specs.State.{Board, Entry, IsKeptIn, IsUnknownIn, IsUsable, entry_in, kept_of, known_in, is_identity}
+use Rattle.i3c_legacy.proofs.FixedLaws.{is_identity-here, is_identity-other}
+use Rattle.i3c_legacy.proofs.LeastLaws.{least_found, least_nowhere}
+use Rattle.i3c_table.specs.declared.registers.Registers.{Registers}
 use Rattle.i3c_table.specs.Ranks.{IsFirstOf, IsNoneOf}
 use Rattle.i3c_base.specs.Sets.{is_in}
 use Rattle.i3c_table.specs.Stored.{identity_of, stored, IsInOrder, IsWhole}
@@ -38,10 +39,20 @@ module _ (held kept : ℕ) (registers : List Registers) (numbers order : List �
   known_is None fits among in_range h none = λ a. not_kept_for a fits among (λ has. none a (h.all a has))
   known_is (Some a) fits among in_range h first = known_at a fits among in_range h first
 
-module _ (held kept : ℕ) (numbers order : List ℕ) (legacy : List (Option Lvr)) (whole : IsWhole held kept legacy) (h : IsInOrder kept numbers order) where
+module _ (held kept : ℕ) (numbers order : List ℕ) (board : Board) (whole : IsWhole held kept board) (h : IsInOrder kept numbers order) where
   pub known_usable : (number : ℕ) (found : Option ℕ) → MatchOption found (IsNoneOf numbers order number) (IsFirstOf numbers order number) → IfSome found IsUsable
   known_usable number None none = tt
   known_usable number (Some a) first = whole.usable a (whole.among a (h.alone a first.0))
 
   pub known_small : All (λ a. a < 128) order
   known_small k d l = let at_most = (whole.usable (get_or order k d) (whole.among (get_or order k d) (h.alone (get_or order k d) (Contains-get_or order k d l)))).1 in omega (arith, at_most)
+
+-- what is found is the address that is known
+pub found_known : (given : List (Option Entry)) (identity : Identity) (found : Option ℕ) → MatchOption found (IsUnknownIn given identity) (λ a. IsKeptIn given identity a) → IfSome found (λ a. a < 128) → found ≡ known_in given identity
+found_known given identity None unknown fits = sym (least_nowhere (λ b. is_identity identity (kept_of (entry_in given b))) (λ b. is_identity-other identity (kept_of (entry_in given b)) (unknown b)))
+found_known given identity (Some a) is fits =
+    sym (least_found (λ b. is_identity identity (kept_of (entry_in given b))) a fits (is_identity-here identity (kept_of (entry_in given a)) is.0) (λ b l. is_identity-other identity (kept_of (entry_in given b)) (is.1 b l)))
+
+pub usable_small : (found : Option ℕ) → IfSome found IsUsable → IfSome found (λ a. a < 128)
+usable_small None h = tt
+usable_small (Some a) h = let at_most = h.1 in omega (arith, at_most)

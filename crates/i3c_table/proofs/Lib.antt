@@ -1,8 +1,13 @@
 pub mod Ranking
 pub mod Ordering
 pub mod StoredLaws
+pub mod StaticLaws
 pub mod Known
 pub mod Open
 pub mod Placed
 pub mod Reset
-mod Unkept
+pub mod Unkept
+pub mod Homes
+pub mod TakenOver
+pub mod Moving
+pub mod Same

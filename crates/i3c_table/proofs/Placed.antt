@@ -1,16 +1,15 @@
 -- All rows, each at its address.
 use Rattle.std.proofs.Common.{◌≡◌, ◌≢◌, ℕ, suc, ◌+◌, ◌<◌, ◌≤◌, true, false, List, [], ◌∷◌, length, get_or, set, map, replicate, count_by, Option, Some, None, is_some, option_map, IfSome, MatchOption, sym, ap, ◌∙◌, inl, inr, arith, subst, zero-add, cond}
 use Rattle.std.specs.List.{range_with_len}
-use Rattle.std.proofs.lemmas.Bool.{cases_eq, cases_lt}
+use Rattle.std.proofs.lemmas.Bool.{cases_eq, cases_lt, cond-true}
 use Rattle.std.proofs.lemmas.List.{ext_get_or, get_or-map, get_or-replicate, get_or_past, get_or-set_other, get_or-set_same, length-map}
 use Rattle.std.proofs.lemmas.List.Sums.{sum_by-cons}
-use Rattle.i3c_base.specs.declared.identity.Lvr.{Lvr}
-use Rattle.i3c_base.specs.State.{Entry, IsFree, IsUsable, entry_in}
+use Rattle.i3c_base.specs.State.{Board, Entry, IsFree, IsUsable, entry_in}
 use Rattle.i3c_table.specs.declared.row.Row.{Row}
-use Rattle.i3c_table.specs.declared.table.Registers.{Registers}
-use Rattle.i3c_table.specs.Rows.{entry_of_row}
+use Rattle.i3c_table.specs.declared.registers.Registers.{Registers}
+use Rattle.i3c_table.specs.Rows.{entry_of_row, HasStatic}
 use Rattle.i3c_base.specs.Sets.{is_in}
-use Rattle.i3c_table.specs.Stored.{IsWhole, stored}
+use Rattle.i3c_table.specs.Stored.{AreStatic, IsWhole, stored}
 use Rattle.i3c_base.proofs.SetLaws.{is_usable, is_usable-true}
 use Rattle.i3c_table.proofs.StoredLaws.{IsSmall, entry_stored, length-stored, out_of, small_whole, some_or_none}
 
@@ -48,21 +47,31 @@ placed_all given left rows h none long = ext_get_or None (map (option_map entry_
 
 -- ---- what a table keeps of all its entries
 
-usable_if : (held kept : ℕ) (registers : List Registers) (numbers : List ℕ) (legacy : List (Option Lvr)) → IsWhole held kept legacy → (P : ℕ → Type 0) → ((a : ℕ) → is_in held a ≡ true → P a) → (a : ℕ) → IfSome (entry_in (stored held kept registers numbers) a) (λ _. P a)
-usable_if held kept registers numbers legacy h P each a = elim (some_or_none (is_in held a)) [
+usable_if : (held kept : ℕ) (registers : List Registers) (numbers : List ℕ) (board : Board) → IsWhole held kept board → (P : ℕ → Type 0) → ((a : ℕ) → is_in held a ≡ true → P a) → (a : ℕ) → IfSome (entry_in (stored held kept registers numbers) a) (λ _. P a)
+usable_if held kept registers numbers board h P each a = elim (some_or_none (is_in held a)) [
   | inl has ↦ any (entry_in (stored held kept registers numbers) a) (each a has)
-  | inr out ↦ rw (entry_stored held kept registers numbers a (small_whole held kept legacy h) ∙ out_of held kept registers numbers a out) tt
+  | inr out ↦ rw (entry_stored held kept registers numbers a (small_whole held kept board h) ∙ out_of held kept registers numbers a out) tt
 ]
   where
     any : (o : Option Entry) → P a → IfSome o (λ _. P a)
     any None p = tt
     any (Some e) p = p
 
-pub each_usable : (held kept : ℕ) (registers : List Registers) (numbers : List ℕ) (legacy : List (Option Lvr)) → IsWhole held kept legacy → (a : ℕ) → IfSome (entry_in (stored held kept registers numbers) a) (λ _. IsUsable a)
-each_usable held kept registers numbers legacy h = usable_if held kept registers numbers legacy h IsUsable h.usable
+pub each_usable : (held kept : ℕ) (registers : List Registers) (numbers : List ℕ) (board : Board) → IsWhole held kept board → (a : ℕ) → IfSome (entry_in (stored held kept registers numbers) a) (λ _. IsUsable a)
+each_usable held kept registers numbers board h = usable_if held kept registers numbers board h IsUsable h.usable
 
-pub each_apart : (held kept : ℕ) (registers : List Registers) (numbers : List ℕ) (legacy : List (Option Lvr)) → IsWhole held kept legacy → (a : ℕ) → IfSome (entry_in (stored held kept registers numbers) a) (λ _. IsFree legacy a)
-each_apart held kept registers numbers legacy h = usable_if held kept registers numbers legacy h (IsFree legacy) h.apart
+pub each_apart : (held kept : ℕ) (registers : List Registers) (numbers : List ℕ) (board : Board) → IsWhole held kept board → (a : ℕ) → IfSome (entry_in (stored held kept registers numbers) a) (λ _. IsFree board.legacy a)
+each_apart held kept registers numbers board h = usable_if held kept registers numbers board h (IsFree board.legacy) h.apart
+
+pub each_undeclared : (held kept : ℕ) (registers : List Registers) (numbers : List ℕ) (board : Board) → IsWhole held kept board → (a : ℕ) → IfSome (entry_in (stored held kept registers numbers) a) (λ _. IsFree board.declared a)
+each_undeclared held kept registers numbers board h = usable_if held kept registers numbers board h (IsFree board.declared) h.undeclared
+
+-- the static addresses of the entries may be ones
+pub each_static : (held kept : ℕ) (registers : List Registers) (numbers : List ℕ) (board : Board) → IsWhole held kept board → AreStatic registers → (a : ℕ) → IfSome (entry_in (stored held kept registers numbers) a) (λ entry. HasStatic entry.fixed)
+each_static held kept registers numbers board h each a = elim (some_or_none (is_in held a)) [
+  | inl has ↦ rw (entry_stored held kept registers numbers a (small_whole held kept board h) ∙ cond-true (is_in held a) _ None has) (each a)
+  | inr out ↦ rw (entry_stored held kept registers numbers a (small_whole held kept board h) ∙ out_of held kept registers numbers a out) tt
+]
 
 -- there are no more of them than usable addresses
 few_from : (n : ℕ) (given : List (Option Entry)) → ((k : ℕ) → IfSome (get_or given k None) (λ _. IsUsable (n + k))) → count_by is_some given ≤ count_by is_usable (range_with_len n (length given))
@@ -76,7 +85,7 @@ few_from n (place ∷ given) each = with_place place (each 0) (few_from (n + 1) 
         let one : ◌≡◌ {A = ℕ} (cond (is_usable n) 1 0) 1 = ap (λ b. cond b 1 0) (is_usable-true n (subst IsUsable same h)) in
         omega (arith, so_far, one, sum_by-cons (λ (o : Option Entry). cond (is_some o) 1 0) (Some e) given, sum_by-cons (λ k. cond (is_usable k) 1 0) n (range_with_len (n + 1) (length given)))
 
-pub few : (held kept : ℕ) (registers : List Registers) (numbers : List ℕ) (legacy : List (Option Lvr)) → IsWhole held kept legacy → count_by is_some (stored held kept registers numbers) ≤ 108
-few held kept registers numbers legacy h =
-    let most = few_from 0 (stored held kept registers numbers) (λ k. rw (zero-add k) (each_usable held kept registers numbers legacy h k)) in
+pub few : (held kept : ℕ) (registers : List Registers) (numbers : List ℕ) (board : Board) → IsWhole held kept board → count_by is_some (stored held kept registers numbers) ≤ 108
+few held kept registers numbers board h =
+    let most = few_from 0 (stored held kept registers numbers) (λ k. rw (zero-add k) (each_usable held kept registers numbers board h k)) in
     subst (λ n. count_by is_some (stored held kept registers numbers) ≤ count_by is_usable (range_with_len 0 n)) (length-stored held kept registers numbers) most

@@ -5,14 +5,13 @@ use Rattle.std.proofs.lemmas.List.{ext_get_or, get_or_past, get_or-set_other, ge
 use Rattle.std.proofs.lemmas.List.FromFn.{get_or-map-range_with_len, length-map-range_with_len}
 use Rattle.std.proofs.lemmas.Option.{none-some, same_Some}
 use Rattle.i3c_base.specs.declared.identity.Identity.{Identity}
-use Rattle.i3c_base.specs.declared.identity.Lvr.{Lvr}
 use Rattle.i3c_base.specs.declared.range.TheConstants.{ADDRESSES}
 use Rattle.i3c_base.specs.Covered.{Table}
 use Rattle.i3c_base.specs.Numbers.{IsInRange, number_of}
-use Rattle.i3c_base.specs.State.{Entry, IsFree, IsUsable, entry_in, kept_of, no_entries, unkept}
+use Rattle.i3c_base.specs.State.{Board, Entry, IsFree, IsUsable, entry_in, kept_of, no_entries, unkept}
 use Rattle.i3c_base.proofs.Lookups.{changed_at, length-changed, length-no_entries, no_entries_at}
 use Rattle.i3c_base.proofs.NumberLaws.{same_number}
-use Rattle.i3c_table.specs.declared.table.Registers.{Registers}
+use Rattle.i3c_table.specs.declared.registers.Registers.{Registers}
 use Rattle.i3c_table.specs.declared.row.Row.{Row}
 use Rattle.i3c_table.specs.Putting.{MayPut, only_at}
 use Rattle.i3c_base.specs.Sets.{is_in}
@@ -42,8 +41,8 @@ some_or_none false = inr refl
 abbrev pub IsSmall : ℕ → Type 0
 IsSmall held = (b : ℕ) → 128 ≤ b → is_in held b ≡ false
 
-pub small_whole : (held kept : ℕ) (legacy : List (Option Lvr)) → IsWhole held kept legacy → IsSmall held
-small_whole held kept legacy h b past = elim (some_or_none (is_in held b)) [
+pub small_whole : (held kept : ℕ) (board : Board) → IsWhole held kept board → IsSmall held
+small_whole held kept board h b past = elim (some_or_none (is_in held b)) [
   | inr out ↦ out
   | inl has ↦ let at_most = (h.usable b has).1 in absurd (omega (arith, past, at_most))
 ]
@@ -86,10 +85,10 @@ module _ (held kept : ℕ) (registers : List Registers) (numbers : List ℕ) whe
 
   pub row_stored : (a : ℕ) (identity : Option Identity) → IsSmall held → ((b : ℕ) → is_in kept b ≡ true → is_in held b ≡ true)
       → is_in held a ≡ true → identity ≡ kept_of (entry_in (stored held kept registers numbers) a)
-      → entry_in (stored held kept registers numbers) a ≡ Some (record { bcr = (get_or registers a no_registers).bcr; dcr = (get_or registers a no_registers).dcr; kept = identity })
+      → entry_in (stored held kept registers numbers) a ≡ Some (record { bcr = (get_or registers a no_registers).bcr; dcr = (get_or registers a no_registers).dcr; kept = identity; fixed = (get_or registers a no_registers).fixed })
   row_stored a identity fits among has same =
       let its : identity ≡ kept_at kept numbers a = same ∙ kept_stored a fits among in
-      entry_stored a fits ∙ (cond-true (is_in held a) _ None has ∙ sym (ap (λ k. Some (record { bcr = (get_or registers a no_registers).bcr; dcr = (get_or registers a no_registers).dcr; kept = k })) its))
+      entry_stored a fits ∙ (cond-true (is_in held a) _ None has ∙ sym (ap (λ k. Some (record { bcr = (get_or registers a no_registers).bcr; dcr = (get_or registers a no_registers).dcr; kept = k; fixed = (get_or registers a no_registers).fixed })) its))
 
 -- ---- changes
 
@@ -97,24 +96,25 @@ module _ (held kept : ℕ) (registers : List Registers) (numbers : List ℕ) whe
 pub put_stored : (held kept held' kept' : ℕ) (registers registers' : List Registers) (numbers numbers' : List ℕ) (a : ℕ) (e : Entry) → IsSmall held → IsSmall held' → a < 128
     → is_in held' a ≡ true → ((b : ℕ) → b ≢ a → is_in held' b ≡ is_in held b) → ((b : ℕ) → b ≢ a → is_in kept' b ≡ is_in kept b)
     → ((b : ℕ) → b ≢ a → get_or registers' b no_registers ≡ get_or registers b no_registers) → ((b : ℕ) → b ≢ a → get_or numbers' b 0 ≡ get_or numbers b 0)
-    → (get_or registers' a no_registers).bcr ≡ e.bcr → (get_or registers' a no_registers).dcr ≡ e.dcr → kept_at kept' numbers' a ≡ e.kept
+    → (get_or registers' a no_registers).bcr ≡ e.bcr → (get_or registers' a no_registers).dcr ≡ e.dcr → (get_or registers' a no_registers).fixed ≡ e.fixed → kept_at kept' numbers' a ≡ e.kept
     → stored held' kept' registers' numbers' ≡ set (stored held kept registers numbers) a (Some e)
-put_stored held kept held' kept' registers registers' numbers numbers' a e fits fits' l has others kept_others registers_others numbers_others bcr dcr identity =
+put_stored held kept held' kept' registers registers' numbers numbers' a e fits fits' l has others kept_others registers_others numbers_others bcr dcr fixed identity =
     let old : List (Option Entry) = stored held kept registers numbers in
     let long = length-stored held kept registers numbers in
     ext_get_or None (stored held' kept' registers' numbers') (set old a (Some e)) (length-stored held' kept' registers' numbers' ∙ sym (length-set old a (Some e) ∙ long)) (λ b below. elim (cases_eq b a) [
-      | inl same ↦ rw same (entry_stored held' kept' registers' numbers' a fits' ∙ (cond-true (is_in held' a) _ None has ∙ ((λ t. Some (record { bcr = bcr t; dcr = dcr t; kept = identity t })) ∙ sym (get_or-set_same old a (Some e) None (omega (arith, l, long))))))
+      | inl same ↦ rw same (entry_stored held' kept' registers' numbers' a fits' ∙ (cond-true (is_in held' a) _ None has ∙ ((λ t. Some (record { bcr = bcr t; dcr = dcr t; kept = identity t; fixed = fixed t })) ∙ sym (get_or-set_same old a (Some e) None (omega (arith, l, long))))))
       | inr other ↦ entry_stored held' kept' registers' numbers' b fits' ∙ (unchanged b other ∙ (sym (entry_stored held kept registers numbers b fits) ∙ sym (get_or-set_other old a b (Some e) None other)))
     ])
   where
     unchanged : (b : ℕ) → b ≢ a → stored_at held' kept' registers' numbers' b ≡ stored_at held kept registers numbers b
     unchanged b other = λ t.
-        if others b other t then Some (record { bcr = (registers_others b other t).bcr; dcr = (registers_others b other t).dcr; kept = if kept_others b other t then Some (identity_of (numbers_others b other t)) else None }) else None
+        if others b other t then Some (record { bcr = (registers_others b other t).bcr; dcr = (registers_others b other t).dcr; kept = if kept_others b other t then Some (identity_of (numbers_others b other t)) else None; fixed = (registers_others b other t).fixed }) else None
 
 -- nothing stored
-pub whole_none : (none : ℕ) (legacy : List (Option Lvr)) → ((a : ℕ) → is_in none a ≡ false) → IsWhole none none legacy
-whole_none none legacy nothing = record {
+pub whole_none : (none : ℕ) (board : Board) → ((a : ℕ) → is_in none a ≡ false) → IsWhole none none board
+whole_none none board nothing = record {
   usable = λ a has. absurd (both_ways (is_in none a) (nothing a) has);
+  undeclared = λ a has. absurd (both_ways (is_in none a) (nothing a) has);
   apart = λ a has. absurd (both_ways (is_in none a) (nothing a) has);
   among = λ a has. has;
 }
@@ -127,32 +127,34 @@ none_stored none registers numbers nothing =
 -- ---- what holds of each table
 
 -- an address more, which is kept or isn't
-pub whole_put : (held kept held' kept' a : ℕ) (legacy : List (Option Lvr)) → IsWhole held kept legacy → (is_in held a ≡ false → IsUsable a × IsFree legacy a)
-    → is_in held' a ≡ true → ((b : ℕ) → b ≢ a → is_in held' b ≡ is_in held b) → ((b : ℕ) → b ≢ a → is_in kept' b ≡ is_in kept b) → IsWhole held' kept' legacy
-whole_put held kept held' kept' a legacy h new has others kept_others = record {
+pub whole_put : (held kept held' kept' a : ℕ) (board : Board) → IsWhole held kept board → (is_in held a ≡ false → IsUsable a × IsFree board.legacy a × IsFree board.declared a)
+    → is_in held' a ≡ true → ((b : ℕ) → b ≢ a → is_in held' b ≡ is_in held b) → ((b : ℕ) → b ≢ a → is_in kept' b ≡ is_in kept b) → IsWhole held' kept' board
+whole_put held kept held' kept' a board h new has others kept_others = record {
   usable = λ b in_it. elim (cases_eq b a) [ inl e ↦ subst IsUsable (sym e) here.0 | inr other ↦ h.usable b (sym (others b other) ∙ in_it) ];
-  apart = λ b in_it. elim (cases_eq b a) [ inl e ↦ subst (IsFree legacy) (sym e) here.1 | inr other ↦ h.apart b (sym (others b other) ∙ in_it) ];
+  apart = λ b in_it. elim (cases_eq b a) [ inl e ↦ subst (IsFree board.legacy) (sym e) here.1 | inr other ↦ h.apart b (sym (others b other) ∙ in_it) ];
+  undeclared = λ b in_it. elim (cases_eq b a) [ inl e ↦ subst (IsFree board.declared) (sym e) here.2 | inr other ↦ h.undeclared b (sym (others b other) ∙ in_it) ];
   among = λ b in_it. elim (cases_eq b a) [ inl e ↦ ap (is_in held') e ∙ has | inr other ↦ others b other ∙ h.among b (sym (kept_others b other) ∙ in_it) ];
 }
   where
-    here : IsUsable a × IsFree legacy a
-    here = elim (some_or_none (is_in held a)) [ inl stood ↦ (h.usable a stood, h.apart a stood) | inr out ↦ new out ]
+    here : IsUsable a × IsFree board.legacy a × IsFree board.declared a
+    here = elim (some_or_none (is_in held a)) [ inl stood ↦ (h.usable a stood, h.apart a stood, h.undeclared a stood) | inr out ↦ new out ]
 
 -- one address alone, which isn't kept
-pub whole_only : (held kept held' none a : ℕ) (legacy : List (Option Lvr)) → IsWhole held kept legacy → is_in held' a ≡ is_in held a → ((b : ℕ) → b ≢ a → is_in held' b ≡ false) → ((b : ℕ) → is_in none b ≡ false) → IsWhole held' none legacy
-whole_only held kept held' none a legacy h here others nothing = record {
+pub whole_only : (held kept held' none a : ℕ) (board : Board) → IsWhole held kept board → is_in held' a ≡ is_in held a → ((b : ℕ) → b ≢ a → is_in held' b ≡ false) → ((b : ℕ) → is_in none b ≡ false) → IsWhole held' none board
+whole_only held kept held' none a board h here others nothing = record {
   usable = λ b in_it. h.usable b (stood b in_it);
   apart = λ b in_it. h.apart b (stood b in_it);
+  undeclared = λ b in_it. h.undeclared b (stood b in_it);
   among = λ b in_it. absurd (both_ways (is_in none b) (nothing b) in_it);
 }
   where
     stood : (b : ℕ) → is_in held' b ≡ true → is_in held b ≡ true
     stood b in_it = elim (cases_eq b a) [ inl e ↦ ap (is_in held) e ∙ (sym here ∙ (ap (is_in held') (sym e) ∙ in_it)) | inr other ↦ absurd (both_ways (is_in held' b) (others b other) in_it) ]
 
--- a row comes to a usable address that is no legacy target's
+-- a row comes to a usable address that is nobody's static one
 pub new_row : (held kept : ℕ) (registers : List Registers) (numbers : List ℕ) (table : Table) (row : Row) → stored held kept registers numbers ≡ table.given → IsSmall held → MayPut table row
-    → is_in held row.address ≡ false → IsUsable row.address × IsFree table.legacy row.address
-new_row held kept registers numbers table row view fits (inl pickable) out = (pickable.0, pickable.2)
+    → is_in held row.address ≡ false → IsUsable row.address × IsFree table.legacy row.address × IsFree table.declared row.address
+new_row held kept registers numbers table row view fits (inl pickable) out = (pickable.0, pickable.2, pickable.3)
 new_row held kept registers numbers table row view fits (inr keeps) out =
     let none = ap (λ g. kept_of (entry_in g row.address)) (sym view) ∙ ap kept_of (entry_stored held kept registers numbers row.address fits ∙ out_of held kept registers numbers row.address out) in
     absurd (none-some keeps.0 (sym none ∙ keeps.2.0))
@@ -205,6 +207,6 @@ only_stored held kept held' none own registers numbers fits here others nothing 
     small b past = elim (cases_eq b own) [ inl e ↦ ap (is_in held') e ∙ (here ∙ (ap (is_in held) (sym e) ∙ fits b past)) | inr other ↦ others b other ]
 
     alone : (b : Bool) → is_in held own ≡ b → stored_at held' none registers numbers own ≡ option_map unkept (entry_in (stored held kept registers numbers) own)
-    alone true e = cond-true (is_in held' own) _ None (here ∙ e) ∙ (ap (λ k. Some (record { bcr = (get_or registers own no_registers).bcr; dcr = (get_or registers own no_registers).dcr; kept = k })) (cond-false (is_in none own) _ None (nothing own))
+    alone true e = cond-true (is_in held' own) _ None (here ∙ e) ∙ (ap (λ k. Some (record { bcr = (get_or registers own no_registers).bcr; dcr = (get_or registers own no_registers).dcr; kept = k; fixed = (get_or registers own no_registers).fixed })) (cond-false (is_in none own) _ None (nothing own))
         ∙ sym (ap (option_map unkept) (entry_stored held kept registers numbers own fits ∙ cond-true (is_in held own) _ None e)))
     alone false e = out_of held' none registers numbers own (here ∙ e) ∙ sym (ap (option_map unkept) (entry_stored held kept registers numbers own fits ∙ out_of held kept registers numbers own e))

@@ -1,5 +1,5 @@
 -- What may be put into a table, and what a reset leaves in it.
-use Rattle.std.specs.Prelude.{◌≡◌, ◌⊎◌, ℕ, ◌==◌, false, List, map, Option, Some, None, option_map, slice_set, if◌then◌else◌}
+use Rattle.std.specs.Prelude.{◌≡◌, ◌⊎◌, ℕ, ◌==◌, false, List, Option, Some, None, option_map, slice_set, if◌then◌else◌}
 use Rattle.i3c_base.specs.declared.identity.Identity.{Identity}
 use Rattle.i3c_base.specs.Covered.{Table}
 use Rattle.i3c_base.specs.Places.{changed}
@@ -13,7 +13,7 @@ IsKeptRow table row = (i : Identity) × (row.identity ≡ Some i) × IsKeptIn ta
 
 -- a row may be put at a pickable address, and at the address that is kept for its identity
 abbrev pub MayPut : Table → Row → Type 0
-MayPut table row = IsPickableIn table.given table.legacy row.address ⊎ IsKeptRow table row
+MayPut table row = IsPickableIn table.given table.legacy table.declared row.address ⊎ IsKeptRow table row
 
 -- the table with the row's entry at its address; its list is out of date
 abbrev pub with_row : Row → Table → Table
@@ -26,7 +26,3 @@ only_at own given = changed (λ a place. if a == own then option_map unkept plac
 -- the table after a reset, in which the controller's own address alone stays; its list is out of date
 abbrev pub cleared : ℕ → Table → Table
 cleared own table = record table { given = only_at own table.given; listed = false }
-
--- the table with every address kept for no identity; its list is out of date
-abbrev pub unkept_table : Table → Table
-unkept_table table = record table { given = map (option_map unkept) table.given; listed = false }

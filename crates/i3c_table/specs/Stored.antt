@@ -1,14 +1,14 @@
 -- What a table stores at each address, seen as the entries there.
-use Rattle.std.specs.Prelude.{◌≡◌, ℕ, ◌/◌, ◌%◌, true, List, map, Option, Some, None, if◌then◌else◌, count_by, length, slice_index_or}
+use Rattle.std.specs.Prelude.{◌≡◌, ℕ, ◌/◌, ◌%◌, ◌&&◌, true, List, map, find, Option, Some, None, option_and_then, if◌then◌else◌, count_by, length, slice_index_or}
 use Rattle.std.specs.List.{range_with_len, Contains}
 use Rattle.std.specs.List.Sorted.{IsNonDecreasingBy}
 use Rattle.i3c_base.specs.declared.identity.Identity.{Identity}
-use Rattle.i3c_base.specs.declared.identity.Lvr.{Lvr}
 use Rattle.i3c_base.specs.declared.range.TheConstants.{ADDRESSES}
-use Rattle.i3c_base.specs.State.{Entry, IsFree, IsUsable}
-use Rattle.i3c_table.specs.declared.table.Registers.{Registers}
+use Rattle.i3c_base.specs.State.{Board, Entry, IsFree, IsUsable, declared_in, is_the}
+use Rattle.i3c_table.specs.declared.registers.Registers.{Registers}
 use Rattle.i3c_table.specs.Ranks.{rank}
 use Rattle.i3c_base.specs.Sets.{is_in}
+use Rattle.i3c_table.specs.Rows.{HasStatic}
 
 -- the identity of a number
 abbrev pub identity_of : ℕ → Identity
@@ -16,7 +16,7 @@ identity_of n = record { pid = n / 65536; bcr = record { 0 = n / 256 % 256 }; dc
 
 -- registers that say nothing
 abbrev pub no_registers : Registers
-no_registers = record { bcr = record { 0 = 0 }; dcr = record { 0 = 0 } }
+no_registers = record { bcr = record { 0 = 0 }; dcr = record { 0 = 0 }; fixed = None }
 
 -- the identity that the address a is kept for, if a is in the set
 abbrev pub kept_at : ℕ → List ℕ → ℕ → Option Identity
@@ -25,16 +25,30 @@ kept_at kept numbers a = if is_in kept a then Some (identity_of (slice_index_or 
 -- the entry at the address a, if a is in the set of those that were given
 abbrev pub stored_at : ℕ → ℕ → List Registers → List ℕ → ℕ → Option Entry
 stored_at held kept registers numbers a =
-    if is_in held a then Some (record { bcr = (slice_index_or registers a no_registers).bcr; dcr = (slice_index_or registers a no_registers).dcr; kept = kept_at kept numbers a }) else None
+    if is_in held a then Some (record { bcr = (slice_index_or registers a no_registers).bcr; dcr = (slice_index_or registers a no_registers).dcr; kept = kept_at kept numbers a; fixed = (slice_index_or registers a no_registers).fixed }) else None
 
 -- the entries at all addresses
 unfoldable pub stored : ℕ → ℕ → List Registers → List ℕ → List (Option Entry)
 stored held kept registers numbers = map (stored_at held kept registers numbers) (range_with_len 0 ADDRESSES)
 
--- addresses that were given are usable and no legacy target's, and those that are kept were given
-pub record IsWhole (held kept : ℕ) (legacy : List (Option Lvr)) : Type 0 where
+-- the least address of a set at which the static address f is stored
+unfoldable pub home_stored : ℕ → List Registers → ℕ → Option ℕ
+home_stored among registers f = find (λ a. is_in among a && is_the f (slice_index_or registers a no_registers).fixed) (range_with_len 0 ADDRESSES)
+
+-- whom the address a is kept for again: the identity that is declared at its static address, where a is the least such one
+unfoldable pub again_stored : List (Option Identity) → ℕ → List Registers → ℕ → Option Identity
+again_stored declared among registers a =
+    option_and_then (λ f. if is_the a (home_stored among registers f) then declared_in declared f else None) (slice_index_or registers a no_registers).fixed
+
+-- the static addresses that are stored may be ones
+abbrev pub AreStatic : List Registers → Type 0
+AreStatic registers = (a : ℕ) → HasStatic (slice_index_or registers a no_registers).fixed
+
+-- addresses that were given are usable and nobody's static ones, and those that are kept were given
+pub record IsWhole (held kept : ℕ) (board : Board) : Type 0 where
   pub usable : (a : ℕ) → is_in held a ≡ true → IsUsable a
-  pub apart : (a : ℕ) → is_in held a ≡ true → IsFree legacy a
+  pub apart : (a : ℕ) → is_in held a ≡ true → IsFree board.legacy a
+  pub undeclared : (a : ℕ) → is_in held a ≡ true → IsFree board.declared a
   pub among : (a : ℕ) → is_in kept a ≡ true → is_in held a ≡ true
 
 -- the list has the addresses that are kept, each once, by their numbers

@@ -1,7 +1,9 @@
-//! What a controller knows of the addresses of its bus: those that were given, and the legacy targets'.
+//! What a controller knows of the addresses of its bus: those that were given, and the static ones.
 #![tactic(auto)]
 
+mod keeping;
 mod order;
+mod registers;
 mod row;
 mod table;
 

@@ -1,6 +1,7 @@
 use i3c_base::{Addr7, Bcr, Dcr, Identity};
 
-/// A dynamic address, the BCR and DCR of who has it, and the identity that it is kept for (I3C Basic 5.1.4).
+/// A dynamic address, the BCR, DCR and static address of who has it, and the identity that it is kept for (I3C Basic
+/// 5.1.4).
 #[derive(Clone, Copy, Debug, PartialEq, Eq, Default, Drop)]
 pub struct Row {
     /// The dynamic address.
@@ -11,4 +12,6 @@ pub struct Row {
     pub dcr: Dcr,
     /// The identity that the address is kept for, if it is.
     pub identity: Option<Identity>,
+    /// The static address of the device that got it, if it has one. One that isn't `08` to `77` counts as none.
+    pub fixed: Option<Addr7>,
 }

@@ -1,25 +1,19 @@
-ghost use Rattle.std.specs.Prelude.{◌≡◌, ◌≢◌, ℕ, true, false, slice_index_or, MatchOption};
-ghost use Rattle.i3c_base.specs.Numbers.{number_of};
+ghost use Rattle.std.specs.Prelude.{◌≡◌, ◌≢◌, ◌↔◌, ℕ, ◌||◌, false, IsTrue};
 ghost use Rattle.i3c_base.specs.Sets.{is_in};
-ghost use Rattle.i3c_table.specs.Stored.{kept_at, IsInOrder};
+ghost use Rattle.i3c_table.specs.Rows.{static_in};
 
+use crate::keeping::{keep_for, keep_homes};
 use crate::order::Order;
+use crate::registers::Registers;
 use crate::row::Row;
-use i3c_base::{ADDRESSES, Addr7, Addresses, Bcr, Dcr, Identity, Lvr};
-use i3c_legacy::Legacies;
+use i3c_base::{ADDRESSES, Addr7, Addresses, Bcr, Dcr, Identity};
+use i3c_legacy::{Legacies, is_static};
 use std::marker::Model;
 
 /// How many dynamic addresses there are: `08` to `77` without `3E`, `5E`, `6E` and `76` (I3C Basic 5.1.2.2.5).
 pub const ROWS: usize = 108;
 
-// what a device's registers say of it
-#[derive(Clone, Copy, Default)]
-struct Registers {
-    bcr: Bcr,
-    dcr: Dcr,
-}
-
-/// A controller's table: a row for each address that was given, the legacy targets, and whether the list that was
+/// A controller's table: a row for each address that is given, the static addresses, and whether the list that was
 /// last sent is current (DEFTGTS, I3C Basic 5.1.9.3.7).
 ///
 /// Clauses see a place for each of the 128 addresses.
@@ -28,7 +22,7 @@ pub struct Table {
     // the addresses that were given, and those of them that are kept for an identity
     held: Addresses,
     kept: Addresses,
-    // at each address that was given, the registers of who has it
+    // at each address that was given, the registers and the static address of who has it
     registers: [Registers; ADDRESSES],
     // at each address that is kept, the number of its identity
     numbers: [u64; ADDRESSES],
@@ -43,31 +37,37 @@ impl Model for Table {
 
     ghost Value = { TableValue };
 
-    ghost use Rattle.i3c_table.specs.Stored.{stored, IsInOrder, IsWhole};
+    ghost use Rattle.i3c_table.specs.Stored.{stored, AreStatic, IsInOrder, IsWhole};
 
-    ghost view = { λ t. record { given = stored t.held.0 t.kept.0 t.registers t.numbers; legacy = t.legacies; listed = t.listed } };
+    ghost view = { λ t. record { given = stored t.held.0 t.kept.0 t.registers t.numbers; legacy = t.legacies.legacy; declared = t.legacies.declared; listed = t.listed } };
 
-    ghost invariant = { λ t. IsWhole t.held.0 t.kept.0 t.legacies × IsInOrder t.kept.0 t.numbers t.order };
+    ghost invariant = { λ t. IsWhole t.held.0 t.kept.0 t.legacies × IsInOrder t.kept.0 t.numbers t.order × AreStatic t.registers };
 }
 
 impl Table {
-    ghost use Rattle.std.specs.Prelude.{◌≡◌, ◌↔◌, ℕ, ◌≤◌, None, Some, true, false, count_by, is_some, length, map, option_map, slice_index_or, IfSome, IsSome, MatchOption};
+    ghost use Rattle.std.specs.Prelude.{◌≡◌, ◌↔◌, ℕ, ◌≤◌, None, Some, true, false, count_by, is_some, length, map, option_map, slice_index_or, IfSome, IsSome, IsTrue, MatchOption};
     ghost use Rattle.i3c_base.specs.declared.range.TheConstants.{ADDRESSES};
     ghost use Rattle.i3c_table.specs.declared.table.TheConstants.{ROWS};
-    ghost use Rattle.i3c_base.specs.State.{entry_in, kept_of, no_entries, IsFree, IsKeptIn, IsPickableIn, IsUnknownIn, IsUsable};
-    ghost use Rattle.i3c_table.specs.Rows.{entry_of_row};
+    ghost use Rattle.i3c_base.specs.State.{entry_in, kept_of, known_in, no_entries, taken_over, IsFree, IsKeptIn, IsPickableIn, IsUnknownIn, IsUsable};
+    ghost use Rattle.i3c_base.specs.Frames.{moved, released_at};
+    ghost use Rattle.i3c_table.specs.Rows.{entry_of_row, HasStatic};
     ghost use Rattle.i3c_base.specs.Sets.{is_in};
-    ghost use Rattle.i3c_table.specs.Putting.{cleared, unkept_table, with_row, MayPut};
+    ghost use Rattle.i3c_table.specs.Putting.{cleared, with_row, MayPut};
 
     /// A table in which no address was given.
     pub fn new(legacies: Legacies) -> Table
-        ensures { result ≡ record { given = no_entries; legacy = legacies; listed = false } }
+        ensures { result ≡ record { given = no_entries; legacy = legacies.legacy; declared = legacies.declared; listed = false } }
     {
         let none = Addresses::new();
+        let nothing = Registers {
+            bcr: Bcr(0),
+            dcr: Dcr(0),
+            fixed: None,
+        };
         Table {
             held: none,
             kept: none,
-            registers: [Registers::default(); ADDRESSES],
+            registers: [nothing; ADDRESSES],
             numbers: [0; ADDRESSES],
             legacies,
             order: Order::new(),
@@ -75,10 +75,59 @@ impl Table {
         }
     }
 
+    /// The same table once more.
+    pub fn copied(&self) -> Table
+        ensures { result ≡ self.now }
+    {
+        Table {
+            held: self.held,
+            kept: self.kept,
+            registers: registers_again(&self.registers),
+            numbers: self.numbers,
+            legacies: self.legacies.copied(),
+            order: self.order.copied(),
+            listed: self.listed,
+        }
+    }
+
+    /// Whether both tables have the same rows and static addresses, and agree on whether the list is current.
+    pub fn is_same(&self, other: &Table) -> bool
+        ensures { IsTrue result ↔ (self.now ≡ other.now) }
+    {
+        self.listed == other.listed
+            && self.has_same_rows(other)
+            && self.legacies.is_same(&other.legacies)
+    }
+
+    // Whether both tables have the same rows. Only the addresses that were given are looked at.
+    fn has_same_rows(&self, other: &Table) -> bool
+        ensures { IsTrue result ↔ (self.now.given ≡ other.now.given) }
+    {
+        if !are_same(self.held, other.held) {
+            return false;
+        }
+        let mut left = self.held;
+        while let Some(address) = left.lowest() {
+            if !self.has_same_row(other, address) {
+                return false;
+            }
+            left = left.without(address);
+        }
+        true
+    }
+
+    // Whether both tables have the same row at an address, or none.
+    fn has_same_row(&self, other: &Table, address: Addr7) -> bool
+        ensures { IsTrue result ↔ (entry_in self.now.given address ≡ entry_in other.now.given address) }
+    {
+        self.row_of(address) == other.row_of(address)
+    }
+
     /// The row at an address, if it was given.
     pub fn row_of(&self, address: Addr7) -> Option<Row>
         ensures found { MatchOption result (IsFree self.now.given address)
             (λ row. (row.address ≡ address) × (entry_in self.now.given address ≡ Some (entry_of_row row))) }
+        ensures static_alone { IfSome result (λ row. HasStatic row.fixed) }
         ensures all_places { length self.now.given ≡ ADDRESSES }
     {
         if !self.held.has(address) {
@@ -90,13 +139,13 @@ impl Table {
             bcr: registers.bcr,
             dcr: registers.dcr,
             identity: self.identity_at(address),
+            fixed: registers.fixed,
         })
     }
 
-    /// The addresses that may be picked: usable ones that were not given, and that are no legacy targets' (I3C Basic
-    /// 5.1.4).
+    /// The addresses that may be picked: usable ones without a row, and that are nobody's static ones (I3C Basic 5.1.4).
     pub fn open_addresses(&self) -> Addresses
-        ensures { (a : ℕ) → (is_in result.0 a ≡ true) ↔ IsPickableIn self.now.given self.now.legacy a }
+        ensures { (a : ℕ) → (is_in result.0 a ≡ true) ↔ IsPickableIn self.now.given self.now.legacy self.now.declared a }
     {
         let taken = self.legacies.addresses();
         Addresses::usable()
@@ -110,8 +159,10 @@ impl Table {
         ensures few { count_by is_some self.now.given ≤ ROWS }
         ensures usable { (a : ℕ) → IfSome (entry_in self.now.given a) (λ _. IsUsable a) }
 
-        // no legacy target has one
+        // no legacy target and no declared identity has one
         ensures apart { (a : ℕ) → IfSome (entry_in self.now.given a) (λ _. IsFree self.now.legacy a) }
+        ensures undeclared { (a : ℕ) → IfSome (entry_in self.now.given a) (λ _. IsFree self.now.declared a) }
+        ensures static_alone { (a : ℕ) → IfSome (entry_in self.now.given a) (λ entry. HasStatic entry.fixed) }
         ensures all_places { length self.now.given ≡ ADDRESSES }
     {
         self.held
@@ -121,6 +172,7 @@ impl Table {
     pub fn address_known(&self, identity: &Identity) -> Option<Addr7>
         ensures kept { MatchOption result (IsUnknownIn self.now.given identity.now)
             (λ a. IsKeptIn self.now.given identity.now a) }
+        ensures known { result ≡ known_in self.now.given identity.now }
         ensures usable { IfSome result IsUsable }
     {
         self.order.first_of(&self.numbers, identity.number())
@@ -136,6 +188,7 @@ impl Table {
             bcr,
             dcr,
             identity,
+            fixed,
         } = row;
         self.kept = keep_for(
             identity,
@@ -145,7 +198,11 @@ impl Table {
             &mut self.order,
         );
         self.held = self.held.with(address);
-        self.registers[address.get() as usize] = Registers { bcr, dcr };
+        self.registers[address.get() as usize] = Registers {
+            bcr,
+            dcr,
+            fixed: static_only(fixed),
+        };
         self.listed = false; // nobody was told of the row
     }
 
@@ -159,14 +216,52 @@ impl Table {
         self.held = self.held.only(own);
     }
 
-    /// Keeps no address for an identity any more, as a controller has it that knows its bus by a list alone. The list is
-    /// out of date then.
-    pub fn forget_identities(&mut self)
-        ensures { self.new ≡ unkept_table self.old }
+    /// The table as a new controller at `own` has it, who knows its bus by a list: addresses are kept for declared
+    /// identities alone. Each has the least address, other than `own`, whose row has its static address. The list is out
+    /// of date then.
+    pub fn take_over(&mut self, own: Addr7)
+        ensures { self.new ≡ record self.old { given = taken_over self.old.declared own self.old.given; listed = false } }
     {
         self.listed = false;
         self.kept = Addresses::new(); // a list names no identities
         self.order.clear();
+        if !self.legacies.has_declared() {
+            return;
+        }
+        self.kept = keep_homes(
+            &self.legacies,
+            self.held.without(own),
+            &self.registers,
+            &mut self.numbers,
+            &mut self.order,
+        );
+    }
+
+    /// Keeps an address for nobody any more, whether or not a device still has it: the controller can't see that. The
+    /// address stays given, without a static one, and the list is out of date (SETDASA, I3C Basic 5.1.9.3.10).
+    pub fn release(&mut self, address: Addr7)
+        ensures { self.new ≡ record self.old { given = released_at (Some address) self.old.given; listed = false } }
+    {
+        self.listed = false;
+        self.kept = self.kept.without(address);
+        self.registers[address.get() as usize].fixed = None;
+        self.order = Order::of(&self.numbers, self.kept);
+    }
+
+    /// Moves a row to a new address, which may be picked (SETNEWDA, I3C Basic 5.1.9.3.11).
+    pub fn renumber(&mut self, old: Addr7, new: Addr7)
+        requires given { IsSome (entry_in self.old.given old) }
+        requires pickable { IsPickableIn self.old.given self.old.legacy self.old.declared new }
+        ensures { self.new ≡ record self.old { given = moved old new self.old.given; listed = false } }
+    {
+        self.listed = false;
+        self.held = with_moved(self.held, old, new);
+        self.kept = with_moved(self.kept, old, new);
+        let from = old.get() as usize;
+        let to = new.get() as usize;
+        self.registers[to] = self.registers[from];
+        self.numbers[to] = self.numbers[from];
+        self.order = Order::of(&self.numbers, self.kept);
     }
 
     /// The list of this table was sent: it is current (DEFTGTS, I3C Basic 5.1.9.3.7).
@@ -190,8 +285,10 @@ impl Table {
         ensures few { count_by is_some self.now.given ≤ ROWS }
         ensures usable { (a : ℕ) → IfSome (entry_in self.now.given a) (λ _. IsUsable a) }
 
-        // no legacy target has the address of a row
+        // no legacy target and no declared identity has the address of a row
         ensures apart { (a : ℕ) → IfSome (entry_in self.now.given a) (λ _. IsFree self.now.legacy a) }
+        ensures undeclared { (a : ℕ) → IfSome (entry_in self.now.given a) (λ _. IsFree self.now.declared a) }
+        ensures static_alone { (a : ℕ) → IfSome (entry_in self.now.given a) (λ entry. HasStatic entry.fixed) }
     {
         let mut rows = [None; ADDRESSES];
         let mut left = self.held;
@@ -202,9 +299,9 @@ impl Table {
         rows
     }
 
-    /// The legacy targets.
+    /// The legacy targets and the declared identities.
     pub fn legacies(&self) -> &Legacies
-        ensures { result.now ≡ self.now.legacy }
+        ensures { result.now ≡ record { legacy = self.now.legacy; declared = self.now.declared } }
     {
         &self.legacies
     }
@@ -220,29 +317,40 @@ impl Table {
     }
 }
 
-/// Keeps an address for an identity, or for nobody, and answers which addresses are kept then.
-fn keep_for(
-    identity: Option<Identity>,
-    address: Addr7,
-    kept: Addresses,
-    numbers: &mut [u64; ADDRESSES],
-    order: &mut Order,
-) -> Addresses
-    requires ordered { IsInOrder kept.0 numbers.old order.old }
-    // an address that is kept already is kept for this identity
-    requires same { MatchOption identity (is_in kept.0 address ≡ false)
-        (λ i. is_in kept.0 address ≡ true → slice_index_or numbers.old address 0 ≡ number_of i) }
-    ensures ordered { IsInOrder result.0 numbers.new order.new }
-    ensures its { kept_at result.0 numbers.new address ≡ identity }
-    ensures others { (a : ℕ) → a ≢ address → is_in result.0 a ≡ is_in kept.0 a }
-    ensures other_numbers { (a : ℕ) → a ≢ address → slice_index_or numbers.new a 0 ≡ slice_index_or numbers.old a 0 }
+// The same registers once more.
+fn registers_again(registers: &[Registers; ADDRESSES]) -> [Registers; ADDRESSES]
+    ensures { result ≡ registers.now }
 {
-    match identity {
-        Some(identity) => {
-            numbers[address.get() as usize] = identity.number();
-            order.keep(numbers, kept, address);
-            kept.with(address)
-        }
-        None => kept.without(address),
+    let mut copy = [registers[0]; ADDRESSES];
+    copy.copy_from_slice(registers);
+    copy
+}
+
+// A static address, where it may be one.
+fn static_only(fixed: Option<Addr7>) -> Option<Addr7>
+    ensures { result ≡ static_in fixed }
+{
+    match fixed {
+        Some(address) if is_static(address) => Some(address),
+        _ => None,
     }
+}
+
+// Whether two sets have the same addresses.
+fn are_same(set: Addresses, other: Addresses) -> bool
+    ensures { IsTrue result ↔ ((a : ℕ) → is_in set.0 a ≡ is_in other.0 a) }
+{
+    set == other
+}
+
+// The set with a new address in place of an old one, if it has that.
+fn with_moved(set: Addresses, old: Addr7, new: Addr7) -> Addresses
+    ensures here { is_in result.0 new ≡ (is_in set.0 old || is_in set.0 new) }
+    ensures gone { old ≢ new → is_in result.0 old ≡ false }
+    ensures others { (a : ℕ) → a ≢ old → a ≢ new → is_in result.0 a ≡ is_in set.0 a }
+{
+    if !set.has(old) {
+        return set;
+    }
+    set.without(old).with(new)
 }

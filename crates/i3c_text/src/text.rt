@@ -91,6 +91,7 @@ impl Text {
     }
 
     /// Appends a provisioned ID, in twelve hex digits.
+    #[inline(always)]
     pub fn push_pid(&mut self, pid: Pid) -> Result<(), AllocError>
         ensures { OnOk result (self.new ≡ self.old ++ hex_text 12 pid) }
     {

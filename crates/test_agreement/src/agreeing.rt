@@ -345,20 +345,22 @@ fn put(script: &mut Script, at: usize, cuts: Cuts) {
     }
 }
 
-/// How many addresses may be known by then: the main device's, the legacy targets', and those that were assigned.
+/// How many addresses may be known by then: the main device's, the legacy targets', and those that were given.
 fn known(script: &Script, before: &Plainly) -> usize {
-    let assigned = before
-        .replies
+    let given = script
+        .events
         .iter()
-        .filter(|reply| is_assigned(*reply))
+        .zip(before.replies.as_slice())
+        .filter(|happened| is_giving(happened.0, happened.1))
         .count();
-    assigned
-        .saturating_add(script.declared.len())
+    given
+        .saturating_add(script.legacies.len())
         .saturating_add(1)
 }
 
-fn is_assigned(reply: &Reply) -> bool {
-    matches!(reply, Reply::Round(RoundReply::Assigned(..)))
+/// Whether an event may have given an address that wasn't given before.
+fn is_giving(event: &Event, reply: &Reply) -> bool {
+    matches!(event, Event::SetStatic(..)) || matches!(reply, Reply::Round(RoundReply::Assigned(..)))
 }
 
 /// The bit past the last one that the frame of an index may send, if the event is one, where so many addresses are known.
@@ -366,7 +368,10 @@ fn past(script: &Script, at: usize, addresses: usize) -> Option<u16> {
     match script.events.get(at)? {
         Event::Serve(..) => Some(10),
         Event::Enec(None, ..) | Event::Disec(None, ..) | Event::HandOver(..) => Some(37),
-        Event::Enec(Some(_), ..) | Event::Disec(Some(_), ..) => Some(46),
+        Event::Enec(Some(_), ..)
+        | Event::Disec(Some(_), ..)
+        | Event::SetStatic(..)
+        | Event::SetNew(..) => Some(46),
         Event::Reset(..) => Some(28),
         Event::SendList(..) => Some((37 + 36 * addresses.min(108)) as u16),
         Event::ReadFrom(..) => Some(172),

@@ -1,5 +1,5 @@
 use crate::faults::Fault;
-use crate::script::{KNOWN, Script, legacies_of};
+use crate::script::{KNOWN, Script};
 use i3c_base::{Addr7, SLOTS, Slot};
 use i3c_bus::{Bus, Event, Outcome, Records, Reply, run_events};
 use i3c_model::{Choice, Plain};
@@ -96,7 +96,7 @@ pub(crate) fn on_bus(alloc: Global, script: &Script, count: usize) -> Result<Ran
     let Outcome { bus, hand, replies } = run_events(
         alloc,
         script.main,
-        legacies_of(&script.declared),
+        script.legacies.copied(),
         events,
     )?;
     let seen = Seen::of_bus(&bus);
@@ -116,7 +116,7 @@ pub(crate) fn on_plain(
     count: usize,
 ) -> Result<Plainly, Fault> {
     let _ = KNOWN;
-    let mut plain = Plain::new(alloc, script.main, legacies_of(&script.declared))?;
+    let mut plain = Plain::new(alloc, script.main, script.legacies.copied())?;
     let replies = replies_of(alloc, &mut plain, first_of(script, count), choices)?;
     Ok(Plainly {
         replies,

@@ -32,6 +32,8 @@ pub(crate) fn cuts_of(event: &mut Event) -> Option<&mut Cuts> {
         | Event::SendList(_, cuts)
         | Event::ReadFrom(_, _, cuts)
         | Event::WriteTo(_, _, _, cuts)
+        | Event::SetStatic(_, _, _, cuts)
+        | Event::SetNew(_, _, _, cuts)
         | Event::HandOver(_, cuts)
         | Event::OpenDaa(cuts)
         | Event::Round(cuts) => Some(cuts),

@@ -1,6 +1,6 @@
 use crate::faults::Fault;
-use crate::script::{KNOWN, Script, legacies_of};
-use i3c_base::{Addr7, Cuts, Fixed, Lvr, RoundReply, SLOTS, Setup, Slot};
+use crate::script::{KNOWN, Script};
+use i3c_base::{ADDRESSES, Addr7, Cuts, Fixed, Lvr, RoundReply, SLOTS, Setup, Slot};
 use i3c_bus::{Command as Frame, Event, Reply};
 use i3c_legacy::Legacies;
 use i3c_lines::{ACCEPT_ALL, Command, Name, Names, Place, read_line};
@@ -33,8 +33,8 @@ pub(crate) fn read_script(alloc: Global, text: &[u8]) -> Result<Option<Script>, 
 struct Reading {
     alloc: Global,
     names: Names,
-    // the legacy targets that came before the bus
-    declared: Vec<(Addr7, Lvr)>,
+    // what was declared before the bus
+    legacies: Legacies,
     running: Option<Running>,
 }
 
@@ -43,7 +43,7 @@ impl Reading {
         Reading {
             alloc,
             names: Names::new(alloc),
-            declared: Vec::new(alloc),
+            legacies: Legacies::new(),
             running: None,
         }
     }
@@ -67,7 +67,7 @@ impl Reading {
         match &mut self.running {
             Some(bus) => bus.obey(&mut self.names, command),
             None => {
-                self.running = begin(self.alloc, &mut self.names, &mut self.declared, command)?;
+                self.running = begin(self.alloc, &mut self.names, &mut self.legacies, command)?;
                 Ok(())
             }
         }
@@ -83,17 +83,21 @@ impl Reading {
     }
 }
 
-/// A line before the bus: a legacy target, or the start.
+/// A line before the bus: a legacy target, a declared identity, or the start. A declaration that is refused changes nothing.
 fn begin(
     alloc: Global,
     names: &mut Names,
-    declared: &mut Vec<(Addr7, Lvr)>,
+    legacies: &mut Legacies,
     command: &Command,
 ) -> Result<Option<Running>, Fault> {
     let _ = KNOWN;
     match command {
         Command::Legacy { name, address, lvr } => {
-            declare(names, declared, name, *address, *lvr)?;
+            add_legacy(names, legacies, name, *address, *lvr)?;
+            Ok(None)
+        }
+        Command::Declare { address, identity } => {
+            let _ = legacies.declare(*address, *identity);
             Ok(None)
         }
         Command::Main { name, setup } => {
@@ -101,24 +105,22 @@ fn begin(
                 return Ok(None);
             }
             names.give_slot(name, Slot::default())?;
-            let declared = mem::replace(declared, Vec::new(alloc));
-            Ok(Some(Running::new(alloc, setup, declared)?))
+            let legacies = mem::replace(legacies, Legacies::new());
+            Ok(Some(Running::new(alloc, setup, legacies)?))
         }
         _ => Ok(None),
     }
 }
 
 /// A legacy target, unless its name or its address is another's.
-fn declare(
+fn add_legacy(
     names: &mut Names,
-    declared: &mut Vec<(Addr7, Lvr)>,
+    legacies: &mut Legacies,
     name: &Name,
     address: Addr7,
     lvr: Lvr,
 ) -> Result<(), Fault> {
-    let mut legacies = legacies_of(declared);
     if names.place_of(name).is_none() && legacies.add(address, lvr).is_ok() {
-        declared.push((address, lvr))?;
         names.give_address(name, address)?;
     }
     Ok(())
@@ -146,15 +148,15 @@ impl Session {
 }
 
 impl Running {
-    // A bus that starts, beside these legacy targets.
-    fn new(alloc: Global, main: &Setup, declared: Vec<(Addr7, Lvr)>) -> Result<Running, Fault> {
-        let plain = Plain::new(alloc, *main, legacies_of(&declared))?;
+    // A bus that starts, with what has a static address.
+    fn new(alloc: Global, main: &Setup, legacies: Legacies) -> Result<Running, Fault> {
+        let plain = Plain::new(alloc, *main, legacies.copied())?;
         Ok(Running {
             plain,
             policy: ACCEPT_ALL,
             cuts: Cuts::new(),
             choice: None,
-            script: Script::new(alloc, main, declared),
+            script: Script::new(alloc, main, legacies),
         })
     }
 
@@ -241,8 +243,8 @@ impl Running {
         Ok(self.script)
     }
 
-    // What shows wishes, enabled kinds and kept addresses that nothing tells of: whoever asks is served, each device
-    // comes again, is assigned, and interrupts.
+    // What shows wishes, enabled kinds, kept addresses and static ones that nothing tells of: whoever asks is served, each
+    // device comes again, is assigned, and interrupts. Then addresses are reset, and each static one is made a dynamic one.
     fn ask_on(&mut self, alloc: Global) -> Result<(), Fault> {
         self.script.own = self.script.events.len();
         let came = self.script.attached(alloc)?;
@@ -256,7 +258,8 @@ impl Running {
         self.policy = ACCEPT_ALL;
         self.assign()?;
         self.raise_each(came)?;
-        self.serve_twice()
+        self.serve_twice()?;
+        self.set_each()
     }
 
     fn attach_each(&mut self, devices: &[(Slot, Setup)]) -> Result<(), Fault> {
@@ -278,6 +281,33 @@ impl Running {
             let _ = self.happen(Event::Raise(*slot, byte))?;
         }
         Ok(())
+    }
+
+    fn set_each(&mut self) -> Result<(), Fault> {
+        let _ = KNOWN;
+        if !self.script.legacies.has_declared() {
+            return Ok(());
+        }
+        let _ = self.happen(Event::Reset(ACCEPT_ALL, Cuts::new()))?;
+        for number in 0..ADDRESSES as u8 {
+            if let Ok(address) = Addr7::new(number) {
+                self.set_at(address)?;
+            }
+        }
+        Ok(())
+    }
+
+    // A declared address is made the dynamic one that is three further, which may be another's.
+    fn set_at(&mut self, address: Addr7) -> Result<(), Fault> {
+        let _ = KNOWN;
+        let is_declared = self.script.legacies.declared_at(address).is_some();
+        match Addr7::new((address.get() + 3) % 128) {
+            Ok(new) if is_declared => {
+                let _ = self.happen(Event::SetStatic(address, new, ACCEPT_ALL, Cuts::new()))?;
+                Ok(())
+            }
+            _ => Ok(()),
+        }
     }
 
     fn serve_twice(&mut self) -> Result<(), Fault> {
@@ -319,6 +349,8 @@ impl Running {
             Frame::SendList => Event::SendList(policy, cuts),
             Frame::ReadFrom(at) => Event::ReadFrom(*at, policy, cuts),
             Frame::WriteTo(at, bytes) => Event::WriteTo(*at, copy_of(bytes), policy, cuts),
+            Frame::SetStatic(at, to) => Event::SetStatic(*at, *to, policy, cuts),
+            Frame::SetNew(at, to) => Event::SetNew(*at, *to, policy, cuts),
         }
     }
 

@@ -1,18 +1,18 @@
 use crate::faults::Fault;
 use i3c_base::{
-    Addr7, Answer, Bcr, Cuts, Dcr, Fixed, Identity, Kinds, Lvr, Pid, RoundReply, Served, Setup,
-    Slot, Verdict,
+    Addr7, Answer, Bcr, Cuts, Dcr, Fixed, Identity, Kinds, Pid, RoundReply, Served, Setup, Slot,
+    Verdict,
 };
 use i3c_bus::{Event, Framed, Refusal, Reply};
 use i3c_legacy::Legacies;
 use std::alloc::Global;
 
-/// A script as what happens to a bus: its main device, its legacy targets, and its events. Those after its own show what
-/// is seen no other way.
+/// A script as what happens to a bus: its main device, what has a static address, and its events. Those after its own show
+/// what is seen no other way.
 #[derive(Drop)]
 pub(crate) struct Script {
     pub main: Setup,
-    pub declared: Vec<(Addr7, Lvr)>,
+    pub legacies: Legacies,
     pub events: Vec<Event>,
     pub own: usize,
     /// The plain machine's replies.
@@ -23,10 +23,10 @@ pub(crate) struct Script {
 
 impl Script {
     /// A script without events.
-    pub fn new(alloc: Global, main: &Setup, declared: Vec<(Addr7, Lvr)>) -> Script {
+    pub fn new(alloc: Global, main: &Setup, legacies: Legacies) -> Script {
         Script {
             main: *main,
-            declared,
+            legacies,
             events: Vec::new(alloc),
             own: 0,
             replies: Vec::new(alloc),
@@ -45,15 +45,6 @@ impl Script {
         }
         Ok(came)
     }
-}
-
-/// The legacy targets of these declarations. One that is refused changes nothing, as in a script.
-pub(crate) fn legacies_of(declared: &[(Addr7, Lvr)]) -> Legacies {
-    let mut legacies = Legacies::new();
-    for (address, lvr) in declared {
-        let _ = legacies.add(*address, *lvr);
-    }
-    legacies
 }
 
 /// The types in an event and a reply: the prover wants them named in each function that moves one into a list.

@@ -7,7 +7,7 @@ ghost use Rattle.i3c_bus.specs.declared.tokens.Hand.{Hand as HandValue};
 use crate::checks::{holds, same};
 use i3c_base::{Addr7, Cuts, Identity, Kinds, Setup, Slot};
 use i3c_bus::{
-    Answer, Bus, Command, Fixed, FrameFault, Framed, Hand, Record, Refusal, Reply, Role,
+    Answer, Bus, Command, Event, Fixed, FrameFault, Framed, Hand, Record, Refusal, Reply, Role,
     RoundReply, Served, SlotTaken, Verdict,
 };
 use i3c_frame::Silent;
@@ -130,4 +130,87 @@ fn commands(rt: HostRuntime) -> Result<(), Fail> {
     same(&rt, &Reply::Framed(off?), &done(Served::Refused));
     same(&rt, &Reply::Framed(on?), &done(Served::Quiet));
     Ok(())
+}
+
+// Four frames that give addresses: a declared device gets one at its static address, and another in its place. Whoever has
+// one doesn't take a second at its static address. An address that is nobody's static one is refused, and so is a declared
+// one as a dynamic one.
+#[test]
+fn addresses_are_set(rt: HostRuntime) -> Result<(), Fail> {
+    let (one, fixed) = (Slot::new(1)?, Addr7::new(0x20)?);
+    let (new, other) = (Addr7::new(0x30)?, Addr7::new(0x31)?);
+    let (mut refuse, cuts) = (all(Verdict::Refuse), Cuts::new());
+    let mut legacies = Legacies::new();
+    same(&rt, legacies.declare(fixed, setup(T).identity), Ok(()));
+    let (mut bus, role) = Bus::new(rt.alloc(), setup(HUB), legacies)?;
+    same(&rt, bus.attach(one, setup(T)), Ok(()));
+    let nobodys = bus.set_static(&role, new, other, &mut refuse, &mut Silent, &cuts);
+    let first = bus.set_static(&role, fixed, new, &mut refuse, &mut Silent, &cuts);
+    let again = bus.set_static(&role, fixed, other, &mut refuse, &mut Silent, &cuts);
+    let declared = bus.set_new(&role, new, fixed, &mut refuse, &mut Silent, &cuts);
+    let second = bus.set_new(&role, new, other, &mut refuse, &mut Silent, &cuts);
+    same(&rt, bus.address(one), Some(other));
+    same(
+        &rt,
+        bus.table().address_known(&setup(T).identity),
+        Some(other),
+    );
+    let is_free = bus.table().row_of(new).is_none();
+    holds(&rt, is_free, "the first address is free again");
+    let _records = bus.retire(Hand::Role(role));
+    same(&rt, &Reply::from(nobodys), &refused(Refusal::NoAnswer(new)));
+    same(&rt, &Reply::from(first), &done(Served::Quiet));
+    let unheard = Framed {
+        served: Served::Quiet,
+        answer: Answer::NoAnswer(fixed),
+    };
+    same(&rt, &Reply::from(again), &Reply::Framed(unheard));
+    same(
+        &rt,
+        &Reply::from(declared),
+        &refused(Refusal::BadAddress(fixed)),
+    );
+    same(&rt, &Reply::from(second), &done(Served::Quiet));
+    Ok(())
+}
+
+// A bus at rest is woken twice. What one of the two does isn't done to the other, and equal states are the same, whether or
+// not a session is open.
+#[test]
+fn a_bus_at_rest_is_woken_twice(rt: HostRuntime) -> Result<(), Fail> {
+    let (slot, mut accept) = (Slot::new(1)?, all(Verdict::Accept));
+    let (bus, role) = interrupted(&rt, rt.alloc())?;
+    let still = bus.rest(Hand::Role(role));
+    let (mut one, hand) = still.wake(rt.alloc())?;
+    let served = one.command(
+        &hand,
+        &Command::Serve,
+        &mut accept,
+        &mut Silent,
+        &Cuts::new(),
+    );
+    let left = one.waiting(slot);
+    let later = one.rest(hand);
+    let (mut other, hand) = still.wake(rt.alloc())?;
+    let waiting = other.waiting(slot);
+    let (hand, opened) = other.step(hand, &Event::OpenDaa(Cuts::new()), &mut Silent);
+    let open = other.rest(hand);
+    let (again, hand) = open.wake(rt.alloc())?;
+    let is_session = matches!(&hand, Hand::Session(_));
+    let once_more = again.rest(hand);
+    same(&rt, served, Reply::Served(Served::Recorded(1)));
+    same(&rt, opened, Reply::Opened(Served::Refused));
+    same(&rt, (left, waiting), (0, 1));
+    holds(&rt, is_session, "a session is open");
+    holds(&rt, open.is_same(&once_more), "a copy is the same");
+    holds(
+        &rt,
+        !still.is_same(&later) && !still.is_same(&open),
+        "a record, or a session, makes another state",
+    );
+    Ok(())
+}
+
+fn refused(why: Refusal) -> Reply {
+    Reply::Refused(why)
 }

@@ -4,7 +4,7 @@ use crate::setting::Setting;
 use crate::slots::slots_of;
 use crate::told::{Answer, told, told_hex, told_slots, told_text};
 use crate::words::Words;
-use i3c_base::Slot;
+use i3c_base::{Addr7, Slot};
 use i3c_device::{Devices, SlotSet};
 use std::alloc::Global;
 
@@ -31,6 +31,7 @@ fn together(setting: &mut Setting, call: &str, words: &mut Words<'_>) -> Answer 
         "is-heard" => is_heard(setting, words),
         "lowest-willing" => lowest_willing(setting, words),
         "hearers" => told_set(alloc, setting.devices.hearers()),
+        "unaddressed-at" => unaddressed_at(setting, words.address()?),
         "read-from" => read_from(setting, words),
         _ => hand::call(setting, call, words),
     }
@@ -119,6 +120,12 @@ fn lowest_willing(setting: &Setting, words: &mut Words<'_>) -> Answer {
         .devices
         .lowest_willing(setting.active, address, &setting.cuts, last);
     told_slots(setting.alloc, &lowest)
+}
+
+/// The slots of those who take SETDASA at a static address.
+fn unaddressed_at(setting: &Setting, fixed: Addr7) -> Answer {
+    let takers = setting.devices.unaddressed_at(setting.active, fixed);
+    told_set(setting.alloc, takers)
 }
 
 /// What the lines give of the registers at an address.

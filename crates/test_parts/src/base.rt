@@ -8,17 +8,18 @@ use i3c_base::{
     Addr7, Bcr, Cuts, Fixed, Identity, Kinds, LegacyTarget, Pid, REGISTERS, Record, Request, SLOTS,
     Served, Setup, Slot, WAITING, Waiting,
 };
-use i3c_legacy::LEGACIES;
+use i3c_legacy::{DECLARED, LEGACIES};
 use i3c_table::ROWS;
 use std::alloc::Global;
 use std::mem::size_of;
 
 /// The constants.
-const CONSTANTS: [(&str, usize); 5] = [
+const CONSTANTS: [(&str, usize); 6] = [
     ("SLOTS", SLOTS),
     ("WAITING", WAITING),
     ("REGISTERS", REGISTERS),
     ("LEGACIES", LEGACIES),
+    ("DECLARED", DECLARED),
     ("ROWS", ROWS),
 ];
 

@@ -3,7 +3,7 @@ use crate::setting::Setting;
 use crate::slots::written;
 use crate::told::{Answer, nothing, told, told_hex, told_text};
 use crate::words::Words;
-use i3c_base::{REGISTERS, Setup};
+use i3c_base::{Addr7, REGISTERS, Setup};
 use i3c_device::Device;
 use std::alloc::Global;
 
@@ -18,8 +18,9 @@ const CHANGES: [&str; 6] = [
 ];
 
 /// What any device is asked.
-const QUESTIONS: [&str; 9] = [
+const QUESTIONS: [&str; 10] = [
     "identity",
+    "fixed",
     "address",
     "is-hearing",
     "is-willing",
@@ -42,10 +43,14 @@ pub(crate) fn call(setting: &mut Setting, call: &str, words: &mut Words<'_>) -> 
     Err(Fault::Unknown)
 }
 
-/// A device of an identity, and at an address if one is given.
-pub(crate) fn device_of(words: &mut Words<'_>, willing: bool) -> Result<Device, Fault> {
+/// A device of an identity with this static address, and at a dynamic one if one is given.
+pub(crate) fn device_of(
+    words: &mut Words<'_>,
+    willing: bool,
+    fixed: Option<Addr7>,
+) -> Result<Device, Fault> {
     let identity = words.identity()?;
-    let mut device = Device::new(Setup { identity, willing });
+    let mut device = Device::new(Setup { identity, willing }, fixed);
     if !words.is_done() {
         device.take_address(words.usable()?);
     }
@@ -116,6 +121,7 @@ fn ask_of(alloc: Global, device: Option<&Device>, call: &str, byte: Option<u8>) 
 fn answer(alloc: Global, device: &Device, call: &str, byte: Option<u8>) -> Answer {
     match call {
         "identity" => told_hex(alloc, &device.identity()),
+        "fixed" => told_hex(alloc, &device.fixed()),
         "address" => told_hex(alloc, &device.address()),
         "is-hearing" => told(alloc, &device.is_hearing()),
         "is-willing" => told(alloc, &device.is_willing()),

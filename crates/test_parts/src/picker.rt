@@ -29,6 +29,7 @@ fn give(alloc: Global, table: &mut Table, count: u64) -> Answer {
             bcr: Bcr(0),
             dcr: Dcr(0),
             identity: None,
+            fixed: None,
         });
         given.push(address)?;
     }

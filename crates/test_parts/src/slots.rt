@@ -12,8 +12,7 @@ use std::alloc::Global;
 /// The calls that change the devices: here those by which they come, move and go.
 pub(crate) fn call(setting: &mut Setting, call: &str, words: &mut Words<'_>) -> Answer {
     match call {
-        "device" => return enter(setting, words, false),
-        "willing-device" => return enter(setting, words, true),
+        "device" | "static-device" | "willing-device" => return enter(setting, call, words),
         "put" => return put(setting, words),
         "remove" => setting.devices.remove(words.slot()?),
         "drop-lost" => setting.devices.drop_lost(&setting.cuts, words.bit()?),
@@ -22,10 +21,14 @@ pub(crate) fn call(setting: &mut Setting, call: &str, words: &mut Words<'_>) -> 
     nothing(setting.alloc)
 }
 
-/// A new device, in hand or in a slot.
-fn enter(setting: &mut Setting, words: &mut Words<'_>, willing: bool) -> Answer {
+/// A new device, in hand or in a slot. The static address of a `static-device` stands before its identity.
+fn enter(setting: &mut Setting, call: &str, words: &mut Words<'_>) -> Answer {
     let place = words.place()?;
-    let device = device_of(words, willing)?;
+    let fixed = match call {
+        "static-device" => Some(words.address()?),
+        _ => None,
+    };
+    let device = device_of(words, call == "willing-device", fixed)?;
     match place {
         None => setting.hand = Some(device),
         Some(slot) => setting.devices.put(slot, device),
@@ -84,6 +87,7 @@ fn happen(setting: &mut Setting, call: &str, words: &mut Words<'_>) -> Answer {
         "accept-first" => accept_first(setting),
         "command" => return command(setting, words),
         "assign" => return assign(setting, words),
+        "readdress" => return readdress(setting, words),
         "write-to" => return write_to(setting, words),
         _ => return asked::call(setting, call, words),
     }
@@ -122,6 +126,15 @@ fn assign(setting: &mut Setting, words: &mut Words<'_>) -> Answer {
     let last = words.bit()?;
     let takers = hearers_of(setting, &identity)?.left(&setting.cuts, last);
     setting.devices.take_address(takers, address);
+    nothing(setting.alloc)
+}
+
+/// The devices at an address have another one, but not the active controller.
+fn readdress(setting: &mut Setting, words: &mut Words<'_>) -> Answer {
+    let old = words.address()?;
+    let new = words.usable()?;
+    let reached = setting.devices.reached(setting.active, &Some(old));
+    setting.devices.readdress(reached, new);
     nothing(setting.alloc)
 }
 

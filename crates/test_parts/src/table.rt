@@ -1,3 +1,6 @@
+ghost use Rattle.std.specs.Prelude.{IsTrue};
+ghost use Rattle.i3c_base.specs.State.{IsPickableIn};
+
 use crate::faults::Fault;
 use crate::setting::Setting;
 use crate::told::{Answer, done, told, told_hex, told_if, told_lvrs};
@@ -40,14 +43,12 @@ fn legacies_of(declared: &[(Addr7, Lvr)]) -> Result<Legacies, Fault> {
     Ok(legacies)
 }
 
-/// Enters a row at an address that may be picked, a usable one that nobody has, and keeps it for its device or not.
+/// Enters a row at an address that may be picked, and keeps it for its device or not. A static address may stand behind.
 fn put(table: &mut Table, words: &mut Words<'_>, is_kept: bool) -> Result<(), Fault> {
     let address = words.address()?;
     let identity = words.identity()?;
-    if !matches!(address.get(), 0x08..0x3E)
-        || table.row_of(address).is_some()
-        || table.legacies().lvr_at(address).is_some()
-    {
+    let fixed = words.maybe_address()?;
+    if !is_pickable(table, address) {
         return Err(Fault::Unknown);
     }
     table.put(Row {
@@ -55,8 +56,19 @@ fn put(table: &mut Table, words: &mut Words<'_>, is_kept: bool) -> Result<(), Fa
         bcr: identity.bcr,
         dcr: identity.dcr,
         identity: if is_kept { Some(identity) } else { None },
+        fixed,
     });
     Ok(())
+}
+
+/// Whether the address is one below `3E` that may be picked: nobody has it, and it is nobody's static one.
+fn is_pickable(table: &Table, address: Addr7) -> bool
+    ensures { IsTrue result → IsPickableIn table.now.given table.now.legacy table.now.declared address }
+{
+    matches!(address.get(), 0x08..0x3E)
+        && table.row_of(address).is_none()
+        && table.legacies().lvr_at(address).is_none()
+        && table.legacies().declared_at(address).is_none()
 }
 
 /// What is asked of addresses.
@@ -106,14 +118,30 @@ fn of_table(alloc: Global, table: &mut Table, words: &mut Words<'_>) -> Answer {
         "put" => told_if(alloc, put(table, words, true)),
         "put_again" => told_if(alloc, put_again(table, words)),
         "clear" => told(alloc, &table.clear(words.address()?)),
+        "take_over" => told(alloc, &table.take_over(words.address()?)),
+        "release" => told(alloc, &table.release(words.address()?)),
+        "renumber" => told_if(alloc, renumber(table, words)),
+        "mark_listed" => told(alloc, &table.mark_listed()),
         _ => ask_table(alloc, table, method, words),
     }
 }
 
-/// Enters an identity again, with another BCR, at the address that is kept for it.
+/// Moves a row to an address that may be picked.
+fn renumber(table: &mut Table, words: &mut Words<'_>) -> Result<(), Fault> {
+    let old = words.address()?;
+    let new = words.address()?;
+    if table.row_of(old).is_none() || !is_pickable(table, new) {
+        return Err(Fault::Unknown);
+    }
+    table.renumber(old, new);
+    Ok(())
+}
+
+/// Enters an identity again, with another BCR, at the address that is kept for it. A static address may stand behind.
 fn put_again(table: &mut Table, words: &mut Words<'_>) -> Result<(), Fault> {
     let identity = words.identity()?;
     let bcr = Bcr(words.byte()?);
+    let fixed = words.maybe_address()?;
     let Some(address) = table.address_known(&identity) else {
         return Err(Fault::Unknown);
     };
@@ -122,6 +150,7 @@ fn put_again(table: &mut Table, words: &mut Words<'_>) -> Result<(), Fault> {
         bcr,
         dcr: identity.dcr,
         identity: Some(identity),
+        fixed,
     });
     Ok(())
 }

@@ -13,7 +13,7 @@ const PID: u64 = 0x0204_0000_0010;
 const DCR: u8 = 0x44;
 
 /// The commands that have no byte after them, as lines and as answers have them.
-const CODES: [(&str, Code); 16] = [
+const CODES: [(&str, Code); 20] = [
     ("enec", Code::Enec),
     ("disec", Code::Disec),
     ("rstdaa", Code::Rstdaa),
@@ -21,6 +21,8 @@ const CODES: [(&str, Code); 16] = [
     ("deftgts", Code::Deftgts),
     ("enec-direct", Code::EnecDirect),
     ("disec-direct", Code::DisecDirect),
+    ("setdasa", Code::Setdasa),
+    ("setnewda", Code::Setnewda),
     ("getacccr", Code::Getacccr),
     ("Enec", Code::Enec),
     ("Disec", Code::Disec),
@@ -29,6 +31,8 @@ const CODES: [(&str, Code); 16] = [
     ("Deftgts", Code::Deftgts),
     ("EnecDirect", Code::EnecDirect),
     ("DisecDirect", Code::DisecDirect),
+    ("Setdasa", Code::Setdasa),
+    ("Setnewda", Code::Setnewda),
     ("Getacccr", Code::Getacccr),
 ];
 
@@ -167,6 +171,14 @@ impl<'a> Words<'a> {
     /// An address, in hex digits.
     pub fn address(&mut self) -> Result<Addr7, Fault> {
         address_of(self.word()?)
+    }
+
+    /// An address, or none at the end of the line.
+    pub fn maybe_address(&mut self) -> Result<Option<Addr7>, Fault> {
+        match self.next() {
+            Some(word) => Ok(Some(address_of(word)?)),
+            None => Ok(None),
+        }
     }
 
     /// An address that a device may have.

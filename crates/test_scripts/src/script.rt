@@ -276,12 +276,14 @@ impl Write for Flaky<'_> {
 }
 
 /// A script with a line of each form, and refused ones.
-const EACH_LINE: &[u8] = b"show\nlegacy eep 50 20\nmain hub 020400000001 46 C0\n\
+const EACH_LINE: &[u8] = b"show\nlegacy eep 50 20\ndeclare 20 020400000030 06 44\n\
+    declare 50 020400000031 06 44\nmain hub 020400000001 46 C0\n\
     attach t 020400000010 06 44\nattach t 0\ndaa\nraise t 11\npolicy none\nserve\nenec 01\n\
     policy all\nraise x 11\ndisec 01 09\nenec 01 51\nenec 01 09\nraise t 12\nserve\nshow\nsymbols\n\
     write 50 A5\nread 50\nwrite 09\nread 09\n\
     attach u 020400000011 06 44\nask-join u\ncut u 65535\nserve\nopen\nround\nround\nend\nend\ndrop u\n\
-    attach c 020400000020 46 C1\ndaa\nask-role c\nlist\nhandover 0B\nreset\nshow\n";
+    attach c 020400000020 46 C1\ndaa\nask-role c\nlist\nhandover 0B\n\
+    attach s 020400000030 06 44\nsetdasa 20 30\nsetnewda 30 31\nsetdasa 20 3E\nreset\nshow\n";
 
 // Each write that fails alone ends the run, be it a reply's, a refusal's or a part of `show`, though all later ones
 // would be taken; nothing is printed after it.
@@ -289,7 +291,7 @@ const EACH_LINE: &[u8] = b"show\nlegacy eep 50 20\nmain hub 020400000001 46 C0\n
 fn one_write_fails(rt: HostRuntime) {
     let alloc = rt.alloc();
     let (whole, outcome) = run(alloc, EACH_LINE);
-    same(&rt, outcome, Ok(Tally { refused: 5 }));
+    same(&rt, outcome, Ok(Tally { refused: 7 }));
     let mut failures = 0u64;
     for before in 0..10_000 {
         // it gives seven bytes at a time, and what they print is written before the next
@@ -297,7 +299,7 @@ fn one_write_fails(rt: HostRuntime) {
         let mut writer = Flaky::new(alloc, b"", before);
         let outcome = run_script(alloc, &mut reader, &mut writer);
         if !writer.has_failed {
-            same(&rt, outcome, Ok(Tally { refused: 5 }));
+            same(&rt, outcome, Ok(Tally { refused: 7 }));
             same(&rt, writer.printed.as_slice(), whole.as_slice());
             break;
         }
@@ -322,7 +324,7 @@ fn one_read_fails(rt: HostRuntime) {
         let mut writer = Vec::new(alloc);
         let outcome = run_script(alloc, &mut reader, &mut writer);
         if !reader.has_failed {
-            same(&rt, outcome, Ok(Tally { refused: 5 }));
+            same(&rt, outcome, Ok(Tally { refused: 7 }));
             same(&rt, writer.as_slice(), whole.as_slice());
             break;
         }

@@ -1,5 +1,5 @@
 use Rattle.std.proofs.Common.{◌≡◌, ◌∙◌, Bool, true, false, refl, sym}
-use Rattle.i3c_deftgts.specs.Copies.{is_usable}
+use Rattle.i3c_base.specs.State.{is_usable}
 use Rattle.i3c_deftgts.proofs.CopyLaws.{usable}
 use Rattle.i3c_deftgts.proofs.CopyOfLaws.{is_usable-true}
 use Rattle.i3c_deftgts.proofs.copies.is_usable.Goals as goal

@@ -1,5 +1,6 @@
-use Rattle.std.proofs.Common.{ap, sym, ◌∙◌}
-use Rattle.i3c_base.specs.State.{no_lvrs}
+use Rattle.std.proofs.Common.{List, Option, ap, sym, ◌∙◌}
+use Rattle.i3c_base.specs.declared.identity.Lvr.{Lvr}
+use Rattle.i3c_base.specs.State.{no_identities, no_lvrs}
 use Rattle.i3c_legacy.proofs.RowLaws.{places-nil}
 use Rattle.i3c_deftgts.specs.Copies.{target_in}
 use Rattle.i3c_deftgts.proofs.CopyLaws.{legacy_more, legacy_same, lvr_of, static_of}
@@ -8,7 +9,7 @@ use Rattle.i3c_deftgts.proofs.copies.legacies_in.Goals.{in-Legacy, in_default}
 
 pub loop-entry-init : goal.loop-entry-init
 unfolding no_lvrs
-loop-entry-init c = c.new-legacies.ensures ∙ sym (places-nil static_of lvr_of)
+loop-entry-init c = c.new-legacies.ensures ∙ ap (λ (l : List (Option Lvr)). record { legacy = l; declared = no_identities }) (sym (places-nil static_of lvr_of))
 
 pub loop-entry-preserved : goal.loop-entry-preserved
 loop-entry-preserved c = elim c.match-entry.branch [

@@ -1,5 +1,6 @@
 use Rattle.std.proofs.Common.{◌≡◌, ◌≤◌, ◌++◌, ◌∷◌, [], length, set, None, is_some, option_map, ap, sym, ◌∙◌, arith, append_assoc, count_by, length-append}
 use Rattle.std.specs.Option.{option_to_list}
+use Rattle.i3c_base.specs.State.{Board}
 use Rattle.i3c_table.specs.Rows.{entry_of_row}
 use Rattle.i3c_deftgts.specs.Copies.{table_of}
 use Rattle.i3c_deftgts.specs.Entries.{device_at, entries_of, given_in, has_twice, legacy_at, own_entry, upwards}
@@ -40,12 +41,16 @@ push_legacies-requires c =
     let both = length-append (own_entry c.args.table.now c.args.own) (upwards device_at 0 (set c.args.table.now.given c.args.own None)) in
     omega (arith, long, both, length-own_and_others c.args.table.now c.args.own, c.given_addresses.ensures.few)
 
+-- the legacy targets that the table has
+told : (c : goal.After-push_legacies) → c.legacies.result.now.legacy ≡ c.args.table.now.legacy
+told c = ap (λ (b : Board). b.legacy) c.legacies.ensures
+
 -- all the entries
 whole : (c : goal.After-push_legacies) → c.push_legacies.new.entries.items ≡ entries_of c.args.table.now c.args.own
 whole c =
-    c.push_legacies.ensures.items ∙ (ap (λ e. e ++ upwards legacy_at 0 c.legacies.result.now) (two c.before)
-    ∙ (append_assoc (own_entry c.args.table.now c.args.own) (upwards device_at 0 (set c.args.table.now.given c.args.own None)) (upwards legacy_at 0 c.legacies.result.now)
-    ∙ ap (λ l. own_entry c.args.table.now c.args.own ++ (upwards device_at 0 (set c.args.table.now.given c.args.own None) ++ upwards legacy_at 0 l)) c.legacies.ensures))
+    c.push_legacies.ensures.items ∙ (ap (λ e. e ++ upwards legacy_at 0 c.legacies.result.now.legacy) (two c.before)
+    ∙ (append_assoc (own_entry c.args.table.now c.args.own) (upwards device_at 0 (set c.args.table.now.given c.args.own None)) (upwards legacy_at 0 c.legacies.result.now.legacy)
+    ∙ ap (λ l. own_entry c.args.table.now c.args.own ++ (upwards device_at 0 (set c.args.table.now.given c.args.own None) ++ upwards legacy_at 0 l)) (told c)))
 
 pub returns-clause-items : goal.returns-clause-items
 returns-clause-items c = whole c
@@ -59,14 +64,14 @@ returns-clause-long c = ap length (whole c) ∙ length-entries_of c.args.table.n
 pub returns-clause-few : goal.returns-clause-few
 returns-clause-few c =
     let long = ap length (whole c) ∙ length-entries_of c.args.table.now c.args.own in
-    let few : count_by is_some c.args.table.now.legacy ≤ 16 = rw (sym c.legacies.ensures) c.push_legacies.ensures.few in
+    let few : count_by is_some c.args.table.now.legacy ≤ 16 = rw (sym (told c)) c.push_legacies.ensures.few in
     omega (arith, long, few, c.given_addresses.ensures.few)
 
 pub returns-clause-read : goal.returns-clause-read
 returns-clause-read c words carried =
-    rw (whole c) (entries_read c.args.table.now c.args.own words c.requires.stands c.given_addresses.ensures.usable c.given_addresses.ensures.apart (rw (sym c.legacies.ensures) c.push_legacies.ensures.static_alone) (rw (whole c) at carried))
+    rw (whole c) (entries_read c.args.table.now c.args.own words c.requires.stands c.given_addresses.ensures.usable c.given_addresses.ensures.apart (rw (sym (told c)) c.push_legacies.ensures.static_alone) c.given_addresses.ensures.static_alone (rw (whole c) at carried))
 
 pub returns-clause-copied : goal.returns-clause-copied
 returns-clause-copied c =
-    ap table_of (whole c) ∙ copied_back c.args.table.now c.args.own c.requires.stands c.given_addresses.ensures.usable c.given_addresses.ensures.apart (rw (sym c.legacies.ensures) c.push_legacies.ensures.static_alone) c.given_addresses.ensures.all_places
-    (ap length (sym c.legacies.ensures) ∙ c.push_legacies.ensures.all_places) (rw (sym c.legacies.ensures) c.push_legacies.ensures.few)
+    ap table_of (whole c) ∙ copied_back c.args.table.now c.args.own c.requires.stands c.given_addresses.ensures.usable c.given_addresses.ensures.apart (rw (sym (told c)) c.push_legacies.ensures.static_alone) c.given_addresses.ensures.static_alone c.given_addresses.ensures.all_places
+    (ap length (sym (told c)) ∙ c.push_legacies.ensures.all_places) (rw (sym (told c)) c.push_legacies.ensures.few)

@@ -10,6 +10,6 @@ push_targets-requires-clause-room c =
 
 pub returns-then-is_empty-clause-items : goal.returns-then-is_empty-clause-items
 returns-then-is_empty-clause-items c =
-    let none : count_by is_some c.args.legacies.now ≡ 0 = c.is_empty.ensures.0 c.if-is_empty.true in
-    let nothing : upwards legacy_at 0 c.args.legacies.now ≡ [] = upwards_nothing legacy_at c.args.legacies.now 0 none in
+    let none : count_by is_some c.args.legacies.now.legacy ≡ 0 = c.is_empty.ensures.0 c.if-is_empty.true in
+    let nothing : upwards legacy_at 0 c.args.legacies.now.legacy ≡ [] = upwards_nothing legacy_at c.args.legacies.now.legacy 0 none in
     sym (append-nil c.args.entries.now.items) ∙ ap (λ es. c.args.entries.now.items ++ es) (sym nothing)

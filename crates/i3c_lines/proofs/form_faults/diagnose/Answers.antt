@@ -1,4 +1,4 @@
-use Rattle.std.proofs.Common.{◌≡◌, ◌∙◌, [], sym}
+use Rattle.std.proofs.Common.{◌∙◌, sym}
 use Rattle.i3c_lines.proofs.LineLaws.{word_left}
 use Rattle.i3c_lines.proofs.form_faults.diagnose.Goals as goal
 

@@ -1,10 +1,10 @@
-use Rattle.std.proofs.Common.{◌≡◌, ◌∙◌, ◌*◌, true, rules, subst, sym}
+use Rattle.std.proofs.Common.{◌≡◌, ◌∙◌, ◌*◌, IfOk, true, ap, rules, subst, sym}
 use Rattle.i3c_scenario.specs.Reporting.{IsOneSession}
 use Rattle.i3c_scenario.proofs.Reported.{counts_bus}
 use Rattle.i3c_scenario.proofs.stressing.stress_with.Goals as goal
 
 pub returns-clause-tried : goal.returns-clause-tried
-returns-clause-tried g c = search rules
+returns-clause-tried g c = subst (λ tried. IfOk c.report.result (λ r. r.tried ≡ tried)) (ap (λ devices. devices * c.args.posts) c.from.ensures) c.report.ensures.tried
 
 pub returns-clause-counted : goal.returns-clause-counted
 returns-clause-counted g c =

@@ -11,5 +11,5 @@ returns c old role ports run records waiting closes start h is k p d at end ther
     let here : device_at (reached start h) p.slot ≡ Some d = ap (λ (st : State). device_at st p.slot) is.reached ∙ there in
     ap length (sym (closes.all k p at end))
     ∙ accounted p.slot start h run d.waiting is.events is.replies
-    (c.raises_stay_in_order.ensures is.main is.legacy start h is.begun is.legal is.distinct p.slot d here)
+    (c.raises_stay_in_order.ensures is.main is.board start h is.begun is.legal is.distinct p.slot d here)
     (c.stays_begin_by_attachments.ensures start h is.legal p.slot d here)

@@ -4,6 +4,7 @@ use Rattle.i3c_base.specs.declared.requests.Served.{Served}
 use Rattle.i3c_base.specs.Serve.{given_for, header_bits}
 use Rattle.i3c_base.specs.State.{State}
 use Rattle.i3c_frame.specs.Taps.{Tells}
+use Rattle.i3c_ibi.specs.Policies.{Decides}
 use Rattle.i3c_frame.proofs.TapLaws.{NotesAll-append}
 use Rattle.i3c_bus.specs.Beginning.{Begins, IsWay}
 use Rattle.i3c_bus.specs.Wire.{IsBegun}
@@ -27,3 +28,8 @@ returns-clause-begins g c =
     ) in
     subst (λ (s : Served). (x : ℕ) × Begins old c.args.cuts.now s x mid × (c.go_on.result.bits ≡ x + header_bits s) × Tells g.T.Tap.note_gives c.args.tap.now c.go_on.new.tap (IsWay old c.args.cuts.now s x mid))
     (sym c.go_on.ensures.served) (word, begins, c.go_on.ensures.bits, way)
+
+pub returns-clause-asks : goal.returns-clause-asks
+returns-clause-asks g c =
+    subst (λ (s : Served). Decides g.P.Policy.verdict_gives c.args.policy.now c.begin-begun.new.policy c.args.self.now.state (given_for s)) (sym c.go_on.ensures.served)
+    (subst (λ (st : State). Decides g.P.Policy.verdict_gives c.args.policy.now c.begin-begun.new.policy st (given_for c.begin-begun.result.served)) c.in_ok-make_room.ensures.state c.begin-begun.ensures.asks)

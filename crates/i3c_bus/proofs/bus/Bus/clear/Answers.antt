@@ -33,7 +33,7 @@ cleared c =
 pub invariant_of-self : goal.invariant_of-self
 invariant_of-self c = record {
   sound = subst IsSound (sym (cleared c)) (sound_reset (seen c.self.inside) c.self.invariant.sound);
-  covered = (refl, ap (λ (t : Table). t.legacy) c.clear.ensures ∙ c.self.invariant.covered.1, refl);
+  covered = (refl, ap (λ (t : Table). t.legacy) c.clear.ensures ∙ c.self.invariant.covered.1, refl, refl);
   copied = λ listed. absurd (both_ways _ (ap (λ (t : Table). t.listed) c.clear.ensures) listed);
 }
 

@@ -24,7 +24,7 @@ hand-role-requires-clause-willing g c =
     let same : HasDevices c.args.self.now.state c.self.inside.devices c.active-active.result = has_devices _ _ _ c.self.view_is c.active-active.ensures in
     let taken : IsOffered c.args.self.now.state c.args.to (lost_by c.args.cuts.now (c.go_on-served.result.bits + 27)) (Taken c.in-Taken.slot) =
     subst (λ o. IsOffered c.args.self.now.state c.args.to (lost_by c.args.cuts.now (c.go_on-served.result.bits + offer_bits o)) o) c.in-Taken.is (c.offer-offer.ensures.offered c.args.self.now.state same) in
-    (c.args.to, (taken_by c.args.self.now.state c.args.to c.in-Taken.slot _ taken).0)
+    (taken_by c.args.self.now.state c.args.to c.in-Taken.slot _ taken).0
 
 pub drop_lost-requires : goal.drop_lost-requires
 drop_lost-requires g c =

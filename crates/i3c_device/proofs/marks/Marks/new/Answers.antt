@@ -1,6 +1,6 @@
 use Rattle.std.proofs.Common.{true, is_none}
 use Rattle.i3c_device.specs.Wishing.{wishes_interrupt, wishes_join, wishes_role}
-use Rattle.i3c_device.proofs.MarkLaws.{keys_none, set_of_none}
+use Rattle.i3c_device.proofs.MarkLaws.{keys_none, set_of_none, statics_none}
 use Rattle.i3c_device.proofs.marks.Marks.new.Goals as goal
 
 pub returns : goal.returns
@@ -12,4 +12,5 @@ returns c = record {
   hearing = set_of_none (λ d. d.hearing) c.none-5.result c.none-5.ensures;
   unaddressed = set_of_none (λ d. is_none d.address) c.none-6.result c.none-6.ensures;
   keys = keys_none;
+  statics = statics_none;
 }

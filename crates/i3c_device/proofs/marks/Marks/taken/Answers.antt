@@ -1,7 +1,7 @@
 -- Each set, of the places with the one anew.
 use Rattle.std.proofs.Common.{◌<◌, true, length, arith, is_none, refl, Some}
 use Rattle.i3c_device.specs.Wishing.{wishes_interrupt, wishes_join, wishes_role}
-use Rattle.i3c_device.proofs.MarkLaws.{keys_of_put, set_of_put}
+use Rattle.i3c_device.proofs.MarkLaws.{keys_of_put, set_of_put, statics_of_put}
 use Rattle.i3c_device.proofs.marks.Marks.taken.Goals as goal
 
 pub returns : goal.returns
@@ -18,4 +18,5 @@ returns c places long are =
       hearing = set_of_put (λ d. d.hearing) set.hearing c.with-5.result places i place c.is_hearing.result low are.hearing c.is_hearing.ensures c.with-5.ensures;
       unaddressed = set_of_put (λ d. is_none d.address) set.unaddressed c.with-6.result places i place c.is_unaddressed.result low are.unaddressed c.is_unaddressed.ensures c.with-6.ensures;
       keys = keys_of_put set.keys places i place c.key.result low are.keys c.key.ensures.key c.key.ensures.dynamic c.requires;
+      statics = statics_of_put set.statics places i place c.static_mark.result low are.statics c.static_mark.ensures c.requires;
     }

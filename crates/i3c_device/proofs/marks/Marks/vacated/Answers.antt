@@ -1,7 +1,7 @@
 -- Each set, of the places with the one anew.
 use Rattle.std.proofs.Common.{◌<◌, true, false, length, arith, is_none, refl, None}
 use Rattle.i3c_device.specs.Wishing.{wishes_interrupt, wishes_join, wishes_role}
-use Rattle.i3c_device.proofs.MarkLaws.{keys_of_put, set_of_put}
+use Rattle.i3c_device.proofs.MarkLaws.{keys_of_put, set_of_put, statics_of_put}
 use Rattle.i3c_device.proofs.marks.Marks.vacated.Goals as goal
 
 pub returns : goal.returns
@@ -17,4 +17,5 @@ returns c places long are =
       hearing = set_of_put (λ d. d.hearing) set.hearing c.with-5.result places i None false low are.hearing refl c.with-5.ensures;
       unaddressed = set_of_put (λ d. is_none d.address) set.unaddressed c.with-6.result places i None false low are.unaddressed refl c.with-6.ensures;
       keys = keys_of_put set.keys places i None 0 low are.keys refl tt c.requires;
+      statics = statics_of_put set.statics places i None _ low are.statics refl c.requires;
     }

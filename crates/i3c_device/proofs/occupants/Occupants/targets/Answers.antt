@@ -1,16 +1,16 @@
 -- Those with the address, but the active controller.
 use Rattle.std.proofs.Common.{◌/◌, ◌==◌, ap, slice_index, subst}
 use Rattle.i3c_device.specs.Reading.{AreAt}
-use Rattle.i3c_device.proofs.MarkLaws.{keyed_at, keyed_more, keyed_none}
+use Rattle.i3c_device.proofs.MarkLaws.{keyed_at, such_more, such_none}
 use Rattle.i3c_device.proofs.occupants.Occupants.targets.Goals as goal
 
 pub loop-index-init : goal.loop-index-init
-loop-index-init c = keyed_none c.args.address c.self.inside.marks.keys c.none-targets.result
+loop-index-init c = such_none (λ k. k / 2 == c.args.address) c.self.inside.marks.keys c.none-targets.result
 
 pub loop-index-preserved : goal.loop-index-preserved
 loop-index-preserved c =
     let keys = c.self.inside.marks.keys in
-    keyed_more c.args.address c.loop-index.index keys c.loop-index.targets c.with-targets.result _ c.loop-index.invariant (ap (λ at. slice_index keys c.loop-index.index / 2 == at) c.get.ensures.same) c.with-targets.ensures
+    such_more (λ k. k / 2 == c.args.address) c.loop-index.index keys c.loop-index.targets c.with-targets.result _ c.loop-index.invariant (ap (λ at. slice_index keys c.loop-index.index / 2 == at) c.get.ensures.same) c.with-targets.ensures
 
 pub with-targets-requires : goal.with-targets-requires
 with-targets-requires c = c.loop-index-test.true

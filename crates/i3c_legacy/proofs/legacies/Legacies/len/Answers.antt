@@ -1,7 +1,9 @@
 -- A place is filled for each target.
-use Rattle.std.proofs.Common.{sym, ◌∙◌}
-use Rattle.i3c_legacy.proofs.LegacyLaws.{counted}
+use Rattle.std.proofs.Common.{ap, sym, ◌∙◌}
+use Rattle.i3c_base.specs.State.{Board}
+use Rattle.i3c_legacy.proofs.LegacyLaws.{address_of, counted}
 use Rattle.i3c_legacy.proofs.legacies.Legacies.len.Goals as goal
 
 pub returns-clause-count : goal.returns-clause-count
-returns-clause-count c = c.len.ensures.value ∙ sym (counted c.self.inside.targets.items c.args.self.now c.self.invariant.0 c.self.view_is)
+returns-clause-count c =
+    c.len.ensures.value ∙ sym (counted address_of (λ d. d.lvr) c.self.inside.targets.items c.args.self.now.legacy c.self.invariant.targets_apart (ap (λ (b : Board). b.legacy) c.self.view_is))

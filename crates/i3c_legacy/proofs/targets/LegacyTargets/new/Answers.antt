@@ -5,7 +5,7 @@ use Rattle.std.proofs.lemmas.List.{length-map, map_more, take_all}
 use Rattle.i3c_legacy.proofs.TargetLaws.{placed_of, targets_placed}
 use Rattle.i3c_legacy.specs.Rows.{places, HasOwnAddresses}
 use Rattle.i3c_legacy.proofs.WriteLaws.{own_placed, place_of}
-use Rattle.i3c_base.specs.State.{legacy_targets_of}
+use Rattle.i3c_base.specs.State.{Board, legacy_targets_of}
 use Rattle.i3c_legacy.proofs.targets.LegacyTargets.new.Goals as goal
 
 pub push-requires : goal.push-requires
@@ -25,10 +25,10 @@ pub returns : goal.returns
 returns c =
     let items = c.deref-declared-items.result.now in
     ap (places (λ p. p.address) (λ p. p.target)) (c.loop-declared.invariant ∙ ap (map placed_of) (take_all c.loop-declared.declared-index items c.loop-declared-test.false ∙ c.deref-declared-items.ensures.0))
-    ∙ (targets_placed c.legacies.inside.targets.items ∙ ap legacy_targets_of c.legacies.view_is)
+    ∙ (targets_placed c.legacies.inside.targets.items ∙ ap (λ (b : Board). legacy_targets_of b.legacy) c.legacies.view_is)
 
 pub invariant_of-result : goal.invariant_of-result
 invariant_of-result c =
     let items = c.deref-declared-items.result.now in
     subst (HasOwnAddresses place_of) (sym (c.loop-declared.invariant ∙ ap (map placed_of) (take_all c.loop-declared.declared-index items c.loop-declared-test.false ∙ c.deref-declared-items.ensures.0)))
-    (own_placed c.legacies.inside.targets.items c.legacies.invariant.0)
+    (own_placed c.legacies.inside.targets.items c.legacies.invariant.targets_apart)

@@ -10,7 +10,9 @@ returns g c = (
         | inl serve ↦ false≢true (c.if-is_word.ensures.1 serve)
         | inr (inl show) ↦ false≢true (c.if-is_word-2.ensures.1 show)
         | inr (inr (inl symbols)) ↦ false≢true (c.if-is_word-3.ensures.1 symbols)
-        | inr (inr (inr all)) ↦ false≢true (c.if-is_word-4.ensures.1 all)
+        | inr (inr (inr (inl all))) ↦ false≢true (c.if-is_word-4.ensures.1 all)
+        | inr (inr (inr (inr (inl static)))) ↦ c.in_default.ensures static.0 static.1
+        | inr (inr (inr (inr (inr new)))) ↦ c.in_default-after.ensures new.0 new.1
       ],
   refl,
 )

@@ -1,4 +1,4 @@
-use Rattle.std.proofs.Common.{◌≡◌, IsTrue, ℕ, Bool, true, false, List, Option, Some, None, MatchOption, is_some, ap, refl, subst, sym, ◌∙◌}
+use Rattle.std.proofs.Common.{◌≡◌, IsTrue, ℕ, Bool, List, Option, Some, None, MatchOption, is_some, subst, sym, ◌∙◌}
 use Rattle.std.proofs.lemmas.Bool.{false≢true}
 use Rattle.i3c_base.specs.declared.requests.Fixed.{Fixed}
 use Rattle.i3c_lines.specs.Faults.{IsField}

@@ -68,3 +68,9 @@ returns-in-WriteTo-clause-memory c = rw c.in-WriteTo.is c.write.ensures.memory
 
 pub returns-in-HandOver-clause-handed : goal.returns-in-HandOver-clause-handed
 returns-in-HandOver-clause-handed c = rw c.in-HandOver.is c.hand_over.ensures.handed
+
+pub returns-in-SetStatic-clause-chosen : goal.returns-in-SetStatic-clause-chosen
+returns-in-SetStatic-clause-chosen c = rw c.in-SetStatic.is c.set_static.ensures.chosen
+
+pub returns-in-SetNew-clause-chosen : goal.returns-in-SetNew-clause-chosen
+returns-in-SetNew-clause-chosen c = rw c.in-SetNew.is c.set_new.ensures.chosen

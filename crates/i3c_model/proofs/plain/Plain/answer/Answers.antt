@@ -12,7 +12,7 @@ abbrev losing : ℕ → Request → ℕ → Device → Device
 losing active r s d = if not (s == active) && asks d r then without r d else d
 
 pub invariant_of-self : goal.invariant_of-self
-invariant_of-self c = within_fewer c.self.inside _ refl c.retain.ensures.no_new_key (λ k h. h) c.self.invariant
+invariant_of-self c = within_fewer c.self.inside _ (refl, refl) c.retain.ensures.no_new_key (λ k h. h) c.self.invariant
 
 pub returns : goal.returns
 returns c =

@@ -9,7 +9,7 @@ pub unreachable-requires : goal.unreachable-requires
 unreachable-requires c = present_there c.args.self.now c.args.slot (drop 1 (checks c.args.self.now (AskJoin c.args.slot))) c.requires.allowed (device_there c.self.inside c.args.self.now c.self.view_is c.self.invariant c.args.slot ∙ sym c.in_default.ensures.value)
 
 pub invariant_of-self : goal.invariant_of-self
-invariant_of-self c = within_written c.self.inside _ c.args.slot c.in-Some.device.now c.wish_join.new.self refl refl c.index.ensures.in_range (c.get_mut.follows.holds c.wish_join.new.self) c.in-Some.ensures.value c.self.invariant
+invariant_of-self c = within_written c.self.inside _ c.args.slot c.in-Some.device.now c.wish_join.new.self (refl, refl) refl c.index.ensures.in_range (c.get_mut.follows.holds c.wish_join.new.self) c.in-Some.ensures.value c.self.invariant
 
 pub returns : goal.returns
 returns c = changed_there c.self.inside c.args.self.now c.self.view_is c.self.invariant (c.get_mut.follows.lender c.wish_join.new.self) c.args.slot c.in-Some.device.now c.wish_join.new.self (λ d. record d { join_wish = true }) c.index.ensures.in_range (c.get_mut.follows.holds c.wish_join.new.self) c.in-Some.ensures.value c.wish_join.ensures

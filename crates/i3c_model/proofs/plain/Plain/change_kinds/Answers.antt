@@ -14,7 +14,7 @@ abbrev rekinding : ℕ → Option ℕ → (KindSet → KindSet) → ℕ → Devi
 rekinding active to f s d = if not (s == active) && is_meant to d then record d { kinds = f d.kinds } else d
 
 pub invariant_of-self : goal.invariant_of-self
-invariant_of-self c = within_fewer c.self.inside _ refl c.retain.ensures.no_new_key (λ k h. h) c.self.invariant
+invariant_of-self c = within_fewer c.self.inside _ (refl, refl) c.retain.ensures.no_new_key (λ k h. h) c.self.invariant
 
 pub returns : goal.returns
 returns c =

@@ -8,7 +8,7 @@ use Rattle.i3c_model.proofs.States.{within_fewer}
 use Rattle.i3c_model.proofs.plain.Plain.clear.Goals as goal
 
 pub invariant_of-self : goal.invariant_of-self
-invariant_of-self c = within_fewer c.self.inside _ refl c.retain.ensures.no_new_key c.retain-2.ensures.no_new_key c.self.invariant
+invariant_of-self c = within_fewer c.self.inside _ (refl, refl) c.retain.ensures.no_new_key c.retain-2.ensures.no_new_key c.self.invariant
 
 pub returns : goal.returns
 returns c =

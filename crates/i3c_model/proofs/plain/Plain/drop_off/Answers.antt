@@ -8,6 +8,7 @@ pub invariant_of-self : goal.invariant_of-self
 invariant_of-self c = record {
   slots = below_gone SLOTS c.self.inside.devices c.remove.new.self c.args.slot c.self.invariant.slots c.remove.ensures.updates;
   statics = c.self.invariant.statics;
+  declarations = c.self.invariant.declarations;
   addresses = c.self.invariant.addresses;
 }
 

@@ -5,7 +5,7 @@ use Rattle.i3c_model.proofs.States.{each_there, within_fewer}
 use Rattle.i3c_model.proofs.plain.Plain.end_daa.Goals as goal
 
 pub invariant_of-self : goal.invariant_of-self
-invariant_of-self c = within_fewer c.self.inside _ refl c.retain.ensures.no_new_key (λ k h. h) c.self.invariant
+invariant_of-self c = within_fewer c.self.inside _ (refl, refl) c.retain.ensures.no_new_key (λ k h. h) c.self.invariant
 
 pub returns : goal.returns
 returns c =

@@ -6,7 +6,7 @@ use Rattle.i3c_model.proofs.States.{within_fewer}
 use Rattle.i3c_model.proofs.plain.Plain.forget.Goals as goal
 
 pub invariant_of-self : goal.invariant_of-self
-invariant_of-self c = within_fewer c.self.inside _ refl (λ k h. h) c.retain.ensures.no_new_key c.self.invariant
+invariant_of-self c = within_fewer c.self.inside _ (refl, refl) (λ k h. h) c.retain.ensures.no_new_key c.self.invariant
 
 pub returns : goal.returns
 returns c =

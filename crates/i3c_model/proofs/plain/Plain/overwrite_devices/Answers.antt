@@ -13,7 +13,7 @@ abbrev replacing : ℕ → ℕ → List ℕ → ℕ → Device → Device
 replacing active a bytes s d = if not (s == active) && has_address a d then record d { registers = overwritten bytes d.registers } else d
 
 pub invariant_of-self : goal.invariant_of-self
-invariant_of-self c = within_fewer c.self.inside _ refl c.retain.ensures.no_new_key (λ k h. h) c.self.invariant
+invariant_of-self c = within_fewer c.self.inside _ (refl, refl) c.retain.ensures.no_new_key (λ k h. h) c.self.invariant
 
 pub returns : goal.returns
 returns c =

@@ -18,7 +18,7 @@ pub unreachable-requires : goal.unreachable-requires
 unreachable-requires c = present_there c.args.self.now c.args.slot (drop 1 (checks c.args.self.now (Raise c.args.slot c.args.byte))) c.requires.allowed (device_there c.self.inside c.args.self.now c.self.view_is c.self.invariant c.args.slot ∙ sym c.in_default.ensures.value)
 
 pub invariant_of-self : goal.invariant_of-self
-invariant_of-self c = within_written c.self.inside _ c.args.slot c.in-Some.device.now c.raise.new.self refl refl c.index-index.ensures.in_range (c.get_mut.follows.holds c.raise.new.self) c.in-Some.ensures.value c.self.invariant
+invariant_of-self c = within_written c.self.inside _ c.args.slot c.in-Some.device.now c.raise.new.self (refl, refl) refl c.index-index.ensures.in_range (c.get_mut.follows.holds c.raise.new.self) c.in-Some.ensures.value c.self.invariant
 
 pub returns-in_err-raise-clause-unchanged : goal.returns-in_err-raise-clause-unchanged
 returns-in_err-raise-clause-unchanged c =
@@ -26,7 +26,7 @@ returns-in_err-raise-clause-unchanged c =
     (written_same c.self.inside.devices (c.get_mut.follows.lender c.raise.new.self) c.args.slot c.in-Some.device.now c.raise.new.self (c.get_mut.follows.holds c.raise.new.self) c.in-Some.ensures.value c.in_err-raise.ensures.unchanged))
 
 pub invariant_of-self-2 : goal.invariant_of-self-2
-invariant_of-self-2 c = within_written c.self.inside _ c.args.slot c.in-Some.device.now c.raise.new.self refl refl c.index-index.ensures.in_range (c.get_mut.follows.holds c.raise.new.self) c.in-Some.ensures.value c.self.invariant
+invariant_of-self-2 c = within_written c.self.inside _ c.args.slot c.in-Some.device.now c.raise.new.self (refl, refl) refl c.index-index.ensures.in_range (c.get_mut.follows.holds c.raise.new.self) c.in-Some.ensures.value c.self.invariant
 
 pub returns-clause-raised : goal.returns-clause-raised
 returns-clause-raised c =

@@ -1,3 +1,7 @@
+use Rattle.std.proofs.Common.{ap, ◌∙◌}
+use Rattle.i3c_base.specs.Cutting.{lost_by}
+use Rattle.i3c_base.specs.Serve.{emptied}
+use Rattle.i3c_model.proofs.Stepping.{address_for}
 use Rattle.i3c_model.proofs.Taking.{done_follows, nobody_follows}
 use Rattle.i3c_model.proofs.plain.Plain.round.Goals as goal
 
@@ -15,3 +19,11 @@ returns-then-is_over-clause-rounds c = ((c.in-Some.pick, c.in-Some.ensures.0), c
 
 pub returns-in_default-winner-clause-rounds : goal.returns-in_default-winner-clause-rounds
 returns-in_default-winner-clause-rounds c = ((c.in-Some.pick, c.in-Some.ensures.0), c.if-is_over.ensures.lawful, c.in_default-winner.ensures.lawful, c.empty-in_default-winner.ensures)
+
+pub returns-clause-rounds : goal.returns-clause-rounds
+returns-clause-rounds c = (
+  (c.in-Some.pick, c.in-Some.ensures.0),
+  c.in-Some-winner.ensures.lawful,
+  address_for c.args.self.now c.in-Some-winner.identity c.in-Some.pick c.address_kept.result c.unwrap_or-address.result c.in-Some.ensures c.address_kept.ensures.kept c.unwrap_or-address.ensures,
+  c.empty-2.ensures ∙ ap (emptied (lost_by c.args.cuts.now 73)) c.in_ok-assign.ensures.done,
+)

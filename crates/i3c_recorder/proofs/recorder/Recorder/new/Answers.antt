@@ -1,5 +1,5 @@
 use Rattle.std.proofs.Common.{◌≡◌, ◌∙◌, Some, ap, refl, rules, subst, sym}
-use Rattle.i3c_base.specs.State.{device_at, legacy_targets_of}
+use Rattle.i3c_base.specs.State.{device_at}
 use Rattle.i3c_bus.specs.Readings.{address_of}
 use Rattle.i3c_bus.specs.declared.tokens.Hand.{Hand}
 use Rattle.i3c_recorder.specs.Beginning.{first_state}
@@ -14,7 +14,7 @@ invariant_of-result c =
     let begun = starts_there c.args.main c.new-beginning.result.main c.args.legacies c.new-beginning.result.legacies st c.in-Some.address c.new-beginning.ensures.main c.new-beginning.ensures.legacies c.in_ok-bus.ensures.start at in
     record {
       hand = (Hand.Role c.in_ok-bus.role, refl, c.in_ok-bus.ensures.fits);
-      begun = (c.args.main, legacy_targets_of c.args.legacies, begun.0);
+      begun = (c.args.main, c.args.legacies, begun.0);
       legal = subst (λ run. Leads (first_state c.new-beginning.result.main c.in-Some.address c.new-beginning.result.legacies) run st) (sym c.new-2.ensures) (search rules);
     }
 

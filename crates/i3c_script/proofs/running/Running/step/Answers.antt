@@ -1,6 +1,9 @@
-use Rattle.std.proofs.Common.{◌≡◌, subst, sym}
+-- The times of controllers are those that the reply leaves.
+use Rattle.std.proofs.Common.{◌≡◌, ◌∙◌, List, length, subst, sym}
+use Rattle.i3c_script.specs.declared.tenures.Tenure.{Tenure}
 use Rattle.i3c_script.specs.Assigning.{Moves, cuts_left}
 use Rattle.i3c_script.specs.Ran.{Ran, ran_of}
+use Rattle.i3c_script.specs.Tenures.{ended_by}
 use Rattle.i3c_script.proofs.Moving.{moved}
 use Rattle.i3c_script.proofs.running.Running.step.Goals as goal
 
@@ -10,5 +13,9 @@ returns c =
     let old = at.bus.state in
     let new = c.step-hand.new.self.state in
     let event = c.args.event.now in
-    rw (← c.self.view_is) (subst (λ cuts. Moves (ran_of old at.policy at.cuts at.wires) event c.step-hand.result.1 (ran_of new at.policy cuts c.step-hand.new.tap)) (subst (λ (ran : Ran). cuts_left event ran.cuts ≡ ran.cuts) (sym c.self.view_is) c.requires)
-    (moved old new at.policy at.cuts at.wires c.step-hand.new.tap event c.step-hand.result.1 c.step-hand.ensures.carried.step c.step-hand.ensures.carried.told))
+    let reply = c.step-hand.result.1 in
+    let times : c.end_tenure.new.ended.items ≡ ended_by reply old.active (length new.records) at.ended.items = c.in_ok-end_tenure.ensures ∙ (λ t. ended_by reply (c.active-active.ensures t) (length (c.records.ensures t)) at.ended.items) in
+    rw (← c.self.view_is) (subst (λ (ended : List Tenure). Moves (ran_of old at.policy at.cuts at.wires at.ended.items) event reply (ran_of new at.policy at.cuts c.step-hand.new.tap ended)) (sym times)
+    (subst (λ cuts. Moves (ran_of old at.policy at.cuts at.wires at.ended.items) event reply (ran_of new at.policy cuts c.step-hand.new.tap (ended_by reply old.active (length new.records) at.ended.items)))
+    (subst (λ (ran : Ran). cuts_left event ran.cuts ≡ ran.cuts) (sym c.self.view_is) c.requires)
+    (moved old new at.policy at.cuts at.wires c.step-hand.new.tap at.ended.items event reply c.step-hand.ensures.carried.step c.step-hand.ensures.carried.told)))

@@ -1,6 +1,6 @@
 -- The bus starts with its main controller in slot 0.
 use Rattle.std.proofs.Common.{◌≡◌, ◌++◌, ◌∷◌, [], ◌∙◌, None, ap, codes, subst, sym}
-use Rattle.i3c_base.specs.State.{IsStart, device_at, legacy_targets_of}
+use Rattle.i3c_base.specs.State.{IsStart, device_at}
 use Rattle.i3c_bus.specs.Readings.{address_of}
 use Rattle.i3c_lines.specs.Naming.{letters}
 use Rattle.i3c_script.specs.Obeying.{NamesSlot, Starts, main_refusal, script}
@@ -17,13 +17,14 @@ returns c =
     let ran = c.new-running.result in
     let unrefused : main_refusal names name setup.identity.bcr ≡ None = sym c.main_refusal.ensures ∙ c.in-None.is in
     let given : NamesSlot names named name c.default.result = record { given = c.in_ok-give_slot.ensures.given; slots = c.in_ok-give_slot.ensures.told; legacies = c.give_slot.ensures.legacies } in
-    let start : IsStart setup (legacy_targets_of c.in-Before.legacies) ran.state = subst (λ l. IsStart setup (legacy_targets_of l) ran.state) c.replace-declared.ensures.value c.new-running.ensures.start in
+    let start : IsStart setup c.in-Before.legacies ran.state = subst (λ board. IsStart setup board ran.state) c.replace-declared.ensures.value c.new-running.ensures.start in
     let starts : Starts c.in-Before.legacies names name setup ran (script c.replace.new.dest named) = record {
       stage = c.replace.ensures.after;
       start = start;
       policy = c.new-running.ensures.policy;
       cuts = c.new-running.ensures.cuts;
       wire = c.new-running.ensures.wire;
+      ended = c.new-running.ensures.ended;
       named = subst (λ slot. NamesSlot names named name slot) (sym c.default.ensures.1 ∙ c.default.ensures.2) given;
     } in
     let at : c.address-address.result ≡ address_of (device_at ran.state 0) = c.address-address.ensures ∙ (λ i. address_of (device_at (c.bus.ensures i) ((sym c.default-2.ensures.1 ∙ c.default-2.ensures.2) i))) in

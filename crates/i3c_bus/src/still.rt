@@ -1,0 +1,147 @@
+ghost use Rattle.std.specs.Prelude.{◌≡◌, ◌↔◌, IfOk, IsTrue};
+
+use crate::bus::Bus;
+use crate::tokens::Hand;
+use i3c_base::{Record, SLOTS, Slot};
+use i3c_deftgts::List;
+use i3c_device::Devices;
+use i3c_handoff::{Active, retire};
+use i3c_legacy::LegacyTargets;
+use i3c_step::OutOfMemory;
+use i3c_table::Table;
+use std::alloc::{AllocError, Global};
+use std::marker::Model;
+
+/// A bus at rest. Nobody has its role in hand, so it can be dropped, and it can be woken more than once.
+///
+/// Clauses see the state of the bus.
+#[derive(Drop)]
+pub struct Still {
+    devices: Devices,
+    raised: [u64; SLOTS],
+    active: Slot,
+    table: Table,
+    // what each device that keeps the list read of the last one
+    list: List,
+    legacy: LegacyTargets,
+    in_session: bool,
+    records: Vec<Record>,
+}
+
+impl Model for Still {
+    ghost use Rattle.i3c_base.specs.State.{State};
+    ghost use Rattle.i3c_bus.specs.Parts.{state_of};
+    ghost use Rattle.i3c_bus.specs.Whole.{IsWhole};
+
+    ghost Value = { State };
+
+    ghost view = { λ s. state_of s.devices s.raised s.active s.table s.legacy s.in_session s.records.items };
+
+    ghost invariant = { λ s. IsWhole (state_of s.devices s.raised s.active s.table s.legacy s.in_session s.records.items) s.table s.list };
+}
+
+impl Bus {
+    ghost use Rattle.i3c_bus.specs.Hands.{HandFits};
+
+    /// The bus at rest. It takes the role or session that is of it.
+    pub fn rest(self, hand: Hand) -> Still
+        requires { HandFits hand self.state }
+        ensures { result ≡ self.state }
+    {
+        let Bus {
+            devices,
+            raised,
+            active,
+            table,
+            list,
+            legacy,
+            in_session,
+            records,
+        } = self;
+        let slot = active.slot();
+        retire(active, hand.into_role());
+        Still {
+            devices,
+            raised,
+            active: slot,
+            table,
+            list,
+            legacy,
+            in_session,
+            records,
+        }
+    }
+}
+
+impl Still {
+    ghost use Rattle.std.specs.Prelude.{◌≡◌, ◌↔◌, IfOk, IsTrue};
+    ghost use Rattle.i3c_bus.specs.Hands.{HandFits};
+
+    /// The bus once more, with a role or session of its own.
+    ///
+    /// # Errors
+    ///
+    /// There is no memory for its records.
+    pub fn wake(&self, alloc: Global) -> Result<(Bus, Hand), OutOfMemory>
+        ensures same { IfOk result (λ woken. woken.0.state ≡ self.now) }
+        ensures fits { IfOk result (λ woken. HandFits woken.1 woken.0.state) }
+    {
+        let Ok(records) = records_again(alloc, &self.records) else {
+            return Err(OutOfMemory);
+        };
+        let (active, role) = Active::new(self.active);
+        let bus = Bus {
+            devices: self.devices.copied(),
+            raised: self.raised,
+            active,
+            table: self.table.copied(),
+            list: self.list.copied(),
+            legacy: self.legacy.copied(),
+            in_session: self.in_session,
+            records,
+        };
+        Ok((bus, Hand::new(role, self.in_session)))
+    }
+
+    /// Whether another bus is in the same state.
+    pub fn is_same(&self, other: &Still) -> bool
+        ensures { IsTrue result ↔ (self.now ≡ other.now) }
+    {
+        self.has_same_course(other) && self.has_same_tables(other)
+    }
+
+    // Whether both have the same devices with the same raises, the same active controller, either both or neither a session,
+    // and the same records.
+    fn has_same_course(&self, other: &Still) -> bool
+        ensures { IsTrue result ↔ ((self.now.active ≡ other.now.active) × (self.now.in_session ≡ other.now.in_session) × (self.now.raised ≡ other.now.raised) × (self.now.records ≡ other.now.records) × (self.now.devices ≡ other.now.devices)) }
+    {
+        self.active == other.active
+            && self.in_session == other.in_session
+            && self.raised == other.raised
+            && are_same(&self.records, &other.records)
+            && self.devices.is_same(&other.devices)
+    }
+
+    // Whether both controllers know the same, and the legacy targets are the same.
+    fn has_same_tables(&self, other: &Still) -> bool
+        ensures { IsTrue result ↔ ((self.now.given ≡ other.now.given) × (self.now.declared ≡ other.now.declared) × (self.now.listed ≡ other.now.listed) × (self.now.legacy ≡ other.now.legacy)) }
+    {
+        self.table.is_same(&other.table) && self.legacy.is_same(&other.legacy)
+    }
+}
+
+/// Whether both are the same records, in the same order.
+fn are_same(records: &Vec<Record>, others: &Vec<Record>) -> bool
+    ensures { IsTrue result ↔ (records.now.items ≡ others.now.items) }
+{
+    records.as_slice() == others.as_slice()
+}
+
+/// The same records once more.
+fn records_again(alloc: Global, records: &Vec<Record>) -> Result<Vec<Record>, AllocError>
+    ensures { IfOk result (λ copy. copy.items ≡ records.now.items) }
+{
+    let mut copy = Vec::with_capacity(alloc, records.len())?;
+    copy.extend_from_slice(records.as_slice())?;
+    Ok(copy)
+}

@@ -1,0 +1,61 @@
+ghost use Rattle.std.specs.Prelude.{◌≡◌, ◌+◌, ◌≤◌, ◌↔◌, IsOk, MatchResult};
+ghost use Rattle.i3c_base.specs.Cutting.{lost_by};
+ghost use Rattle.i3c_base.specs.Frames.{AllLostAt, AllUnaddressedLostAt, AnyAt, AnyUnaddressedAt, SomeLeftAt, SomeUnaddressedLeftAt};
+ghost use Rattle.i3c_base.specs.State.{HasDevices, State};
+ghost use Rattle.i3c_events.specs.Setting.{with_new_address, with_static_address};
+
+use crate::hearing::{ACK_BITS, NoAnswer};
+use i3c_base::{Addr7, Cuts, Slot};
+use i3c_device::Devices;
+
+/// SETDASA, after so many bits of its frame in which these devices are cut: who has the static address and no dynamic one
+/// takes the new address, but the active controller (I3C Basic 5.1.9.3.10). Where none of those is left at the
+/// acknowledgement, nothing changes. No dynamic address is below `08`.
+pub fn hear_static(
+    devices: &mut Devices,
+    active: Slot,
+    fixed: Addr7,
+    new: Addr7,
+    cuts: &Cuts,
+    begun: u16,
+) -> Result<(), NoAnswer>
+    requires early { begun ≤ 18 }
+    requires dynamic { 8 ≤ new }
+    ensures set { (st : State) → HasDevices st devices.old active → MatchResult result
+        (λ _. AnyUnaddressedAt st fixed × (devices.new ≡ with_static_address active fixed new devices.old))
+        (λ none. (none.0 ≡ fixed) × AllUnaddressedLostAt st fixed (lost_by cuts.now (begun + 18)) × (devices.new ≡ devices.old)) }
+    ensures answered { (st : State) → HasDevices st devices.old active → IsOk result ↔ SomeUnaddressedLeftAt st fixed (lost_by cuts.now (begun + 18)) }
+{
+    let takers = devices.unaddressed_at(active, fixed);
+    if !takers.outlasts(cuts, begun + ACK_BITS) {
+        return Err(NoAnswer(fixed));
+    }
+    devices.take_address(takers, new);
+    Ok(())
+}
+
+/// SETNEWDA, after so many bits of its frame in which these devices are cut: all who have the old address have the new one,
+/// but the active controller (I3C Basic 5.1.9.3.11). Where none of those is left at the acknowledgement, nothing changes.
+/// No dynamic address is below `08`.
+pub fn hear_new(
+    devices: &mut Devices,
+    active: Slot,
+    old: Addr7,
+    new: Addr7,
+    cuts: &Cuts,
+    begun: u16,
+) -> Result<(), NoAnswer>
+    requires early { begun ≤ 18 }
+    requires dynamic { 8 ≤ new }
+    ensures set { (st : State) → HasDevices st devices.old active → MatchResult result
+        (λ _. AnyAt st old × (devices.new ≡ with_new_address active old new devices.old))
+        (λ none. (none.0 ≡ old) × AllLostAt st old (lost_by cuts.now (begun + 18)) × (devices.new ≡ devices.old)) }
+    ensures answered { (st : State) → HasDevices st devices.old active → IsOk result ↔ SomeLeftAt st old (lost_by cuts.now (begun + 18)) }
+{
+    let targets = devices.reached(active, &Some(old));
+    if !targets.outlasts(cuts, begun + ACK_BITS) {
+        return Err(NoAnswer(old));
+    }
+    devices.readdress(targets, new);
+    Ok(())
+}

@@ -1,0 +1,128 @@
+-- The orders of a block are shared out among its ends.
+use Rattle.std.proofs.Common.{◌≡◌, ◌∙◌, ◌<◌, ℕ, suc, List, [], ◌∷◌, Some, ap, arith, get_or, length, map, refl, subst, sym}
+use Rattle.std.specs.Global.{Vec}
+use Rattle.std.specs.List.{Contains, slice_get}
+use Rattle.std.proofs.lemmas.List.{length-map}
+use Rattle.i3c_explore.specs.declared.node.Node.{Node}
+use Rattle.i3c_explore.specs.declared.turn.Turn.{Turn}
+use Rattle.i3c_explore.specs.Counts.{IsShared, plain}
+use Rattle.i3c_explore.specs.Shares.{AreShared, IsLed, IsMeant, IsSharedNext, longer}
+use Rattle.i3c_explore.specs.Layers.{IsNextAt}
+use Rattle.i3c_explore.specs.Numbers.{IsNumber}
+use Rattle.i3c_explore.specs.Orders.{IsPrefix, track, turns_of}
+use Rattle.i3c_explore.proofs.Lists.{get_below, get_contains}
+use Rattle.i3c_explore.proofs.Turns.{leads_prefix, no_longer, prefix_before, room_for}
+use Rattle.i3c_explore.proofs.Covering.{is_track}
+use Rattle.i3c_explore.proofs.Blocks.{AreHeld, AreReached, AreRestarted, no_more, order_prefix, prefix_whole, whole_longest}
+use Rattle.i3c_explore.proofs.Sharing.{contains_map, contains_map_from, distinct_map}
+use Rattle.i3c_explore.proofs.Counting.{in_by_tracks}
+
+-- the orders of so many turns are shared out among the nodes of a layer
+pub record IsCounted {S L : Type 0} (steps : S → L → ℕ → S → Type 0) (tracks : List (Vec L)) (starts : List (Node S)) (past : ℕ → List (List (List ℕ))) (count : ℕ) (layer : List (Node S)) : Type 0 where
+  pub share : ℕ → List (List ℕ × List (List ℕ))
+  pub shared : IsShared layer share
+  pub meant : IsMeant (IsLed steps tracks starts past) layer share
+  pub covers : (i : ℕ) (before : List (List ℕ)) → Contains (past i) before → (xs : List ℕ) → length xs ≡ count → IsPrefix tracks (plain xs) → (k : ℕ) × Contains (share k) (xs, before)
+
+-- no line of the block has run
+abbrev pub begun : List (List ℕ) → List ℕ × List (List ℕ)
+begun past = ([], past)
+
+led_first : {S L : Type 0} (steps : S → L → ℕ → S → Type 0) (tracks : List (Vec L)) (starts : List (Node S)) (past : ℕ → List (List (List ℕ))) (s n : Node S) (k : ℕ) (before : List (List ℕ))
+    → slice_get starts k ≡ Some s → Contains (past k) before → n.state ≡ s.state → ((t : ℕ) → get_or n.places.items t 0 ≡ 0) → IsLed steps tracks starts past n (begun before)
+led_first steps tracks starts past s n k before at c state places = record { from = k; start = s; at = at; before = c; placed = λ t. sym (places t); led = state }
+
+covers_first : {L : Type 0} (tracks : List (Vec L)) (past : ℕ → List (List (List ℕ))) (xs : List ℕ) (i : ℕ) (before : List (List ℕ)) → Contains (past i) before → length xs ≡ 0
+    → (k : ℕ) × Contains (map begun (past k)) (xs, before)
+covers_first tracks past [] i before c len = (i, contains_map begun (past i) before c)
+covers_first tracks past (t ∷ xs) i before c len = absurd (omega arith)
+
+pub counted_first : {S L : Type 0} (steps : S → L → ℕ → S → Type 0) (tracks : List (Vec L)) (starts layer : List (Node S)) → AreRestarted (length tracks) starts layer → length layer ≡ length starts
+    → (past : ℕ → List (List (List ℕ))) → IsShared starts past → IsCounted steps tracks starts past 0 layer
+counted_first {S} steps tracks starts layer restarted same past was = record {
+  share = λ k. map begun (past k);
+  shared = record {
+    number = λ k n found.
+        let (s, at, (_, _, orders, _, _)) = restarted n k found in
+        let count : length (past k) ≡ length (map begun (past k)) = sym (length-map (past k) begun) in
+        subst (λ (j : ℕ). IsNumber n.orders j) count (subst (λ o. IsNumber o (length (past k))) (sym orders) (was.number k s at));
+    distinct = λ k. distinct_map begun (past k) (λ x y e. ap (λ (o : List ℕ × List (List ℕ)). o.1) e) (was.distinct k);
+    apart = λ i j o c d.
+        let (p, a, is) = contains_map_from begun (past i) o c in
+        let (q, b, is') = contains_map_from begun (past j) o d in
+        let alike : q ≡ p = ap (λ (o : List ℕ × List (List ℕ)). o.1) (sym is' ∙ is) in
+        was.apart i j p a (subst (λ (r : List (List ℕ)). Contains (past j) r) alike b);
+    within = λ k o c. let (p, a, _) = contains_map_from begun (past k) o c in let lt = was.within k p a in omega arith;
+  };
+  meant = λ k o c.
+      let (p, a, is) = contains_map_from begun (past k) o c in
+      let lt = was.within k p a in
+      let (n, found) = get_below layer k (omega arith) in
+      let (s, at, (state, _, _, places, _)) = restarted n k found in
+      (n, found, subst (λ (x : List ℕ × List (List ℕ)). IsLed steps tracks starts past n x) (sym is) (led_first steps tracks starts past s n k p at a state places));
+  covers = λ i before c xs len prefix. covers_first tracks past xs i before c len;
+}
+
+covers_next : {S L : Type 0} (steps : S → L → ℕ → S → Type 0) (tracks : List (Vec L)) (starts : List (Node S)) (past : ℕ → List (List (List ℕ))) (count : ℕ) (layer next : List (Node S)) (was : IsCounted steps tracks starts past count layer)
+    → (then_ : IsSharedNext (IsLed steps tracks starts past) tracks layer next was.share)
+    → (xs : List ℕ) (i : ℕ) (before : List (List ℕ)) → Contains (past i) before → length xs ≡ suc count → IsPrefix tracks (plain xs) → (k : ℕ) × Contains (then_.now k) (xs, before)
+covers_next steps tracks starts past count layer next was then_ [] i before c len prefix = absurd (omega arith)
+covers_next {S} {L} steps tracks starts past count layer next was then_ (t ∷ xs) i before c len prefix =
+    let turn : Turn = record { track = t; way = 0 } in
+    let shorter : length xs ≡ count = omega arith in
+    let (k, d) = was.covers i before c xs shorter (prefix_before tracks turn (plain xs) prefix) in
+    let (n, found, led) = was.meant k (xs, before) d in
+    let room = room_for tracks turn (plain xs) prefix in
+    let within = is_track tracks t (turns_of t (plain xs)) room in
+    let (line, is) = get_below (track tracks t) (turns_of t (plain xs)) room in
+    let here : IsNextAt tracks n.places.items t line = subst (λ (j : ℕ). slice_get (track tracks t) j ≡ Some line) (led.placed t) is in
+    then_.each k n (longer t (xs, before)) found (in_by_tracks tracks n.places.items (length tracks) (was.share k) t line (xs, before) within here d)
+
+pub counted_next : {S L : Type 0} (steps : S → L → ℕ → S → Type 0) (tracks : List (Vec L)) (starts : List (Node S)) (past : ℕ → List (List (List ℕ))) (count : ℕ) (layer next : List (Node S)) (was : IsCounted steps tracks starts past count layer)
+    → IsSharedNext (IsLed steps tracks starts past) tracks layer next was.share → IsCounted steps tracks starts past (suc count) next
+counted_next steps tracks starts past count layer next was then_ = record {
+  share = then_.now;
+  shared = then_.shared;
+  meant = then_.meant;
+  covers = λ i before c xs len prefix. covers_next steps tracks starts past count layer next was then_ xs i before c len prefix;
+}
+
+-- what is said of the slice of a layer is said of the layer
+pub next_shared : {S L : Type 0} (steps : S → L → ℕ → S → Type 0) (tracks : List (Vec L)) (layer next starts : List (Node S)) (past : ℕ → List (List (List ℕ))) (slice : List (Node S)) → slice ≡ layer
+    → (share : ℕ → List (List ℕ × List (List ℕ)))
+    → ((starts : List (Node S)) (past : ℕ → List (List (List ℕ))) (share : ℕ → List (List ℕ × List (List ℕ))) → IsShared slice share → IsMeant (IsLed steps tracks starts past) slice share
+    → IsSharedNext (IsLed steps tracks starts past) tracks slice next share)
+    → IsShared layer share → IsMeant (IsLed steps tracks starts past) layer share → IsSharedNext (IsLed steps tracks starts past) tracks layer next share
+next_shared {S} steps tracks layer next starts past slice is share all shared meant =
+    subst (λ (l : List (Node S)). IsSharedNext (IsLed steps tracks starts past) tracks l next share) is
+    (all starts past share (subst (λ (l : List (Node S)). IsShared l share) (sym is) shared) (subst (λ (l : List (Node S)). IsMeant (IsLed steps tracks starts past) l share) (sym is) meant))
+
+length_plain : (xs : List ℕ) → length (plain xs) ≡ length xs
+length_plain [] = refl
+length_plain (t ∷ xs) = ap suc (length_plain xs)
+
+pub ends_shared : {S L : Type 0} (steps : S → L → ℕ → S → Type 0) (tracks : List (Vec L)) (starts layer next : List (Node S)) (past : ℕ → List (List (List ℕ))) (count : ℕ)
+    → AreReached steps tracks starts count layer → AreHeld steps tracks starts (suc count) next → length next ≡ 0 → (0 < length starts → 0 < length layer)
+    → IsShared starts past → IsCounted steps tracks starts past count layer → AreShared steps tracks starts layer past
+ends_shared {S} steps tracks starts layer next past count reached held empty some was now = record {
+  share = now.share;
+  shared = now.shared;
+  led = λ k o c.
+      let (n, found, led) = now.meant k o c in
+      let (_, _, (r, len)) = reached n (get_contains layer k n found) in
+      let one = no_longer r.turns (plain o.0) (λ t. let a = led.placed t in let b = r.placed t in omega arith) in
+      let other = no_longer (plain o.0) r.turns (λ t. let a = led.placed t in let b = r.placed t in omega arith) in
+      let whole = prefix_whole tracks (plain o.0) count (leads_prefix steps tracks led.start.state (plain o.0) n.state led.led) (omega arith)
+      (no_more steps tracks starts next count led.start (get_contains starts led.from led.start led.at) held empty) in
+      (whole, (n, found, (led.from, led.start, led.at, led.before, led.led)));
+  each = λ i before c xs whole.
+      let within = was.within i before c in
+      let (s, found) = get_below starts i within in
+      let prefix = order_prefix tracks (plain xs) whole in
+      let most = no_more steps tracks starts next count s (get_contains starts i s found) held empty (plain xs) prefix in
+      let (m, at) = get_below layer 0 (some (omega arith)) in
+      let (o, _, (r, len)) = reached m (get_contains layer 0 m at) in
+      let least = whole_longest tracks (plain xs) r.turns whole (leads_prefix steps tracks o.state r.turns m.state r.led) in
+      let long = length_plain xs in
+      now.covers i before c xs (omega arith) prefix;
+}

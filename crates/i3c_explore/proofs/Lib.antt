@@ -1,0 +1,14 @@
+pub mod Lists
+pub mod Putting
+pub mod Sharing
+pub mod Counting
+pub mod Shares
+pub mod NextLines
+pub mod Expanding
+pub mod Turns
+pub mod Covering
+pub mod Blocks
+pub mod Ends
+pub mod Courses
+pub mod Totals
+pub mod Splitting

@@ -1,0 +1,12 @@
+use Rattle.i3c_explore.specs.Shares.{Gains, by_tracks}
+use Rattle.i3c_explore.specs.Layers.{AreFrom, IsExpanded, Keeps}
+use Rattle.i3c_explore.proofs.expand.expand.Given as goal
+
+-- the lines of the tracks so far ran
+abbrev pub invariant-loop-track : goal.invariant-loop-track
+invariant-loop-track g l = record {
+  keeps : Keeps l.initial.next.nodes.items l.next.nodes.items;
+  expanded : IsExpanded g.M.Machine.steps l.fn.tracks l.track l.fn.node l.next.nodes.items;
+  counted : Gains g.M.Machine.steps l.fn.tracks l.fn.node l.initial.next.nodes.items l.next.nodes.items (by_tracks l.fn.tracks l.fn.node.places.items l.track);
+  from : AreFrom g.M.Machine.steps l.fn.tracks l.fn.node l.initial.next.nodes.items l.next.nodes.items;
+}

@@ -1,0 +1,129 @@
+ghost use Rattle.std.specs.Prelude.{◌≡◌, ◌<◌, ◌^◌, ◌+◌, ℕ, IfErr, IfOk, OnOk, List, Contains, length, slice_index};
+ghost use Rattle.std.specs.Global.{Vec as VecValue};
+ghost use Rattle.i3c_explore.specs.declared.node.Node.{Node as NodeValue};
+ghost use Rattle.i3c_explore.specs.declared.stop.Stop.{Stop as StopValue};
+ghost use Rattle.i3c_explore.specs.declared.turn.Turn.{Turn as TurnValue};
+ghost use Rattle.i3c_explore.specs.Counts.{IsShared};
+ghost use Rattle.i3c_explore.specs.Shares.{Gains, IsLed, IsMeant, IsSharedNext, by_track, by_tracks, by_turn};
+ghost use Rattle.i3c_explore.specs.Layers.{AreFrom, Has, IsBreak, IsExpanded, IsNextAt, IsSuccessor, IsTracked, Keeps, advanced};
+
+use crate::layer::Layer;
+use crate::limits::Limits;
+use crate::machine::Machine;
+use crate::node::{Node, successor};
+use crate::stop::Stop;
+use crate::turn::{Turn, extended};
+use std::alloc::Global;
+
+/// Runs a track's next line from a node in one way, and adds what it leads to.
+fn run<M: Machine>(
+    alloc: Global,
+    node: &Node<M>,
+    tracks: &[Vec<M::Line>],
+    line: &M::Line,
+    turn: Turn,
+    next: &mut Layer<M>,
+) -> Result<(), Stop>
+    requires within { turn.track < length node.now.places.items }
+    requires fits { slice_index node.now.places.items turn.track + 1 < 2 ^ 64 }
+    requires next { IsNextAt tracks.now node.now.places.items turn.track line.now }
+    ensures keeps { OnOk result (Keeps next.old.nodes.items next.new.nodes.items) }
+    ensures ran { OnOk result ((new : M) × M.steps node.now.state line.now turn.way new × Has next.new.nodes.items (advanced turn.track node.now.places.items) new) }
+    ensures from { OnOk result (AreFrom M.steps tracks.now node.now next.old.nodes.items next.new.nodes.items) }
+    ensures counted { OnOk result (Gains M.steps tracks.now node.now next.old.nodes.items next.new.nodes.items (by_turn turn)) }
+    ensures broken { IfErr result (λ stop. (order : VecValue TurnValue) → stop ≡ StopValue.Breaks order → IsBreak M.breaks tracks.now node.now order.items) }
+{
+    if !next.limits.step() {
+        return Err(Stop::Most);
+    }
+    match node.state.after(alloc, line, turn.way)? {
+        None => {
+            let order = extended(&node.order, turn)?;
+            Err(Stop::Breaks(order))
+        }
+        Some(state) => {
+            let new = successor(node, turn, state)?;
+            match next.put(alloc, new) {
+                Ok(()) => Ok(()),
+                Err(stop) => Err(stop),
+            }
+        }
+    }
+}
+
+/// Runs a track's next line from a node in each way.
+fn run_track<M: Machine>(
+    alloc: Global,
+    node: &Node<M>,
+    tracks: &[Vec<M::Line>],
+    track: usize,
+    next: &mut Layer<M>,
+) -> Result<(), Stop>
+    requires within { track < length tracks.now }
+    requires sized { length node.now.places.items ≡ length tracks.now }
+    ensures keeps { OnOk result (Keeps next.old.nodes.items next.new.nodes.items) }
+    ensures tracked { OnOk result (IsTracked M.steps tracks.now track node.now next.new.nodes.items) }
+    ensures from { OnOk result (AreFrom M.steps tracks.now node.now next.old.nodes.items next.new.nodes.items) }
+    ensures counted { OnOk result (Gains M.steps tracks.now node.now next.old.nodes.items next.new.nodes.items (by_track tracks.now node.now.places.items track)) }
+    ensures broken { IfErr result (λ stop. (order : VecValue TurnValue) → stop ≡ StopValue.Breaks order → IsBreak M.breaks tracks.now node.now order.items) }
+{
+    let place = node.places[track];
+    let Some(line) = tracks[track].get(place) else {
+        return Ok(());
+    };
+    let last = node.state.last_way(line);
+    for way in 0..last + 1 {
+        match run(alloc, node, tracks, line, Turn { track, way }, next) {
+            Ok(()) => {}
+            Err(stop) => return Err(stop),
+        }
+    }
+    Ok(())
+}
+
+/// Runs the next line of each track from a node.
+fn expand<M: Machine>(
+    alloc: Global,
+    node: &Node<M>,
+    tracks: &[Vec<M::Line>],
+    next: &mut Layer<M>,
+) -> Result<(), Stop>
+    requires sized { length node.now.places.items ≡ length tracks.now }
+    ensures keeps { OnOk result (Keeps next.old.nodes.items next.new.nodes.items) }
+    ensures expanded { OnOk result (IsExpanded M.steps tracks.now (length tracks.now) node.now next.new.nodes.items) }
+    ensures from { OnOk result (AreFrom M.steps tracks.now node.now next.old.nodes.items next.new.nodes.items) }
+    ensures counted { OnOk result (Gains M.steps tracks.now node.now next.old.nodes.items next.new.nodes.items (by_tracks tracks.now node.now.places.items (length tracks.now))) }
+    ensures broken { IfErr result (λ stop. (order : VecValue TurnValue) → stop ≡ StopValue.Breaks order → IsBreak M.breaks tracks.now node.now order.items) }
+{
+    for track in 0..tracks.len() {
+        match run_track(alloc, node, tracks, track, next) {
+            Ok(()) => {}
+            Err(stop) => return Err(stop),
+        }
+    }
+    Ok(())
+}
+
+/// The layer that follows: what each node leads to, by one more line.
+pub(crate) fn next_layer<M: Machine>(
+    alloc: Global,
+    layer: &[Node<M>],
+    limits: Limits,
+    tracks: &[Vec<M::Line>],
+) -> Result<Layer<M>, Stop>
+    requires sized { (n : NodeValue M) → Contains layer.now n → length n.places.items ≡ length tracks.now }
+    ensures expanded { IfOk result (λ next. (n : NodeValue M) → Contains layer.now n → IsExpanded M.steps tracks.now (length tracks.now) n next.nodes.items) }
+    ensures from { IfOk result (λ next. (n : NodeValue M) → Contains next.nodes.items n → (old : NodeValue M) × Contains layer.now old × IsSuccessor M.steps tracks.now old n) }
+    ensures counted { IfOk result (λ next. (starts : List (NodeValue M)) (past : ℕ → List (List (List ℕ))) (share : ℕ → List (List ℕ × List (List ℕ))) → IsShared layer.now share
+        → IsMeant (IsLed M.steps tracks.now starts past) layer.now share → IsSharedNext (IsLed M.steps tracks.now starts past) tracks.now layer.now next.nodes.items share) }
+    ensures broken { IfErr result (λ stop. (order : VecValue TurnValue) → stop ≡ StopValue.Breaks order → (old : NodeValue M) × Contains layer.now old × IsBreak M.breaks tracks.now old order.items) }
+{
+    let mut next = Layer::new(alloc, limits);
+    for node in layer {
+        match expand(alloc, node, tracks, &mut next) {
+            Ok(()) => {}
+            Err(stop) => return Err(stop),
+        }
+    }
+    Ok(next)
+}

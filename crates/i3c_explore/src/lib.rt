@@ -1,0 +1,32 @@
+//! Every order in which the lines of some tracks can run, tried on a machine and proved tried.
+//!
+//! A block has tracks of lines. Each track's lines keep their order, and the tracks interleave in every possible way. Blocks
+//! run one after another. A line can go several ways, and goes each of them.
+//!
+//! [`explore`] answers the ends that orders lead to, or an order that breaks an expectation. Its contract is about every
+//! order, and knows none of what follows. The states after so many lines are kept in a layer, each with the number of its
+//! orders and the first of them. Two equal states at the same places of all tracks are one.
+//!
+//! Not claimed: that there is memory enough, that the limits are, or how much time it takes. Where a machine's steps are not
+//! determined, a run that its `after` doesn't choose is not tried.
+#![tactic(auto)]
+
+mod block;
+mod expand;
+mod index;
+mod layer;
+mod limits;
+mod machine;
+mod node;
+mod splits;
+mod stop;
+mod turn;
+mod walk;
+
+pub use limits::Limits;
+pub use machine::Machine;
+pub use node::Node;
+pub use splits::first_turns_split;
+pub use stop::Stop;
+pub use turn::Turn;
+pub use walk::{Explored, explore};

@@ -1,0 +1,103 @@
+ghost use Rattle.std.specs.Prelude.{◌≡◌, ◌≤◌, [], ◌∷◌, ℕ, IfErr, IfOk, OnOk, List, Contains, length, reverse, Some};
+ghost use Rattle.std.specs.Global.{Vec as VecValue};
+ghost use Rattle.i3c_explore.specs.declared.node.Node.{Node as NodeValue};
+ghost use Rattle.i3c_explore.specs.declared.stop.Stop.{Stop as StopValue};
+ghost use Rattle.i3c_explore.specs.declared.turn.Turn.{Turn as TurnValue};
+ghost use Rattle.i3c_explore.specs.Blocks.{AreCounted, BreaksOn, IsBegun, IsShortestBreak, IsWhole, LeadsOn, turns};
+ghost use Rattle.i3c_explore.specs.Counts.{IsShared};
+ghost use Rattle.i3c_explore.specs.Shares.{all_below};
+ghost use Rattle.i3c_explore.specs.Numbers.{IsNumber};
+ghost use Rattle.i3c_explore.specs.Orders.{IsDetermined, IsExclusive};
+
+use crate::block::explore_block;
+use crate::layer::Layer;
+use crate::limits::Limits;
+use crate::machine::Machine;
+use crate::node::{Node, sum};
+use crate::stop::Stop;
+use std::alloc::{AllocError, Global};
+
+/// What all orders lead to.
+#[derive(Drop)]
+pub struct Explored<M> {
+    /// The states that orders lead to, each with the first of them and their number.
+    pub ends: Vec<Node<M>>,
+    /// The number of interleavings of all blocks, or none if it is over 18446744073709551615.
+    pub orders: Option<u64>,
+    /// The number of lines that were run.
+    pub steps: u64,
+}
+
+/// The number of orders that lead to some nodes.
+fn total<M>(nodes: &[Node<M>]) -> Option<u64>
+    ensures { (share : ℕ → List (List (List ℕ))) → IsShared nodes.now share → IsNumber result (length (all_below share (length nodes.now))) }
+{
+    let mut orders = Some(0);
+    for node in nodes {
+        orders = sum(orders, node.orders);
+    }
+    orders
+}
+
+/// The layer that has the start alone.
+fn first_layer<M: Machine>(alloc: Global, start: M, limits: Limits) -> Result<Layer<M>, AllocError>
+    ensures { IfOk result (λ layer. (n : NodeValue M) × (layer.nodes.items ≡ n ∷ []) × (n.state ≡ start) × (n.order.items ≡ []) × (n.orders ≡ Some 1)) }
+{
+    let mut layer = Layer::new(alloc, limits);
+    layer.nodes.push(Node {
+        state: start,
+        places: Vec::new(alloc),
+        order: Vec::new(alloc),
+        orders: Some(1),
+    })?;
+    Ok(layer)
+}
+
+/// Tries every order of the lines of some blocks, which run one after another from a start, each line in every way.
+/// Answers what all of them lead to.
+///
+/// # Errors
+///
+/// `Breaks` has an order that breaks an expectation, of the shortest ones. After `Memory` and `Most` nothing is known of
+/// orders.
+pub fn explore<M: Machine>(
+    alloc: Global,
+    start: M,
+    blocks: &[Vec<Vec<M::Line>>],
+    limits: Limits,
+) -> Result<Explored<M>, Stop>
+    // every order, and every beginning of one, leads on: no line breaks an expectation
+    ensures all { OnOk result ((course : List (List TurnValue)) → IsBegun blocks.now course → (end : M) × LeadsOn M.steps blocks.now start course end) }
+    // and no order breaks one in another run, where steps are determined and what breaks leads nowhere
+    ensures unbroken { OnOk result (IsDetermined M.steps → IsExclusive M.steps M.breaks → (course : List (List TurnValue)) → IsBegun blocks.now course → BreaksOn M.steps M.breaks blocks.now start course → ⊥) }
+    // every order leads to one of the ends
+    ensures ends { IfOk result (λ found. (course : List (List TurnValue)) → IsWhole blocks.now course →
+        (n : NodeValue M) × Contains found.ends.items n × LeadsOn M.steps blocks.now start course n.state) }
+    // and to no other state, where steps are determined
+    ensures only { IfOk result (λ found. IsDetermined M.steps → (course : List (List TurnValue)) → IsWhole blocks.now course → (end : M) → LeadsOn M.steps blocks.now start course end
+        → (n : NodeValue M) × Contains found.ends.items n × (n.state ≡ end)) }
+    // each end is reached by the order that it has
+    ensures reached { IfOk result (λ found. (n : NodeValue M) → Contains found.ends.items n →
+        (course : List (List TurnValue)) × IsWhole blocks.now course × (n.order.items ≡ reverse (turns course)) × LeadsOn M.steps blocks.now start course n.state) }
+    // the interleavings are counted, all together and at the ends to which they lead
+    ensures counted { IfOk result (λ found. AreCounted M.steps blocks.now start found.ends.items found.orders) }
+    // no more lines were run than the limits allow
+    ensures within { IfOk result (λ found. found.steps ≤ limits.steps) }
+    // an order that is answered in place of them breaks an expectation at its last line, and no shorter one does
+    ensures broken { IfErr result (λ stop. (order : VecValue TurnValue) → stop ≡ StopValue.Breaks order → IsShortestBreak M.steps M.breaks blocks.now start order.items) }
+{
+    let mut layer = first_layer(alloc, start, limits)?;
+    for block in blocks {
+        layer = match explore_block(alloc, layer, block) {
+            Ok(layer) => layer,
+            Err(stop) => return Err(stop),
+        };
+    }
+    let orders = total(&layer.nodes);
+    let steps = limits.steps.saturating_sub(layer.limits.steps);
+    Ok(Explored {
+        ends: layer.nodes,
+        orders,
+        steps,
+    })
+}

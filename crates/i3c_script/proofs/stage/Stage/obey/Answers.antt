@@ -1,0 +1,15 @@
+use Rattle.std.proofs.Common.{subst, sym}
+use Rattle.i3c_script.specs.declared.stage.Stage.{Stage}
+use Rattle.i3c_script.specs.Obeying.{IsObeyed, script}
+use Rattle.i3c_script.proofs.stage.Stage.obey.Goals as goal
+
+pub returns-in-Declare : goal.returns-in-Declare
+returns-in-Declare g c =
+    let names = c.args.names.now in
+    let before = c.args.text.now in
+    let after = c.declare.new.text in
+    let result = c.declare.result in
+    let new = script (Stage.Before c.declare.new.legacies) names in record {
+      obeys = subst (λ stage. IsObeyed (script stage names) c.args.command.now before after result new) (sym c.in-Before.is)
+          (subst (λ command. IsObeyed (script (Stage.Before c.in-Before.legacies) names) command before after result new) (sym c.in-Declare.is) (c.declare.ensures names));
+    }

@@ -1,0 +1,80 @@
+ghost use Rattle.std.specs.Prelude.{◌≡◌, ◌≤◌, ◌^◌, MatchOption};
+ghost use Rattle.test_explore.specs.Counters.{counted as counted_as};
+
+use i3c_explore::Machine;
+use std::alloc::{AllocError, Global};
+
+/// A counter below 1000.
+#[derive(Clone, Copy, Debug, PartialEq, Eq)]
+pub struct Counter {
+    /// What it counts.
+    pub count: u64,
+}
+
+/// A line, which changes the counter. It breaks an expectation where the counter comes to 1000.
+#[derive(Clone, Copy, Debug, PartialEq, Eq)]
+pub enum Line {
+    /// Adds a number.
+    Add(u8),
+    /// Doubles it.
+    Double,
+    /// Sets it to 0.
+    Clear,
+    /// Adds a number in way 0, and sets it to 0 in each other way.
+    Risk(u8),
+}
+
+/// The counter after a line.
+fn counted(count: u64, line: &Line, way: usize) -> Option<u64>
+    ensures { MatchOption result (2 ^ 64 ≤ counted_as count line.now way) (λ n. n ≡ counted_as count line.now way) }
+{
+    match line {
+        Line::Add(more) => count.checked_add(u64::from(*more)),
+        Line::Double => count.checked_mul(2),
+        Line::Clear => Some(0),
+        Line::Risk(more) => {
+            if way > 0 {
+                Some(0)
+            } else {
+                count.checked_add(u64::from(*more))
+            }
+        }
+    }
+}
+
+impl Machine for Counter {
+    ghost use Rattle.test_explore.specs.Counters.{Counts, Overflows};
+
+    type Line = Line;
+
+    ghost steps = { Counts };
+
+    ghost breaks = { Overflows };
+
+    fn last_way(&self, line: &Line) -> usize {
+        match line {
+            Line::Risk(_) => 1,
+            _ => 0,
+        }
+    }
+
+    fn after(
+        &self,
+        _alloc: Global,
+        line: &Line,
+        way: usize,
+    ) -> Result<Option<Counter>, AllocError> {
+        match counted(self.count, line, way) {
+            Some(count) if count < 1000 => Ok(Some(Counter { count })),
+            _ => Ok(None),
+        }
+    }
+
+    fn same(&self, other: &Counter) -> bool {
+        self.count == other.count
+    }
+
+    fn hash(&self) -> u64 {
+        self.count
+    }
+}

@@ -1,0 +1,198 @@
+use crate::counter::{Counter, Line};
+use i3c_explore::{Explored, Limits, Stop, explore};
+use std::alloc::{AllocError, Global};
+use std::test::Fail;
+
+/// Limits that these tests don't reach.
+const WIDE: Limits = Limits {
+    steps: 100_000,
+    states: 16_384,
+};
+
+/// A track of lines.
+fn track(alloc: Global, lines: &[Line]) -> Result<Vec<Line>, AllocError> {
+    let mut made = Vec::new(alloc);
+    for line in lines {
+        made.push(*line)?;
+    }
+    Ok(made)
+}
+
+/// A block of tracks.
+fn block(alloc: Global, tracks: &[&[Line]]) -> Result<Vec<Vec<Line>>, AllocError> {
+    let mut made = Vec::new(alloc);
+    for lines in tracks {
+        made.push(track(alloc, lines)?)?;
+    }
+    Ok(made)
+}
+
+/// Blocks of tracks.
+fn blocks_of(alloc: Global, blocks: &[&[&[Line]]]) -> Result<Vec<Vec<Vec<Line>>>, AllocError> {
+    let mut made = Vec::new(alloc);
+    for tracks in blocks {
+        made.push(block(alloc, tracks)?)?;
+    }
+    Ok(made)
+}
+
+/// Explores blocks from a counter at 1.
+fn explored(
+    alloc: Global,
+    blocks: &[&[&[Line]]],
+    limits: Limits,
+) -> Result<Explored<Counter>, Stop> {
+    let blocks = blocks_of(alloc, blocks)?;
+    explore(alloc, Counter { count: 1 }, &blocks, limits)
+}
+
+/// Whether an exploration has so many ends, orders and steps.
+fn has(found: &Explored<Counter>, ends: usize, orders: Option<u64>, steps: u64) -> bool {
+    found.ends.len() == ends && found.orders == orders && found.steps == steps
+}
+
+/// Whether an end has this count, with so many orders, and is reached by the turns of these tracks first.
+fn ends_at(
+    found: &Explored<Counter>,
+    end: usize,
+    count: u64,
+    orders: u64,
+    tracks: &[usize],
+) -> bool {
+    match found.ends.get(end) {
+        Some(node) => {
+            node.state.count == count
+                && node.orders == Some(orders)
+                && node
+                    .order
+                    .iter()
+                    .map(|turn| turn.track)
+                    .eq(tracks.iter().copied())
+        }
+        None => false,
+    }
+}
+
+/// Whether an order that breaks an expectation has turns of these tracks.
+fn breaks_by(stop: &Stop, tracks: &[usize]) -> bool {
+    match stop {
+        Stop::Breaks(order) => order
+            .iter()
+            .map(|turn| turn.track)
+            .eq(tracks.iter().copied()),
+        _ => false,
+    }
+}
+
+// (2 + 1)! / 2! / 1! orders; the places lead on by 2 + 2 + 1 + 1 + 1 turns
+#[test]
+fn two_tracks_have_three_orders(rt: HostRuntime) -> Result<(), Fail> {
+    let found = explored(
+        rt.alloc(),
+        &[&[&[Line::Add(1), Line::Add(2)], &[Line::Add(4)]]],
+        WIDE,
+    )?;
+    assert!(rt; has(&found, 1, Some(3), 7));
+    assert!(rt; ends_at(&found, 0, 8, 3, &[0, 0, 1]));
+    Ok(())
+}
+
+// 12! / (4! 4! 4!) orders; 125 places, of which 100 have a line left of each track
+#[test]
+fn three_tracks_of_four_lines_have_34650_orders(rt: HostRuntime) -> Result<(), Fail> {
+    let lines = [Line::Add(1), Line::Add(2), Line::Add(3), Line::Add(4)];
+    let found = explored(rt.alloc(), &[&[&lines, &lines, &lines]], WIDE)?;
+    assert!(rt; has(&found, 1, Some(34_650), 300));
+    Ok(())
+}
+
+// doubled first 1 becomes 3, doubled last 4, and one more line of each clears the difference
+#[test]
+fn each_order_leads_to_its_end(rt: HostRuntime) -> Result<(), Fail> {
+    let found = explored(
+        rt.alloc(),
+        &[&[&[Line::Double], &[Line::Add(1)]], &[&[Line::Add(5)]]],
+        WIDE,
+    )?;
+    assert!(rt; has(&found, 2, Some(2), 6));
+    assert!(rt; ends_at(&found, 0, 8, 1, &[0, 1, 0]));
+    assert!(rt; ends_at(&found, 1, 9, 1, &[1, 0, 0]));
+    let cleared = explored(
+        rt.alloc(),
+        &[&[&[Line::Double], &[Line::Add(1)]], &[&[Line::Clear]]],
+        WIDE,
+    )?;
+    assert!(rt; has(&cleared, 1, Some(2), 6));
+    assert!(rt; ends_at(&cleared, 0, 0, 2, &[0, 1, 0]));
+    Ok(())
+}
+
+// the line leads to 3 in way 0, and to 0 in way 1: one interleaving, which is counted where it leads in way 0
+#[test]
+fn ways_are_tried_and_interleavings_counted(rt: HostRuntime) -> Result<(), Fail> {
+    let found = explored(rt.alloc(), &[&[&[Line::Risk(2)]]], WIDE)?;
+    assert!(rt; has(&found, 2, Some(1), 2));
+    assert!(rt; ends_at(&found, 0, 3, 1, &[0]));
+    assert!(rt; ends_at(&found, 1, 0, 0, &[0]));
+    Ok(())
+}
+
+// the first block comes to 500, so the double of the second one breaks, first of all as the first line there
+#[test]
+fn the_shortest_break_is_told(rt: HostRuntime) -> Result<(), Fail> {
+    let stop = explored(
+        rt.alloc(),
+        &[
+            &[&[Line::Add(249)], &[Line::Add(250)]],
+            &[&[Line::Add(0), Line::Add(0)], &[Line::Double]],
+        ],
+        WIDE,
+    );
+    match stop {
+        Ok(_found) => assert!(rt; false),
+        Err(stop) => assert!(rt; breaks_by(&stop, &[0, 1, 1])),
+    }
+    Ok(())
+}
+
+// seven lines have to run, and the widest layer has two states
+#[test]
+fn a_limit_that_is_reached_is_no_answer(rt: HostRuntime) -> Result<(), Fail> {
+    let tracks: &[&[Line]] = &[&[Line::Add(1), Line::Add(2)], &[Line::Add(4)]];
+    let enough = Limits {
+        steps: 7,
+        states: 2,
+    };
+    assert!(rt; explored(rt.alloc(), &[tracks], enough).is_ok());
+    let short = Limits {
+        steps: 6,
+        states: 2,
+    };
+    assert!(rt; matches!(explored(rt.alloc(), &[tracks], short), Err(Stop::Most)));
+    let narrow = Limits {
+        steps: 7,
+        states: 1,
+    };
+    assert!(rt; matches!(explored(rt.alloc(), &[tracks], narrow), Err(Stop::Most)));
+    Ok(())
+}
+
+// 48! / (16! 16! 16!) is about 1.36e21; 16 · 17 · 17 places have a line left of each track
+#[test]
+fn orders_beyond_64_bits_are_told_so(rt: HostRuntime) -> Result<(), Fail> {
+    let lines = [Line::Add(1); 16];
+    let found = explored(rt.alloc(), &[&[&lines, &lines, &lines]], WIDE)?;
+    assert!(rt; has(&found, 1, None, 13_872));
+    Ok(())
+}
+
+// no block, and a block without a line, have one order, which does nothing
+#[test]
+fn nothing_has_one_order(rt: HostRuntime) -> Result<(), Fail> {
+    let none = explored(rt.alloc(), &[], WIDE)?;
+    assert!(rt; has(&none, 1, Some(1), 0));
+    let empty = explored(rt.alloc(), &[&[], &[&[], &[]]], WIDE)?;
+    assert!(rt; has(&empty, 1, Some(1), 0));
+    assert!(rt; ends_at(&empty, 0, 1, 1, &[]));
+    Ok(())
+}
