@@ -9,6 +9,7 @@ use i3c_handoff::{Active, retire};
 use i3c_legacy::LegacyTargets;
 use i3c_step::OutOfMemory;
 use i3c_table::Table;
+use i3c_word::WORD_BITS;
 use std::alloc::{AllocError, Global};
 use std::marker::Model;
 
@@ -74,7 +75,8 @@ impl Bus {
 }
 
 impl Still {
-    ghost use Rattle.std.specs.Prelude.{◌≡◌, ◌↔◌, IfOk, IsTrue};
+    ghost use Rattle.std.specs.Prelude.{◌≡◌, ◌≤◌, ◌↔◌, IfOk, IsTrue};
+    ghost use Rattle.i3c_base.specs.Frames.{list_bits};
     ghost use Rattle.i3c_bus.specs.Hands.{HandFits};
 
     /// The bus once more, with a role or session of its own.
@@ -110,6 +112,35 @@ impl Still {
         self.has_same_course(other) && self.has_same_tables(other)
     }
 
+    /// How many bits DEFTGTS has from its code on (I3C Basic 5.1.9.3.7), if it is sent now.
+    pub fn list_bits(&self) -> u16
+        ensures bits { result ≡ list_bits self.now }
+        ensures few { result ≤ 4482 }
+    {
+        let Some(own) = self.devices.address(self.active) else {
+            unreachable!();
+        };
+        let mut list = self.list.copied();
+        list.rewrite(&self.table, own);
+        WORD_BITS * (2 + 4 * list.len() as u16)
+    }
+
+    /// A number that equal states have in common. Others can have it too: it is no more than a hint where to look first.
+    pub fn key(&self) -> u64 {
+        let mut key = mixed(self.records.len() as u64, self.active.index() as u64);
+        for index in 0..SLOTS {
+            let slot = Slot::from_index(index);
+            let address = match self.devices.address(slot) {
+                Some(address) => address.get(),
+                None => 0,
+            };
+            key = mixed(key, self.raised[index]);
+            key = mixed(key, u64::from(address));
+            key = mixed(key, self.devices.waiting(slot) as u64);
+        }
+        key
+    }
+
     // Whether both have the same devices with the same raises, the same active controller, either both or neither a session,
     // and the same records.
     fn has_same_course(&self, other: &Still) -> bool
@@ -128,6 +159,13 @@ impl Still {
     {
         self.table.is_same(&other.table) && self.legacy.is_same(&other.legacy)
     }
+}
+
+/// A hash of a number and what is added to it.
+fn mixed(key: u64, more: u64) -> u64 {
+    (key ^ more)
+        .wrapping_mul(0x9E37_79B9_7F4A_7C15)
+        .rotate_left(23)
 }
 
 /// Whether both are the same records, in the same order.

@@ -17,7 +17,7 @@ mod policies;
 mod printing;
 mod refusals;
 mod shapes;
-mod tokens;
+pub mod tokens;
 
 pub use command::Command;
 pub use fields::Field;

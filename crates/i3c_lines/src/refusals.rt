@@ -35,7 +35,7 @@ impl Refusal {
     ghost use Rattle.i3c_lines.specs.Refusing.{refusal_text, refusal_word};
 
     /// Its name, as it is printed.
-    fn word(&self) -> &'static str
+    pub fn word(&self) -> &'static str
         ensures { result.now ≡ refusal_word self.now }
     {
         match self {

@@ -85,7 +85,7 @@ pub(crate) fn after<'a>(text: &'a [u8], start: &[u8]) -> Option<&'a [u8]>
 
 /// Whether a text is these letters.
 #[inline(always)]
-pub(crate) fn is_word(text: &[u8], word: &[u8]) -> bool
+pub fn is_word(text: &[u8], word: &[u8]) -> bool
     ensures { IsTrue result ↔ (text.now ≡ word.now) }
 {
     text.len() == word.len() && text.starts_with(word)
@@ -135,7 +135,7 @@ fn number(word: &[u8], digits: usize) -> Option<u64>
 }
 
 /// A byte: two hex digits.
-pub(crate) fn byte(word: &[u8]) -> Option<u8>
+pub fn byte(word: &[u8]) -> Option<u8>
     ensures form { IsSome result ↔ IsHex BYTE_DIGITS word.now }
     ensures value { IfSome result (λ b. b ≡ digits_value RADIX word.now) }
 {
@@ -146,7 +146,7 @@ pub(crate) fn byte(word: &[u8]) -> Option<u8>
 }
 
 /// A 7-bit address: two hex digits. One above `7F` has no form.
-pub(crate) fn address(word: &[u8]) -> Option<Addr7>
+pub fn address(word: &[u8]) -> Option<Addr7>
     ensures form { IsSome result ↔ (IsHex BYTE_DIGITS word.now × (digits_value RADIX word.now < 128)) }
     ensures value { IfSome result (λ a. a ≡ digits_value RADIX word.now) }
 {
@@ -162,7 +162,7 @@ fn is_decimal(word: &[u8]) -> bool
 }
 
 /// A bit of a frame: decimal digits, up to 65535. Zeros may lead them, and a sign may not.
-pub(crate) fn bit(word: &[u8]) -> Option<u16>
+pub fn bit(word: &[u8]) -> Option<u16>
     ensures form { IsSome result ↔ (IsDecimal word.now × (digits_value BIT_RADIX word.now < 2 ^ 16)) }
     ensures value { IfSome result (λ b. b ≡ digits_value BIT_RADIX word.now) }
 {

@@ -15,3 +15,4 @@ mod Reported
 pub mod LinesRead
 pub mod CheckRuns
 pub mod WatchRuns
+pub mod ViewRuns

@@ -12,3 +12,4 @@ pub mod Watched
 pub mod Counting
 pub mod Agreeing
 pub mod Reporting
+pub mod Viewed

@@ -3,7 +3,7 @@
 //!
 //! `script` parts the bytes of a script into lines and counts the refusals, `check` tells its lines without a form by
 //! `script_lines`, which reads one line after another, and `watched` runs a script and shows more of it, with the `reasons` of
-//! refusals. `trace` tells what a trace says, `linting` its faults too, and `explaining` why its lines are refused. They read
+//! refusals. `viewed` shows each line to a viewer, with what it printed and the symbols that it sent. `trace` tells what a trace says, `linting` its faults too, and `explaining` why its lines are refused. They read
 //! by `reading` and write by `output`. `stress_bus` sets a bus with its devices up and closes it, `stressing` lets them post,
 //! and `report` counts the closed bus's run. `laws` says that the lines of a script make a legal run.
 #![tactic(auto)]
@@ -22,6 +22,7 @@ mod script_lines;
 mod stress_bus;
 mod stressing;
 mod trace;
+mod viewed;
 mod watched;
 
 pub use check::check_script;
@@ -32,6 +33,8 @@ pub use linting::run_lint;
 pub use output::{position_of_feed, write_out};
 pub use report::{StressFault, StressReport};
 pub use script::{Tally, run_script};
+pub use script_lines::ScriptLines;
 pub use stressing::{Gate, MOST_DEVICES, MOST_POSTS, Watch, stress, stress_watched};
 pub use trace::run_trace;
+pub use viewed::{Viewer, run_viewed};
 pub use watched::{WatchFault, Watching, Witness, run_watched};

@@ -19,7 +19,7 @@ pub(crate) enum Reading {
 
 /// The lines of a script, one after another, each as soon as it was read.
 #[derive(Drop)]
-pub(crate) struct ScriptLines {
+pub struct ScriptLines {
     // what was read, and behind the script's end one more line feed, since its last line may lack its own
     bytes: Vec<u8>,
     // where the line in hand begins, where its line feed is, and where the next line begins
@@ -39,7 +39,7 @@ impl ScriptLines {
     ghost use Rattle.i3c_scenario.specs.declared.script_lines.Reading.{Reading as HowFar};
 
     /// The lines of a script of which nothing was read.
-    pub(crate) fn new(alloc: Global) -> ScriptLines
+    pub fn new(alloc: Global) -> ScriptLines
         ensures bytes { result.bytes.items ≡ [] }
         ensures given { given result ≡ [] }
         ensures reading { result.reading ≡ HowFar.Open }
@@ -54,14 +54,14 @@ impl ScriptLines {
     }
 
     /// The line in hand, without its line feed.
-    pub(crate) fn line(&self) -> &[u8]
+    pub fn line(&self) -> &[u8]
         ensures { result.now ≡ line_in_hand self.now }
     {
         &self.bytes[self.start..self.end]
     }
 
     /// Takes the next line in hand, for which the script is read as far as need be. After the last line it answers `false`.
-    pub(crate) fn advance<R: Read>(
+    pub fn advance<R: Read>(
         &mut self,
         reader: &mut R,
         chunk: &mut [u8],

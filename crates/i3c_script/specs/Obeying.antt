@@ -9,6 +9,7 @@ use Rattle.i3c_base.specs.declared.requests.Verdict.{Verdict}
 use Rattle.i3c_base.specs.Cutting.{CutList, cut_of, earlier, no_cuts}
 use Rattle.i3c_base.specs.Numbers.{is_capable}
 use Rattle.i3c_base.specs.State.{Board, IsStart, no_board}
+use Rattle.i3c_frame.specs.declared.symbols.Symbol.{Symbol}
 use Rattle.i3c_legacy.specs.Declaring.{first_declare_fault, first_fault}
 use Rattle.i3c_step.specs.declared.events.Event.{Event}
 use Rattle.i3c_step.specs.declared.replies.Refusal.{Refusal as BusRefusal}
@@ -37,6 +38,11 @@ pub record ScriptState : Type 0 where
 
 abbrev pub script : Stage → Names → ScriptState
 script stage names = record { stage = stage; names = names }
+
+-- the last symbols of a stage's wire: before the bus there are none
+abbrev pub wire_on : Stage → List Symbol
+wire_on (Stage.Before board) = []
+wire_on (Stage.Running ran) = ran.wire
 
 -- the start of a script: no bus, nothing declared, and no name
 pub record IsBegun (state : ScriptState) : Type 0 where

@@ -1,5 +1,5 @@
 -- A script with a bus.
-use Rattle.std.specs.Prelude.{List}
+use Rattle.std.specs.Prelude.{◌≡◌, List, [], ◌++◌}
 use Rattle.circular_buffer.specs.Buffer.{keep_last}
 use Rattle.i3c_base.specs.declared.requests.Fixed.{Fixed}
 use Rattle.i3c_base.specs.Cutting.{CutList}
@@ -19,3 +19,7 @@ pub record Ran : Type 0 where
 -- the same of these, where the last of the symbols are kept
 abbrev pub ran_of : State → Fixed → CutList → List Symbol → List Tenure → Ran
 ran_of state policy cuts symbols ended = record { state = state; policy = policy; cuts = cuts; wire = keep_last 256 symbols; ended = ended }
+
+-- symbols are the last of a wire, of which the last ones are kept
+abbrev pub IsEnd : List Symbol → List Symbol → Type 0
+IsEnd wire symbols = (before : List Symbol) × (wire ≡ keep_last 256 (before ++ symbols))

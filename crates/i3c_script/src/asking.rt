@@ -12,7 +12,14 @@ use i3c_lines::{Name, Names, Place, Refusal};
 pub(crate) fn entrance(bus: &Bus, names: &Names, name: &Name) -> Result<Slot, Refusal>
     ensures { IsEntrance bus.now.state (place_named names.now name.now) result }
 {
-    if is_taken(bus, names, name) {
+    entrance_at(bus, names.place_of(name))
+}
+
+/// The slot that a device enters whose name stands for this place: the lowest free one, if the name isn't taken.
+pub fn entrance_at(bus: &Bus, place: Option<Place>) -> Result<Slot, Refusal>
+    ensures { IsEntrance bus.now.state place result }
+{
+    if is_taken(bus, place) {
         return Err(Refusal::NameTaken);
     }
     match free_slot(bus) {
@@ -33,11 +40,12 @@ pub(crate) fn slot_of_device(bus: &Bus, names: &Names, name: &Name) -> Result<Sl
     }
 }
 
-/// Whether a present device or a legacy target has this name. The name of a device that is gone may be given again.
-fn is_taken(bus: &Bus, names: &Names, name: &Name) -> bool
-    ensures { IsTrue result ↔ IsTaken bus.now.state (place_named names.now name.now) }
+/// Whether a present device or a legacy target has the name that stands for this place. The name of a device that is gone
+/// may be given again.
+fn is_taken(bus: &Bus, place: Option<Place>) -> bool
+    ensures { IsTrue result ↔ IsTaken bus.now.state place }
 {
-    let Some(place) = names.place_of(name) else {
+    let Some(place) = place else {
         return false;
     };
     match place {

@@ -5,7 +5,7 @@ ghost use Rattle.i3c_lines.specs.Naming.{slot_names};
 ghost use Rattle.i3c_text.specs.Hex.{byte_text};
 ghost use Rattle.i3c_script.specs.Details.{all_details_text, described_text, details_text, kinds_words, list_text, registers_text, session_text, show_all_text, wish_word};
 
-use crate::show::show;
+use crate::show::show_bus;
 use crate::tenures::{Tenure, show_tenures};
 use i3c_base::{Identity, SLOTS, Slot};
 use i3c_bus::{Bus, Request};
@@ -23,7 +23,7 @@ pub(crate) fn show_all(
 ) -> Result<(), AllocError>
     ensures { OnOk result (text.new ≡ text.old ++ show_all_text bus.now.state names.now ended.now) }
 {
-    show(bus, names, text)?;
+    show_bus(bus, names, text)?;
     show_details(bus, names, text)?;
     text.push(list_line(bus.listed()).as_bytes())?;
     text.push(session_line(bus.in_session()).as_bytes())?;

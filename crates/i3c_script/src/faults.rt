@@ -44,7 +44,7 @@ impl From<fmt::Error> for Stop {
 }
 
 /// What a line comes to by the bus's reply: the one place for refusals and for want of memory.
-pub(crate) fn outcome_of(reply: &Reply) -> Result<(), Stop>
+pub fn outcome_of(reply: &Reply) -> Result<(), Stop>
     ensures { Ends (λ refused. (reply.now ≢ ReplyValue.OutOfMemory) × (refused ≡ reply_refusal reply.now)) result }
 {
     match reply {

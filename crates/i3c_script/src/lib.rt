@@ -21,8 +21,9 @@ mod telling;
 mod tenures;
 mod wires;
 
-pub use faults::Stop;
+pub use asking::entrance_at;
+pub use faults::{Stop, outcome_of};
 pub use laws::scripts_are_legal_runs;
 pub use running::Running;
-pub use show::{show_askers, show_records_behind};
+pub use show::{show_askers, show_bus, show_records_behind};
 pub use stage::Stage;

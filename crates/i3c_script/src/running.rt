@@ -5,12 +5,13 @@ use crate::asking::{entrance, slot_of_device};
 use crate::assigning;
 use crate::details::show_all;
 use crate::faults::Stop;
-use crate::show::show;
+use crate::show::show_bus;
 use crate::telling::{Subject, subject_of, tell, tell_raised};
 use crate::tenures::{Tenure, end_tenure};
 use crate::wires::Wires;
 use i3c_base::{Addr7, Cuts, Fixed, Setup};
 use i3c_bus::{Bus, Command as Frame, Event, Hand, Reply};
+use i3c_frame::Symbol;
 use i3c_legacy::Legacies;
 use i3c_lines::{ACCEPT_ALL, Command, Name, Names, Refusal};
 use i3c_text::Text;
@@ -46,7 +47,7 @@ impl Model for Running {
 }
 
 impl Running {
-    ghost use Rattle.std.specs.Prelude.{◌≡◌, [], true, Ok, Err, IfOk, MatchResult};
+    ghost use Rattle.std.specs.Prelude.{◌≡◌, [], true, Ok, Err, IfOk, MatchResult, OnOk};
     ghost use Rattle.i3c_base.specs.Numbers.{is_capable};
     ghost use Rattle.i3c_base.specs.Cutting.{no_cuts};
     ghost use Rattle.i3c_base.specs.State.{IsStart};
@@ -58,6 +59,7 @@ impl Running {
     ghost use Rattle.i3c_script.specs.Obeying.{Answers, AnswersIn, Enters, IsDone, ObeysOn, cut_at};
     ghost use Rattle.i3c_script.specs.Details.{show_all_text};
     ghost use Rattle.i3c_script.specs.Printed.{frames_text, show_text, symbols_text};
+    ghost use Rattle.i3c_script.specs.Ran.{IsEnd};
     ghost use Rattle.i3c_script.specs.Telling.{Prints};
     ghost use Rattle.i3c_lines.specs.Policies.{each_kind};
 
@@ -325,7 +327,7 @@ impl Running {
     fn show(&self, names: &Names, text: &mut Text) -> Result<(), Stop>
         ensures { Prints (IsDone (show_text self.now.state names.now)) text.old text.new result }
     {
-        match show(&self.bus, names, text) {
+        match show_bus(&self.bus, names, text) {
             Ok(()) => Ok(()),
             Err(_) => Err(Stop::Memory),
         }
@@ -364,6 +366,21 @@ impl Running {
             Ok(()) => Ok(()),
             Err(_) => Err(Stop::Memory),
         }
+    }
+
+    /// Copies the last symbols of the wire, the oldest first, at most 256. From now on `copy_later` copies those that come.
+    pub fn copy_wire(&mut self, symbols: &mut Vec<Symbol>) -> Result<(), AllocError>
+        ensures same { self.new ≡ self.old }
+        ensures copied { OnOk result (symbols.new.items ≡ self.old.wire) }
+    {
+        self.wires.copy_all(symbols)
+    }
+
+    /// Copies the symbols that came since `copy_wire`.
+    pub fn copy_later(&self, symbols: &mut Vec<Symbol>) -> Result<(), AllocError>
+        ensures { OnOk result (IsEnd self.now.wire symbols.new.items) }
+    {
+        self.wires.copy_later(symbols)
     }
 
     /// Takes the bus apart. A session that is open ends so.

@@ -73,7 +73,7 @@ pub(crate) fn show_main(
 }
 
 /// Prints the bus: who is active, the present devices by slot, the legacy targets by address, and the records.
-pub(crate) fn show(bus: &Bus, names: &Names, text: &mut Text) -> Result<(), AllocError>
+pub fn show_bus(bus: &Bus, names: &Names, text: &mut Text) -> Result<(), AllocError>
     ensures { OnOk result (text.new ≡ text.old ++ show_text bus.now.state names.now) }
 {
     show_place(b"active ", bus.address(bus.active()), text)?;

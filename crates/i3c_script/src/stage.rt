@@ -10,10 +10,11 @@ use crate::show::{show_added, show_declared, show_main};
 use crate::wires::Wires;
 use i3c_base::{Addr7, Bcr, Identity, Lvr, Setup, Slot};
 use i3c_bus::Refusal as BusRefusal;
+use i3c_frame::Symbol;
 use i3c_legacy::Legacies;
 use i3c_lines::{Command, Name, Names, Refusal};
 use i3c_text::Text;
-use std::alloc::Global;
+use std::alloc::{AllocError, Global};
 use std::mem;
 
 /// Where a script stands. It holds the bus, so lines are run on a stage that is lent, and it is retired at the
@@ -26,7 +27,10 @@ pub enum Stage {
 }
 
 impl Stage {
+    ghost use Rattle.std.specs.Prelude.{OnOk};
     ghost use Rattle.i3c_base.specs.State.{no_board};
+    ghost use Rattle.i3c_script.specs.Obeying.{wire_on};
+    ghost use Rattle.i3c_script.specs.Ran.{IsEnd};
 
     /// A script's start: no bus, and nothing declared.
     pub fn new() -> Stage
@@ -89,6 +93,33 @@ impl Stage {
         mem::replace(self, Stage::Running(running)).retire();
         show_main(name, address, text)?;
         Ok(())
+    }
+
+    /// Copies the last symbols of the wire, the oldest first, at most 256. From now on `copy_later` copies those that come.
+    pub fn copy_wire(&mut self, symbols: &mut Vec<Symbol>) -> Result<(), AllocError>
+        ensures same { self.new ≡ self.old }
+        ensures copied { OnOk result (symbols.new.items ≡ wire_on self.old) }
+    {
+        match self {
+            Stage::Before(_) => {
+                symbols.clear();
+                Ok(())
+            }
+            Stage::Running(running) => running.copy_wire(symbols),
+        }
+    }
+
+    /// Copies the symbols that came since `copy_wire`.
+    pub fn copy_later(&self, symbols: &mut Vec<Symbol>) -> Result<(), AllocError>
+        ensures { OnOk result (IsEnd (wire_on self.now) symbols.new.items) }
+    {
+        match self {
+            Stage::Before(_) => {
+                symbols.clear();
+                Ok(())
+            }
+            Stage::Running(running) => running.copy_later(symbols),
+        }
     }
 
     /// Takes the bus apart, if there is one. A session that is open ends so.

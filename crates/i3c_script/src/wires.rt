@@ -1,6 +1,7 @@
 ghost use Rattle.std.specs.Prelude.{◌≡◌, [], ◌∷◌, ◌++◌, vec_capacity, vec_len, IfOk, OnOk};
 ghost use Rattle.circular_buffer.specs.Buffer.{buffer, keep_last};
 ghost use Rattle.i3c_script.specs.Printed.{frames_text, symbols_text};
+ghost use Rattle.i3c_script.specs.Ran.{IsEnd};
 ghost use Rattle.i3c_script.specs.declared.wires.TheConstants.{SYMBOLS};
 
 use crate::frames::show_frames;
@@ -57,6 +58,24 @@ impl Wires {
     {
         keep(&mut self.kept, &mut self.fresh);
         show_line(self.kept.make_contiguous(), text)
+    }
+
+    /// Copies the symbols, the oldest first. From now on `copy_later` copies those that come behind them.
+    pub fn copy_all(&mut self, symbols: &mut Vec<Symbol>) -> Result<(), AllocError>
+        ensures same { self.new ≡ self.old }
+        ensures copied { OnOk result (symbols.new.items ≡ keep_last SYMBOLS self.old) }
+    {
+        keep(&mut self.kept, &mut self.fresh);
+        symbols.clear();
+        symbols.extend_from_slice(self.kept.make_contiguous())
+    }
+
+    /// Copies the symbols that came since `copy_all`, of more than 1,024 the last ones.
+    pub fn copy_later(&self, symbols: &mut Vec<Symbol>) -> Result<(), AllocError>
+        ensures { OnOk result (IsEnd self.now symbols.new.items) }
+    {
+        symbols.clear();
+        symbols.extend_from_slice(&self.fresh)
     }
 
     /// Prints the last so many whole frames of the symbols, the oldest first, a line for each.

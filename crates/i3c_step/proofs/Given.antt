@@ -66,7 +66,7 @@ frame_under : (old : State) (policy other : Fixed) (cuts : CutList) (served : Se
 frame_under old policy other cuts served rest Own new e h = subst (λ p. Frame old p cuts served rest Own new) (sym e) (frame_given old policy cuts served rest Own new h)
 
 -- a step of the same tests, where what acts acts so too
-step_like : (old : State) (event other : Event) (reply : Reply) (new : State) → checks old other ≡ checks old event → (IsShort old event reply new → IsShort old other reply new)
+pub step_like : (old : State) (event other : Event) (reply : Reply) (new : State) → checks old other ≡ checks old event → (IsShort old event reply new → IsShort old other reply new)
     → (Acts old event reply new → Acts old other reply new) → Step old event reply new → Step old other reply new
 step_like old event other reply new same short acts h =
     subst (λ cs. MatchOption (first_refusal cs) (IsShort old other reply new ⊎ Acts old other reply new) (λ why. (reply ≡ Reply.Refused why) × (new ≡ old))) (sym same) (go (first_refusal (checks old event)) h)

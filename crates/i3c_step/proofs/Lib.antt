@@ -29,3 +29,5 @@ pub mod Acting
 pub mod RunLaws
 pub mod Handing
 pub mod Holding
+pub mod LateCuts
+pub mod LateSteps

@@ -1,5 +1,5 @@
 -- What holds over every legal run.
-use Rattle.std.specs.Prelude.{◌≡◌, ◌≢◌, ◌≤◌, ℕ, true, List, ◌++◌, count_by, Option, Some, All, Contains}
+use Rattle.std.specs.Prelude.{◌≡◌, ◌≢◌, ◌<◌, ◌≤◌, ◌↔◌, ℕ, true, List, ◌++◌, count_by, Option, Some, All, Contains}
 use Rattle.i3c_base.specs.declared.range.TheConstants.{SLOTS}
 use Rattle.i3c_base.specs.declared.device.Setup.{Setup}
 use Rattle.i3c_base.specs.declared.requests.Fixed.{Fixed}
@@ -15,6 +15,7 @@ use Rattle.i3c_step.specs.Runs.{IsLegalRun, IsRun}
 use Rattle.i3c_step.specs.History.{AllDistinct, History, IsLegal, events_of, reached, replies_of}
 use Rattle.i3c_step.specs.Records.{HasFaithfulRecords, IsRecordedOrTorn}
 use Rattle.i3c_step.specs.Giving.{given_by, under}
+use Rattle.i3c_step.specs.LateCuts.{most_bits, with_cut}
 use Rattle.i3c_step.specs.Sessions.{IsInSession, IsLastRound, is_round}
 use Rattle.i3c_step.specs.Serving.{policy_of, served_of}
 use Rattle.i3c_step.specs.Slots.{KeepsSlots}
@@ -59,6 +60,17 @@ RaisesStayInOrder = (main : Setup) (board : Board) (start : State) (h : History)
 abbrev pub UncutStepsAreDetermined : Type 0
 UncutStepsAreDetermined = (old : State) (event : Event) (reply other : Reply) (new next : State)
     → IsUncutEvent event → Step old event reply new → Step old event other next → reply ≢ Reply.OutOfMemory → other ≢ Reply.OutOfMemory → (reply ≡ other) × (new ≡ next)
+
+-- A cut behind the last bit of an event's frame, of any slot but the active controller's, does nothing: the same steps are
+-- legal with it and without it.
+abbrev pub LateCutsDoNothing : Type 0
+LateCutsDoNothing = (old : State) (event : Event) (reply : Reply) (new : State) (s bit : ℕ)
+    → s ≢ old.active → most_bits old event < bit → Step old event reply new ↔ Step old (with_cut event s bit) reply new
+
+-- Of two cuts of one slot behind that bit, both allow the same steps, also where the slot is the active controller's.
+abbrev pub LateCutsAreAlike : Type 0
+LateCutsAreAlike = (old : State) (event : Event) (reply : Reply) (new : State) (s bit other : ℕ)
+    → most_bits old event < bit → most_bits old event < other → Step old (with_cut event s bit) reply new ↔ Step old (with_cut event s other) reply new
 
 -- A step moves the active controller by a granted handover alone, to a willing device, opens and ends a session with those
 -- answers alone, and puts a device only into the slot of an accepted attachment.

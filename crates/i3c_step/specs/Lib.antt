@@ -8,6 +8,7 @@ pub mod Giving
 pub mod History
 pub mod Records
 pub mod Stays
+pub mod LateCuts
 pub mod Laws
 pub mod Slots
 pub mod Sessions

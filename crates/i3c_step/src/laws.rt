@@ -1,4 +1,4 @@
-ghost use Rattle.i3c_step.specs.Laws.{AcceptedInterruptsAreRecorded, AddressesAreUnique, InterruptsAreRecordedOnce, OneIsActive, RaisesStayInOrder, RunsAreHistories, SessionsEnd, SlotsAreKept, StaysBeginByAttachments, StepsAreGiven, UncutStepsAreDetermined};
+ghost use Rattle.i3c_step.specs.Laws.{AcceptedInterruptsAreRecorded, AddressesAreUnique, InterruptsAreRecordedOnce, LateCutsAreAlike, LateCutsDoNothing, OneIsActive, RaisesStayInOrder, RunsAreHistories, SessionsEnd, SlotsAreKept, StaysBeginByAttachments, StepsAreGiven, UncutStepsAreDetermined};
 
 /// Over every legal run: where devices that are present together have distinct identities, no two devices answer to
 /// one address, legacy targets included.
@@ -37,6 +37,17 @@ pub fn raises_stay_in_order()
 /// Where nothing is cut and there is memory, the state and the event determine the reply and the next state.
 pub fn uncut_steps_are_determined()
     ensures { UncutStepsAreDetermined }
+{}
+
+/// A cut behind the last bit of an event's frame, of any slot but the active controller's, does nothing: the same steps
+/// are legal with it and without it.
+pub fn late_cuts_do_nothing()
+    ensures { LateCutsDoNothing }
+{}
+
+/// Of two cuts of one slot behind that bit, both allow the same steps, also where the slot is the active controller's.
+pub fn late_cuts_are_alike()
+    ensures { LateCutsAreAlike }
 {}
 
 /// A step moves the active controller by a granted handover alone, to a willing device, opens and ends a session with

@@ -10,4 +10,5 @@ pub mod Levels
 pub mod Output
 pub mod Reading
 pub mod Runs
+pub mod Scripts
 pub mod Timing

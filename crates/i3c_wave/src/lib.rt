@@ -1,7 +1,7 @@
 //! The wire as a waveform: what each symbol is on SCL and SDA, with times, and the text of a value change dump.
 //!
 //! `levels` is what the two lines are at, symbol by symbol. `timing` says for how long, and `wave` is the dump (IEEE 1364) of
-//! one symbol after another. `run` writes the dump of a trace as a stream, by `reading` and `output`. `edges` is
+//! one symbol after another. `script_wave` has the lines of a script and what they print. `run` writes the dump of a trace as a stream, by `reading` and `output`. `edges` is
 //! one who watches the two lines. `laws` says that SDA has a symbol's bits where SCL rises, and what is heard of a trace's
 //! levels. `dump_word` and `dump` say what the words of a dump say of two signals, `capture` reads symbols of the signals'
 //! levels, and `capture_text` and `capture_run` those of a whole text.
@@ -22,6 +22,7 @@ mod output;
 mod reader;
 mod reading;
 mod run;
+mod script_wave;
 mod symbol_lines;
 mod timing;
 mod wave;
@@ -36,6 +37,7 @@ pub use laws::{edges_give_the_marks, rising_edges_have_the_bits, symbols_are_rea
 pub use levels::{Level, Levels};
 pub use reader::{Reader, Reading};
 pub use run::run_wave;
+pub use script_wave::{push_script_line, push_script_preamble, push_served};
 pub use symbol_lines::symbols_text;
 pub use timing::Timing;
 pub use wave::Wave;

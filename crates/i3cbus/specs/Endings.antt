@@ -4,9 +4,11 @@ use Rattle.i3c_frame.specs.declared.traces.TraceFault.{TraceFault}
 use Rattle.i3c_scenario.specs.declared.faults.ScriptFault.{ScriptFault}
 use Rattle.i3c_scenario.specs.declared.script.Tally.{Tally}
 use Rattle.i3c_scenario.specs.declared.report.StressFault.{StressFault}
+use Rattle.i3c_tracks.specs.declared.exploring.Answer.{Answer}
 use Rattle.i3c_wave.specs.declared.capture_fault.CaptureFault.{CaptureFault}
 use Rattle.i3c_wave.specs.declared.fault.WaveFault.{WaveFault}
 use Rattle.i3cbus.specs.declared.fault.Fault.{Fault}
+use Rattle.i3cbus.specs.declared.status.Ending.{Ending}
 
 -- a script's fault, as standard error is told
 abbrev pub told_as : ScriptFault → Fault
@@ -58,7 +60,25 @@ wave_ending (Ok fault) false = Err Fault.Write
 wave_ending (Ok None) true = Ok (record { refused = 0 })
 wave_ending (Ok (Some fault)) true = Ok (record { refused = 1 })
 
+-- an exploration's own fault comes first; output that isn't taken to its end is lost
+abbrev pub explore_ending : Result Answer ScriptFault → Bool → Result Ending Fault
+explore_ending (Err fault) flushed = Err (told_as fault)
+explore_ending (Ok answer) true = Ok (Ending.Explored answer)
+explore_ending (Ok answer) false = Err Fault.Write
+
+-- what lines came to, as what the program came to
+abbrev pub ran : Result Tally Fault → Result Ending Fault
+ran (Ok tally) = Ok (Ending.Ran tally)
+ran (Err fault) = Err fault
+
+-- 0 where every order holds, 1 where the file or a limit is refused, 3 where an order breaks an expectation
+abbrev pub answer_status : Answer → ℕ
+answer_status Answer.Holds = 0
+answer_status Answer.Refused = 1
+answer_status Answer.Breaks = 3
+
 -- 0 where each line was done, 1 where one was refused, 2 where the script wasn't run to its end
-abbrev pub exit_status : Result Tally Fault → ℕ
-exit_status (Ok tally) = if tally.refused == 0 then 0 else 1
+abbrev pub exit_status : Result Ending Fault → ℕ
+exit_status (Ok (Ending.Ran tally)) = if tally.refused == 0 then 0 else 1
+exit_status (Ok (Ending.Explored answer)) = answer_status answer
 exit_status (Err fault) = 2

@@ -1,16 +1,19 @@
 //! `i3cbus run FILE` runs a script over an I3C bus, and prints what came of its lines. `i3cbus trace FILE` reads a trace
-//! of one, and prints what its frames were. `i3cbus check FILE` tells the lines of a script that have no form.
+//! of one, and prints what its frames were. `i3cbus check FILE` tells the lines of a script that have no form, and
+//! `i3cbus draw FILE` prints a picture of its wire. `i3cbus explore FILE` tries every order of tracks that may interleave.
 //! `i3cbus stress` lets devices post from threads of their own.
 //!
 //! All end with 0, with 1 if a line was refused, or with 2 and a line on standard error if the file wasn't done with
-//! to its end.
+//! to its end. `explore` ends with 3 if an order breaks an expectation.
 #![tactic(auto)]
 
+mod drawing;
 mod fault;
 mod run;
 mod status;
 mod stressing;
 mod version;
+mod waving;
 mod witness;
 mod words;
 

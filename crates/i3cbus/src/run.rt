@@ -1,15 +1,19 @@
+use crate::drawing::draw_script;
 use crate::fault::Fault;
-use crate::status::{came_to, status_of, waved};
+use crate::status::{Ending, came_to, explored, ran, status_of, waved};
 use crate::stressing::run_stress;
 use crate::version::print_version;
+use crate::waving::wave_script;
 use crate::witness::Errors;
 use crate::words::{Capturing, STANDARD_INPUT, Task, Work, task_named};
 use i3c_base::Addresses;
 use i3c_drive::run_driven;
+use i3c_explore::Limits;
 use i3c_scenario::{
     ScriptFault, Tally, WatchFault, Watching, check_script, run_explained, run_lint, run_script,
-    run_trace, run_watched,
+    run_trace, run_viewed, run_watched,
 };
+use i3c_tracks::run_explore;
 use i3c_wave::{read_capture, run_wave, symbols_text};
 use std::alloc::Global;
 use std::io::{ErrorKind, Read, Write};
@@ -32,16 +36,17 @@ where
 }
 
 /// Does what the command line asks for. Its words are judged before its file is opened.
-fn run_named<R>(rt: &R, is_watched: bool) -> Result<Tally, Fault>
+fn run_named<R>(rt: &R, is_watched: bool) -> Result<Ending, Fault>
 where
     R: Env + Files + Input + Print + Eprint + AllocGlobal + Threads + Wait + Sync,
 {
     let words = words_given(rt)?;
     match task_named(rt.alloc(), &words)? {
-        Task::File(work, file) => run_file(rt, work, file),
-        Task::Capture(capturing, work, file) => run_capture(rt, capturing, work, file),
-        Task::Stress(stress) => run_stress(rt, &stress, is_watched),
-        Task::Version => print_version(rt),
+        Task::File(work, file) => ran(run_file(rt, work, file)),
+        Task::Capture(capturing, work, file) => ran(run_capture(rt, capturing, work, file)),
+        Task::Explore(limits, file) => run_exploration(rt, limits, file),
+        Task::Stress(stress) => ran(run_stress(rt, &stress, is_watched)),
+        Task::Version => ran(print_version(rt)),
     }
 }
 
@@ -73,6 +78,20 @@ where
     }
 }
 
+/// Explores a file, or standard input.
+fn run_exploration<R>(rt: &R, limits: Limits, file: &str) -> Result<Ending, Fault>
+where
+    R: Files + Input + Print + AllocGlobal,
+{
+    if file == STANDARD_INPUT {
+        return explore_from(rt, limits, &mut rt.reader());
+    }
+    match fs::open(rt, file) {
+        Ok(mut input) => explore_from(rt, limits, &mut input),
+        Err(error) => Err(reading_fault(&error)),
+    }
+}
+
 /// The words of the command line, without the program's name.
 fn words_given<R: Env + AllocGlobal>(rt: &R) -> Result<Vec<String>, Fault> {
     match env::args(rt) {
@@ -100,6 +119,8 @@ fn run_from<R: Print + Eprint + AllocGlobal, S: Read>(
     let outcome = match work {
         Work::Watch(watching) => return watch_from(rt, watching, input),
         Work::Wave(legacies) => return wave_from(rt, legacies, input),
+        Work::Draw => return draw_from(rt, input),
+        Work::WaveScript(legacies) => return wave_script_from(rt, legacies, input),
         Work::Run => run_script(rt.alloc(), input, &mut printed),
         Work::Drive => run_driven(rt.alloc(), input, &mut printed),
         Work::Check => check_script(rt.alloc(), input, &mut printed),
@@ -150,6 +171,37 @@ fn wave_from<R: Print + AllocGlobal, S: Read>(
     let outcome = run_wave(rt.alloc(), legacies, input, &mut printed);
     let flushed = printed.flush().is_ok();
     waved(outcome, flushed)
+}
+
+/// Prints the waveform of a reader's script. What was printed is written out on a fault too.
+fn wave_script_from<R: Print + AllocGlobal, S: Read>(
+    rt: &R,
+    legacies: Addresses,
+    input: &mut S,
+) -> Result<Tally, Fault> {
+    let (outcome, mut printed) = wave_script(rt.alloc(), legacies, input, io::writer(rt));
+    let flushed = printed.flush().is_ok();
+    came_to(outcome, flushed)
+}
+
+/// Prints the picture of a reader's script.
+fn draw_from<R: Print + AllocGlobal, S: Read>(rt: &R, input: &mut S) -> Result<Tally, Fault> {
+    let mut printed = io::writer(rt);
+    let outcome = draw_script(rt.alloc(), input, &mut printed);
+    let flushed = printed.flush().is_ok();
+    came_to(outcome, flushed)
+}
+
+/// Explores the file of a reader.
+fn explore_from<R: Print + AllocGlobal, S: Read>(
+    rt: &R,
+    limits: Limits,
+    input: &mut S,
+) -> Result<Ending, Fault> {
+    let mut printed = io::writer(rt);
+    let outcome = run_explore(rt.alloc(), input, &mut printed, limits);
+    let flushed = printed.flush().is_ok();
+    explored(outcome, flushed)
 }
 
 /// Runs the script of a reader, and shows more of it.

@@ -1,10 +1,20 @@
 ghost use Rattle.std.specs.Prelude.{◌≡◌};
-ghost use Rattle.i3cbus.specs.Endings.{ending, exit_status, wave_ending};
+ghost use Rattle.i3cbus.specs.Endings.{ending, exit_status, explore_ending, ran, wave_ending};
 
 use crate::fault::Fault;
 use i3c_frame::TraceFault;
 use i3c_scenario::{ScriptFault, Tally};
+use i3c_tracks::Answer;
 use i3c_wave::WaveFault;
+
+/// What a run of the program came to.
+#[derive(Clone, Copy, Debug, PartialEq, Eq)]
+pub(crate) enum Ending {
+    /// Lines were run, checked or told, of which so many were refused.
+    Ran(Tally),
+    /// Orders of lines were explored.
+    Explored(Answer),
+}
 
 /// The script was run to its end, and no line was refused.
 const DONE: u8 = 0;
@@ -14,6 +24,9 @@ const REFUSED: u8 = 1;
 
 /// It wasn't run to its end.
 const FAULT: u8 = 2;
+
+/// An order of lines breaks an expectation.
+const BREAKS: u8 = 3;
 
 /// What a run came to: how its script ended, and whether all that it printed was taken.
 pub(crate) fn came_to(outcome: Result<Tally, ScriptFault>, flushed: bool) -> Result<Tally, Fault>
@@ -44,13 +57,38 @@ pub(crate) fn waved(
     }
 }
 
-/// The exit status of what a run came to.
-pub(crate) fn status_of(outcome: &Result<Tally, Fault>) -> u8
+/// What an exploration came to: its answer, and whether all that it printed was taken.
+pub(crate) fn explored(outcome: Result<Answer, ScriptFault>, flushed: bool) -> Result<Ending, Fault>
+    ensures { result ≡ explore_ending outcome flushed }
+{
+    let answer = outcome?;
+    if flushed {
+        Ok(Ending::Explored(answer))
+    } else {
+        Err(Fault::Write)
+    }
+}
+
+/// What lines came to, as what the program came to.
+pub(crate) fn ran(outcome: Result<Tally, Fault>) -> Result<Ending, Fault>
+    ensures { result ≡ ran outcome }
+{
+    match outcome {
+        Ok(tally) => Ok(Ending::Ran(tally)),
+        Err(fault) => Err(fault),
+    }
+}
+
+/// The exit status of what the program came to.
+pub(crate) fn status_of(outcome: &Result<Ending, Fault>) -> u8
     ensures { result ≡ exit_status outcome.now }
 {
     match outcome {
-        Ok(tally) if tally.refused == 0 => DONE,
-        Ok(_) => REFUSED,
+        Ok(Ending::Ran(tally)) if tally.refused == 0 => DONE,
+        Ok(Ending::Ran(_)) => REFUSED,
+        Ok(Ending::Explored(Answer::Holds)) => DONE,
+        Ok(Ending::Explored(Answer::Refused)) => REFUSED,
+        Ok(Ending::Explored(Answer::Breaks)) => BREAKS,
         Err(_) => FAULT,
     }
 }

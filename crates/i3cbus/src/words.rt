@@ -4,6 +4,7 @@ ghost use Rattle.i3cbus.specs.Words.{RunsInput};
 use crate::fault::Fault;
 use clap::{Arg, ArgAction, ArgGroup, ArgMatches, Command, value_parser};
 use i3c_base::{Addr7, Addresses};
+use i3c_explore::Limits;
 use i3c_scenario::{MOST_DEVICES, MOST_POSTS, Watching};
 use i3c_text::read_byte;
 use std::alloc::Global;
@@ -57,6 +58,21 @@ const MOST_LEGACY: u8 = 0x77;
 /// The command that answers the lines of another program.
 const DRIVE: &str = "drive";
 
+/// The command that prints a picture of a script.
+const DRAW: &str = "draw";
+
+/// The command that tries every order of a file's tracks.
+const EXPLORE: &str = "explore";
+
+/// Its option: how many lines may be run.
+const MOST: &str = "most";
+
+/// How many lines may be run without it, as the help has it.
+const MOST_STEPS: u64 = 10_000_000;
+
+/// How many states there may be behind as many lines of a block.
+const MOST_STATES: usize = 16_384;
+
 /// The command that prints a wire as a waveform.
 const WAVE: &str = "wave";
 
@@ -99,9 +115,11 @@ A script says what happens on the bus, one line for each event, and each line pr
   frames 2                      its last two whole frames, a line each
 
 'check' runs nothing, and tells each line of a script that has no form, and why.
+'draw' runs a script, and prints a picture of its wire, an SVG.
 'trace' reads such symbols, and tells the requests, commands, rounds and transfers of each frame.
 'trace --vcd' reads the symbols of a capture first, a value change dump with the signals 'scl' and 'sda'.
-'wave --trace' prints such symbols as SCL and SDA with their times, a value change dump.
+'explore' tries every order of tracks that may interleave, and tells one in which something doesn't hold.
+'wave' runs a script, and prints SCL and SDA with their times, a value change dump. 'wave --trace' does so with such symbols.
 
 Exit status:
   0  each line was done
@@ -119,6 +137,35 @@ prints it, and then one last line with the line's number: 'ok 7', or 'refused 7 
 
 docs/DRIVING.md has all of it; clients/ has clients in Python and C.";
 
+/// What `draw --help` says at its end.
+const DRAWING: &str = "\
+Each line of the script that isn't empty has a row: the line, the symbols that it sent with SCL and SDA, and what it
+printed. A box has the colour of whoever drives SDA: the controller, a target, both, or nobody.
+
+docs/PICTURES.md says more.";
+
+/// What `explore --help` says at its end.
+const EXPLORING: &str = "\
+The file is a script with blocks. The lines of a block's tracks happen in any interleaving:
+
+  any                 a block begins
+  anywhere t          in each frame of the block, t may lose power at any bit
+  always not t gone   this holds at the block's start and after each of its lines, in every order
+  track               the block's next track begins
+  close               the block ends, all of whose lines have gone
+  expect waiting 0    this holds here, after the line before, in every order
+
+If all of it holds in every order, the number of orders is printed, and each end that they lead to. Otherwise the output is a
+script that leads to what doesn't hold.
+
+Exit status:
+  0  every order was tried, and all holds
+  1  not answered: the last line is 'refused' and why
+  2  the file was not read to its end, and standard error says why
+  3  in an order something doesn't hold
+
+docs/EXPLORING.md has all of it; examples/explore/ has files.";
+
 /// What the program does.
 #[derive(Clone, Copy)]
 pub(crate) enum Task<'a> {
@@ -126,6 +173,8 @@ pub(crate) enum Task<'a> {
     File(Work, &'a str),
     /// Reads this file as a capture, and does this with its symbols.
     Capture(Capturing<'a>, Work, &'a str),
+    /// Tries every order of this file's tracks, within these limits.
+    Explore(Limits, &'a str),
     /// Lets devices post from threads of their own.
     Stress(Stress),
     /// Prints which program this is.
@@ -143,10 +192,14 @@ pub(crate) enum Work {
     Drive,
     /// Checks it as a script, and doesn't run it.
     Check,
+    /// Runs it as a script, and prints a picture of its wire.
+    Draw,
     /// Tells it as a trace.
     Trace,
     /// Tells it as a trace with its faults. Legacy targets have these addresses.
     Lint(Addresses),
+    /// Runs it as a script, and prints its wire as a value change dump. Legacy targets have these addresses.
+    WaveScript(Addresses),
     /// Prints it, as a trace, as a value change dump. Legacy targets have these addresses.
     Wave(Addresses),
     /// Tells it as a trace, with its faults if there are addresses of legacy targets, and says why lines are refused.
@@ -206,8 +259,14 @@ fn task_given<'a>(matches: &ArgMatches<'a>) -> Result<Task<'a>, Fault> {
     if matches.subcommand_matches(DRIVE).is_some() {
         return Ok(Task::File(Work::Drive, STANDARD_INPUT));
     }
+    if let Some(explore) = matches.subcommand_matches(EXPLORE) {
+        return Ok(explore_given(explore));
+    }
     if let Some(script) = file_given(matches, CHECK) {
         return Ok(Task::File(Work::Check, script));
+    }
+    if let Some(script) = file_given(matches, DRAW) {
+        return Ok(Task::File(Work::Draw, script));
     }
     if let Some(wave) = matches.subcommand_matches(WAVE) {
         return wave_given(wave);
@@ -251,11 +310,24 @@ fn trace_work(matches: &ArgMatches<'_>, legacies: Addresses) -> Work {
     }
 }
 
-/// The trace that was given to be printed as a waveform.
+/// The script, or the trace, that was given to be printed as a waveform.
 fn wave_given<'a>(matches: &ArgMatches<'a>) -> Result<Task<'a>, Fault> {
     let file = matches.get_str(FILE).unwrap_or(STANDARD_INPUT);
     let legacies = legacies_given(matches.get_strs(LEGACY).unwrap_or(&[]))?;
-    Ok(Task::File(Work::Wave(legacies), file))
+    if matches.get_flag(FROM_TRACE) {
+        Ok(Task::File(Work::Wave(legacies), file))
+    } else {
+        Ok(Task::File(Work::WaveScript(legacies), file))
+    }
+}
+
+/// The file that was given to be explored, and its limits.
+fn explore_given<'a>(matches: &ArgMatches<'a>) -> Task<'a> {
+    let limits = Limits {
+        steps: matches.get_one::<u64>(MOST).unwrap_or(MOST_STEPS),
+        states: MOST_STATES,
+    };
+    Task::Explore(limits, matches.get_str(FILE).unwrap_or(STANDARD_INPUT))
 }
 
 /// The addresses of legacy targets that were given.
@@ -319,6 +391,8 @@ fn commands<'a>(alloc: Global) -> Result<Command<'a>, Fault> {
     let program = with(program(alloc)?, run_command(alloc))?;
     let program = with(program, drive_command(alloc))?;
     let program = with(program, check_command(alloc))?;
+    let program = with(program, draw_command(alloc))?;
+    let program = with(program, explore_command(alloc))?;
     let program = with(program, trace_command(alloc))?;
     let program = with(program, wave_command(alloc))?;
     with(program, stress_command(alloc))
@@ -399,6 +473,37 @@ fn check_command<'a>(alloc: Global) -> Result<Command<'a>, Fault> {
         .or(Err(Fault::Memory))
 }
 
+/// The command that prints a picture of a script.
+fn draw_command<'a>(alloc: Global) -> Result<Command<'a>, Fault> {
+    let draw = Command::new(alloc, DRAW)
+        .about("Runs a script, and prints a picture of its wire, an SVG for a browser")
+        .after_help(DRAWING);
+    draw.arg(file_argument(alloc, "The script, or - for standard input"))
+        .or(Err(Fault::Memory))
+}
+
+/// The command that tries every order.
+fn explore_command<'a>(alloc: Global) -> Result<Command<'a>, Fault> {
+    let explore = Command::new(alloc, EXPLORE)
+        .about(
+            "Tries every order of a file's tracks, and tells where they end, or one in which something doesn't hold",
+        )
+        .after_help(EXPLORING);
+    explore
+        .arg(most_argument(alloc))?
+        .arg(file_argument(alloc, "The file, or - for standard input"))
+        .or(Err(Fault::Memory))
+}
+
+/// How many lines may be run.
+fn most_argument<'a>(alloc: Global) -> Arg<'a> {
+    Arg::new(alloc, MOST)
+        .long(MOST)
+        .value_name("N")
+        .help("Gives up after N lines that were run, 10000000 without this")
+        .value_parser(value_parser!(u64))
+}
+
 /// The command that reads a trace.
 fn trace_command<'a>(alloc: Global) -> Result<Command<'a>, Fault> {
     let trace = Command::new(alloc, TRACE).about(
@@ -467,11 +572,11 @@ fn legacy_argument<'a>(alloc: Global) -> Arg<'a> {
 /// The command that prints a waveform.
 fn wave_command<'a>(alloc: Global) -> Result<Command<'a>, Fault> {
     let wave = Command::new(alloc, WAVE).about(
-        "Prints SCL and SDA of a trace as a value change dump, for a waveform viewer",
+        "Runs a script, and prints SCL and SDA as a value change dump, for a waveform viewer",
     );
-    wave.arg(flag(alloc, FROM_TRACE, "The file is a trace").required(true))?
+    wave.arg(flag(alloc, FROM_TRACE, "The file is a trace, and no script"))?
         .arg(legacy_argument(alloc))?
-        .arg(file_argument(alloc, "The trace, or - for standard input"))
+        .arg(file_argument(alloc, "The script, or the trace, or - for standard input"))
         .or(Err(Fault::Memory))
 }
 

@@ -1,0 +1,7 @@
+pub mod WordLaws
+pub mod FactArgs
+pub mod ReasonLaws
+pub mod ClaimLaws
+pub mod MarkLaws
+pub mod Meaning
+pub mod PrintedMarks

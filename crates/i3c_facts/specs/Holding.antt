@@ -1,0 +1,125 @@
+-- What a fact holds of: the bus, the place of its name, and what the line before came to.
+use Rattle.std.specs.Prelude.{ℕ, zero, suc, ◌+◌, ◌==◌, Bool, true, false, not, ◌&&◌, ◌||◌, List, [], ◌∷◌, Option, Some, None, if◌then◌else◌, is_some, length, nat_eq, option_and_then}
+use Rattle.std.specs.Cmp.Lexicographic.{pointwise}
+use Rattle.i3c_base.specs.declared.range.TheConstants.{SLOTS}
+use Rattle.i3c_base.specs.declared.requests.Record.{Record}
+use Rattle.i3c_base.specs.State.{Device, State, device_at, has_address, in_slot}
+use Rattle.i3c_bus.specs.Readings.{waiting_of}
+use Rattle.i3c_step.specs.declared.replies.Refusal.{Refusal as BusRefusal}
+use Rattle.i3c_facts.specs.declared.claims.Claim.{Claim}
+use Rattle.i3c_facts.specs.declared.fact.Fact.{Fact}
+use Rattle.i3c_facts.specs.declared.holding.Before.{Before}
+use Rattle.i3c_lines.specs.declared.names.Name.{Name}
+use Rattle.i3c_lines.specs.declared.names.Place.{Place}
+use Rattle.i3c_lines.specs.declared.refusals.Refusal.{Refusal}
+use Rattle.i3c_lines.specs.Refusing.{refusal_word}
+
+-- the name of the device that a fact is about
+abbrev pub name_of : Fact → Option Name
+name_of (Fact.Active name) = Some name
+name_of (Fact.At name address) = Some name
+name_of (Fact.AtAny name) = Some name
+name_of (Fact.AtNone name) = Some name
+name_of (Fact.Gone name) = Some name
+name_of (Fact.Waiting name count) = Some name
+name_of (Fact.Recorded name byte count) = Some name
+name_of _ = None
+
+-- the slot that a name stands for: legacy targets have none, nor have names that were never given or whose slot another device took
+abbrev pub slot_of : Option Place → Option ℕ
+slot_of (Some (Place.Slot slot)) = Some slot
+slot_of (Some (Place.Legacy address)) = None
+slot_of (Some Place.Gone) = None
+slot_of None = None
+
+-- the device that a name stands for, if it is there
+abbrev pub device_of : State → Option Place → Option Device
+device_of st place = option_and_then (device_at st) (slot_of place)
+
+-- a test of an optional number
+abbrev pub same_number : Option ℕ → Option ℕ → Bool
+same_number None None = true
+same_number None (Some b) = false
+same_number (Some a) None = false
+same_number (Some a) (Some b) = a == b
+
+-- how many interrupts wait in the slots below one
+abbrev pub waiting_below : State → ℕ → ℕ
+waiting_below st zero = 0
+waiting_below st (suc slot) = waiting_below st slot + waiting_of (device_at st slot)
+
+-- a device that is there has an address
+abbrev pub is_assigned : Option Device → Bool
+is_assigned None = true
+is_assigned (Some d) = is_some d.address
+
+-- each device in the slots below one has an address
+abbrev pub assigned_below : State → ℕ → Bool
+assigned_below st zero = true
+assigned_below st (suc slot) = assigned_below st slot && is_assigned (device_at st slot)
+
+-- a record of this slot with this mandatory byte, or with none
+abbrev pub is_record_of : ℕ → Option ℕ → Record → Bool
+is_record_of slot byte recorded = (recorded.slot == slot) && same_number recorded.byte byte
+
+-- how many records are of this slot with this byte
+abbrev pub records_of : ℕ → Option ℕ → List Record → ℕ
+records_of slot byte [] = 0
+records_of slot byte (first ∷ records) = (if is_record_of slot byte first then 1 else 0) + records_of slot byte records
+
+-- so many records are of the slot that a name stands for
+abbrev pub are_recorded : List Record → Option ℕ → Option ℕ → ℕ → Bool
+are_recorded records None byte count = false
+are_recorded records (Some slot) byte count = records_of slot byte records == count
+
+-- the address that a refusal is about
+abbrev pub address_about : Refusal → Option ℕ
+address_about (Refusal.Bus (BusRefusal.NoAnswer address)) = Some address
+address_about (Refusal.Bus (BusRefusal.BadAddress address)) = Some address
+address_about _ = None
+
+-- two refusals are printed the same: by the same name, and with the same address
+abbrev pub is_same_refusal : Refusal → Refusal → Bool
+is_same_refusal why other = pointwise nat_eq (refusal_word why) (refusal_word other) && same_number (address_about why) (address_about other)
+
+-- the line before was done
+abbrev pub is_done : Before → Bool
+is_done Before.Nothing = false
+is_done Before.Done = true
+is_done (Before.Refused why) = false
+
+-- the line before was refused for this reason
+abbrev pub is_refused : Refusal → Before → Bool
+is_refused why Before.Nothing = false
+is_refused why Before.Done = false
+is_refused why (Before.Refused other) = is_same_refusal why other
+
+-- a fact holds, where its name stands for this place and this is what the line before came to
+abbrev pub fact_holds : State → Option Place → Before → Fact → Bool
+fact_holds st place before (Fact.Active name) = same_number (slot_of place) (Some st.active)
+fact_holds st place before (Fact.At name address) = in_slot (has_address address) (device_of st place)
+fact_holds st place before (Fact.AtAny name) = in_slot (λ d. is_some d.address) (device_of st place)
+fact_holds st place before (Fact.AtNone name) = in_slot (λ d. not (is_some d.address)) (device_of st place)
+fact_holds st place before (Fact.Gone name) = not (is_some (device_of st place))
+fact_holds st place before (Fact.Waiting name count) = in_slot (λ d. length d.waiting == count) (device_of st place)
+fact_holds st place before (Fact.AllWaiting count) = waiting_below st SLOTS == count
+fact_holds st place before (Fact.Records count) = length st.records == count
+fact_holds st place before (Fact.Recorded name byte count) = are_recorded st.records (slot_of place) byte count
+fact_holds st place before Fact.Assigned = assigned_below st SLOTS
+fact_holds st place before Fact.Listed = st.listed
+fact_holds st place before Fact.Open = st.in_session
+fact_holds st place before Fact.Done = is_done before
+fact_holds st place before (Fact.Refused why) = is_refused why before
+
+-- a claim holds: its fact does, or, negated, doesn't
+abbrev pub claim_holds : State → Option Place → Before → Claim → Bool
+claim_holds st place before claim = if claim.negated then not (fact_holds st place before claim.fact) else fact_holds st place before claim.fact
+
+-- the place of a fact's name, if it has one that was given
+abbrev pub place_for : (Name → Option Place) → Fact → Option Place
+place_for places fact = option_and_then places (name_of fact)
+
+-- one of these claims holds
+abbrev pub claims_hold : State → (Name → Option Place) → Before → List Claim → Bool
+claims_hold st places before [] = false
+claims_hold st places before (claim ∷ claims) = claim_holds st (place_for places claim.fact) before claim || claims_hold st places before claims

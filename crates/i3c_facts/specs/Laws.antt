@@ -1,0 +1,19 @@
+-- What holds of every line.
+use Rattle.std.specs.Prelude.{◌≡◌, ℕ, ◌≤◌, List, length}
+use Rattle.i3c_facts.specs.declared.marks.Mark.{Mark}
+use Rattle.i3c_facts.specs.Forms.{IsMark}
+use Rattle.i3c_facts.specs.Printing.{MarkHasLine, mark_text}
+use Rattle.i3c_lines.specs.declared.command.Command.{Command}
+use Rattle.i3c_lines.specs.Forms.{IsCommand, IsSkipped}
+
+-- a line that is a mark asks for no command, and isn't passed over
+abbrev pub MarksAreNoCommands : Type 0
+MarksAreNoCommands = (line : List ℕ) (mark : Mark) → IsMark line mark → ((command : Command) → IsCommand line command → ⊥) × (IsSkipped line → ⊥)
+
+-- a line is one mark at most
+abbrev pub LinesAreOfOneMark : Type 0
+LinesAreOfOneMark = (line : List ℕ) (one other : Mark) → IsMark line one → IsMark line other → one ≡ other
+
+-- a mark that a line can say is what it is printed as, unless that is too long
+abbrev pub PrintedMarksAreRead : Type 0
+PrintedMarksAreRead = (mark : Mark) → MarkHasLine mark → length (mark_text mark) ≤ 256 → IsMark (mark_text mark) mark

@@ -1,0 +1,114 @@
+ghost use Rattle.std.specs.Prelude.{◌≡◌, ◌<◌, ◌∷◌, IfOk, IfSome, length, option_copied, true};
+ghost use Rattle.i3c_facts.specs.Forms.{AreFacts, IsClaim, parts, parts_left, texts};
+ghost use Rattle.i3c_facts.specs.Reading.{Extends};
+ghost use Rattle.i3c_lines.specs.Parsing.{Reads};
+
+use crate::fact::Fact;
+use crate::facts::{NOT, read_fact};
+use i3c_lines::Refusal;
+use i3c_lines::tokens::is_word;
+use i3c_step::Refusal as BusRefusal;
+use std::alloc::{AllocError, Global};
+use std::marker::Model;
+
+/// What parts the claims of a line.
+const OR: &[u8] = b"or";
+
+/// A fact that is claimed to hold, or, where it is negated, not to hold.
+#[derive(Clone, Copy)]
+pub struct Claim {
+    /// The fact.
+    pub fact: Fact,
+    /// Whether it is claimed not to hold.
+    pub negated: bool,
+}
+
+/// Claims of which one has to hold. Clauses see the claims.
+#[derive(Drop)]
+pub struct Facts {
+    pub(crate) claims: Vec<Claim>,
+}
+
+impl Model for Facts {
+    ghost use Rattle.std.specs.Prelude.{List};
+    ghost use Rattle.i3c_facts.specs.declared.claims.Claim.{Claim};
+
+    ghost Value = { List Claim };
+
+    ghost view = { λ facts. facts.claims.items };
+}
+
+impl Facts {
+    /// The claims, as they stand in the line: at least one.
+    pub fn claims(&self) -> &[Claim]
+        ensures { result.now ≡ self.now }
+    {
+        self.claims.as_slice()
+    }
+}
+
+/// The facts that some words say, if they have their form.
+pub(crate) fn read_facts(alloc: Global, words: &[&[u8]]) -> Result<Option<Facts>, AllocError>
+    ensures { IfOk result (Reads AreFacts (texts words.now)) }
+{
+    let mut claims = Vec::new(alloc);
+    match read_claims(words, &mut claims)? {
+        Some(()) => Ok(Some(Facts { claims })),
+        None => Ok(None),
+    }
+}
+
+/// Appends the claims that some words make, if they have their form.
+fn read_claims(words: &[&[u8]], claims: &mut Vec<Claim>) -> Result<Option<()>, AllocError>
+    ensures { IfOk result (Extends (parts (texts words.now)) claims.old.items claims.new.items) }
+{
+    // names types that the check doesn't find by itself
+    let _parts: (Option<Fact>, Option<Refusal>, Option<BusRefusal>) = (None, None, None);
+    let (first, rest) = split_or(words);
+    let Some(claim) = read_claim(first) else {
+        return Ok(None);
+    };
+    claims.push(claim)?;
+    match rest {
+        Some(rest) => read_claims(rest, claims),
+        None => Ok(Some(())),
+    }
+}
+
+/// The words before the first `or`, and those behind it if there is one.
+fn split_or<'a, 'b>(words: &'a [&'b [u8]]) -> (&'a [&'b [u8]], Option<&'a [&'b [u8]]>)
+    ensures parts { parts (texts words.entry.now) ≡ texts result.0.now ∷ parts_left (option_copied result.1) }
+    ensures shorter { IfSome result.1 (λ rest. length rest.now < length words.entry.now) }
+{
+    for at in 0..words.len() {
+        if is_word(words[at], OR) {
+            return (&words[..at], Some(&words[at + 1..]));
+        }
+    }
+    (words, None)
+}
+
+/// The claim that some words make, if they have its form.
+fn read_claim(words: &[&[u8]]) -> Option<Claim>
+    ensures { Reads IsClaim (texts words.now) result }
+{
+    if let Some(fact) = read_negated(words) {
+        let negated = true;
+        return Some(Claim { fact, negated });
+    }
+    let fact = read_fact(words)?;
+    let negated = false;
+    Some(Claim { fact, negated })
+}
+
+/// The fact that stands behind `not`, if the words have this form.
+fn read_negated(words: &[&[u8]]) -> Option<Fact>
+    ensures { Reads (λ words fact. IsClaim words (record { fact = fact; negated = true })) (texts words.now) result }
+{
+    let (first, rest) = words.split_first()?;
+    if is_word(first, NOT) {
+        read_fact(rest)
+    } else {
+        None
+    }
+}

@@ -1,0 +1,57 @@
+use i3c_base::Addr7;
+use i3c_lines::{Name, Refusal};
+
+/// One thing that may hold: of the bus, of the device that a name stands for, or of what the line before came to.
+#[derive(Clone, Copy)]
+pub enum Fact {
+    /// `active NAME`: the device is the active controller.
+    Active(Name),
+    /// `NAME at ADDR`: the device is there, with this dynamic address.
+    At(Name, Addr7),
+    /// `NAME at any`: the device is there, with a dynamic address.
+    AtAny(Name),
+    /// `NAME at none`: the device is there, without a dynamic address.
+    AtNone(Name),
+    /// `NAME gone`: no device of this name is there.
+    Gone(Name),
+    /// `NAME waiting N`: so many interrupts of the device wait.
+    Waiting(Name, u16),
+    /// `waiting N`: so many interrupts of all devices wait.
+    AllWaiting(u16),
+    /// `records N`: so many interrupts were recorded.
+    Records(u16),
+    /// `record NAME BYTE N`, `record NAME -- N`: so many interrupts of the name's slot were recorded with this mandatory byte,
+    /// or with none.
+    Recorded(Name, Option<u8>, u16),
+    /// `assigned`: each device has a dynamic address.
+    Assigned,
+    /// `listed`: the list of DEFTGTS is current.
+    Listed,
+    /// `open`: a session of dynamic address assignment is open.
+    Open,
+    /// `done`: the line before was done.
+    Done,
+    /// `refused REASON`: the line before was refused, for this reason.
+    Refused(Refusal),
+}
+
+impl Fact {
+    ghost use Rattle.std.specs.Prelude.{◌≡◌, option_copied};
+    ghost use Rattle.i3c_facts.specs.Holding.{name_of};
+
+    /// The name of the device that it is about, if it is about one.
+    pub fn name(&self) -> Option<&Name>
+        ensures { option_copied result ≡ name_of self.now }
+    {
+        match self {
+            Fact::Active(name) => Some(name),
+            Fact::At(name, _) => Some(name),
+            Fact::AtAny(name) => Some(name),
+            Fact::AtNone(name) => Some(name),
+            Fact::Gone(name) => Some(name),
+            Fact::Waiting(name, _) => Some(name),
+            Fact::Recorded(name, _, _) => Some(name),
+            _ => None,
+        }
+    }
+}

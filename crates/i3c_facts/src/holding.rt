@@ -1,0 +1,199 @@
+ghost use Rattle.std.specs.Prelude.{◌≡◌, ◌==◌, IfSome, Some, is_some, length, not};
+ghost use Rattle.i3c_base.specs.declared.range.TheConstants.{SLOTS};
+ghost use Rattle.i3c_base.specs.State.{has_address, in_slot};
+ghost use Rattle.i3c_facts.specs.Holding.{are_recorded, claim_holds, claims_hold, device_of, fact_holds, is_done, is_refused, is_same_refusal, address_about, place_for, slot_of, waiting_below};
+
+use crate::claims::{Claim, Facts};
+use crate::counting::{are_assigned, records_of, waiting};
+use crate::fact::Fact;
+use crate::naming::Naming;
+use i3c_base::{Addr7, Record, Slot};
+use i3c_bus::{Bus, Refusal as BusRefusal};
+use i3c_lines::{Place, Refusal};
+
+/// What the line before came to.
+#[derive(Clone, Copy)]
+pub enum Before {
+    /// There is no line before.
+    Nothing,
+    /// It was done.
+    Done,
+    /// It was refused, for this reason.
+    Refused(Refusal),
+}
+
+impl Fact {
+    /// Whether it holds of a bus, where its name stands for this place and this is what the line before came to.
+    pub fn holds(&self, bus: &Bus, place: Option<Place>, before: &Before) -> bool
+        ensures { result ≡ fact_holds bus.now.state place before.now self.now }
+    {
+        match self {
+            Fact::Active(_) => slot_of(place) == Some(bus.active()),
+            Fact::At(_, address) => has_address(bus, place, *address),
+            Fact::AtAny(_) => has_any_address(bus, place),
+            Fact::AtNone(_) => has_no_address(bus, place),
+            Fact::Gone(_) => device_slot(bus, place).is_none(),
+            Fact::Waiting(_, count) => has_waiting(bus, place, *count),
+            Fact::AllWaiting(count) => are_waiting(bus, *count),
+            Fact::Records(count) => bus.records().len() == usize::from(*count),
+            Fact::Recorded(_, byte, count) => are_recorded(bus.records(), place, *byte, *count),
+            Fact::Assigned => are_assigned(bus),
+            Fact::Listed => bus.listed(),
+            Fact::Open => bus.in_session(),
+            Fact::Done => is_done(before),
+            Fact::Refused(why) => is_refused(why, before),
+        }
+    }
+}
+
+/// The slot that a name stands for.
+pub(crate) fn slot_of(place: Option<Place>) -> Option<Slot>
+    ensures { result ≡ slot_of place }
+{
+    let place = place?;
+    match place {
+        Place::Slot(slot) => Some(slot),
+        Place::Legacy(_) | Place::Gone => None,
+    }
+}
+
+/// The slot of the device that a name stands for, if it is there.
+pub(crate) fn device_slot(bus: &Bus, place: Option<Place>) -> Option<Slot>
+    ensures slot { is_some result ≡ is_some (device_of bus.now.state place) }
+    ensures same { IfSome result (λ slot. slot_of place ≡ Some slot) }
+{
+    match slot_of(place) {
+        Some(slot) if bus.present(slot) => Some(slot),
+        _ => None,
+    }
+}
+
+/// Whether the device that a name stands for is there, with this address.
+fn has_address(bus: &Bus, place: Option<Place>, address: Addr7) -> bool
+    ensures { result ≡ in_slot (has_address address) (device_of bus.now.state place) }
+{
+    match slot_of(place) {
+        Some(slot) => bus.address(slot) == Some(address),
+        None => false,
+    }
+}
+
+/// Whether it is there, with an address.
+fn has_any_address(bus: &Bus, place: Option<Place>) -> bool
+    ensures { result ≡ in_slot (λ d. is_some d.address) (device_of bus.now.state place) }
+{
+    match slot_of(place) {
+        Some(slot) => bus.address(slot).is_some(),
+        None => false,
+    }
+}
+
+/// Whether it is there, without an address.
+fn has_no_address(bus: &Bus, place: Option<Place>) -> bool
+    ensures { result ≡ in_slot (λ d. not (is_some d.address)) (device_of bus.now.state place) }
+{
+    match slot_of(place) {
+        Some(slot) => bus.present(slot) && bus.address(slot).is_none(),
+        None => false,
+    }
+}
+
+/// Whether it is there, and so many of its interrupts wait.
+fn has_waiting(bus: &Bus, place: Option<Place>, count: u16) -> bool
+    ensures { result ≡ in_slot (λ d. length d.waiting == count) (device_of bus.now.state place) }
+{
+    match slot_of(place) {
+        Some(slot) => bus.present(slot) && bus.waiting(slot) == usize::from(count),
+        None => false,
+    }
+}
+
+/// Whether so many interrupts of all devices wait.
+fn are_waiting(bus: &Bus, count: u16) -> bool
+    ensures { result ≡ (waiting_below bus.now.state SLOTS == count) }
+{
+    match waiting(bus) {
+        Some(all) => all == usize::from(count),
+        None => false,
+    }
+}
+
+/// Whether so many records are of the slot that a name stands for, with this mandatory byte or with none.
+fn are_recorded(records: &[Record], place: Option<Place>, byte: Option<u8>, count: u16) -> bool
+    ensures { result ≡ are_recorded records.now (slot_of place) byte count }
+{
+    match slot_of(place) {
+        Some(slot) => records_of(records, slot, byte) == usize::from(count),
+        None => false,
+    }
+}
+
+/// Whether the line before was done.
+fn is_done(before: &Before) -> bool
+    ensures { result ≡ is_done before.now }
+{
+    matches!(before, Before::Done)
+}
+
+/// Whether the line before was refused for this reason.
+fn is_refused(why: &Refusal, before: &Before) -> bool
+    ensures { result ≡ is_refused why.now before.now }
+{
+    match before {
+        Before::Refused(other) => is_same_refusal(why, other),
+        _ => false,
+    }
+}
+
+/// Whether two refusals are printed the same.
+fn is_same_refusal(why: &Refusal, other: &Refusal) -> bool
+    ensures { result ≡ is_same_refusal why.now other.now }
+{
+    why.word().as_bytes() == other.word().as_bytes() && address_about(why) == address_about(other)
+}
+
+/// The address that a refusal is about.
+fn address_about(why: &Refusal) -> Option<Addr7>
+    ensures { result ≡ address_about why.now }
+{
+    match why {
+        Refusal::Bus(BusRefusal::NoAnswer(address) | BusRefusal::BadAddress(address)) => {
+            Some(*address)
+        }
+        _ => None,
+    }
+}
+
+impl Claim {
+    /// Whether it holds of a bus, where its name stands for this place and this is what the line before came to.
+    pub fn holds(&self, bus: &Bus, place: Option<Place>, before: &Before) -> bool
+        ensures { result ≡ claim_holds bus.now.state place before.now self.now }
+    {
+        self.fact.holds(bus, place, before) != self.negated
+    }
+}
+
+/// The place of a fact's name, if it has one that was given.
+pub(crate) fn place_for<N: Naming>(naming: &N, fact: &Fact) -> Option<Place>
+    ensures { result ≡ place_for (N.place naming.now) fact.now }
+{
+    match fact.name() {
+        Some(name) => naming.place_of(name),
+        None => None,
+    }
+}
+
+impl Facts {
+    /// Whether one of its claims holds of a bus, with what names stand for and what the line before came to.
+    pub fn hold<N: Naming>(&self, bus: &Bus, naming: &N, before: &Before) -> bool
+        ensures { result ≡ claims_hold bus.now.state (N.place naming.now) before.now self.now }
+    {
+        for index in 0..self.claims.len() {
+            let claim = self.claims[index];
+            if claim.holds(bus, place_for(naming, &claim.fact), before) {
+                return true;
+            }
+        }
+        false
+    }
+}

@@ -1,0 +1,16 @@
+ghost use Rattle.i3c_facts.specs.Laws.{LinesAreOfOneMark, MarksAreNoCommands, PrintedMarksAreRead};
+
+/// A line that is a mark asks for no command, and isn't passed over.
+pub fn marks_are_no_commands()
+    ensures { MarksAreNoCommands }
+{}
+
+/// A line is one mark at most.
+pub fn lines_are_of_one_mark()
+    ensures { LinesAreOfOneMark }
+{}
+
+/// A mark that a line can say is read from the line that it is printed as, unless that is too long.
+pub fn printed_marks_are_read()
+    ensures { PrintedMarksAreRead }
+{}

@@ -1,0 +1,137 @@
+ghost use Rattle.std.specs.Prelude.{◌≡◌, ◌∷◌, ◌==◌, [], IfOk, MatchOption, codes, map};
+ghost use Rattle.i3c_facts.specs.Forms.{IsMark, IsMarkForm, IsPlainForm, texts};
+ghost use Rattle.i3c_lines.specs.Forms.{tokens};
+ghost use Rattle.i3c_lines.specs.Parsing.{Reads};
+
+use crate::claims::{Facts, read_facts};
+use i3c_lines::Name;
+use i3c_lines::tokens::is_word;
+use std::alloc::{AllocError, Global};
+
+/// How many bytes a line may have, without its line feed.
+const LINE_LENGTH: usize = 256;
+
+/// What parts the words of a line.
+const SPACE: u8 = b' ';
+
+const ALWAYS: &[u8] = b"always";
+
+const ANY: &[u8] = b"any";
+
+const ANYWHERE: &[u8] = b"anywhere";
+
+const CLOSE: &[u8] = b"close";
+
+const EXPECT: &[u8] = b"expect";
+
+const TRACK: &[u8] = b"track";
+
+/// What a line says that is no command: what may overlap, and what has to hold.
+#[derive(Drop)]
+pub enum Mark {
+    /// `any`: a block begins, whose tracks happen in any interleaving.
+    Any,
+    /// `anywhere NAME`: the device may lose power in each frame of the block.
+    Anywhere(Name),
+    /// `always FACTS`: the facts have to hold after each line of the block.
+    Always(Facts),
+    /// `track`: the block's next track begins.
+    Track,
+    /// `close`: the block ends.
+    Close,
+    /// `expect FACTS`: the facts have to hold here.
+    Expect(Facts),
+}
+
+/// The mark of a line, if the line has a mark's form.
+///
+/// # Errors
+///
+/// There is no memory for its facts.
+pub fn read_mark(alloc: Global, line: &[u8]) -> Result<Option<Mark>, AllocError>
+    ensures { IfOk result (λ read. MatchOption read ((mark : Mark) → IsMark line.now mark → ⊥) (λ mark. IsMark line.now mark)) }
+{
+    if line.len() > LINE_LENGTH {
+        return Ok(None);
+    }
+    let words = split_words(alloc, line)?;
+    mark_of(alloc, words.as_slice())
+}
+
+/// The words of a line, which are parted by exactly one space.
+fn split_words(alloc: Global, line: &[u8]) -> Result<Vec<&[u8]>, AllocError>
+    ensures { IfOk result (λ words. texts words.items ≡ tokens line.now) }
+{
+    line.split(|byte| *byte == SPACE).collect(alloc)
+}
+
+/// The mark that some words are, if they have its form.
+fn mark_of(alloc: Global, words: &[&[u8]]) -> Result<Option<Mark>, AllocError>
+    ensures { IfOk result (Reads IsMarkForm (texts words.now)) }
+{
+    let Some((first, rest)) = words.split_first() else {
+        return Ok(None);
+    };
+    if is_word(first, ALWAYS) {
+        return read_always(alloc, rest);
+    }
+    if is_word(first, EXPECT) {
+        return read_expect(alloc, rest);
+    }
+    Ok(plain_mark(first, rest))
+}
+
+/// The mark without facts that some words are, if they have its form.
+fn plain_mark(first: &[u8], rest: &[&[u8]]) -> Option<Mark>
+    ensures { Reads IsPlainForm (first.now ∷ texts rest.now) result }
+{
+    match rest {
+        [] => mark_alone(first),
+        [word] if is_word(first, ANYWHERE) => read_anywhere(word),
+        _ => None,
+    }
+}
+
+/// The mark of one word.
+fn mark_alone(word: &[u8]) -> Option<Mark>
+    ensures { Reads IsPlainForm (word.now ∷ []) result }
+{
+    if is_word(word, ANY) {
+        return Some(Mark::Any);
+    }
+    if is_word(word, TRACK) {
+        return Some(Mark::Track);
+    }
+    if is_word(word, CLOSE) {
+        return Some(Mark::Close);
+    }
+    None
+}
+
+/// `anywhere`, by its name.
+fn read_anywhere(word: &[u8]) -> Option<Mark>
+    ensures { Reads IsPlainForm (codes "anywhere" ∷ word.now ∷ []) result }
+{
+    let name = Name::parse(word)?;
+    Some(Mark::Anywhere(name))
+}
+
+/// `always`, by its facts.
+fn read_always(alloc: Global, rest: &[&[u8]]) -> Result<Option<Mark>, AllocError>
+    ensures { IfOk result (Reads IsMarkForm (codes "always" ∷ texts rest.now)) }
+{
+    match read_facts(alloc, rest)? {
+        Some(facts) => Ok(Some(Mark::Always(facts))),
+        None => Ok(None),
+    }
+}
+
+/// `expect`, by its facts.
+fn read_expect(alloc: Global, rest: &[&[u8]]) -> Result<Option<Mark>, AllocError>
+    ensures { IfOk result (Reads IsMarkForm (codes "expect" ∷ texts rest.now)) }
+{
+    match read_facts(alloc, rest)? {
+        Some(facts) => Ok(Some(Mark::Expect(facts))),
+        None => Ok(None),
+    }
+}

@@ -1,0 +1,77 @@
+ghost use Rattle.std.specs.Prelude.{◌≡◌, ◌∷◌, []};
+ghost use Rattle.i3c_facts.specs.Forms.{IsReason};
+ghost use Rattle.i3c_facts.specs.Reading.{plain_reasons};
+ghost use Rattle.i3c_lines.specs.Parsing.{Reads};
+
+use i3c_legacy::{DeclareFault, LegacyFault};
+use i3c_lines::Refusal;
+use i3c_lines::tokens::{self, is_word};
+use i3c_step::Refusal as BusRefusal;
+
+const NO_ANSWER: &[u8] = b"NoAnswer";
+
+const BAD_ADDRESS: &[u8] = b"BadAddress";
+
+/// How many refusals are printed as one word.
+const REASONS: usize = 25;
+
+/// The refusals that are printed as one word: of two that are printed as the same, one.
+fn plain_reasons() -> [Refusal; REASONS]
+    ensures { result ≡ plain_reasons }
+{
+    [
+        Refusal::BadLine,
+        Refusal::NoBus,
+        Refusal::BusMade,
+        Refusal::NameTaken,
+        Refusal::NoName,
+        Refusal::NoEnd,
+        Refusal::Legacy(LegacyFault::LegacyAddress),
+        Refusal::Legacy(LegacyFault::LegacyTwice),
+        Refusal::Legacy(LegacyFault::TooManyLegacy),
+        Refusal::Declare(DeclareFault::IdentityTwice),
+        Refusal::Declare(DeclareFault::TooManyDeclared),
+        Refusal::Bus(BusRefusal::SessionOpen),
+        Refusal::Bus(BusRefusal::NoSession),
+        Refusal::Bus(BusRefusal::ActiveStays),
+        Refusal::Bus(BusRefusal::SlotTaken),
+        Refusal::Bus(BusRefusal::NoDevice),
+        Refusal::Bus(BusRefusal::IsActive),
+        Refusal::Bus(BusRefusal::NoAddress),
+        Refusal::Bus(BusRefusal::HasAddress),
+        Refusal::Bus(BusRefusal::NotCapable),
+        Refusal::Bus(BusRefusal::ByteMismatch),
+        Refusal::Bus(BusRefusal::Masked),
+        Refusal::Bus(BusRefusal::Full),
+        Refusal::Bus(BusRefusal::ListStale),
+        Refusal::Bus(BusRefusal::TooLong),
+    ]
+}
+
+/// The refusal that is printed as this word alone, if there is one.
+pub(crate) fn plain_reason(word: &[u8]) -> Option<Refusal>
+    ensures { Reads IsReason (word.now ∷ []) result }
+{
+    let reasons = plain_reasons();
+    for index in 0..REASONS {
+        let why = reasons[index];
+        if is_word(word, why.word().as_bytes()) {
+            return Some(why);
+        }
+    }
+    None
+}
+
+/// The refusal that is printed as this word and an address, if there is one.
+pub(crate) fn reason_at(word: &[u8], address: &[u8]) -> Option<Refusal>
+    ensures { Reads IsReason (word.now ∷ address.now ∷ []) result }
+{
+    let address = tokens::address(address)?;
+    if is_word(word, NO_ANSWER) {
+        return Some(Refusal::Bus(BusRefusal::NoAnswer(address)));
+    }
+    if is_word(word, BAD_ADDRESS) {
+        return Some(Refusal::Bus(BusRefusal::BadAddress(address)));
+    }
+    None
+}

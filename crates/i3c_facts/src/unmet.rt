@@ -1,0 +1,183 @@
+ghost use Rattle.std.specs.Prelude.{◌≡◌, ◌++◌, OnOk, codes};
+ghost use Rattle.std.specs.Fmt.{decimal};
+ghost use Rattle.i3c_base.specs.declared.range.TheConstants.{SLOTS};
+ghost use Rattle.i3c_facts.specs.Holding.{device_of, slot_of, waiting_below};
+ghost use Rattle.i3c_facts.specs.Printing.{active_text, address_text, before_text, counted_text, place_text, there_text, unmet_claim, unmet_text, waiting_text};
+ghost use Rattle.i3c_lines.specs.Naming.{letters};
+
+use crate::claims::{Claim, Facts};
+use crate::counting::{records_of, waiting};
+use crate::fact::Fact;
+use crate::holding::{Before, device_slot, place_for, slot_of};
+use crate::naming::{Naming, SlotNames};
+use crate::printing::{
+    push_at, push_name, push_named, push_number, push_recorded, push_refused, push_waiting,
+};
+use i3c_base::{Addr7, Record};
+use i3c_bus::Bus;
+use i3c_lines::{Name, Place};
+use i3c_text::Text;
+use std::alloc::AllocError;
+
+impl Facts {
+    /// Appends what is there, where none of its claims holds: the first one as it would hold.
+    pub fn push_unmet<N: Naming, S: SlotNames>(
+        &self,
+        bus: &Bus,
+        naming: &N,
+        slot_names: &S,
+        before: &Before,
+        text: &mut Text,
+    ) -> Result<(), AllocError>
+        ensures { OnOk result (text.new ≡ text.old ++ unmet_text bus.now.state (N.place naming.now) (S.name_in slot_names.now) before.now self.now) }
+    {
+        match self.claims.as_slice().first() {
+            Some(claim) => {
+                let place = place_for(naming, &claim.fact);
+                let active = slot_names.in_slot(bus.active());
+                claim.push_unmet(bus, place, active, before, text)
+            }
+            None => Ok(()),
+        }
+    }
+}
+
+impl Claim {
+    /// Appends what is there, where it doesn't hold.
+    fn push_unmet(
+        &self,
+        bus: &Bus,
+        place: Option<Place>,
+        active: Option<Name>,
+        before: &Before,
+        text: &mut Text,
+    ) -> Result<(), AllocError>
+        ensures { OnOk result (text.new ≡ text.old ++ unmet_claim bus.now.state place (λ _. active) before.now self.now.fact self.now.negated) }
+    {
+        if self.negated {
+            self.fact.push(text)
+        } else {
+            self.fact.push_there(bus, place, active, before, text)
+        }
+    }
+}
+
+impl Fact {
+    /// Appends what is there, where it doesn't hold.
+    fn push_there(
+        &self,
+        bus: &Bus,
+        place: Option<Place>,
+        active: Option<Name>,
+        before: &Before,
+        text: &mut Text,
+    ) -> Result<(), AllocError>
+        ensures { OnOk result (text.new ≡ text.old ++ there_text bus.now.state place (λ _. active) before.now self.now) }
+    {
+        match self {
+            Fact::Active(_) => push_active(active, text),
+            Fact::At(name, _) => push_place(bus, place, name, text),
+            Fact::AtAny(name) => push_place(bus, place, name, text),
+            Fact::AtNone(name) => push_place(bus, place, name, text),
+            Fact::Gone(name) => push_place(bus, place, name, text),
+            Fact::Waiting(name, _) => push_its_waiting(bus, place, name, text),
+            Fact::AllWaiting(_) => push_all_waiting(bus, text),
+            Fact::Records(_) => push_number(text, b"records ", bus.records().len()),
+            Fact::Recorded(name, byte, _) => push_counted(bus.records(), place, name, *byte, text),
+            Fact::Assigned => text.push(b"not assigned"),
+            Fact::Listed => text.push(b"not listed"),
+            Fact::Open => text.push(b"not open"),
+            Fact::Done | Fact::Refused(_) => self.push_before(before, text),
+        }
+    }
+
+    /// Appends what the line before came to, where it wasn't this.
+    fn push_before(&self, before: &Before, text: &mut Text) -> Result<(), AllocError>
+        ensures { OnOk result (text.new ≡ text.old ++ before_text self.now before.now) }
+    {
+        match before {
+            Before::Nothing => {
+                text.push(b"not ")?;
+                self.push(text)
+            }
+            Before::Done => text.push(b"done"),
+            Before::Refused(why) => push_refused(text, why),
+        }
+    }
+}
+
+/// Appends who is the active controller.
+fn push_active(active: Option<Name>, text: &mut Text) -> Result<(), AllocError>
+    ensures { OnOk result (text.new ≡ text.old ++ active_text active) }
+{
+    match active {
+        Some(name) => push_named(text, b"active ", &name),
+        None => text.push(b"active --"),
+    }
+}
+
+/// Appends where the device of a name is: its address, that it has none, or that it is gone.
+fn push_place(
+    bus: &Bus,
+    place: Option<Place>,
+    name: &Name,
+    text: &mut Text,
+) -> Result<(), AllocError>
+    ensures { OnOk result (text.new ≡ text.old ++ (letters name.now ++ place_text (device_of bus.now.state place))) }
+{
+    match device_slot(bus, place) {
+        Some(slot) => push_address(bus.address(slot), name, text),
+        None => push_name(text, name, b" gone"),
+    }
+}
+
+/// Appends that a device has this address, or none.
+fn push_address(address: Option<Addr7>, name: &Name, text: &mut Text) -> Result<(), AllocError>
+    ensures { OnOk result (text.new ≡ text.old ++ (letters name.now ++ address_text address)) }
+{
+    match address {
+        Some(address) => push_at(text, name, address),
+        None => push_name(text, name, b" at none"),
+    }
+}
+
+/// Appends how many interrupts of a name's device wait, or that it is gone.
+fn push_its_waiting(
+    bus: &Bus,
+    place: Option<Place>,
+    name: &Name,
+    text: &mut Text,
+) -> Result<(), AllocError>
+    ensures { OnOk result (text.new ≡ text.old ++ (letters name.now ++ waiting_text (device_of bus.now.state place))) }
+{
+    match device_slot(bus, place) {
+        Some(slot) => push_waiting(text, name, bus.waiting(slot)),
+        None => push_name(text, name, b" gone"),
+    }
+}
+
+/// Appends how many interrupts of all devices wait. Where 64 bits don't hold it, which no bus comes to, there is no memory.
+fn push_all_waiting(bus: &Bus, text: &mut Text) -> Result<(), AllocError>
+    ensures { OnOk result (text.new ≡ text.old ++ (codes "waiting " ++ decimal (waiting_below bus.now.state SLOTS))) }
+{
+    match waiting(bus) {
+        Some(count) => push_number(text, b"waiting ", count),
+        None => Err(AllocError),
+    }
+}
+
+/// Appends how many interrupts of a name's slot were recorded with a mandatory byte, or that no device of this name is there.
+fn push_counted(
+    records: &[Record],
+    place: Option<Place>,
+    name: &Name,
+    byte: Option<u8>,
+    text: &mut Text,
+) -> Result<(), AllocError>
+    ensures { OnOk result (text.new ≡ text.old ++ counted_text name.now byte (slot_of place) records.now) }
+{
+    match slot_of(place) {
+        Some(slot) => push_recorded(text, name, byte, records_of(records, slot, byte)),
+        None => push_name(text, name, b" gone"),
+    }
+}

@@ -1,0 +1,25 @@
+use Rattle.std.proofs.Common.{Ok, ap, subst}
+use Rattle.i3c_scenario.specs.ScriptSteps.{progress}
+use Rattle.i3c_scenario.specs.Viewed.{LineViewed}
+use Rattle.i3c_scenario.proofs.ViewRuns.{all_viewed, one_viewed}
+use Rattle.i3c_scenario.proofs.viewed.ViewedRun.run_all.Goals as goal
+
+pub returns-in-Ok-false-clause-runs : goal.returns-in-Ok-false-clause-runs
+returns-in-Ok-false-clause-runs g c =
+    let known = g.R.Read.remaining c.args.reader.now in
+    let so_far = c.loop.invariant in
+    let out = c.in-Ok-false.ensures.ended (ap Ok c.in-Ok-false.field-0-test) in
+    all_viewed g.V.Viewer.view_gives known (g.R.Read.remaining c.loop.reader) (g.R.Read.remaining c.advance.new.reader) c.loop.lines c.advance.new.self c.args.viewer.now c.loop.viewer
+    (progress c.args.self.now.script) (progress c.loop.self.script) so_far out.0 out.1 (c.in-Ok-false.ensures.read known so_far.read)
+
+pub loop-preserved : goal.loop-preserved
+loop-preserved g c =
+    let gives = g.V.Viewer.view_gives in
+    let known = g.R.Read.remaining c.args.reader.now in
+    let from = progress c.loop.self.script in
+    let to = progress c.run_line.new.self.script in
+    let so_far = c.loop.invariant in
+    let line = c.in-Ok-true.ensures.line (ap Ok c.in-Ok-true.field-0-test) in
+    one_viewed gives known (g.R.Read.remaining c.loop.reader) (g.R.Read.remaining c.advance.new.reader) c.loop.lines c.advance.new.self c.args.viewer.now c.loop.viewer c.run_line.new.viewer
+    (progress c.args.self.now.script) from to so_far line (c.in-Ok-true.ensures.read known so_far.read)
+    (subst (λ line. LineViewed gives line c.loop.viewer c.run_line.new.viewer from to) c.line.ensures c.in-Ok.ensures)

@@ -1,0 +1,34 @@
+-- The last way of a line that has to be tried: each later one does what it does.
+use Rattle.std.specs.Prelude.{ℕ, ◌+◌, ◌*◌, length, Option, None, Some}
+use Rattle.i3c_base.specs.State.{State}
+use Rattle.i3c_base.specs.Frames.{list_bits}
+use Rattle.i3c_step.specs.declared.events.Command.{Command as Frame}
+use Rattle.i3c_lines.specs.declared.command.Command.{Command}
+use Rattle.i3c_lines.specs.declared.names.Name.{Name}
+
+-- the number of the last bit that a frame under the role can have: a request that is served on the way takes 18 bits
+abbrev pub last_of_frame : State → Frame → ℕ
+last_of_frame st Frame.Serve = 9
+last_of_frame st (Frame.Enec to kinds) = 45
+last_of_frame st (Frame.Disec to kinds) = 45
+last_of_frame st Frame.Reset = 27
+last_of_frame st Frame.SendList = 18 + list_bits st
+last_of_frame st (Frame.ReadFrom at) = 171
+last_of_frame st (Frame.WriteTo at bytes) = 27 + 9 * length bytes.items
+last_of_frame st (Frame.SetStatic at to) = 45
+last_of_frame st (Frame.SetNew at to) = 45
+
+-- and that of a command's frame; 0 where it sends none
+abbrev pub last_bit : State → Command → ℕ
+last_bit st (Command.Frame frame) = last_of_frame st frame
+last_bit st (Command.HandOver to) = 36
+last_bit st Command.Open = 18
+last_bit st Command.Daa = 18
+last_bit st Command.Round = 73
+last_bit st _ = 0
+
+-- the last way to be tried: it cuts the device at risk one bit behind the frame's last one
+abbrev pub latest : State → Option Name → Option Command → ℕ
+latest st None command = 0
+latest st (Some name) None = 0
+latest st (Some name) (Some command) = last_bit st command + 2

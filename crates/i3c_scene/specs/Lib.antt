@@ -1,0 +1,4 @@
+pub mod Scenes
+pub mod Going
+pub mod Trying
+pub mod Latest

@@ -1,0 +1,82 @@
+use crate::named::{Named, are_same, give, place_in, standing_in};
+use i3c_base::Slot;
+use i3c_facts::{Naming, SlotNames};
+use i3c_lines::{Name, Place};
+use std::alloc::AllocError;
+use std::marker::Model;
+
+/// The names that were given, in the order in which they first were, and what each stands for.
+#[derive(Drop)]
+pub(crate) struct Known {
+    names: Vec<Named>,
+}
+
+impl Model for Known {
+    ghost use Rattle.std.specs.Prelude.{List};
+    ghost use Rattle.i3c_scene.specs.declared.named.Named.{Named as NamedValue};
+
+    ghost Value = { List NamedValue };
+
+    ghost view = { λ k. k.names.items };
+}
+
+impl Known {
+    ghost use Rattle.std.specs.Prelude.{◌≡◌, IfOk, IsTrue, OnOk};
+    ghost use Rattle.i3c_scene.specs.Scenes.{given};
+
+    /// These names.
+    pub(crate) fn new(names: Vec<Named>) -> Known
+        ensures { result ≡ names.items }
+    {
+        Known { names }
+    }
+
+    /// The same names once more.
+    pub(crate) fn copied(&self) -> Result<Known, AllocError>
+        ensures { IfOk result (λ copy. copy ≡ self.now) }
+    {
+        let names = self.names.clone()?;
+        Ok(Known { names })
+    }
+
+    /// Whether others are the same names, for the same places.
+    pub(crate) fn is_same(&self, other: &Known) -> bool
+        ensures { IsTrue result → self.now ≡ other.now }
+    {
+        are_same(self.names.as_slice(), other.names.as_slice())
+    }
+
+    /// A slot is given a name; whoever had the slot is gone.
+    pub(crate) fn give(&mut self, name: &Name, slot: Slot) -> Result<(), AllocError>
+        ensures { OnOk result (self.new ≡ given name.now slot self.old) }
+    {
+        give(&mut self.names, name, slot)
+    }
+
+    /// The names, with what they stand for.
+    pub(crate) fn as_slice(&self) -> &[Named]
+        ensures { result.now ≡ self.now }
+    {
+        self.names.as_slice()
+    }
+}
+
+impl Naming for Known {
+    ghost use Rattle.i3c_scene.specs.Scenes.{place_in};
+
+    ghost place = { place_in };
+
+    fn place_of(&self, name: &Name) -> Option<Place> {
+        place_in(self.names.as_slice(), name)
+    }
+}
+
+impl SlotNames for Known {
+    ghost use Rattle.i3c_scene.specs.Scenes.{name_in};
+
+    ghost name_in = { name_in };
+
+    fn in_slot(&self, slot: Slot) -> Option<Name> {
+        standing_in(self.names.as_slice(), slot)
+    }
+}

@@ -1,0 +1,472 @@
+ghost use Rattle.std.specs.Prelude.{◌≡◌, ◌≢◌, Some, None, Err, List, MatchResult};
+ghost use Rattle.i3c_base.specs.declared.requests.Fixed.{Fixed as FixedValue};
+ghost use Rattle.i3c_base.specs.Cutting.{no_cuts};
+ghost use Rattle.i3c_bus.specs.Hands.{HandFits};
+ghost use Rattle.i3c_bus.specs.declared.tokens.Hand.{Hand as HandValue};
+ghost use Rattle.i3c_script.specs.Assigning.{cuts_left};
+ghost use Rattle.i3c_step.specs.Commands.{event_of};
+ghost use Rattle.i3c_step.specs.declared.replies.Refusal.{Refusal as BusRefusalValue};
+ghost use Rattle.i3c_lines.specs.Naming.{slot_named};
+ghost use Rattle.i3c_lines.specs.declared.refusals.Refusal.{Refusal as RefusalValue};
+ghost use Rattle.i3c_script.specs.Stops.{Ends};
+ghost use Rattle.i3c_script.specs.declared.faults.Stop.{Stop as StopValue};
+ghost use Rattle.i3c_scene.specs.Going.{Assigns, sends, session_refusal};
+ghost use Rattle.i3c_scene.specs.Scenes.{seen};
+ghost use Rattle.i3c_scene.specs.declared.named.Named.{Named as NamedValue};
+
+use crate::known::Known;
+use crate::line::{Expectation, Line};
+use crate::scene::Scene;
+use i3c_base::{Addr7, Cuts, Fixed, Setup, Slot};
+use i3c_bus::{ActiveStays, Assignment, Bus, Command as Frame, Event, Hand, Refusal as BusRefusal};
+use i3c_facts::{Before, Naming};
+use i3c_frame::Silent;
+use i3c_lines::{Command, Name, Place, Refusal};
+use i3c_script::{Stop, entrance_at, outcome_of};
+use i3c_step::copy_of;
+use std::alloc::{AllocError, Global};
+use std::marker::Model;
+use std::mem;
+
+/// A scene whose bus is awake, so that lines can be obeyed. It has to be put to rest again.
+///
+/// The bus's role stands in an `Option`, so that an event can take it, and give one back.
+pub(crate) struct Live {
+    bus: Bus,
+    hand: Option<Hand>,
+    policy: Fixed,
+    cuts: Cuts,
+    known: Known,
+}
+
+impl Model for Live {
+    ghost use Rattle.std.specs.Prelude.{◌≡◌, Some};
+    ghost use Rattle.i3c_bus.specs.Hands.{HandFits};
+    ghost use Rattle.i3c_bus.specs.declared.tokens.Hand.{Hand as HandValue};
+    ghost use Rattle.i3c_scene.specs.Scenes.{Seen, seen};
+
+    ghost Value = { Seen };
+
+    ghost view = { λ l. seen l.bus.state l.policy l.cuts l.known };
+
+    ghost invariant = { λ l. (hand : HandValue) × (l.hand ≡ Some hand) × HandFits hand l.bus.state };
+}
+
+impl Scene {
+    ghost use Rattle.std.specs.Prelude.{◌≡◌, IfOk};
+
+    /// The bus awake, with a role or session of its own.
+    pub(crate) fn wake(&self, alloc: Global) -> Result<Live, AllocError>
+        ensures { IfOk result (λ live. live ≡ self.now) }
+    {
+        let known = self.known.copied()?;
+        let cuts = self.cuts.clone()?;
+        match self.still.wake(alloc) {
+            Ok((bus, hand)) => Ok(Live {
+                bus,
+                hand: Some(hand),
+                policy: self.policy,
+                cuts,
+                known,
+            }),
+            Err(_) => Err(AllocError),
+        }
+    }
+}
+
+impl Live {
+    ghost use Rattle.std.specs.Prelude.{◌≡◌, ◌<◌, ◌^◌, IfOk};
+    ghost use Rattle.i3c_base.specs.Cutting.{no_cuts};
+    ghost use Rattle.i3c_step.specs.declared.events.Event.{Event as EventValue};
+    ghost use Rattle.i3c_lines.specs.Naming.{slot_named};
+    ghost use Rattle.i3c_lines.specs.declared.command.Command.{Command as CommandValue};
+    ghost use Rattle.i3c_script.specs.Stops.{Ends};
+    ghost use Rattle.i3c_facts.specs.declared.holding.Before.{Before as BeforeValue};
+    ghost use Rattle.i3c_scene.specs.Scenes.{place_in};
+    ghost use Rattle.i3c_scene.specs.Trying.{Runs, all_hold, slot_at_risk};
+    ghost use Rattle.i3c_scene.specs.Going.{Answers, AnswersIn, Assigns, Does, Enters, cut_in, risked};
+
+    /// The bus at rest again.
+    pub(crate) fn rest(self) -> Scene
+        ensures { result ≡ self }
+    {
+        let Live {
+            bus,
+            hand,
+            policy,
+            cuts,
+            known,
+        } = self;
+        let Some(hand) = hand else { unreachable!() };
+        Scene {
+            still: bus.rest(hand),
+            policy,
+            cuts,
+            known,
+        }
+    }
+
+    /// The bus.
+    pub(crate) fn bus(&self) -> &Bus
+        ensures { result.now.state ≡ self.now.state }
+    {
+        &self.bus
+    }
+
+    /// The names.
+    pub(crate) fn known(&self) -> &Known
+        ensures { result.now ≡ self.now.names }
+    {
+        &self.known
+    }
+
+    /// Tries a line in a way: the bus at rest afterwards, and whether all that is expected holds.
+    pub(crate) fn tried(mut self, line: &Line, way: usize) -> (Scene, Result<bool, AllocError>)
+        requires { way < 2 ^ 16 }
+        ensures { IfOk result.1 (λ held. (before : BeforeValue) × Runs self line.now.command line.now.risk way before result.0 × (held ≡ all_hold result.0 before line.now.expectations.items)) }
+    {
+        let outcome = self.run(line, way);
+        match outcome {
+            Ok(before) => {
+                let held = self.all_hold(&before, line.expectations.as_slice());
+                (self.rest(), Ok(held))
+            }
+            Err(short) => (self.rest(), Err(short)),
+        }
+    }
+
+    /// Runs a line in a way, and answers what it came to.
+    pub(crate) fn run(&mut self, line: &Line, way: usize) -> Result<Before, AllocError>
+        requires { way < 2 ^ 16 }
+        ensures { IfOk result (λ before. Runs self.old line.now.command line.now.risk way before self.new) }
+    {
+        let Some(command) = &line.command else {
+            return Ok(Before::Nothing);
+        };
+        let slot = self.slot_at_risk(sends(command), &line.risk);
+        self.cut_in(slot, way);
+        match self.obey(command) {
+            Ok(()) => Ok(Before::Done),
+            Err(Stop::Refused(why)) => Ok(Before::Refused(why)),
+            Err(Stop::Memory) => Err(AllocError),
+        }
+    }
+
+    /// The slot of a name's device, where the line sends a frame in which that device may lose power.
+    fn slot_at_risk(&self, sends: bool, risk: &Option<Name>) -> Option<Slot>
+        ensures { result ≡ slot_at_risk self.now sends risk.now }
+    {
+        let Some(name) = risk else {
+            return None;
+        };
+        if sends {
+            self.risked(self.known.place_of(name))
+        } else {
+            None
+        }
+    }
+
+    /// The slot of a present device at this place, unless it is the active controller.
+    fn risked(&self, place: Option<Place>) -> Option<Slot>
+        ensures { result ≡ risked self.now.state place }
+    {
+        let Place::Slot(slot) = place? else {
+            return None;
+        };
+        if self.bus.present(slot) && slot != self.bus.active() {
+            Some(slot)
+        } else {
+            None
+        }
+    }
+
+    /// Cuts the slot's device as a way has it.
+    fn cut_in(&mut self, slot: Option<Slot>, way: usize)
+        requires { way < 2 ^ 16 }
+        ensures { self.new ≡ cut_in self.old slot way }
+    {
+        let Some(slot) = slot else {
+            return;
+        };
+        if way > 0 {
+            self.cuts.add(slot, (way - 1) as u16);
+        }
+    }
+
+    /// Whether all that is expected holds.
+    pub(crate) fn all_hold(&self, before: &Before, expectations: &[Expectation]) -> bool
+        ensures { result ≡ all_hold self.now before.now expectations.now }
+    {
+        let Some((first, rest)) = expectations.split_first() else {
+            return true;
+        };
+        first.facts.hold(&self.bus, &self.known, before) && self.all_hold(before, rest)
+    }
+
+    /// Obeys a line's command.
+    pub(crate) fn obey(&mut self, command: &Command) -> Result<(), Stop>
+        ensures { Ends (λ refused. Does self.old command.now refused self.new) result }
+    {
+        match command {
+            Command::Frame(frame) => self.send(frame),
+            Command::Attach { name, setup } => self.attach(name, *setup),
+            Command::Raise { name, byte } => self.raise(name, *byte),
+            Command::DropOff { name } => self.drop_off(name),
+            Command::AskJoin { name } => self.ask_join(name),
+            Command::AskRole { name } => self.ask_role(name),
+            Command::HandOver { to } => self.hand_over(*to),
+            Command::Open => self.open(),
+            Command::Round => self.round(),
+            Command::End => self.answer(&Event::EndDaa),
+            Command::Daa => self.assign(),
+            Command::Policy(policy) => {
+                self.policy = *policy;
+                Ok(())
+            }
+            Command::Cut { name, bit } => self.cut(name, *bit),
+            Command::Show | Command::ShowAll | Command::Symbols | Command::Frames(_) => Ok(()),
+            Command::Legacy { .. } | Command::Declare { .. } | Command::Main { .. } => Err(
+                Stop::Refused(Refusal::BusMade),
+            ),
+        }
+    }
+
+    /// A line that sends a frame under the role.
+    fn send(&mut self, frame: &Frame) -> Result<(), Stop>
+        ensures { Ends (λ refused. Answers self.old (event_of frame.now self.old.policy self.old.cuts) refused self.new) result }
+    {
+        let cuts = self.take_cuts();
+        let event = event_of(frame, self.policy, cuts);
+        self.answer(&event)
+    }
+
+    /// `handover`: the role is offered to the device at an address.
+    fn hand_over(&mut self, to: Addr7) -> Result<(), Stop>
+        ensures { Ends (λ refused. Answers self.old (EventValue.HandOver to self.old.cuts) refused self.new) result }
+    {
+        let cuts = self.take_cuts();
+        self.answer(&Event::HandOver(to, cuts))
+    }
+
+    /// `open`: a session is opened, and stays open.
+    fn open(&mut self) -> Result<(), Stop>
+        ensures { Ends (λ refused. Answers self.old (EventValue.OpenDaa self.old.cuts) refused self.new) result }
+    {
+        let cuts = self.take_cuts();
+        self.answer(&Event::OpenDaa(cuts))
+    }
+
+    /// `round`: one round of the open session.
+    fn round(&mut self) -> Result<(), Stop>
+        ensures { Ends (λ refused. Answers self.old (EventValue.Round self.old.cuts) refused self.new) result }
+    {
+        let cuts = self.take_cuts();
+        self.answer(&Event::Round(cuts))
+    }
+
+    /// The cuts that wait, of which none is left.
+    fn take_cuts(&mut self) -> Cuts
+        ensures taken { result ≡ self.old.cuts }
+        ensures left { self.new ≡ record self.old { cuts = no_cuts } }
+    {
+        mem::replace(&mut self.cuts, Cuts::new())
+    }
+
+    /// The slot that a name stands for. Its device may be gone.
+    fn slot_meant(&self, name: &Name) -> Result<Slot, Refusal>
+        ensures { result ≡ slot_named (place_in self.now.names name.now) }
+    {
+        slot_in(self.known.place_of(name))
+    }
+
+    /// `cut`: whatever device is in the slot by then loses power at a bit of the next frame.
+    fn cut(&mut self, name: &Name, bit: u16) -> Result<(), Stop>
+        ensures { Ends (λ refused. Does self.old (CommandValue.Cut name.now bit) refused self.new) result }
+    {
+        match self.slot_meant(name) {
+            Ok(slot) => {
+                if !self.bus.present(slot) {
+                    return Err(Stop::Refused(Refusal::Bus(BusRefusal::NoDevice)));
+                }
+                self.cuts.add(slot, bit);
+                Ok(())
+            }
+            Err(why) => Err(Stop::Refused(why)),
+        }
+    }
+
+    /// `daa`: a whole session. The cuts that wait are its opening's.
+    fn assign(&mut self) -> Result<(), Stop>
+        ensures { Ends (λ refused. Assigns self.old refused self.new) result }
+    {
+        let cuts = self.take_cuts();
+        let hand = take(&mut self.hand);
+        let (hand, outcome) = assign(&mut self.bus, hand, &cuts);
+        give_back(&mut self.hand, hand);
+        outcome
+    }
+
+    /// `attach`: a device enters the lowest free slot, and gets its name.
+    fn attach(&mut self, name: &Name, setup: Setup) -> Result<(), Stop>
+        ensures { Ends (λ refused. Enters self.old name.now setup refused self.new) result }
+    {
+        match entrance_at(&self.bus, self.known.place_of(name)) {
+            Ok(slot) => match self.known.give(name, slot) {
+                Ok(()) => self.answer(&Event::Attach(slot, setup)),
+                Err(_) => Err(Stop::Memory),
+            },
+            Err(why) => Err(Stop::Refused(why)),
+        }
+    }
+
+    /// `drop`: a device loses power.
+    fn drop_off(&mut self, name: &Name) -> Result<(), Stop>
+        ensures { Ends (λ refused. AnswersIn self.old name.now EventValue.DropOff refused self.new) result }
+    {
+        match self.slot_meant(name) {
+            Ok(slot) => self.answer(&Event::DropOff(slot)),
+            Err(why) => Err(Stop::Refused(why)),
+        }
+    }
+
+    /// `raise`: a device raises an interrupt.
+    fn raise(&mut self, name: &Name, byte: Option<u8>) -> Result<(), Stop>
+        ensures { Ends (λ refused. AnswersIn self.old name.now (λ slot. EventValue.Raise slot byte) refused self.new) result }
+    {
+        match self.slot_meant(name) {
+            Ok(slot) => self.answer(&Event::Raise(slot, byte)),
+            Err(why) => Err(Stop::Refused(why)),
+        }
+    }
+
+    /// `ask-join`: a device wishes to join.
+    fn ask_join(&mut self, name: &Name) -> Result<(), Stop>
+        ensures { Ends (λ refused. AnswersIn self.old name.now EventValue.AskJoin refused self.new) result }
+    {
+        match self.slot_meant(name) {
+            Ok(slot) => self.answer(&Event::AskJoin(slot)),
+            Err(why) => Err(Stop::Refused(why)),
+        }
+    }
+
+    /// `ask-role`: a device wishes for the controller role.
+    fn ask_role(&mut self, name: &Name) -> Result<(), Stop>
+        ensures { Ends (λ refused. AnswersIn self.old name.now EventValue.AskRole refused self.new) result }
+    {
+        match self.slot_meant(name) {
+            Ok(slot) => self.answer(&Event::AskRole(slot)),
+            Err(why) => Err(Stop::Refused(why)),
+        }
+    }
+
+    /// The bus answers an event.
+    fn answer(&mut self, event: &Event) -> Result<(), Stop>
+        // a frame's cuts are taken before
+        requires { cuts_left event.now self.old.cuts ≡ self.old.cuts }
+        ensures { Ends (λ refused. Answers self.old event.now refused self.new) result }
+    {
+        let hand = take(&mut self.hand);
+        let (hand, reply) = self.bus.step(hand, event, &mut Silent);
+        give_back(&mut self.hand, hand);
+        outcome_of(&reply)
+    }
+}
+
+/// A whole session, on the bus whose role this is: what it is refused for, if it is. It answers the role or session in hand
+/// afterwards.
+fn assign(bus: &mut Bus, hand: Hand, cuts: &Cuts) -> (Hand, Result<(), Stop>)
+    requires fits { HandFits hand bus.old.state }
+    ensures assigns { (policy : FixedValue) (names : List NamedValue) → Ends (λ refused. Assigns (seen bus.old.state policy cuts.now names) refused (seen bus.new.state policy no_cuts names)) result.1 }
+    ensures fits { HandFits result.0 bus.new.state }
+{
+    let role = match hand {
+        Hand::Role(role) => role,
+        Hand::Session(session) => {
+            return (
+                Hand::Session(session),
+                Err(Stop::Refused(Refusal::Bus(BusRefusal::SessionOpen))),
+            );
+        }
+    };
+    let (role, assigned) = bus.assign_all(role, &mut Silent, cuts);
+    (Hand::Role(role), outcome_of_session(&assigned))
+}
+
+/// Why a whole session is refused, if it is.
+fn outcome_of_session(assigned: &Result<Assignment, ActiveStays>) -> Result<(), Stop>
+    ensures told { Ends (λ refused. MatchResult assigned.now (λ all. refused ≡ session_refusal all.complete) (λ _. refused ≡ Some (RefusalValue.Bus BusRefusalValue.ActiveStays))) result }
+    ensures fed { result ≢ Err StopValue.Memory }
+{
+    match assigned {
+        Ok(all) if all.complete => Ok(()),
+        Ok(_) => Err(Stop::Refused(Refusal::Bus(BusRefusal::NoAddress))),
+        Err(ActiveStays) => Err(Stop::Refused(Refusal::Bus(BusRefusal::ActiveStays))),
+    }
+}
+
+/// The slot of the device that is meant by a name at this place.
+fn slot_in(place: Option<Place>) -> Result<Slot, Refusal>
+    ensures { result ≡ slot_named place }
+{
+    let Some(place) = place else {
+        return Err(Refusal::NoName);
+    };
+    match place {
+        Place::Slot(slot) => Ok(slot),
+        Place::Legacy(_) | Place::Gone => Err(Refusal::Bus(BusRefusal::NoDevice)),
+    }
+}
+
+/// The event of a frame under the role.
+fn event_of(frame: &Frame, policy: Fixed, cuts: Cuts) -> Event
+    ensures { result ≡ event_of frame.now policy cuts }
+{
+    match frame {
+        Frame::Serve => Event::Serve(policy, cuts),
+        Frame::Enec(to, kinds) => Event::Enec(*to, *kinds, policy, cuts),
+        Frame::Disec(to, kinds) => Event::Disec(*to, *kinds, policy, cuts),
+        Frame::Reset => Event::Reset(policy, cuts),
+        Frame::SendList => Event::SendList(policy, cuts),
+        Frame::ReadFrom(from) => Event::ReadFrom(*from, policy, cuts),
+        Frame::WriteTo(to, bytes) => Event::WriteTo(*to, copy_of(bytes), policy, cuts),
+        Frame::SetStatic(fixed, new) => Event::SetStatic(*fixed, *new, policy, cuts),
+        Frame::SetNew(old, new) => Event::SetNew(*old, *new, policy, cuts),
+    }
+}
+
+/// The role or session, which the bus takes for a while.
+fn take(place: &mut Option<Hand>) -> Hand
+    requires { (hand : HandValue) × (place.old ≡ Some hand) }
+    ensures taken { place.old ≡ Some result }
+    ensures none { place.new ≡ None }
+{
+    let Some(hand) = place.take() else {
+        unreachable!()
+    };
+    hand
+}
+
+/// The bus gives it back.
+fn give_back(place: &mut Option<Hand>, hand: Hand)
+    requires { place.old ≡ None }
+    ensures { place.new ≡ Some hand }
+{
+    match mem::replace(place, Some(hand)) {
+        None => {}
+        Some(_) => unreachable!(),
+    }
+}
+
+/// Whether a command sends a frame that takes the cuts that wait.
+pub(crate) fn sends(command: &Command) -> bool
+    ensures { result ≡ sends command.now }
+{
+    match command {
+        Command::Frame(_)
+        | Command::HandOver { .. }
+        | Command::Open
+        | Command::Round
+        | Command::Daa => true,
+        _ => false,
+    }
+}

@@ -1,0 +1,107 @@
+ghost use Rattle.std.specs.Prelude.{◌≡◌, ◌↔◌, IsTrue};
+
+use crate::known::Known;
+use crate::named::Named;
+use i3c_base::{Cuts, Fixed, Setup};
+use i3c_bus::{Bus, Hand, Still};
+use i3c_legacy::Legacies;
+use i3c_lines::ACCEPT_ALL;
+use std::alloc::{AllocError, Global};
+use std::marker::Model;
+
+/// A bus between two lines: at rest, with which requests its frames accept, the cuts that wait for the next frame, and the
+/// names that were given.
+///
+/// Clauses see these.
+#[derive(Drop)]
+pub struct Scene {
+    pub(crate) still: Still,
+    pub(crate) policy: Fixed,
+    pub(crate) cuts: Cuts,
+    pub(crate) known: Known,
+}
+
+impl Model for Scene {
+    ghost use Rattle.i3c_scene.specs.Scenes.{Seen, seen};
+
+    ghost Value = { Seen };
+
+    ghost view = { λ s. seen s.still s.policy s.cuts s.known };
+}
+
+/// The main controller's device isn't capable of the controller role (I3C Basic 5.1.1.2.1).
+#[derive(Clone, Copy, Debug, PartialEq, Eq, Drop)]
+pub struct BeginFault;
+
+impl Scene {
+    ghost use Rattle.std.specs.Prelude.{◌≡◌, ◌↔◌, true, IfOk, IsOk, IsTrue};
+    ghost use Rattle.i3c_base.specs.Cutting.{no_cuts};
+    ghost use Rattle.i3c_base.specs.Numbers.{is_capable};
+    ghost use Rattle.i3c_base.specs.State.{IsStart};
+    ghost use Rattle.i3c_base.specs.declared.requests.Verdict.TheVariants.{Accept};
+    ghost use Rattle.i3c_lines.specs.Policies.{each_kind};
+
+    /// A bus with this main controller in slot 0, whose frames accept each request, and these names.
+    ///
+    /// # Errors
+    ///
+    /// The main controller isn't capable of its role.
+    pub fn begin(
+        alloc: Global,
+        main: Setup,
+        legacies: Legacies,
+        names: Vec<Named>,
+    ) -> Result<Scene, BeginFault>
+        ensures capable { IsOk result ↔ (is_capable main.identity.bcr ≡ true) }
+        ensures start { IfOk result (λ scene. IsStart main legacies scene.state) }
+        ensures policy { IfOk result (λ scene. scene.policy ≡ each_kind Accept) }
+        ensures cuts { IfOk result (λ scene. scene.cuts ≡ no_cuts) }
+        ensures names { IfOk result (λ scene. scene.names ≡ names.items) }
+    {
+        match Bus::new(alloc, main, legacies) {
+            Ok((bus, role)) => Ok(Scene {
+                still: bus.rest(Hand::Role(role)),
+                policy: ACCEPT_ALL,
+                cuts: Cuts::new(),
+                known: Known::new(names),
+            }),
+            Err(_) => Err(BeginFault),
+        }
+    }
+
+    /// The same scene once more.
+    ///
+    /// # Errors
+    ///
+    /// There is no memory for it.
+    pub fn copied(&self, alloc: Global) -> Result<Scene, AllocError>
+        ensures { IfOk result (λ copy. copy ≡ self.now) }
+    {
+        let live = self.wake(alloc)?;
+        Ok(live.rest())
+    }
+
+    /// Whether another scene is the same: its bus is in the same state, with the same policy, cuts and names.
+    pub fn is_same(&self, other: &Scene) -> bool
+        ensures { IsTrue result → self.now ≡ other.now }
+    {
+        is_same_policy(&self.policy, &other.policy)
+            && are_same_cuts(&self.cuts, &other.cuts)
+            && self.known.is_same(&other.known)
+            && self.still.is_same(&other.still)
+    }
+}
+
+/// Whether two policies accept the same requests.
+fn is_same_policy(policy: &Fixed, other: &Fixed) -> bool
+    ensures { IsTrue result ↔ (policy.now ≡ other.now) }
+{
+    *policy == *other
+}
+
+/// Whether the same slots are cut at the same bits.
+fn are_same_cuts(cuts: &Cuts, others: &Cuts) -> bool
+    ensures { IsTrue result → cuts.now ≡ others.now }
+{
+    *cuts == *others
+}

@@ -1,0 +1,96 @@
+ghost use Rattle.std.specs.Prelude.{◌≡◌};
+
+use crate::line::{Expectation, Line};
+use crate::live::Live;
+use crate::named::Named;
+use crate::scene::Scene;
+use i3c_facts::Before;
+use i3c_lines::{Names, Place};
+use i3c_script::show_bus;
+use i3c_text::Text;
+use std::alloc::{AllocError, Global};
+
+impl Scene {
+    /// Appends what `show` prints of it.
+    ///
+    /// # Errors
+    ///
+    /// There is no memory for it.
+    pub fn show(&self, alloc: Global, text: &mut Text) -> Result<(), AllocError> {
+        let names = names_of(alloc, self.known.as_slice())?;
+        let live = self.wake(alloc)?;
+        live.show(&names, text)
+    }
+
+    /// Runs a line in a way, as it is tried. Where it breaks an expectation, what is there is appended to the text, and the
+    /// number of the expectation's line is answered.
+    ///
+    /// # Errors
+    ///
+    /// There is no memory for it.
+    pub fn unmet(
+        &self,
+        alloc: Global,
+        line: &Line,
+        way: usize,
+        text: &mut Text,
+    ) -> Result<Option<u64>, AllocError> {
+        let tried = self.way_tried(line, way);
+        let live = self.wake(alloc)?;
+        live.unmet(line, tried, text)
+    }
+}
+
+impl Live {
+    ghost use Rattle.std.specs.Prelude.{◌<◌, ◌^◌};
+
+    /// Appends what `show` prints, and comes to rest.
+    fn show(self, names: &Names, text: &mut Text) -> Result<(), AllocError> {
+        let shown = show_bus(self.bus(), names, text);
+        let _scene = self.rest();
+        shown
+    }
+
+    /// Runs a line in a way, tells the first expectation that it breaks, and comes to rest.
+    fn unmet(mut self, line: &Line, way: usize, text: &mut Text) -> Result<Option<u64>, AllocError>
+        requires { way < 2 ^ 16 }
+    {
+        let told = match self.run(line, way) {
+            Ok(before) => self.tell_unmet(&before, line.expectations.as_slice(), text),
+            Err(short) => Err(short),
+        };
+        let _scene = self.rest();
+        told
+    }
+
+    /// Tells the first expectation that doesn't hold.
+    fn tell_unmet(
+        &self,
+        before: &Before,
+        expectations: &[Expectation],
+        text: &mut Text,
+    ) -> Result<Option<u64>, AllocError> {
+        for expectation in expectations {
+            if !expectation.facts.hold(self.bus(), self.known(), before) {
+                expectation
+                    .facts
+                    .push_unmet(self.bus(), self.known(), self.known(), before, text)?;
+                return Ok(Some(expectation.number));
+            }
+        }
+        Ok(None)
+    }
+}
+
+/// The names of a script that stand for these places.
+fn names_of(alloc: Global, known: &[Named]) -> Result<Names, AllocError> {
+    let mut names = Names::new(alloc);
+    for named in known {
+        match named.place {
+            Place::Slot(slot) => names.give_slot(&named.name, slot)?,
+            Place::Legacy(address) => names.give_address(&named.name, address)?,
+            Place::Gone => {}
+        }
+    }
+    Ok(names)
+}

@@ -1,0 +1,24 @@
+-- What the exploration of a plan answers.
+use Rattle.std.specs.Prelude.{◌≡◌, ℕ, List, ◌++◌, ⊤}
+use Rattle.std.specs.Global.{Vec}
+use Rattle.i3c_explore.specs.Blocks.{IsBegun, IsShortestBreak, LeadsOn}
+use Rattle.i3c_explore.specs.declared.turn.Turn.{Turn}
+use Rattle.i3c_scene.specs.Scenes.{Seen}
+use Rattle.i3c_scene.specs.Trying.{LineBreaks, LineSteps}
+use Rattle.i3c_scene.specs.declared.line.Line.{Line}
+use Rattle.i3c_tracks.specs.declared.course.Run.{Run}
+use Rattle.i3c_tracks.specs.declared.exploring.Answer.{Answer}
+use Rattle.i3c_tracks.specs.declared.refusal.Refusal.{Refusal}
+use Rattle.i3c_tracks.specs.Telling.{refusal_line, script_text}
+
+-- every order of these blocks, and every beginning of one, leads on from the start; or one breaks an expectation, and no shorter one does
+abbrev pub IsAnswer : Seen → List (Vec (Vec Line)) → Answer → Type 0
+IsAnswer start blocks Answer.Holds = (course : List (List Turn)) → IsBegun blocks course → (end : Seen) × LeadsOn LineSteps blocks start course end
+IsAnswer start blocks Answer.Refused = ⊤
+IsAnswer start blocks Answer.Breaks = (order : List Turn) × IsShortestBreak LineSteps LineBreaks blocks start order
+
+-- what is printed with an answer: the line of a refusal, or a script of the file's lines
+abbrev pub IsPrinted : List (Vec ℕ) → Answer → List ℕ → List ℕ → Type 0
+IsPrinted lines Answer.Holds old new = ⊤
+IsPrinted lines Answer.Refused old new = (refusal : Refusal) × (new ≡ old ++ refusal_line refusal)
+IsPrinted lines Answer.Breaks old new = (before : List ℕ) × (runs : List Run) × (number : ℕ) × (found : List ℕ) × (new ≡ old ++ script_text lines before runs number found)

@@ -1,0 +1,124 @@
+-- What is printed of a file that is explored.
+use Rattle.std.specs.Prelude.{ℕ, suc, ◌-◌, Bool, true, false, List, [], ◌∷◌, ◌++◌, Option, Some, None, codes, drop, is_some, if◌then◌else◌, min, length, slice_get, take}
+use Rattle.std.specs.Fmt.{decimal}
+use Rattle.std.specs.Global.{Vec}
+use Rattle.i3c_lines.specs.declared.names.Name.{Name}
+use Rattle.i3c_lines.specs.Naming.{letters}
+use Rattle.i3c_tracks.specs.declared.course.Run.{Run}
+use Rattle.i3c_tracks.specs.declared.refusal.Reason.{Reason}
+use Rattle.i3c_tracks.specs.declared.refusal.Refusal.{Refusal}
+
+-- why a file isn't explored
+abbrev pub reason_word : Reason → List ℕ
+reason_word Reason.BadLine = codes "BadLine"
+reason_word Reason.NoBus = codes "NoBus"
+reason_word Reason.NoBlock = codes "NoBlock"
+reason_word Reason.BlockOpen = codes "BlockOpen"
+reason_word Reason.NoTrack = codes "NoTrack"
+reason_word Reason.NoLine = codes "NoLine"
+reason_word Reason.Most = codes "Most"
+reason_word Reason.NoClose = codes "NoClose"
+
+-- the number of the line, if the refusal is of one
+abbrev pub number_text : Option ℕ → List ℕ
+number_text None = []
+number_text (Some number) = codes " " ++ decimal number
+
+abbrev pub refusal_line : Refusal → List ℕ
+refusal_line refusal = codes "refused " ++ (reason_word refusal.reason ++ (number_text refusal.line ++ 10 ∷ []))
+
+-- the line of a number, from 1 on, as it stands in the file
+abbrev pub bytes_of : Option (Vec ℕ) → List ℕ
+bytes_of None = []
+bytes_of (Some line) = line.items
+
+abbrev pub line_at : List (Vec ℕ) → ℕ → List ℕ
+line_at lines number = bytes_of (slice_get lines (number - 1))
+
+-- the lines of these numbers
+abbrev pub lines_text : List (Vec ℕ) → List ℕ → List ℕ
+lines_text lines [] = []
+lines_text lines (number ∷ rest) = (line_at lines number ++ 10 ∷ []) ++ lines_text lines rest
+
+-- the device that loses power in a way of a line, and the bit
+abbrev pub cut_in : Option Name → ℕ → Option (Name × ℕ)
+cut_in (Some name) (suc bit) = Some (name, bit)
+cut_in _ _ = None
+
+-- a cut as a line of a script has it
+abbrev pub cut_text : Name → ℕ → List ℕ
+cut_text name bit = codes "cut " ++ (letters name ++ (codes " " ++ decimal bit))
+
+-- the cut before a line, with what stands between them
+abbrev pub cut_before : Option (Name × ℕ) → List ℕ → List ℕ
+cut_before None between = []
+cut_before (Some (name, bit)) between = cut_text name bit ++ between
+
+-- a line that runs, with its cut in front
+abbrev pub run_text : List (Vec ℕ) → Run → List ℕ
+run_text lines run = cut_before (cut_in run.line.now.risk run.way) (10 ∷ []) ++ (line_at lines run.line.now.number ++ 10 ∷ [])
+
+-- the same, if it has a command: a line without one is a place where expectations alone are tested
+abbrev pub told_text : List (Vec ℕ) → Run → List ℕ
+told_text lines run = if is_some run.line.now.command then run_text lines run else []
+
+-- lines that run, one after another
+abbrev pub runs_text : List (Vec ℕ) → List Run → List ℕ
+runs_text lines [] = []
+runs_text lines (run ∷ rest) = told_text lines run ++ runs_text lines rest
+
+-- an expectation as an `expect`: `always` is as long
+abbrev pub expectation_text : List ℕ → List ℕ
+expectation_text line = codes "expect" ++ (drop (min 6 (length line)) line ++ 10 ∷ [])
+
+-- a line, of a longer one as much as a script's line has room for
+abbrev pub short_line : List ℕ → List ℕ
+short_line line = take (min (length line) 256) line ++ 10 ∷ []
+
+-- which line breaks
+abbrev pub breaks_text : ℕ → List ℕ → List ℕ
+breaks_text number line = codes "# line " ++ (decimal number ++ (codes " breaks: " ++ line))
+
+-- a comment
+abbrev pub comment_text : List ℕ → List ℕ
+comment_text words = codes "# " ++ (words ++ 10 ∷ [])
+
+-- the comments before an order that breaks an expectation
+abbrev pub heading_text : ℕ → List ℕ → List ℕ → List ℕ
+heading_text number line found = short_line (breaks_text number line) ++ (comment_text found ++ comment_text (codes "run this script to see it"))
+
+-- a number of orders
+abbrev pub orders_text : Option ℕ → List ℕ
+orders_text None = codes "over 18446744073709551615"
+orders_text (Some orders) = decimal orders
+
+-- the orders that lead to an end, where they are told
+abbrev pub of_orders : Bool → Option ℕ → List ℕ
+of_orders true orders = codes " of " ++ (orders_text orders ++ codes " orders")
+of_orders false orders = []
+
+-- the first line of an end
+abbrev pub head_text : ℕ → Option ℕ → Bool → List ℕ
+head_text number orders counted = codes "end " ++ (decimal number ++ (of_orders counted orders ++ 10 ∷ []))
+
+-- a line that runs, in one line with its cut
+abbrev pub short_run_text : List (Vec ℕ) → Run → List ℕ
+short_run_text lines run = cut_before (cut_in run.line.now.risk run.way) (codes " / ") ++ line_at lines run.line.now.number
+
+-- what stands before a line: it is the first one, or not
+abbrev pub parting : Bool → List ℕ
+parting true = codes " "
+parting false = codes " / "
+
+-- the lines of opened blocks among those that run
+abbrev pub parted_text : List (Vec ℕ) → Bool → List Run → List ℕ
+parted_text lines first [] = []
+parted_text lines first (run ∷ rest) = (if run.opened then parting first ++ short_run_text lines run else []) ++ parted_text lines (if run.opened then false else first) rest
+
+-- the same as a line
+abbrev pub like_text : List (Vec ℕ) → List Run → List ℕ
+like_text lines runs = codes "like" ++ (parted_text lines true runs ++ 10 ∷ [])
+
+-- an order that breaks an expectation, as a script: the comments, the lines before the bus, those of the order, and what is expected
+abbrev pub script_text : List (Vec ℕ) → List ℕ → List Run → ℕ → List ℕ → List ℕ
+script_text lines before runs number found = heading_text number (line_at lines number) found ++ (lines_text lines before ++ (runs_text lines runs ++ expectation_text (line_at lines number)))

@@ -1,0 +1,202 @@
+ghost use Rattle.std.specs.Prelude.{◌≡◌, ℕ, List, ◌++◌, ◌∷◌, [], OnOk, codes};
+ghost use Rattle.i3c_tracks.specs.Telling.{breaks_text, comment_text, expectation_text, heading_text, line_at, lines_text, run_text, runs_text, script_text, short_line, told_text};
+ghost use Rattle.i3c_tracks.specs.declared.course.Run.{Run as RunValue};
+
+use crate::course::{Run, runs_of};
+use crate::plan::Plan;
+use crate::report::{cut_of, line_at, push_cut};
+use i3c_explore::{Machine, Turn};
+use i3c_scene::Scene;
+use i3c_text::Text;
+use std::alloc::{AllocError, Global};
+
+/// How many bytes a line of a script may have.
+const LINE_LENGTH: usize = 256;
+
+/// How many letters `always` has, and `expect` too.
+const WORD_LENGTH: usize = 6;
+
+/// Appends an order that breaks an expectation, as a script.
+pub(crate) fn push_broken(
+    alloc: Global,
+    lines: &[Vec<u8>],
+    plan: &Plan,
+    order: &[Turn],
+    text: &mut Text,
+) -> Result<(), AllocError>
+    ensures { OnOk result ((runs : List RunValue) × (number : ℕ) × (found : List ℕ) × (text.new ≡ text.old ++ script_text lines.now plan.now.before.items runs number found)) }
+{
+    let runs = runs_of(alloc, plan, order)?;
+    let mut found = Text::new(alloc);
+    let number = unmet_number(alloc, plan, &runs, &mut found)?;
+    push_script(
+        alloc,
+        lines,
+        &plan.before,
+        &runs,
+        number,
+        found.as_bytes(),
+        text,
+    )
+}
+
+/// Appends the script of the lines of these numbers and of lines that run, the last of which breaks the expectation of this
+/// number's line.
+fn push_script(
+    alloc: Global,
+    lines: &[Vec<u8>],
+    before: &[u64],
+    runs: &[Run<'_>],
+    number: u64,
+    found: &[u8],
+    text: &mut Text,
+) -> Result<(), AllocError>
+    ensures { OnOk result (text.new ≡ text.old ++ script_text lines.now before.now runs.now number found.now) }
+{
+    let broken = line_at(lines, number);
+    push_heading(alloc, number, broken, found, text)?;
+    push_lines(lines, before, text)?;
+    push_runs(lines, runs, text)?;
+    push_expectation(broken, text)
+}
+
+/// The number of the expectation that the last of these lines breaks. What is there is appended to the text.
+fn unmet_number(
+    alloc: Global,
+    plan: &Plan,
+    runs: &[Run<'_>],
+    found: &mut Text,
+) -> Result<u64, AllocError> {
+    let Some((last, earlier)) = runs.split_last() else {
+        return Err(AllocError);
+    };
+    let scene = replayed(alloc, plan, earlier)?;
+    match scene.unmet(alloc, last.line, last.way, found)? {
+        Some(number) => Ok(number),
+        None => Err(AllocError),
+    }
+}
+
+/// The bus after these lines.
+fn replayed(alloc: Global, plan: &Plan, runs: &[Run<'_>]) -> Result<Scene, AllocError> {
+    let mut scene = plan.start.copied(alloc)?;
+    for run in runs {
+        if let Some(next) = scene.after(alloc, run.line, run.way)? {
+            scene = next;
+        }
+    }
+    Ok(scene)
+}
+
+/// Appends the comments before the script.
+fn push_heading(
+    alloc: Global,
+    number: u64,
+    broken: &[u8],
+    found: &[u8],
+    text: &mut Text,
+) -> Result<(), AllocError>
+    ensures { OnOk result (text.new ≡ text.old ++ heading_text number broken.now found.now) }
+{
+    let mut comment = Text::new(alloc);
+    push_breaks(number, broken, &mut comment)?;
+    push_short(comment.as_bytes(), text)?;
+    push_found(found, text)
+}
+
+/// Appends which line breaks.
+fn push_breaks(number: u64, broken: &[u8], text: &mut Text) -> Result<(), AllocError>
+    ensures { OnOk result (text.new ≡ text.old ++ breaks_text number broken.now) }
+{
+    text.push(b"# line ")?;
+    text.push_decimal(number)?;
+    text.push(b" breaks: ")?;
+    text.push(broken)
+}
+
+/// Appends what is there, and what a reader may do with the script.
+fn push_found(found: &[u8], text: &mut Text) -> Result<(), AllocError>
+    ensures { OnOk result (text.new ≡ text.old ++ (comment_text found.now ++ comment_text (codes "run this script to see it"))) }
+{
+    push_comment(found, text)?;
+    push_comment(b"run this script to see it", text)
+}
+
+/// Appends a comment.
+fn push_comment(words: &[u8], text: &mut Text) -> Result<(), AllocError>
+    ensures { OnOk result (text.new ≡ text.old ++ comment_text words.now) }
+{
+    text.push(b"# ")?;
+    text.push(words)?;
+    text.end()
+}
+
+/// Appends a line, of a longer one as much as a line may have.
+fn push_short(line: &[u8], text: &mut Text) -> Result<(), AllocError>
+    ensures { OnOk result (text.new ≡ text.old ++ short_line line.now) }
+{
+    text.push(&line[..line.len().min(LINE_LENGTH)])?;
+    text.end()
+}
+
+/// Appends the line of this number, as it stands in the file.
+fn push_line(lines: &[Vec<u8>], number: u64, text: &mut Text) -> Result<(), AllocError>
+    ensures { OnOk result (text.new ≡ text.old ++ (line_at lines.now number ++ 10 ∷ [])) }
+{
+    text.push(line_at(lines, number))?;
+    text.end()
+}
+
+/// Appends the lines of these numbers, as they stand in the file.
+fn push_lines(lines: &[Vec<u8>], numbers: &[u64], text: &mut Text) -> Result<(), AllocError>
+    ensures { OnOk result (text.new ≡ text.old ++ lines_text lines.now numbers.now) }
+{
+    for index in 0..numbers.len() {
+        push_line(lines, numbers[index], text)?;
+    }
+    Ok(())
+}
+
+/// Appends lines that run, each behind its cut if it has one.
+fn push_runs(lines: &[Vec<u8>], runs: &[Run<'_>], text: &mut Text) -> Result<(), AllocError>
+    ensures { OnOk result (text.new ≡ text.old ++ runs_text lines.now runs.now) }
+{
+    for index in 0..runs.len() {
+        push_run_of(lines, &runs[index], text)?;
+    }
+    Ok(())
+}
+
+/// Appends a line that runs, if it has a command: a place where expectations alone are tested isn't a line of the script.
+fn push_run_of(lines: &[Vec<u8>], run: &Run<'_>, text: &mut Text) -> Result<(), AllocError>
+    ensures { OnOk result (text.new ≡ text.old ++ told_text lines.now run.now) }
+{
+    if run.line.command.is_some() {
+        return push_run(lines, run, text);
+    }
+    Ok(())
+}
+
+/// Appends a line that runs, behind its cut if it has one.
+fn push_run(lines: &[Vec<u8>], run: &Run<'_>, text: &mut Text) -> Result<(), AllocError>
+    ensures { OnOk result (text.new ≡ text.old ++ run_text lines.now run.now) }
+{
+    match cut_of(run) {
+        Some((name, bit)) => {
+            push_cut(&name, bit, text)?;
+            text.end()?;
+        }
+        None => {}
+    }
+    text.push(line_at(lines, run.line.number))?;
+    text.end()
+}
+
+/// Appends the line of an expectation as an `expect`.
+fn push_expectation(broken: &[u8], text: &mut Text) -> Result<(), AllocError>
+    ensures { OnOk result (text.new ≡ text.old ++ expectation_text broken.now) }
+{
+    text.push(b"expect")?;
+    text.push(&broken[WORD_LENGTH.min(broken.len())..])?;
+    text.end()
+}

@@ -1,0 +1,165 @@
+ghost use Rattle.std.specs.Prelude.{◌≡◌, ◌<◌, ◌≤◌, ℕ, List, [], ◌++◌, Err, IfOk, IfSome, OnOk, length};
+ghost use Rattle.std.specs.Global.{Vec as VecValue};
+ghost use Rattle.std.specs.Io.KnownBytes.{Appends, IsAtEnd};
+ghost use Rattle.i3c_tracks.specs.Answering.{IsAnswer, IsPrinted};
+ghost use Rattle.i3c_tracks.specs.Telling.{refusal_line};
+ghost use Rattle.i3c_tracks.specs.declared.exploring.Answer.{Answer as AnswerValue};
+ghost use Rattle.i3c_tracks.specs.declared.refusal.Refusal.{Refusal as RefusalValue};
+
+use crate::broken::push_broken;
+use crate::plan::{Plan, PlanFault, read_plan};
+use crate::refusal::{Reason, Refusal};
+use crate::report::push_ends;
+use i3c_explore::{Limits, Stop, explore};
+use i3c_scenario::{ScriptFault, ScriptLines, write_out};
+use i3c_text::Text;
+use std::alloc::{AllocError, Global};
+use std::io::{Read, Write};
+
+/// How many bytes are read at once.
+const CHUNK: usize = 8192;
+
+/// What an exploration of a file came to.
+#[derive(Clone, Copy, Debug, PartialEq, Eq)]
+pub enum Answer {
+    /// Every order was tried, and none breaks an expectation.
+    Holds,
+    /// The file is refused, or a limit was reached: nothing is said of orders that weren't tried.
+    Refused,
+    /// An order breaks an expectation.
+    Breaks,
+}
+
+/// Explores every order of a file's lines, and prints the ends that they lead to, or an order that breaks an expectation, or
+/// why the file is refused.
+///
+/// The file is read whole before anything runs.
+pub fn run_explore<R: Read, W: Write>(
+    alloc: Global,
+    reader: &mut R,
+    writer: &mut W,
+    limits: Limits,
+) -> Result<Answer, ScriptFault>
+    // an `Ok` comes after the whole of a file that isn't too large
+    ensures whole { OnOk result (IsAtEnd (R.remaining reader.new)) }
+    ensures fits { OnOk result (IfSome (R.remaining reader.old) (λ bytes. length bytes ≤ 1048576)) }
+    ensures large { result ≡ Err ScriptFault.TooLarge → IfSome (R.remaining reader.old) (λ bytes. 1048576 < length bytes) }
+    // a refusal, or an order that breaks an expectation as a script of some lines, went out alone
+    ensures printed { IfOk result (λ answer. (lines : List (VecValue ℕ)) × (said : List ℕ) × IsPrinted lines answer [] said × Appends (W.contents writer.old) (W.contents writer.new) said) }
+{
+    let lines = match read_lines(alloc, reader) {
+        Ok(lines) => lines,
+        Err(fault) => return Err(fault),
+    };
+    let mut text = Text::new(alloc);
+    let Ok(answer) = answered(alloc, &lines, limits, &mut text) else {
+        return Err(ScriptFault::Memory);
+    };
+    match write_out(text.as_bytes(), writer) {
+        Ok(()) => Ok(answer),
+        Err(fault) => Err(fault),
+    }
+}
+
+/// The lines of a file, without their line feeds.
+fn read_lines<R: Read>(alloc: Global, reader: &mut R) -> Result<Vec<Vec<u8>>, ScriptFault>
+    ensures whole { OnOk result (IsAtEnd (R.remaining reader.new)) }
+    ensures fits { OnOk result (IfSome (R.remaining reader.old) (λ bytes. length bytes ≤ 1048576)) }
+    ensures large { result ≡ Err ScriptFault.TooLarge → IfSome (R.remaining reader.old) (λ bytes. 1048576 < length bytes) }
+{
+    let Ok(mut chunk) = vec![in alloc; 0u8; CHUNK] else {
+        return Err(ScriptFault::Memory);
+    };
+    let mut script = ScriptLines::new(alloc);
+    let mut lines = Vec::new(alloc);
+    for _ in 0..u64::MAX {
+        match script.advance(reader, &mut chunk) {
+            Ok(true) => {}
+            Ok(false) => return Ok(lines),
+            Err(fault) => return Err(fault),
+        }
+        match add_line(alloc, script.line(), &mut lines) {
+            Ok(()) => {}
+            Err(_) => return Err(ScriptFault::Memory),
+        }
+    }
+    // a file has fewer lines
+    Err(ScriptFault::Memory)
+}
+
+/// Appends a line.
+fn add_line(alloc: Global, line: &[u8], lines: &mut Vec<Vec<u8>>) -> Result<(), AllocError> {
+    let line = line.to_vec(alloc)?;
+    lines.push(line)?;
+    Ok(())
+}
+
+/// Appends what is printed of a file.
+fn answered(
+    alloc: Global,
+    lines: &[Vec<u8>],
+    limits: Limits,
+    text: &mut Text,
+) -> Result<Answer, AllocError>
+    ensures { IfOk result (λ answer. IsPrinted lines.now answer text.old text.new) }
+{
+    match read_plan(alloc, lines) {
+        Ok(plan) => explored(alloc, lines, &plan, limits, text),
+        Err(PlanFault::Memory) => Err(AllocError),
+        Err(PlanFault::Refused(refusal)) => {
+            refusal.push(text)?;
+            Ok(Answer::Refused)
+        }
+    }
+}
+
+/// What is left of the limits after the lines before the bus.
+fn limits_left(limits: Limits, before: usize) -> Option<Limits> {
+    let steps = limits.steps.checked_sub(before as u64)?;
+    Some(Limits {
+        steps,
+        states: limits.states,
+    })
+}
+
+/// Explores a plan, and appends what is printed of it.
+fn explored(
+    alloc: Global,
+    lines: &[Vec<u8>],
+    plan: &Plan,
+    limits: Limits,
+    text: &mut Text,
+) -> Result<Answer, AllocError>
+    ensures answer { IfOk result (IsAnswer plan.now.start plan.now.blocks.items) }
+    ensures printed { IfOk result (λ answer. IsPrinted lines.now answer text.old text.new) }
+{
+    let Some(limits) = limits_left(limits, plan.before.len()) else {
+        return refuse_most(text);
+    };
+    let start = plan.start.copied(alloc)?;
+    match explore(alloc, start, &plan.blocks, limits) {
+        Ok(found) => {
+            push_ends(alloc, lines, plan, &found, text)?;
+            Ok(Answer::Holds)
+        }
+        Err(Stop::Breaks(order)) => {
+            push_broken(alloc, lines, plan, &order, text)?;
+            Ok(Answer::Breaks)
+        }
+        Err(Stop::Most) => refuse_most(text),
+        Err(Stop::Memory) => Err(AllocError),
+    }
+}
+
+/// Appends that a limit was reached.
+fn refuse_most(text: &mut Text) -> Result<Answer, AllocError>
+    ensures answer { IfOk result (λ answer. answer ≡ AnswerValue.Refused) }
+    ensures printed { OnOk result ((refusal : RefusalValue) × (text.new ≡ text.old ++ refusal_line refusal)) }
+{
+    let refusal = Refusal {
+        reason: Reason::Most,
+        line: None,
+    };
+    refusal.push(text)?;
+    Ok(Answer::Refused)
+}

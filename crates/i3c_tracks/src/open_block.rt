@@ -1,0 +1,161 @@
+ghost use Rattle.std.specs.Prelude.{◌≡◌};
+ghost use Rattle.i3c_tracks.specs.Refusing.{is_outer, sends_frame};
+
+use crate::refusal::Reason;
+use i3c_facts::Mark;
+use i3c_lines::{Command, Name};
+use i3c_scene::Line;
+use std::alloc::{AllocError, Global};
+use std::mem;
+
+/// How many tracks a block may have.
+const MOST_TRACKS: usize = 8;
+
+/// How many lines the tracks of a block may have.
+const MOST_LINES: usize = 64;
+
+/// A block that isn't closed yet.
+#[derive(Drop)]
+pub(crate) struct OpenBlock {
+    /// The device that may lose power in each frame.
+    pub risk: Option<Name>,
+    /// The numbers of the lines that say what has to hold after each line.
+    pub always: Vec<u64>,
+    /// The tracks before the last.
+    tracks: Vec<Vec<Line>>,
+    /// The last track, if one has begun.
+    last: Option<Vec<Line>>,
+    /// How many tracks may still begin.
+    tracks_left: usize,
+    /// How many lines its tracks may still get.
+    lines_left: usize,
+}
+
+/// Whether a command sends a frame, in which a device may lose power.
+fn sends_frame(command: &Command) -> bool
+    ensures { result ≡ sends_frame command.now }
+{
+    matches!(
+        command,
+        Command::Frame(_) | Command::HandOver { .. } | Command::Open | Command::Round | Command::Daa
+    )
+}
+
+/// Whether a command has its place outside of blocks alone.
+fn is_outer(command: &Command) -> bool
+    ensures { result ≡ is_outer command.now }
+{
+    matches!(
+        command,
+        Command::Legacy { .. }
+            | Command::Declare { .. }
+            | Command::Main { .. }
+            | Command::Show
+            | Command::ShowAll
+            | Command::Symbols
+            | Command::Frames(_)
+    )
+}
+
+impl OpenBlock {
+    ghost use Rattle.std.specs.Prelude.{◌≡◌, ◌++◌, ◌∷◌, ◌==◌, [], None, Some, IfOk, OnOk, is_some, if◌then◌else◌};
+    ghost use Rattle.i3c_tracks.specs.Refusing.{refuses_command, refuses_mark, risk_of};
+
+    /// A block of which nothing was read.
+    pub(crate) fn new(alloc: Global) -> OpenBlock {
+        OpenBlock {
+            risk: None,
+            always: Vec::new(alloc),
+            tracks: Vec::new(alloc),
+            last: None,
+            tracks_left: MOST_TRACKS,
+            lines_left: MOST_LINES,
+        }
+    }
+
+    /// Whether a track has begun.
+    pub(crate) fn has_track(&self) -> bool
+        ensures { result ≡ is_some self.now.last }
+    {
+        self.last.is_some()
+    }
+
+    /// Why a command is refused here, if it is.
+    pub(crate) fn refuses(&self, command: &Command) -> Option<Reason>
+        ensures { result ≡ refuses_command (is_some self.now.last) self.now.lines_left command.now }
+    {
+        if is_outer(command) {
+            return Some(Reason::BlockOpen);
+        }
+        if !self.has_track() {
+            return Some(Reason::NoTrack);
+        }
+        if self.lines_left == 0 {
+            return Some(Reason::Most);
+        }
+        None
+    }
+
+    /// Why a mark is refused here, if it is. Expectations are judged by the line before them besides.
+    pub(crate) fn refuses_mark(&self, mark: &Mark) -> Option<Reason>
+        ensures { result ≡ refuses_mark (is_some self.now.last) (is_some self.now.risk) self.now.tracks_left mark.now }
+    {
+        match mark {
+            Mark::Any => Some(Reason::BlockOpen),
+            Mark::Anywhere(_) | Mark::Always(_) if self.has_track() => Some(Reason::BlockOpen),
+            Mark::Anywhere(_) if self.risk.is_some() => Some(Reason::Most),
+            Mark::Track if self.tracks_left == 0 => Some(Reason::Most),
+            Mark::Expect(_) if !self.has_track() => Some(Reason::NoTrack),
+            _ => None,
+        }
+    }
+
+    /// One more line has its place in a track: the device that may lose power in it, if it sends a frame.
+    pub(crate) fn take_place(&mut self, command: &Command) -> Option<Name>
+        ensures { result ≡ risk_of self.old.risk command.now }
+    {
+        self.lines_left = self.lines_left.saturating_sub(1);
+        if sends_frame(command) {
+            self.risk
+        } else {
+            None
+        }
+    }
+
+    /// Puts a line behind the last one of the last track.
+    pub(crate) fn push(&mut self, line: Line) -> Result<(), AllocError> {
+        match &mut self.last {
+            Some(track) => {
+                track.push(line)?;
+                Ok(())
+            }
+            None => Ok(()),
+        }
+    }
+
+    /// Begins the next track.
+    pub(crate) fn begin_track(&mut self, alloc: Global) -> Result<(), AllocError> {
+        self.end_track()?;
+        self.tracks_left = self.tracks_left.saturating_sub(1);
+        self.last = Some(Vec::new(alloc));
+        Ok(())
+    }
+
+    /// Ends the last track, if one has begun.
+    fn end_track(&mut self) -> Result<(), AllocError> {
+        match mem::replace(&mut self.last, None) {
+            Some(track) => {
+                self.tracks.push(track)?;
+                Ok(())
+            }
+            None => Ok(()),
+        }
+    }
+
+    /// The tracks of the block, which is closed.
+    pub(crate) fn close(self) -> Result<Vec<Vec<Line>>, AllocError> {
+        let mut block = self;
+        block.end_track()?;
+        Ok(block.tracks)
+    }
+}

@@ -1,0 +1,169 @@
+ghost use Rattle.std.specs.Prelude.{◌≡◌, ◌++◌, [], IfOk, OnOk, false, true, if◌then◌else◌};
+ghost use Rattle.i3c_tracks.specs.Telling.{cut_in, cut_text, head_text, like_text, line_at, orders_text, parted_text, parting, short_run_text};
+
+use crate::course::{Run, runs_of};
+use crate::plan::Plan;
+use i3c_explore::{Explored, Node};
+use i3c_lines::Name;
+use i3c_scene::Scene;
+use i3c_text::Text;
+use std::alloc::{AllocError, Global};
+
+/// What is told of more than 64 bits.
+const OVER: &[u8] = b"over 18446744073709551615";
+
+/// Appends what all orders lead to.
+pub(crate) fn push_ends(
+    alloc: Global,
+    lines: &[Vec<u8>],
+    plan: &Plan,
+    found: &Explored<Scene>,
+    text: &mut Text,
+) -> Result<(), AllocError> {
+    text.push(b"orders ")?;
+    push_orders(found.orders, text)?;
+    text.end()?;
+    text.push_numbered(
+        b"steps ",
+        found.steps.saturating_add(plan.before.len() as u64),
+    )?;
+    text.push_numbered(b"ends ", found.ends.len() as u64)?;
+    let counted = !plan.risky;
+    for index in 0..found.ends.len() {
+        let end = &found.ends[index];
+        push_head(index as u64 + 1, end.orders, counted, text)?;
+        push_end(alloc, lines, plan, end, text)?;
+    }
+    Ok(())
+}
+
+/// Appends a number of orders.
+fn push_orders(orders: Option<u64>, text: &mut Text) -> Result<(), AllocError>
+    ensures { OnOk result (text.new ≡ text.old ++ orders_text orders) }
+{
+    match orders {
+        Some(orders) => text.push_decimal(orders),
+        None => text.push(OVER),
+    }
+}
+
+/// Appends the first line of an end. The orders that lead to it are told if each interleaving leads to one end.
+fn push_head(
+    number: u64,
+    orders: Option<u64>,
+    counted: bool,
+    text: &mut Text,
+) -> Result<(), AllocError>
+    ensures { OnOk result (text.new ≡ text.old ++ head_text number orders counted) }
+{
+    text.push(b"end ")?;
+    text.push_decimal(number)?;
+    if counted {
+        text.push(b" of ")?;
+        push_orders(orders, text)?;
+        text.push(b" orders")?;
+    }
+    text.end()
+}
+
+/// Appends an end: the bus as it is, and the first order that leads there.
+fn push_end(
+    alloc: Global,
+    lines: &[Vec<u8>],
+    plan: &Plan,
+    end: &Node<Scene>,
+    text: &mut Text,
+) -> Result<(), AllocError> {
+    end.state.show(alloc, text)?;
+    let runs = runs_of(alloc, plan, &end.order)?;
+    push_like(lines, &runs, text)
+}
+
+/// Appends the lines of blocks among these, in one line.
+fn push_like(lines: &[Vec<u8>], runs: &[Run<'_>], text: &mut Text) -> Result<(), AllocError>
+    ensures { OnOk result (text.new ≡ text.old ++ like_text lines.now runs.now) }
+{
+    text.push(b"like")?;
+    push_parted(lines, runs, text)?;
+    text.end()
+}
+
+/// Appends the lines of blocks among these, with a stroke between each two.
+fn push_parted(lines: &[Vec<u8>], runs: &[Run<'_>], text: &mut Text) -> Result<(), AllocError>
+    ensures { OnOk result (text.new ≡ text.old ++ parted_text lines.now true runs.now) }
+{
+    let mut is_first = true;
+    for index in 0..runs.len() {
+        is_first = push_parted_run(lines, &runs[index], is_first, text)?;
+    }
+    Ok(())
+}
+
+/// Appends a line if it is one of a block, behind what parts it from the line before. Answers whether the next is the first.
+fn push_parted_run(
+    lines: &[Vec<u8>],
+    run: &Run<'_>,
+    is_first: bool,
+    text: &mut Text,
+) -> Result<bool, AllocError>
+    ensures text { OnOk result (text.new ≡ text.old ++ (if run.now.opened then parting is_first ++ short_run_text lines.now run.now else [])) }
+    ensures first { IfOk result (λ left. left ≡ (if run.now.opened then false else is_first)) }
+{
+    if !run.opened {
+        return Ok(is_first);
+    }
+    text.push(parting(is_first))?;
+    push_like_line(lines, run, text)?;
+    Ok(false)
+}
+
+/// What stands before a line.
+fn parting(is_first: bool) -> &'static [u8]
+    ensures { result.now ≡ parting is_first }
+{
+    if is_first { b" " } else { b" / " }
+}
+
+/// Appends a line as it stands in the file, behind its cut if it has one.
+fn push_like_line(lines: &[Vec<u8>], run: &Run<'_>, text: &mut Text) -> Result<(), AllocError>
+    ensures { OnOk result (text.new ≡ text.old ++ short_run_text lines.now run.now) }
+{
+    match cut_of(run) {
+        Some((name, bit)) => {
+            push_cut(&name, bit, text)?;
+            text.push(b" / ")?;
+        }
+        None => {}
+    }
+    text.push(line_at(lines, run.line.number))
+}
+
+/// The device that loses power in a line that runs, and the bit, if one does.
+pub(crate) fn cut_of(run: &Run<'_>) -> Option<(Name, u64)>
+    ensures { result ≡ cut_in run.now.line.now.risk run.now.way }
+{
+    match run.line.risk {
+        Some(name) if run.way > 0 => Some((name, run.way as u64 - 1)),
+        _ => None,
+    }
+}
+
+/// Appends the words of a cut.
+pub(crate) fn push_cut(name: &Name, bit: u64, text: &mut Text) -> Result<(), AllocError>
+    ensures { OnOk result (text.new ≡ text.old ++ cut_text name.now bit) }
+{
+    text.push(b"cut ")?;
+    text.push(name.as_bytes())?;
+    text.push(b" ")?;
+    text.push_decimal(bit)
+}
+
+/// The line of this number, as it stands in the file.
+pub(crate) fn line_at(lines: &[Vec<u8>], number: u64) -> &[u8]
+    ensures { result.now ≡ line_at lines.now number }
+{
+    match lines.get(number.saturating_sub(1) as usize) {
+        Some(line) => line.as_slice(),
+        None => &[],
+    }
+}

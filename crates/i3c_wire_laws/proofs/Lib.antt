@@ -1,0 +1,14 @@
+pub mod Walks
+pub mod FrameWalks
+pub mod OwnWalks
+pub mod EventWalks
+pub mod Targets
+pub mod OwnRanges
+pub mod Addressing
+pub mod ListRanges
+pub mod FrameRanges
+pub mod EventRanges
+pub mod FitsKept
+pub mod RunRanges
+pub mod RunWalks
+pub mod Sent
