@@ -248,6 +248,10 @@ impl Bus {
         ensures short { OnErr result (self.old.room ≡ false) }
         ensures kept { self.old.room ≡ true → IsOk result }
     {
+        // as a rule there is room
+        if self.has_room() {
+            return Ok(());
+        }
         match self.records.reserve(1) {
             Ok(()) => Ok(()),
             Err(_) => Err(OutOfMemory),

@@ -102,6 +102,7 @@ impl Bus {
     }
 
     /// The own part of SETDASA, after so many bits of the frame: who takes it has the new address, and who is cut is gone.
+    #[inline(always)]
     fn static_part<T: Tap>(
         &mut self,
         fixed: Addr7,
@@ -129,6 +130,7 @@ impl Bus {
     }
 
     /// Where the static address is acknowledged, who takes SETDASA there has the new address, and so has the table.
+    #[inline(always)]
     fn give_static(
         &mut self,
         fixed: Addr7,
@@ -231,6 +233,7 @@ impl Bus {
 
 /// The table gives the identity that is declared at this static address a dynamic one: that which it kept for it is
 /// released.
+#[inline(always)]
 fn settle(table: &mut Table, identity: &Identity, fixed: Addr7, new: Addr7)
     requires fixed { IsFixedAt table.old.declared identity.now fixed }
     requires given { IsPickableIn table.old.given table.old.legacy table.old.declared new ⊎ (is_the new (known_in table.old.given identity.now) ≡ true) }
@@ -249,6 +252,7 @@ fn settle(table: &mut Table, identity: &Identity, fixed: Addr7, new: Addr7)
 }
 
 /// The row of the identity that is declared at this static address is put.
+#[inline(always)]
 fn enter(table: &mut Table, identity: &Identity, fixed: Addr7, address: Addr7)
     requires fixed { IsFixedAt table.old.declared identity.now fixed }
     requires given { IsPickableIn table.old.given table.old.legacy table.old.declared address ⊎ IsKeptIn table.old.given identity.now address }

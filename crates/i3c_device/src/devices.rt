@@ -249,7 +249,21 @@ impl Devices {
 
     /// The request that wins the header into which the devices drive theirs at once, and the slots that drive it (I3C Basic
     /// 5.1.2.2.1). The active controller drives none.
+    // in line, since as a rule nobody asks
+    #[inline(always)]
     pub fn first_request(&self, active: Slot) -> Option<(Request, SlotSet)>
+        ensures first { MatchOption result (NobodyDrives active self.now) (IsFirstDriven active self.now) }
+        ensures slots { length self.now ≡ SLOT_COUNT }
+    {
+        match self.driving(active).lowest() {
+            Some(_) => self.contest(active),
+            None => None,
+        }
+    }
+
+    /// The contest of the requests that the devices drive at once: who wins it, and the slots that drive that.
+    #[inline(never)]
+    fn contest(&self, active: Slot) -> Option<(Request, SlotSet)>
         ensures first { MatchOption result (NobodyDrives active self.now) (IsFirstDriven active self.now) }
         ensures slots { length self.now ≡ SLOT_COUNT }
     {

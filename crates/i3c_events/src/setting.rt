@@ -11,6 +11,7 @@ use i3c_device::Devices;
 /// SETDASA, after so many bits of its frame in which these devices are cut: who has the static address and no dynamic one
 /// takes the new address, but the active controller (I3C Basic 5.1.9.3.10). Where none of those is left at the
 /// acknowledgement, nothing changes. No dynamic address is below `08`.
+#[inline(always)]
 pub fn hear_static(
     devices: &mut Devices,
     active: Slot,

@@ -42,7 +42,20 @@ fn tell_byte<T: Tap>(tap: &mut T, byte: u8, t: bool)
 
 /// Tells the beginning of a frame: what came of its first request, or the broadcast header where nobody asked
 /// (I3C Basic 5.1.6.2).
+// in line, since as a rule nobody asks
+#[inline(always)]
 pub fn tell_reading<T: Tap>(tap: &mut T, reading: &Reading, ack: bool)
+    ensures { NotesAll T.note_gives tap.old (begun reading.now ack) tap.new }
+{
+    match reading {
+        Reading::Quiet => tell_broadcast(tap, ack),
+        _ => tell_asked(tap, reading, ack),
+    }
+}
+
+/// Tells the beginning of a frame in which somebody may ask.
+#[inline(never)]
+fn tell_asked<T: Tap>(tap: &mut T, reading: &Reading, ack: bool)
     ensures { NotesAll T.note_gives tap.old (begun reading.now ack) tap.new }
 {
     match *reading {

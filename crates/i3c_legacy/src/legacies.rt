@@ -36,6 +36,8 @@ pub(crate) struct DeclaredIdentity {
 pub struct Legacies {
     pub(crate) targets: ArrayVec<Declared, LEGACIES>,
     identities: ArrayVec<DeclaredIdentity, DECLARED>,
+    // at a static address, where its identity may be found among these
+    hints: [u8; ADDRESSES],
     // the addresses of all these
     addresses: Addresses,
 }
@@ -67,6 +69,7 @@ impl Legacies {
         Legacies {
             targets: ArrayVec::new(),
             identities: ArrayVec::new(),
+            hints: [0; ADDRESSES],
             addresses: Addresses::new(),
         }
     }
@@ -78,6 +81,7 @@ impl Legacies {
         Legacies {
             targets: targets_again(&self.targets),
             identities: identities_again(&self.identities),
+            hints: self.hints,
             addresses: self.addresses,
         }
     }
@@ -126,7 +130,8 @@ impl Legacies {
         ensures all_places { length self.now.declared ≡ ADDRESSES }
     {
         let identities = self.identities.as_slice();
-        match index_at(identities, address) {
+        let hint = self.hints[address.get() as usize];
+        match index_at(identities, usize::from(hint), address) {
             Some(index) => Some(identities[index].identity),
             None => None,
         }
@@ -232,6 +237,7 @@ impl Legacies {
         if self.identities.is_full() {
             return Err(DeclareFault::TooManyDeclared);
         }
+        self.hints[address.get() as usize] = self.identities.len() as u8;
         self.identities.push(DeclaredIdentity { address, identity });
         self.addresses = self.addresses.with(address);
         Ok(())
@@ -260,11 +266,14 @@ fn index_of(targets: &[Declared], address: Addr7) -> Option<usize>
     targets.iter().position(|target| target.address == address)
 }
 
-// The index of the identity at an address.
-fn index_at(identities: &[DeclaredIdentity], address: Addr7) -> Option<usize>
+// The index of the identity at an address. It may be this one.
+fn index_at(identities: &[DeclaredIdentity], hint: usize, address: Addr7) -> Option<usize>
     ensures { MatchOption result (All (λ d. d.address ≢ address) identities.now)
         (λ i. (i < length identities.now) × HoldsAt (λ d. d.address ≡ address) identities.now i) }
 {
+    if hint < identities.len() && identities[hint].address == address {
+        return Some(hint);
+    }
     identities
         .iter()
         .position(|declared| declared.address == address)

@@ -13,9 +13,13 @@ use Rattle.i3c_frame.specs.Taps.{NotesAll, Tells}
 use Rattle.i3c_step.specs.declared.events.Command.{Command as Frame}
 use Rattle.i3c_step.specs.declared.events.Event.{Event}
 use Rattle.i3c_step.specs.declared.replies.Reply.{Reply}
+use Rattle.i3c_base.specs.declared.refusals.JoinRefusal.{JoinRefusal}
 use Rattle.i3c_base.specs.declared.refusals.RaiseRefusal.{RaiseRefusal}
+use Rattle.i3c_base.specs.declared.refusals.RoleRefusal.{RoleRefusal}
+use Rattle.i3c_step.specs.declared.replies.DropRefusal.{DropRefusal}
+use Rattle.i3c_step.specs.declared.replies.SlotTaken.{SlotTaken}
 use Rattle.i3c_step.specs.Commands.{event_of}
-use Rattle.i3c_step.specs.Replies.{raised_reply}
+use Rattle.i3c_step.specs.Replies.{attached_reply, dropped_reply, joins_reply, raised_reply, role_reply}
 use Rattle.i3c_step.specs.Slots.{is_handed}
 use Rattle.i3c_step.specs.Step.{Step, cuts_in}
 use Rattle.i3c_step.proofs.SlotLaws.{slots_kept}
@@ -177,12 +181,55 @@ sent old new policy cuts left symbols later ended names frame reply before after
     (moved old new policy cuts symbols later ended (event_of frame policy cuts) reply step wire)))
     (subst (λ subject. Prints (IsTold names subject reply) before after result) (no_subject frame policy cuts) told)
 
--- a raise sends nothing
+-- a line that sends nothing and takes no cuts, in the slot that its name means
+pub quietly : (old new : State) (policy : Fixed) (cuts : CutList) (symbols : List Symbol) (ended : List Tenure) (names : Names) (name : Name) (event : ℕ → Event) (slot : ℕ) (reply : Reply) (before after : List ℕ) (result : Result (Unit {0}) Stop)
+    → Ok slot ≡ slot_meant names name → is_some (cuts_in (event slot)) ≡ false → is_handed reply ≡ false → Step old (event slot) reply new → IsWire old (event slot) reply new []
+    → Prints (IsTold names (subject_of (event slot)) reply) before after result
+    → Prints (λ said refused. AnswersIn (ran_of old policy cuts symbols ended) names name event said refused (ran_of new policy cuts symbols ended)) before after result
+quietly old new policy cuts symbols ended names name event slot reply before after result is uncut still step wire told =
+    in_slot (ran_of old policy cuts symbols ended) (ran_of new policy cuts symbols ended) names name event slot before after result is
+    (answered (ran_of old policy cuts symbols ended) (ran_of new policy cuts symbols ended) names (event slot) reply before after result
+    (subst (λ left. Moves (ran_of old policy cuts symbols ended) (event slot) reply (ran_of new policy left symbols ended)) (ap (λ b. cond b no_cuts cuts) uncut)
+    (unsent old new policy cuts symbols ended (event slot) reply still step wire)) told)
+
+-- what a device does by itself sends nothing
+pub attached_still : (old new : State) (event : Event) (attached : Result (Unit {0}) SlotTaken) → IsWire old event (attached_reply attached) new []
+attached_still old new event (Ok done) = refl
+attached_still old new event (Err why) = refl
+
+pub dropped_still : (old new : State) (event : Event) (dropped : Result (Unit {0}) DropRefusal) → IsWire old event (dropped_reply dropped) new []
+dropped_still old new event (Ok done) = refl
+dropped_still old new event (Err why) = refl
+
 pub raised_still : (old new : State) (event : Event) (raised : Result ℕ RaiseRefusal) → IsWire old event (raised_reply raised) new []
 raised_still old new event (Ok number) = refl
 raised_still old new event (Err why) = refl
 
+pub join_still : (old new : State) (event : Event) (asked : Result (Unit {0}) JoinRefusal) → IsWire old event (joins_reply asked) new []
+join_still old new event (Ok done) = refl
+join_still old new event (Err why) = refl
+
+pub role_still : (old new : State) (event : Event) (asked : Result (Unit {0}) RoleRefusal) → IsWire old event (role_reply asked) new []
+role_still old new event (Ok done) = refl
+role_still old new event (Err why) = refl
+
 -- and hands no role over
+pub attached_unhanded : (attached : Result (Unit {0}) SlotTaken) → is_handed (attached_reply attached) ≡ false
+attached_unhanded (Ok done) = refl
+attached_unhanded (Err why) = refl
+
+pub dropped_unhanded : (dropped : Result (Unit {0}) DropRefusal) → is_handed (dropped_reply dropped) ≡ false
+dropped_unhanded (Ok done) = refl
+dropped_unhanded (Err why) = refl
+
 pub raised_unhanded : (raised : Result ℕ RaiseRefusal) → is_handed (raised_reply raised) ≡ false
 raised_unhanded (Ok number) = refl
 raised_unhanded (Err why) = refl
+
+pub join_unhanded : (asked : Result (Unit {0}) JoinRefusal) → is_handed (joins_reply asked) ≡ false
+join_unhanded (Ok done) = refl
+join_unhanded (Err why) = refl
+
+pub role_unhanded : (asked : Result (Unit {0}) RoleRefusal) → is_handed (role_reply asked) ≡ false
+role_unhanded (Ok done) = refl
+role_unhanded (Err why) = refl

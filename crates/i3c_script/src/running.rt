@@ -6,7 +6,9 @@ use crate::assigning;
 use crate::details::show_all;
 use crate::faults::Stop;
 use crate::show::show_bus;
-use crate::telling::{Subject, subject_of, tell, tell_raised};
+use crate::telling::{
+    Subject, subject_of, tell, tell_attached, tell_dropped, tell_join, tell_raised, tell_role,
+};
 use crate::tenures::{Tenure, end_tenure};
 use crate::wires::Wires;
 use i3c_base::{Addr7, Cuts, Fixed, Setup};
@@ -170,8 +172,8 @@ impl Running {
         tell(names, Subject::Nothing, &reply, text)
     }
 
-    // The lines below are kept apart, so that raises and the frames under the role don't pay for the room that an event
-    // takes on the stack.
+    // The lines below are kept apart, so that raises and the frames under the role don't pay for the room that they take on
+    // the stack.
 
     /// `attach`: a device enters the lowest free slot, and gets its name.
     #[inline(never)]
@@ -186,7 +188,10 @@ impl Running {
     {
         match entrance(&self.bus, names, name) {
             Ok(slot) => match names.give_slot(name, slot) {
-                Ok(()) => self.answer(names, &Event::Attach(slot, setup), text),
+                Ok(()) => {
+                    let attached = self.bus.attach(slot, setup);
+                    tell_attached(names, slot, attached, text)
+                }
                 Err(_) => Err(Stop::Memory),
             },
             Err(why) => Err(Stop::Refused(why)),
@@ -199,7 +204,10 @@ impl Running {
         ensures { Prints (λ said refused. AnswersIn self.old names.now name.now EventValue.DropOff said refused self.new) text.old text.new result }
     {
         match names.slot_of(name) {
-            Ok(slot) => self.answer(names, &Event::DropOff(slot), text),
+            Ok(slot) => {
+                let dropped = self.bus.drop_off(slot);
+                tell_dropped(dropped, text)
+            }
             Err(why) => Err(Stop::Refused(why)),
         }
     }
@@ -210,7 +218,10 @@ impl Running {
         ensures { Prints (λ said refused. AnswersIn self.old names.now name.now EventValue.AskJoin said refused self.new) text.old text.new result }
     {
         match names.slot_of(name) {
-            Ok(slot) => self.answer(names, &Event::AskJoin(slot), text),
+            Ok(slot) => {
+                let asked = self.bus.ask_join(slot);
+                tell_join(asked, text)
+            }
             Err(why) => Err(Stop::Refused(why)),
         }
     }
@@ -221,7 +232,10 @@ impl Running {
         ensures { Prints (λ said refused. AnswersIn self.old names.now name.now EventValue.AskRole said refused self.new) text.old text.new result }
     {
         match names.slot_of(name) {
-            Ok(slot) => self.answer(names, &Event::AskRole(slot), text),
+            Ok(slot) => {
+                let asked = self.bus.ask_role(slot);
+                tell_role(asked, text)
+            }
             Err(why) => Err(Stop::Refused(why)),
         }
     }

@@ -1,17 +1,25 @@
 ghost use Rattle.std.specs.Prelude.{◌≡◌, [], ◌∷◌, ◌++◌, OnOk};
 ghost use Rattle.std.specs.Fmt.{decimal};
 ghost use Rattle.i3c_script.specs.Printed.{assigned_text, attached_text, field_text, framed_text, handed_text, identity_text, opened_text, raised_text, reply_text, request_text, round_text, served_text, subject_of};
-ghost use Rattle.i3c_step.specs.Replies.{raised_reply};
+ghost use Rattle.i3c_step.specs.Replies.{attached_reply, dropped_reply, joins_reply, raised_reply, role_reply};
 ghost use Rattle.i3c_lines.specs.declared.names.Names.{Names as NamesValue};
 ghost use Rattle.i3c_script.specs.declared.telling.Subject.{Subject as SubjectValue};
 ghost use Rattle.i3c_script.specs.Telling.{IsTold, Prints};
 
 use crate::faults::{Stop, outcome_of};
-use i3c_base::{Addr7, Answer, Identity, RaiseRefusal, RoundReply, Served, Slot};
-use i3c_bus::{Event, Framed, Reply};
+use i3c_base::{
+    Addr7, Answer, Identity, JoinRefusal, RaiseRefusal, RoleRefusal, RoundReply, Served, Slot,
+};
+use i3c_bus::{DropRefusal, Event, Framed, Refusal as BusRefusal, Reply, SlotTaken};
 use i3c_lines::{Names, Refusal};
 use i3c_text::Text;
 use std::alloc::AllocError;
+
+/// What a drop-off prints.
+const DROPPED: &[u8] = b"dropped\n";
+
+/// What a wish prints.
+const ASKED: &[u8] = b"asked\n";
 
 /// The part of an event that its printed reply mentions.
 #[derive(Clone, Copy)]
@@ -64,6 +72,63 @@ pub(crate) fn tell_raised(raised: Result<u64, RaiseRefusal>, text: &mut Text) ->
     }
 }
 
+/// Prints the name of a device that was attached to this slot, as `tell` does for a reply.
+pub(crate) fn tell_attached(
+    names: &Names,
+    slot: Slot,
+    attached: Result<(), SlotTaken>,
+    text: &mut Text,
+) -> Result<(), Stop>
+    ensures { Prints (IsTold names.now (SubjectValue.Attached slot) (attached_reply attached)) text.old text.new result }
+{
+    match attached {
+        Ok(()) => match show_attached(names, Subject::Attached(slot), text) {
+            Ok(()) => Ok(()),
+            Err(_) => Err(Stop::Memory),
+        },
+        Err(SlotTaken) => Err(Stop::Refused(Refusal::Bus(BusRefusal::SlotTaken))),
+    }
+}
+
+/// Prints what a drop-off came to, as `tell` does for a reply.
+pub(crate) fn tell_dropped(dropped: Result<(), DropRefusal>, text: &mut Text) -> Result<(), Stop>
+    ensures { (names : NamesValue) → Prints (IsTold names SubjectValue.Nothing (dropped_reply dropped)) text.old text.new result }
+{
+    match dropped {
+        Ok(()) => match text.push(DROPPED) {
+            Ok(()) => Ok(()),
+            Err(_) => Err(Stop::Memory),
+        },
+        Err(why) => Err(Stop::Refused(Refusal::Bus(why.into()))),
+    }
+}
+
+/// Prints what a wish to join came to, as `tell` does for a reply.
+pub(crate) fn tell_join(asked: Result<(), JoinRefusal>, text: &mut Text) -> Result<(), Stop>
+    ensures { (names : NamesValue) → Prints (IsTold names SubjectValue.Nothing (joins_reply asked)) text.old text.new result }
+{
+    match asked {
+        Ok(()) => match text.push(ASKED) {
+            Ok(()) => Ok(()),
+            Err(_) => Err(Stop::Memory),
+        },
+        Err(why) => Err(Stop::Refused(Refusal::Bus(why.into()))),
+    }
+}
+
+/// Prints what a wish for the role came to, as `tell` does for a reply.
+pub(crate) fn tell_role(asked: Result<(), RoleRefusal>, text: &mut Text) -> Result<(), Stop>
+    ensures { (names : NamesValue) → Prints (IsTold names SubjectValue.Nothing (role_reply asked)) text.old text.new result }
+{
+    match asked {
+        Ok(()) => match text.push(ASKED) {
+            Ok(()) => Ok(()),
+            Err(_) => Err(Stop::Memory),
+        },
+        Err(why) => Err(Stop::Refused(Refusal::Bus(why.into()))),
+    }
+}
+
 /// Prints what a reply has to say, but for refusals.
 fn show_reply(
     names: &Names,
@@ -76,9 +141,9 @@ fn show_reply(
     match reply {
         Reply::Refused(_) | Reply::OutOfMemory => Ok(()),
         Reply::Attached => show_attached(names, subject, text),
-        Reply::Dropped => text.push(b"dropped\n"),
+        Reply::Dropped => text.push(DROPPED),
         Reply::Raised(number) => show_raised(*number, text),
-        Reply::Asked => text.push(b"asked\n"),
+        Reply::Asked => text.push(ASKED),
         Reply::Served(served) => show_served(served, text),
         Reply::Framed(framed) => show_framed(framed, text),
         Reply::Opened(served) => show_opened(served, text),

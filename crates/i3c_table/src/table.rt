@@ -179,6 +179,8 @@ impl Table {
     }
 
     /// Enters a row, at an address that may be picked or that is kept for the row's identity. There is always room.
+    // in line, so that the row itself isn't made
+    #[inline(always)]
     pub fn put(&mut self, row: Row)
         requires { MayPut self.old row }
         ensures { self.new ≡ with_row row self.old }

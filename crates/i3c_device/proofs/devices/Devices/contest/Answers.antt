@@ -3,8 +3,8 @@ use Rattle.std.proofs.Common.{All, MatchOption, refl, subst, sym, ◌∙◌}
 use Rattle.i3c_header.specs.Keys.{IsFirstOf, IsLawful}
 use Rattle.i3c_device.specs.Walks.{IsFirstDriven, NobodyDrives}
 use Rattle.i3c_device.proofs.FirstLaws.{AreDriving, all_lawful, are_driving, first_driven, nobody_drives}
-use Rattle.i3c_device.proofs.devices.Devices.first_request.Goals as goal
-use Rattle.i3c_device.proofs.devices.Devices.first_request.Goals.{After-deref}
+use Rattle.i3c_device.proofs.devices.Devices.contest.Goals as goal
+use Rattle.i3c_device.proofs.devices.Devices.contest.Goals.{After-deref}
 
 driving_of : (c : After-deref) → AreDriving c.args.active c.driving-driving.result c.marks.result.keys c.args.self.now
 driving_of c =

@@ -1,0 +1,16 @@
+-- A wish to join sends nothing.
+use Rattle.std.proofs.Common.{refl}
+use Rattle.i3c_step.specs.declared.events.Event.{Event}
+use Rattle.i3c_step.specs.Replies.{joins_reply}
+use Rattle.i3c_script.proofs.Moving.{join_still, join_unhanded, quietly}
+use Rattle.i3c_script.proofs.running.Running.ask_join.Goals as goal
+
+pub returns-in-Ok : goal.returns-in-Ok
+returns-in-Ok c =
+    let at = c.self.inside in
+    let names = c.args.names.now in
+    let old = at.bus.state in
+    let new = c.ask_join-asked.new.self.state in
+    let said = c.ask_join-asked.result in
+    rw (← c.self.view_is) (quietly old new at.policy at.cuts at.wires at.ended.items names c.args.name.now Event.AskJoin c.in-Ok.slot (joins_reply said) c.args.text.now c.tell_join.new.text c.tell_join.result c.in-Ok.ensures refl
+    (join_unhanded said) c.ask_join-asked.ensures.step (join_still old new (Event.AskJoin c.in-Ok.slot) said) (c.tell_join.ensures names))
