@@ -1,4 +1,4 @@
-ghost use Rattle.std.specs.Prelude.{◌≡◌, ◌↔◌, IfOk, IsTrue};
+ghost use Rattle.std.specs.Prelude.{◌≡◌, ◌↔◌, IfOk, IsTrue, OnErr, OnOk};
 
 use crate::bus::Bus;
 use crate::tokens::Hand;
@@ -12,6 +12,7 @@ use i3c_table::Table;
 use i3c_word::WORD_BITS;
 use std::alloc::{AllocError, Global};
 use std::marker::Model;
+use std::mem;
 
 /// A bus at rest. Nobody has its role in hand, so it can be dropped, and it can be woken more than once.
 ///
@@ -72,10 +73,27 @@ impl Bus {
             records,
         }
     }
+
+    /// A number that equal states have in common. Others can have it too: it is no more than a hint where to look first.
+    #[inline(never)]
+    pub fn key(&self) -> u64 {
+        let mut key = mixed(self.records.len() as u64, self.active.slot().index() as u64);
+        for index in 0..SLOTS {
+            let slot = Slot::from_index(index);
+            let address = match self.devices.address(slot) {
+                Some(address) => address.get(),
+                None => 0,
+            };
+            key = mixed(key, self.raised[index]);
+            key = mixed(key, u64::from(address));
+            key = mixed(key, self.devices.waiting(slot) as u64);
+        }
+        key
+    }
 }
 
 impl Still {
-    ghost use Rattle.std.specs.Prelude.{◌≡◌, ◌≤◌, ◌↔◌, IfOk, IsTrue};
+    ghost use Rattle.std.specs.Prelude.{◌≡◌, ◌≤◌, ◌↔◌, IfOk, IsTrue, OnOk};
     ghost use Rattle.i3c_base.specs.Frames.{list_bits};
     ghost use Rattle.i3c_bus.specs.Hands.{HandFits};
 
@@ -105,11 +123,93 @@ impl Still {
         Ok((bus, Hand::new(role, self.in_session)))
     }
 
-    /// Whether another bus is in the same state.
-    pub fn is_same(&self, other: &Still) -> bool
-        ensures { IsTrue result ↔ (self.now ≡ other.now) }
+    /// A bus comes to the state of this one. It takes the role or session that is of it, and gives back that which is of it
+    /// then.
+    ///
+    /// # Errors
+    ///
+    /// There is no memory for its records.
+    #[inline(never)]
+    pub fn wake_into(
+        &self,
+        alloc: Global,
+        bus: &mut Bus,
+        hand: Hand,
+    ) -> (Hand, Result<(), OutOfMemory>)
+        requires { HandFits hand bus.old.state }
+        ensures same { OnOk result.1 (bus.new.state ≡ self.now) }
+        ensures fits { HandFits result.0 bus.new.state }
     {
-        self.has_same_course(other) && self.has_same_tables(other)
+        let Ok(()) = copy_records(alloc, &mut bus.records, &self.records) else {
+            return (hand, Err(OutOfMemory));
+        };
+        let (active, role) = Active::new(self.active);
+        retire(mem::replace(&mut bus.active, active), hand.into_role());
+        bus.devices.copy_from(&self.devices);
+        bus.raised = self.raised;
+        bus.table.copy_from(&self.table);
+        copy_list(&mut bus.list, &self.list);
+        copy_targets(&mut bus.legacy, &self.legacy);
+        bus.in_session = self.in_session;
+        (Hand::new(role, self.in_session), Ok(()))
+    }
+
+    /// A bus at rest, in the state of this one.
+    ///
+    /// # Errors
+    ///
+    /// There is no memory for it.
+    #[inline(never)]
+    pub fn of(alloc: Global, bus: &Bus) -> Result<Box<Still>, OutOfMemory>
+        ensures { IfOk result (λ still. still.value ≡ bus.now.state) }
+    {
+        let Ok(records) = records_again(alloc, &bus.records) else {
+            return Err(OutOfMemory);
+        };
+        let still = Still {
+            devices: bus.devices.copied(),
+            raised: bus.raised,
+            active: bus.active.slot(),
+            table: bus.table.copied(),
+            list: bus.list.copied(),
+            legacy: bus.legacy.copied(),
+            in_session: bus.in_session,
+            records,
+        };
+        match Box::new(alloc, still) {
+            Ok(still) => Ok(still),
+            Err(_) => Err(OutOfMemory),
+        }
+    }
+
+    /// It comes to the state of a bus.
+    ///
+    /// # Errors
+    ///
+    /// There is no memory for its records.
+    #[inline(never)]
+    pub fn copy_from(&mut self, alloc: Global, bus: &Bus) -> Result<(), OutOfMemory>
+        ensures { OnOk result (self.new ≡ bus.now.state) }
+    {
+        let Ok(()) = copy_records(alloc, &mut self.records, &bus.records) else {
+            return Err(OutOfMemory);
+        };
+        self.active = bus.active.slot();
+        self.devices.copy_from(&bus.devices);
+        self.raised = bus.raised;
+        self.table.copy_from(&bus.table);
+        copy_list(&mut self.list, &bus.list);
+        copy_targets(&mut self.legacy, &bus.legacy);
+        self.in_session = bus.in_session;
+        Ok(())
+    }
+
+    /// Whether a bus is in the same state.
+    #[inline(never)]
+    pub fn is_same(&self, bus: &Bus) -> bool
+        ensures { IsTrue result ↔ (self.now ≡ bus.now.state) }
+    {
+        self.has_same_course(bus) && self.has_same_tables(bus)
     }
 
     /// How many bits DEFTGTS has from its code on (I3C Basic 5.1.9.3.7), if it is sent now.
@@ -125,39 +225,23 @@ impl Still {
         WORD_BITS * (2 + 4 * list.len() as u16)
     }
 
-    /// A number that equal states have in common. Others can have it too: it is no more than a hint where to look first.
-    pub fn key(&self) -> u64 {
-        let mut key = mixed(self.records.len() as u64, self.active.index() as u64);
-        for index in 0..SLOTS {
-            let slot = Slot::from_index(index);
-            let address = match self.devices.address(slot) {
-                Some(address) => address.get(),
-                None => 0,
-            };
-            key = mixed(key, self.raised[index]);
-            key = mixed(key, u64::from(address));
-            key = mixed(key, self.devices.waiting(slot) as u64);
-        }
-        key
-    }
-
     // Whether both have the same devices with the same raises, the same active controller, either both or neither a session,
     // and the same records.
-    fn has_same_course(&self, other: &Still) -> bool
-        ensures { IsTrue result ↔ ((self.now.active ≡ other.now.active) × (self.now.in_session ≡ other.now.in_session) × (self.now.raised ≡ other.now.raised) × (self.now.records ≡ other.now.records) × (self.now.devices ≡ other.now.devices)) }
+    fn has_same_course(&self, bus: &Bus) -> bool
+        ensures { IsTrue result ↔ ((self.now.active ≡ bus.now.state.active) × (self.now.in_session ≡ bus.now.state.in_session) × (self.now.raised ≡ bus.now.state.raised) × (self.now.records ≡ bus.now.state.records) × (self.now.devices ≡ bus.now.state.devices)) }
     {
-        self.active == other.active
-            && self.in_session == other.in_session
-            && self.raised == other.raised
-            && are_same(&self.records, &other.records)
-            && self.devices.is_same(&other.devices)
+        self.active == bus.active.slot()
+            && self.in_session == bus.in_session
+            && self.raised == bus.raised
+            && are_same(&self.records, &bus.records)
+            && self.devices.is_same(&bus.devices)
     }
 
     // Whether both controllers know the same, and the legacy targets are the same.
-    fn has_same_tables(&self, other: &Still) -> bool
-        ensures { IsTrue result ↔ ((self.now.given ≡ other.now.given) × (self.now.declared ≡ other.now.declared) × (self.now.listed ≡ other.now.listed) × (self.now.legacy ≡ other.now.legacy)) }
+    fn has_same_tables(&self, bus: &Bus) -> bool
+        ensures { IsTrue result ↔ ((self.now.given ≡ bus.now.state.given) × (self.now.declared ≡ bus.now.state.declared) × (self.now.listed ≡ bus.now.state.listed) × (self.now.legacy ≡ bus.now.state.legacy)) }
     {
-        self.table.is_same(&other.table) && self.legacy.is_same(&other.legacy)
+        self.table.is_same(&bus.table) && self.legacy.is_same(&bus.legacy)
     }
 }
 
@@ -173,6 +257,40 @@ fn are_same(records: &Vec<Record>, others: &Vec<Record>) -> bool
     ensures { IsTrue result ↔ (records.now.items ≡ others.now.items) }
 {
     records.as_slice() == others.as_slice()
+}
+
+/// These become the same records as others, or stay as they are where there is no memory.
+fn copy_records(
+    alloc: Global,
+    records: &mut Vec<Record>,
+    others: &Vec<Record>,
+) -> Result<(), AllocError>
+    ensures copied { OnOk result (records.new.items ≡ others.now.items) }
+    ensures kept { OnErr result (records.new ≡ records.old) }
+{
+    if are_same(records, others) {
+        return Ok(());
+    }
+    *records = records_again(alloc, others)?;
+    Ok(())
+}
+
+/// A list becomes the same as another one.
+fn copy_list(list: &mut List, other: &List)
+    ensures { list.new ≡ other.now }
+{
+    if !list.is_same(other) {
+        *list = other.copied();
+    }
+}
+
+/// These become the same targets as others.
+fn copy_targets(targets: &mut LegacyTargets, others: &LegacyTargets)
+    ensures { targets.new ≡ others.now }
+{
+    if !targets.is_same(others) {
+        *targets = others.copied();
+    }
 }
 
 /// The same records once more.

@@ -1,5 +1,5 @@
 use crate::marks::NO_STATIC;
-use crate::queues::{are_same, copied};
+use crate::queues::{are_same, copied, copy_from};
 use arrayvec::ArrayVec;
 use i3c_base::{Addr7, Identity, REGISTERS, RaiseRefusal, Request, Setup, WAITING, Waiting};
 use i3c_header::key;
@@ -85,6 +85,21 @@ impl Attached {
             hearing: self.hearing,
             registers: self.registers,
         }
+    }
+
+    /// The device becomes the same as another one.
+    pub fn copy_from(&mut self, other: &Attached)
+        ensures { self.new ≡ other.now }
+    {
+        self.identity = other.identity;
+        self.willing = other.willing;
+        self.fixed = other.fixed;
+        self.address = other.address;
+        copy_from(&mut self.waiting, &other.waiting);
+        self.join_wish = other.join_wish;
+        self.role_wish = other.role_wish;
+        self.hearing = other.hearing;
+        self.registers = other.registers;
     }
 
     /// Whether the other device is the same: clauses see no difference between the two.

@@ -74,6 +74,14 @@ impl Devices {
         }
     }
 
+    /// They become the same devices as others, in place.
+    pub fn copy_from(&mut self, others: &Devices)
+        ensures { self.new ≡ others.now }
+    {
+        self.occupants.copy_from(&others.occupants);
+        self.enabled = others.enabled;
+    }
+
     /// Whether the other devices are the same: each slot holds the same device in both, or no device in either.
     pub fn is_same(&self, other: &Devices) -> bool
         ensures { IsTrue result ↔ (self.now ≡ other.now) }

@@ -1,6 +1,6 @@
 use crate::attached::Attached;
 use crate::marks::Marks;
-use crate::places::{copied, raise, register_from};
+use crate::places::{copied, copy_all, raise, register_from};
 use crate::sets::SlotSet;
 use crate::walks::{SlotUpdate, Sought, happen_in};
 use i3c_base::{Addr7, Cuts, RaiseRefusal, SLOTS, Slot};
@@ -63,6 +63,14 @@ impl Occupants {
             ),
             marks: self.marks,
         }
+    }
+
+    /// They become the same devices as others.
+    pub fn copy_from(&mut self, others: &Occupants)
+        ensures { self.new ≡ others.now }
+    {
+        copy_all(&mut self.places, &others.places);
+        self.marks = others.marks;
     }
 
     /// How many slots there are.

@@ -26,6 +26,53 @@ pub(crate) fn copied(place: &Option<Attached>) -> Option<Attached>
     }
 }
 
+/// What stands here becomes the same as what stands there.
+pub(crate) fn copy_from(place: &mut Option<Attached>, other: &Option<Attached>)
+    ensures { place.new ≡ other.now }
+{
+    let Some(twin) = other else {
+        if place.is_some() {
+            vacate(place);
+        }
+        return;
+    };
+    match place {
+        Some(device) => device.copy_from(twin),
+        None => fill(place, twin),
+    }
+}
+
+/// Nothing stands here any more. It stands apart, since a whole place is cleared for it.
+#[inline(never)]
+fn vacate(place: &mut Option<Attached>)
+    ensures { place.new ≡ None }
+{
+    *place = None;
+}
+
+/// The same device stands here as there. It stands apart, since a whole device is cleared for it.
+#[inline(never)]
+fn fill(place: &mut Option<Attached>, twin: &Attached)
+    ensures { place.new ≡ Some twin.now }
+{
+    *place = Some(twin.copied());
+}
+
+/// What stands here becomes the same as what stands there, in each of as many places.
+pub(crate) fn copy_all(places: &mut [Option<Attached>], others: &[Option<Attached>])
+    requires { length places.old ≡ length others.now }
+    ensures { places.new ≡ others.now }
+{
+    let Some((first, rest)) = places.split_first_mut() else {
+        return;
+    };
+    let Some((other, more)) = others.split_first() else {
+        unreachable!()
+    };
+    copy_from(first, other);
+    copy_all(rest, more);
+}
+
 /// What the device here is, if there is one.
 pub(crate) fn identity_in(place: &Option<Attached>) -> Option<Identity>
     ensures { result ≡ identity_in place.now }

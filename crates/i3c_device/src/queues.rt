@@ -14,6 +14,19 @@ pub(crate) fn copied(waiting: &ArrayVec<Waiting, WAITING>) -> ArrayVec<Waiting, 
     queue
 }
 
+/// The same interrupts wait as in another one, in their order.
+pub(crate) fn copy_from(
+    waiting: &mut ArrayVec<Waiting, WAITING>,
+    others: &ArrayVec<Waiting, WAITING>,
+)
+    ensures { waiting.new.items ≡ others.now.items }
+{
+    waiting.clear();
+    let Ok(()) = waiting.try_extend_from_slice(others.as_slice()) else {
+        unreachable!()
+    };
+}
+
 /// Whether the same interrupts wait in both, in the same order.
 pub(crate) fn are_same(
     waiting: &ArrayVec<Waiting, WAITING>,

@@ -90,6 +90,21 @@ impl Table {
         }
     }
 
+    /// It becomes the same table as another one, in place.
+    pub fn copy_from(&mut self, other: &Table)
+        ensures { self.new ≡ other.now }
+    {
+        self.held = other.held;
+        self.kept = other.kept;
+        self.registers.copy_from_slice(&other.registers);
+        self.numbers.copy_from_slice(&other.numbers);
+        if !self.legacies.is_same(&other.legacies) {
+            self.legacies = other.legacies.copied();
+        }
+        self.order.copy_from(&other.order);
+        self.listed = other.listed;
+    }
+
     /// Whether both tables have the same rows and static addresses, and agree on whether the list is current.
     pub fn is_same(&self, other: &Table) -> bool
         ensures { IsTrue result ↔ (self.now ≡ other.now) }
