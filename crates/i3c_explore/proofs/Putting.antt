@@ -1,10 +1,11 @@
 -- What is in a layer after a node was put there.
-use Rattle.std.proofs.Common.{◌≡◌, ◌⊎◌, ◌∙◌, ℕ, List, Some, ap, inl, inr, length, refl, subst, sym}
+use Rattle.std.proofs.Common.{◌≡◌, ◌⊎◌, ◌∙◌, ◌++◌, ◌∷◌, [], ℕ, List, Some, ap, inl, inr, length, refl, subst, sym}
 use Rattle.std.specs.List.{Contains, slice_get}
 use Rattle.std.proofs.lemmas.Bool.Decides.{eqb_tells}
 use Rattle.std.proofs.lemmas.Option.{same_Some, slice_get_within}
 use Rattle.i3c_explore.specs.declared.node.Node.{Node}
-use Rattle.i3c_explore.specs.Layers.{Has, IsLike, IsMerged, IsPut, Keeps}
+use Rattle.i3c_explore.specs.declared.turn.Turn.{Turn}
+use Rattle.i3c_explore.specs.Layers.{Has, IsLike, IsMerged, IsPut, IsPutBehind, Keeps}
 use Rattle.i3c_explore.proofs.Lists.{contains_get, get_before_push, get_contains, get_push, get_set_other, get_set_same, push_cases, set_cases}
 
 pub has_moved : {S : Type 0} (layer : List (Node S)) (places here : List ℕ) (state other : S) → places ≡ here → state ≡ other → Has layer places state → Has layer here other
@@ -54,4 +55,22 @@ put_from old new node put n c = elim put [
     | inr (_, same) ↦ inr same
   ])
   | inr merged ↦ inl (merged_from old new node merged n c)
+]
+
+-- one more turn of a node is put into a layer as the node that it leads to
+pub behind_put : {S : Type 0} (old new : List (Node S)) (node : Node S) (turn : Turn) (end : S) (put : IsPutBehind old node turn end new) → IsPut old put.made new
+behind_put old new node turn end put = elim put.put [
+  | inl (_, pushed) ↦ inl pushed
+  | inr merged ↦ inr merged
+]
+
+-- a node that is new there has the order of that turn
+pub behind_from : {S : Type 0} (old new : List (Node S)) (node : Node S) (turn : Turn) (end : S) (put : IsPutBehind old node turn end new) → (n : Node S) → Contains new n
+    → ((m : Node S) × Contains old m × IsLike n m) ⊎ ((n ≡ put.made) × (put.made.order.items ≡ node.order.items ++ turn ∷ []))
+behind_from old new node turn end put n c = elim put.put [
+  | inl (order, pushed) ↦ elim (put_from old new put.made (inl pushed) n c) [
+    | inl before ↦ inl before
+    | inr same ↦ inr (same, order)
+  ]
+  | inr merged ↦ inl (merged_from old new put.made merged n c)
 ]

@@ -1,5 +1,5 @@
 -- Layers of states, which the walk over all orders keeps.
-use Rattle.std.specs.Prelude.{◌≡◌, ◌⊎◌, ℕ, suc, List, [], ◌∷◌, ◌++◌, Option, Some, Contains, length, reverse, slice_get, slice_index, slice_set, ◌<◌}
+use Rattle.std.specs.Prelude.{◌≡◌, ◌⊎◌, ℕ, ◌==◌, if◌then◌else◌, suc, List, [], ◌∷◌, ◌++◌, Option, Some, Contains, length, reverse, slice_get, slice_index, slice_set, ◌<◌}
 use Rattle.std.specs.Global.{Vec}
 use Rattle.i3c_explore.specs.declared.node.Node.{Node}
 use Rattle.i3c_explore.specs.declared.turn.Turn.{Turn}
@@ -18,9 +18,9 @@ Keeps {S} old new = (places : List ℕ) (state : S) → Has old places state →
 abbrev pub IsLike : {S : Type 0} → Node S → Node S → Type 0
 IsLike one other = (one.state ≡ other.state) × (one.places.items ≡ other.places.items) × (one.order.items ≡ other.order.items)
 
--- the node at an index is at the same places as another one, with an equal state
-abbrev pub IsAlikeAt : {S : Type 0} → List (Node S) → ℕ → Node S → Type 0
-IsAlikeAt {S} layer index node = (held : Node S) × (slice_get layer index ≡ Some held) × (held.places.items ≡ node.places.items) × (held.state ≡ node.state)
+-- the node at an index is at these places, with this state
+abbrev pub IsAlikeAt : {S : Type 0} → List (Node S) → ℕ → List ℕ → S → Type 0
+IsAlikeAt {S} layer index places state = (held : Node S) × (slice_get layer index ≡ Some held) × (held.places.items ≡ places) × (held.state ≡ state)
 
 -- a node's orders are added to those of one that is alike
 pub record IsMerged {S : Type 0} (old : List (Node S)) (node : Node S) (new : List (Node S)) : Type 0 where
@@ -40,6 +40,18 @@ IsPut old node new = (new ≡ old ++ node ∷ []) ⊎ IsMerged old node new
 -- one more line of a track has run
 abbrev pub advanced : ℕ → List ℕ → List ℕ
 advanced t places = slice_set places t (suc (slice_index places t))
+
+-- the orders that one more turn of some orders makes: those of way 0 are counted
+abbrev pub by_way : ℕ → Option ℕ → Option ℕ
+by_way way orders = if way == 0 then orders else Some 0
+
+-- one more turn of a node leads to a state, and is put into a layer: as a node behind the others, or merged with one that is alike
+pub record IsPutBehind {S : Type 0} (old : List (Node S)) (node : Node S) (turn : Turn) (end : S) (new : List (Node S)) : Type 0 where
+  pub made : Node S
+  pub state : made.state ≡ end
+  pub places : made.places.items ≡ advanced turn.track node.places.items
+  pub orders : made.orders ≡ by_way turn.way node.orders
+  pub put : ((made.order.items ≡ node.order.items ++ turn ∷ []) × (new ≡ old ++ made ∷ [])) ⊎ IsMerged old made new
 
 -- the line of a track that runs next, at these places
 abbrev pub IsNextAt : {L : Type 0} → List (Vec L) → List ℕ → ℕ → L → Type 0

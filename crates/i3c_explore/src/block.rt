@@ -9,11 +9,12 @@ ghost use Rattle.i3c_explore.specs.Layers.{IsFirstBreak, IsRestarted};
 ghost use Rattle.i3c_explore.specs.Orders.{IsOrder, IsPrefix, Leads};
 
 use crate::expand::next_layer;
-use crate::layer::Layer;
+use crate::layer::{Layer, spare_all};
 use crate::machine::Machine;
 use crate::node::Node;
 use crate::stop::Stop;
 use std::alloc::{AllocError, Global};
+use std::mem;
 
 /// Puts a node back to the first line of each of so many tracks.
 fn restart<M>(alloc: Global, node: &mut Node<M>, count: usize) -> Result<(), AllocError>
@@ -43,6 +44,7 @@ pub(crate) fn explore_block<M: Machine>(
     alloc: Global,
     starts: Layer<M>,
     tracks: &[Vec<M::Line>],
+    runner: &mut M::Runner,
 ) -> Result<Layer<M>, Stop>
     // every order, and every beginning of one, leads on: no line breaks an expectation
     ensures all { OnOk result ((s : NodeValue M) → Contains starts.nodes.items s → (order : List TurnValue) → IsPrefix tracks.now order → (end : M) × Leads M.steps tracks.now s.state order end) }
@@ -60,14 +62,17 @@ pub(crate) fn explore_block<M: Machine>(
     let mut layer = starts;
     restart_all(alloc, &mut layer.nodes, tracks.len())?;
     for ran in 0..u64::MAX {
-        let next = match next_layer(alloc, &layer.nodes, layer.limits, tracks) {
+        let spares = mem::replace(&mut layer.spares, Vec::new(alloc));
+        let mut next = match next_layer(alloc, &layer.nodes, layer.limits, tracks, runner, spares) {
             Ok(next) => next,
             Err(stop) => return Err(stop),
         };
         if next.nodes.is_empty() {
             layer.limits = next.limits;
+            layer.spares = next.spares;
             return Ok(layer);
         }
+        spare_all(layer.nodes, &mut next.spares);
         layer = next;
     }
     Err(Stop::Most)

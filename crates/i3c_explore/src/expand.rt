@@ -10,7 +10,7 @@ ghost use Rattle.i3c_explore.specs.Layers.{AreFrom, Has, IsBreak, IsExpanded, Is
 use crate::layer::Layer;
 use crate::limits::Limits;
 use crate::machine::Machine;
-use crate::node::{Node, successor};
+use crate::node::Node;
 use crate::stop::Stop;
 use crate::turn::{Turn, extended};
 use std::alloc::Global;
@@ -22,6 +22,7 @@ fn run<M: Machine>(
     tracks: &[Vec<M::Line>],
     line: &M::Line,
     turn: Turn,
+    runner: &mut M::Runner,
     next: &mut Layer<M>,
 ) -> Result<(), Stop>
     requires within { turn.track < length node.now.places.items }
@@ -36,18 +37,13 @@ fn run<M: Machine>(
     if !next.limits.step() {
         return Err(Stop::Most);
     }
-    match node.state.after(alloc, line, turn.way)? {
-        None => {
-            let order = extended(&node.order, turn)?;
-            Err(Stop::Breaks(order))
-        }
-        Some(state) => {
-            let new = successor(node, turn, state)?;
-            match next.put(alloc, new) {
-                Ok(()) => Ok(()),
-                Err(stop) => Err(stop),
-            }
-        }
+    if !node.state.run(alloc, line, turn.way, runner)? {
+        let order = extended(&node.order, turn)?;
+        return Err(Stop::Breaks(order));
+    }
+    match next.put(alloc, node, turn, runner) {
+        Ok(()) => Ok(()),
+        Err(stop) => Err(stop),
     }
 }
 
@@ -57,6 +53,7 @@ fn run_track<M: Machine>(
     node: &Node<M>,
     tracks: &[Vec<M::Line>],
     track: usize,
+    runner: &mut M::Runner,
     next: &mut Layer<M>,
 ) -> Result<(), Stop>
     requires within { track < length tracks.now }
@@ -73,7 +70,7 @@ fn run_track<M: Machine>(
     };
     let last = node.state.last_way(line);
     for way in 0..last + 1 {
-        match run(alloc, node, tracks, line, Turn { track, way }, next) {
+        match run(alloc, node, tracks, line, Turn { track, way }, runner, next) {
             Ok(()) => {}
             Err(stop) => return Err(stop),
         }
@@ -86,6 +83,7 @@ fn expand<M: Machine>(
     alloc: Global,
     node: &Node<M>,
     tracks: &[Vec<M::Line>],
+    runner: &mut M::Runner,
     next: &mut Layer<M>,
 ) -> Result<(), Stop>
     requires sized { length node.now.places.items ≡ length tracks.now }
@@ -96,7 +94,7 @@ fn expand<M: Machine>(
     ensures broken { IfErr result (λ stop. (order : VecValue TurnValue) → stop ≡ StopValue.Breaks order → IsBreak M.breaks tracks.now node.now order.items) }
 {
     for track in 0..tracks.len() {
-        match run_track(alloc, node, tracks, track, next) {
+        match run_track(alloc, node, tracks, track, runner, next) {
             Ok(()) => {}
             Err(stop) => return Err(stop),
         }
@@ -110,6 +108,8 @@ pub(crate) fn next_layer<M: Machine>(
     layer: &[Node<M>],
     limits: Limits,
     tracks: &[Vec<M::Line>],
+    runner: &mut M::Runner,
+    spares: Vec<M>,
 ) -> Result<Layer<M>, Stop>
     requires sized { (n : NodeValue M) → Contains layer.now n → length n.places.items ≡ length tracks.now }
     ensures expanded { IfOk result (λ next. (n : NodeValue M) → Contains layer.now n → IsExpanded M.steps tracks.now (length tracks.now) n next.nodes.items) }
@@ -119,8 +119,9 @@ pub(crate) fn next_layer<M: Machine>(
     ensures broken { IfErr result (λ stop. (order : VecValue TurnValue) → stop ≡ StopValue.Breaks order → (old : NodeValue M) × Contains layer.now old × IsBreak M.breaks tracks.now old order.items) }
 {
     let mut next = Layer::new(alloc, limits);
+    next.spares = spares;
     for node in layer {
-        match expand(alloc, node, tracks, &mut next) {
+        match expand(alloc, node, tracks, runner, &mut next) {
             Ok(()) => {}
             Err(stop) => return Err(stop),
         }

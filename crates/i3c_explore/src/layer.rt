@@ -1,12 +1,14 @@
-ghost use Rattle.std.specs.Prelude.{◌≡◌, ◌++◌, ◌∷◌, IfSome, OnOk, IsTrue, [], IfErr};
-ghost use Rattle.i3c_explore.specs.Layers.{IsAlikeAt, IsMerged, IsPut};
+ghost use Rattle.std.specs.Prelude.{◌≡◌, ◌<◌, ◌+◌, ◌^◌, ◌++◌, ◌∷◌, [], IfErr, IfOk, IfSome, IsTrue, OnOk, length, slice_index};
+ghost use Rattle.i3c_explore.specs.declared.node.Node.{Node as NodeValue};
+ghost use Rattle.i3c_explore.specs.Layers.{by_way, IsAlikeAt, IsMerged, IsPutBehind};
 ghost use Rattle.i3c_explore.specs.Stops.{IsShort};
 
 use crate::index::Index;
 use crate::limits::Limits;
 use crate::machine::Machine;
-use crate::node::{Node, is_alike, sum};
+use crate::node::{Node, counted, is_alike, moved_on, sum};
 use crate::stop::Stop;
+use crate::turn::{Turn, extended};
 use std::alloc::{AllocError, Global};
 
 /// The states after so many lines, and what the exploration may still cost.
@@ -16,25 +18,60 @@ pub(crate) struct Layer<M> {
     pub nodes: Vec<Node<M>>,
     /// What is left of the limits.
     pub limits: Limits,
+    /// States whose room is free to be taken.
+    pub spares: Vec<M>,
     index: Index,
 }
 
-/// The hash of a node's places and state.
-fn key_of<M: Machine>(node: &Node<M>) -> u64 {
-    let mut key = node.state.hash();
-    for place in &node.places {
+/// The hash of places and of the state that a runner is in.
+fn key_of<M: Machine>(places: &Vec<usize>, runner: &M::Runner) -> u64 {
+    let mut key = M::hash(runner);
+    for place in places {
         key = (key ^ *place as u64).wrapping_mul(0x9E37_79B9_7F4A_7C15);
     }
     key ^ (key >> 32)
 }
 
 /// Adds orders to those of a node.
-fn merge<M: Machine>(nodes: &mut Vec<Node<M>>, index: usize, node: &Node<M>)
-    requires { IsAlikeAt nodes.old.items index node.now }
-    ensures { IsMerged nodes.old.items node.now nodes.new.items }
+fn merge<M: Machine>(nodes: &mut Vec<Node<M>>, index: usize, orders: Option<u64>)
+    requires { index < length nodes.old.items }
+    ensures { (made : NodeValue M) → IsAlikeAt nodes.old.items index made.places.items made.state → made.orders ≡ orders → IsMerged nodes.old.items made nodes.new.items }
 {
     let held = &mut nodes[index];
-    held.orders = sum(held.orders, node.orders);
+    held.orders = sum(held.orders, orders);
+}
+
+/// The node that one more turn leads to, with the state that a runner is in. It takes the room of a spare state, if there is
+/// one.
+fn successor<M: Machine>(
+    alloc: Global,
+    node: &Node<M>,
+    turn: Turn,
+    places: Vec<usize>,
+    runner: &M::Runner,
+    spares: &mut Vec<M>,
+) -> Result<Node<M>, AllocError>
+    ensures state { IfOk result (λ new. new.state ≡ M.shown runner.now) }
+    ensures places { IfOk result (λ new. new.places.items ≡ places.items) }
+    ensures order { IfOk result (λ new. new.order.items ≡ node.now.order.items ++ turn ∷ []) }
+    ensures orders { IfOk result (λ new. new.orders ≡ by_way turn.way node.now.orders) }
+{
+    let state = M::kept(alloc, runner, spares.pop())?;
+    let order = extended(&node.order, turn)?;
+    let orders = counted(node.orders, turn.way);
+    Ok(Node {
+        state,
+        places,
+        order,
+        orders,
+    })
+}
+
+/// The states of these nodes are spare from now on, as far as there is memory to keep them.
+pub(crate) fn spare_all<M: Machine>(nodes: Vec<Node<M>>, spares: &mut Vec<M>) {
+    for node in nodes {
+        let _ = spares.push(node.state);
+    }
 }
 
 impl<M: Machine> Layer<M> {
@@ -46,31 +83,32 @@ impl<M: Machine> Layer<M> {
         Layer {
             nodes: Vec::new(alloc),
             limits,
+            spares: Vec::new(alloc),
             index: Index::new(alloc),
         }
     }
 
-    /// The index of a node at the same places with an equal state.
-    fn find(&self, key: u64, node: &Node<M>) -> Option<usize>
-        ensures { IfSome result (λ index. IsAlikeAt self.now.nodes.items index node.now) }
+    /// The index of a node at these places, with the state that a runner is in.
+    fn find(&self, key: u64, places: &Vec<usize>, runner: &M::Runner) -> Option<usize>
+        ensures { IfSome result (λ index. IsAlikeAt self.now.nodes.items index places.now.items (M.shown runner.now)) }
     {
         for distance in 0..self.index.slots() {
             let Some((has_key, index)) = self.index.at(key, distance) else {
                 return None;
             };
-            if has_key && self.is_alike_at(index, node) {
+            if has_key && self.is_alike_at(index, places, runner) {
                 return Some(index);
             }
         }
         None
     }
 
-    /// Whether the node at an index is at the same places as another one, with an equal state.
-    fn is_alike_at(&self, index: usize, node: &Node<M>) -> bool
-        ensures { IsTrue result → IsAlikeAt self.now.nodes.items index node.now }
+    /// Whether the node at an index is at these places, with the state that a runner is in.
+    fn is_alike_at(&self, index: usize, places: &Vec<usize>, runner: &M::Runner) -> bool
+        ensures { IsTrue result → IsAlikeAt self.now.nodes.items index places.now.items (M.shown runner.now) }
     {
         match self.nodes.get(index) {
-            Some(held) => is_alike(held, node),
+            Some(held) => is_alike(held, places, runner),
             None => false,
         }
     }
@@ -84,24 +122,31 @@ impl<M: Machine> Layer<M> {
         Ok(())
     }
 
-    /// Adds a node, or its orders to a node that is alike.
-    pub(crate) fn put(&mut self, alloc: Global, node: Node<M>) -> Result<(), Stop>
-        ensures put { OnOk result (IsPut self.old.nodes.items node self.new.nodes.items) }
+    /// Puts the state that a runner is in, to which one more turn of a node leads: as a node, or merged with a node that is
+    /// alike.
+    pub(crate) fn put(
+        &mut self,
+        alloc: Global,
+        node: &Node<M>,
+        turn: Turn,
+        runner: &M::Runner,
+    ) -> Result<(), Stop>
+        requires within { turn.track < length node.now.places.items }
+        requires fits { slice_index node.now.places.items turn.track + 1 < 2 ^ 64 }
+        ensures put { OnOk result (IsPutBehind self.old.nodes.items node.now turn (M.shown runner.now) self.new.nodes.items) }
         ensures short { IfErr result IsShort }
     {
-        let key = key_of(&node);
-        match self.find(key, &node) {
-            Some(index) => {
-                merge(&mut self.nodes, index, &node);
-                Ok(())
-            }
-            None => {
-                if self.nodes.len() >= self.limits.states {
-                    return Err(Stop::Most);
-                }
-                self.push(alloc, key, node)?;
-                Ok(())
-            }
+        let places = moved_on(&node.places, turn.track)?;
+        let key = key_of::<M>(&places, runner);
+        if let Some(index) = self.find(key, &places, runner) {
+            merge(&mut self.nodes, index, counted(node.orders, turn.way));
+            return Ok(());
         }
+        if self.nodes.len() >= self.limits.states {
+            return Err(Stop::Most);
+        }
+        let new = successor(alloc, node, turn, places, runner, &mut self.spares)?;
+        self.push(alloc, key, new)?;
+        Ok(())
     }
 }

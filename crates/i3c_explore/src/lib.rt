@@ -7,6 +7,9 @@
 //! order, and knows none of what follows. The states after so many lines are kept in a layer, each with the number of its
 //! orders and the first of them. Two equal states at the same places of all tracks are one.
 //!
+//! Lines run on one runner ([`Machine::Runner`]), which comes to the state of a node and then to that which the line leads to.
+//! That is kept if it is new, in the room of a state of the layer before. So a step makes no state that it doesn't keep.
+//!
 //! Not claimed: that there is memory enough, that the limits are, or how much time it takes. Where a machine's steps are not
 //! determined, a run that its `after` doesn't choose is not tried.
 #![tactic(auto)]

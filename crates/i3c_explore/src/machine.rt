@@ -1,4 +1,4 @@
-ghost use Rattle.std.specs.Prelude.{◌≡◌, ◌<◌, ◌≤◌, ◌^◌, ℕ, IfOk, IfSome, IsTrue};
+ghost use Rattle.std.specs.Prelude.{◌≡◌, ◌<◌, ◌≤◌, ◌^◌, ℕ, IfOk, IsTrue, true, false};
 
 use std::alloc::{AllocError, Global};
 
@@ -6,6 +6,12 @@ use std::alloc::{AllocError, Global};
 pub trait Machine: Sized + Drop {
     /// A line.
     type Line;
+
+    /// Runs lines, one after another, and is in the state that the last one led to.
+    type Runner: Drop;
+
+    /// The state that a runner is in.
+    ghost shown: { Self.Runner → Self };
 
     /// What a line can lead to, in a way.
     ghost steps: { Self → Self.Line → ℕ → Self → Type 0 };
@@ -18,21 +24,29 @@ pub trait Machine: Sized + Drop {
         ensures small { result < 2 ^ 16 }
         ensures last { (way : ℕ) → result ≤ way → (new : Self) → steps self.now line.now result new → steps self.now line.now way new };
 
-    /// The state after a line, or none if the line breaks an expectation. The machine itself stays as it is.
-    fn after(
+    /// A runner, in this state.
+    fn runner(&self, alloc: Global) -> Result<Self::Runner, AllocError>;
+
+    /// Runs a line from this state on a runner, whatever state that is in. Answers whether all that is expected holds.
+    fn run(
         &self,
         alloc: Global,
         line: &Self::Line,
         way: usize,
-    ) -> Result<Option<Self>, AllocError>
-        ensures leads { IfOk result (λ next. IfSome next (λ new. steps self.now line.now way new)) }
-        ensures broken { IfOk result (λ next. next ≡ None → breaks self.now line.now way) };
+        runner: &mut Self::Runner,
+    ) -> Result<bool, AllocError>
+        ensures leads { IfOk result (λ held. held ≡ true → steps self.now line.now way (shown runner.new)) }
+        ensures broken { IfOk result (λ held. held ≡ false → breaks self.now line.now way) };
 
-    /// Whether another state is the same.
-    fn same(&self, other: &Self) -> bool
-        ensures { IsTrue result → self.now ≡ other.now };
+    /// The state that a runner is in. It takes the room of a spare one, if there is one.
+    fn kept(alloc: Global, runner: &Self::Runner, spare: Option<Self>) -> Result<Self, AllocError>
+        ensures { IfOk result (λ state. state ≡ shown runner.now) };
 
-    /// A hash of the state. Where equal states have different hashes they are explored separately, which costs time and
-    /// changes no answer.
-    fn hash(&self) -> u64;
+    /// Whether a runner is in this state.
+    fn is_of(&self, runner: &Self::Runner) -> bool
+        ensures { IsTrue result → self.now ≡ shown runner.now };
+
+    /// A hash of the state that a runner is in. Where equal states have different hashes they are explored separately, which
+    /// costs time and changes no answer.
+    fn hash(runner: &Self::Runner) -> u64;
 }

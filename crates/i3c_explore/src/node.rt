@@ -1,9 +1,9 @@
 ghost use Rattle.std.specs.Prelude.{◌≡◌, ◌<◌, ◌^◌, ◌+◌, ◌++◌, ◌∷◌, [], ℕ, IfOk, IsTrue, length, slice_index, if◌then◌else◌, ◌==◌, Some};
 ghost use Rattle.i3c_explore.specs.Numbers.{IsNumber, IsSum};
-ghost use Rattle.i3c_explore.specs.Layers.{advanced};
+ghost use Rattle.i3c_explore.specs.Layers.{advanced, by_way};
 
 use crate::machine::Machine;
-use crate::turn::{Turn, extended};
+use crate::turn::Turn;
 use std::alloc::AllocError;
 
 /// A state that orders lead to.
@@ -19,12 +19,12 @@ pub struct Node<M> {
     pub orders: Option<u64>,
 }
 
-/// Whether a node is at the same places as another one, with an equal state.
-pub(crate) fn is_alike<M: Machine>(node: &Node<M>, other: &Node<M>) -> bool
-    ensures places { IsTrue result → node.now.places.items ≡ other.now.places.items }
-    ensures state { IsTrue result → node.now.state ≡ other.now.state }
+/// Whether a node is at these places, with the state that a runner is in.
+pub(crate) fn is_alike<M: Machine>(node: &Node<M>, places: &Vec<usize>, runner: &M::Runner) -> bool
+    ensures places { IsTrue result → node.now.places.items ≡ places.now.items }
+    ensures state { IsTrue result → node.now.state ≡ M.shown runner.now }
 {
-    node.places.as_slice() == other.places.as_slice() && node.state.same(&other.state)
+    node.places.as_slice() == places.as_slice() && node.state.is_of(runner)
 }
 
 /// The sum of two numbers of orders.
@@ -38,33 +38,19 @@ pub(crate) fn sum(one: Option<u64>, other: Option<u64>) -> Option<u64>
 }
 
 /// The number of orders that one more turn leads on: those of way 0 are counted.
-fn counted(orders: Option<u64>, way: usize) -> Option<u64>
-    ensures { result ≡ (if way == 0 then orders else Some 0) }
+pub(crate) fn counted(orders: Option<u64>, way: usize) -> Option<u64>
+    ensures { result ≡ by_way way orders }
 {
     if way == 0 { orders } else { Some(0) }
 }
 
-/// The node that one more turn leads to.
-pub(crate) fn successor<M: Machine>(
-    node: &Node<M>,
-    turn: Turn,
-    state: M,
-) -> Result<Node<M>, AllocError>
-    requires within { turn.track < length node.now.places.items }
-    requires fits { slice_index node.now.places.items turn.track + 1 < 2 ^ 64 }
-    ensures state { IfOk result (λ new. new.state ≡ state) }
-    ensures places { IfOk result (λ new. new.places.items ≡ advanced turn.track node.now.places.items) }
-    ensures order { IfOk result (λ new. new.order.items ≡ node.now.order.items ++ turn ∷ []) }
-    ensures orders { IfOk result (λ new. new.orders ≡ (if turn.way == 0 then node.now.orders else Some 0)) }
+/// The places where one more line of a track has run.
+pub(crate) fn moved_on(places: &Vec<usize>, track: usize) -> Result<Vec<usize>, AllocError>
+    requires within { track < length places.now.items }
+    requires fits { slice_index places.now.items track + 1 < 2 ^ 64 }
+    ensures { IfOk result (λ moved. moved.items ≡ advanced track places.now.items) }
 {
-    let mut places = node.places.clone()?;
-    places[turn.track] += 1;
-    let order = extended(&node.order, turn)?;
-    let orders = counted(node.orders, turn.way);
-    Ok(Node {
-        state,
-        places,
-        order,
-        orders,
-    })
+    let mut moved = places.clone()?;
+    moved[track] += 1;
+    Ok(moved)
 }

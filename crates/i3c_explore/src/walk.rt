@@ -86,9 +86,10 @@ pub fn explore<M: Machine>(
     // an order that is answered in place of them breaks an expectation at its last line, and no shorter one does
     ensures broken { IfErr result (λ stop. (order : VecValue TurnValue) → stop ≡ StopValue.Breaks order → IsShortestBreak M.steps M.breaks blocks.now start order.items) }
 {
+    let mut runner = start.runner(alloc)?;
     let mut layer = first_layer(alloc, start, limits)?;
     for block in blocks {
-        layer = match explore_block(alloc, layer, block) {
+        layer = match explore_block(alloc, layer, block, &mut runner) {
             Ok(layer) => layer,
             Err(stop) => return Err(stop),
         };

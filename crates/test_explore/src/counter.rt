@@ -1,4 +1,4 @@
-ghost use Rattle.std.specs.Prelude.{◌≡◌, ◌≤◌, ◌^◌, MatchOption};
+ghost use Rattle.std.specs.Prelude.{◌≡◌, ◌≤◌, ◌^◌, IfOk, MatchOption};
 ghost use Rattle.test_explore.specs.Counters.{counted as counted_as};
 
 use i3c_explore::Machine;
@@ -47,6 +47,10 @@ impl Machine for Counter {
 
     type Line = Line;
 
+    type Runner = Counter;
+
+    ghost shown = { λ counter. counter };
+
     ghost steps = { Counts };
 
     ghost breaks = { Overflows };
@@ -58,23 +62,41 @@ impl Machine for Counter {
         }
     }
 
-    fn after(
+    fn runner(&self, _alloc: Global) -> Result<Counter, AllocError> {
+        Ok(*self)
+    }
+
+    fn run(
         &self,
         _alloc: Global,
         line: &Line,
         way: usize,
-    ) -> Result<Option<Counter>, AllocError> {
+        runner: &mut Counter,
+    ) -> Result<bool, AllocError> {
         match counted(self.count, line, way) {
-            Some(count) if count < 1000 => Ok(Some(Counter { count })),
-            _ => Ok(None),
+            Some(count) if count < 1000 => {
+                runner.count = count;
+                Ok(true)
+            }
+            _ => Ok(false),
         }
     }
 
-    fn same(&self, other: &Counter) -> bool {
-        self.count == other.count
+    fn kept(
+        _alloc: Global,
+        runner: &Counter,
+        _spare: Option<Counter>,
+    ) -> Result<Counter, AllocError>
+        ensures { IfOk result (λ state. state ≡ runner.now) }
+    {
+        Ok(*runner)
     }
 
-    fn hash(&self) -> u64 {
-        self.count
+    fn is_of(&self, runner: &Counter) -> bool {
+        self.count == runner.count
+    }
+
+    fn hash(runner: &Counter) -> u64 {
+        runner.count
     }
 }
