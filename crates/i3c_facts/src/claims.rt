@@ -39,11 +39,25 @@ impl Model for Facts {
 }
 
 impl Facts {
+    ghost use Rattle.std.specs.Prelude.{◌≡◌, IfOk};
+
     /// The claims, as they stand in the line: at least one.
     pub fn claims(&self) -> &[Claim]
         ensures { result.now ≡ self.now }
     {
         self.claims.as_slice()
+    }
+
+    /// The same claims once more.
+    ///
+    /// # Errors
+    ///
+    /// There is no memory for them.
+    pub fn copied(&self) -> Result<Facts, AllocError>
+        ensures { IfOk result (λ copy. copy ≡ self.now) }
+    {
+        let claims = self.claims.clone()?;
+        Ok(Facts { claims })
     }
 }
 

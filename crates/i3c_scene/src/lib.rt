@@ -14,5 +14,5 @@ mod scene;
 mod showing;
 
 pub use line::{Expectation, Line};
-pub use named::Named;
+pub use named::{Named, place_in};
 pub use scene::{BeginFault, Scene};

@@ -26,7 +26,7 @@ impl Named {
 }
 
 /// What a name stands for, if it was given.
-pub(crate) fn place_in(names: &[Named], name: &Name) -> Option<Place>
+pub fn place_in(names: &[Named], name: &Name) -> Option<Place>
     ensures { result ≡ place_in names.now name.now }
 {
     let (first, rest) = names.split_first()?;

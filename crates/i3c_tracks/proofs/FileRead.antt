@@ -1,9 +1,14 @@
 -- The bytes of a file, as they are read.
-use Rattle.std.proofs.Common.{◌≡◌, ◌≤◌, ℕ, List, [], ◌++◌, length, arith, Option, Some, None, IfSome, ap, length-append, subst, sym}
-use Rattle.std.specs.Io.KnownBytes.{Consumes, IsAtEnd}
+use Rattle.std.proofs.Common.{◌≡◌, ◌≤◌, ◌∙◌, ℕ, All, List, [], ◌∷◌, ◌++◌, length, arith, Option, Some, None, IfSome, ap, append_assoc, refl, subst, sym}
+use Rattle.std.specs.Global.{Vec}
+use Rattle.std.proofs.lemmas.List.Elements.{All-push}
+use Rattle.std.specs.Io.KnownBytes.{Consumes}
 use Rattle.i3c_scenario.specs.declared.script_lines.Reading.{Reading}
 use Rattle.i3c_scenario.specs.declared.script_lines.ScriptLines.{ScriptLines}
-use Rattle.i3c_scenario.specs.Lines.{IsGivenOut, IsReadAs, IsReadFrom}
+use Rattle.i3c_scenario.specs.Lines.{GivesLine, IsGivenOut, IsReadAs, IsReadFrom, given, line_in_hand}
+use Rattle.i3c_scenario.specs.Outcomes.{HasNoFeed}
+use Rattle.i3c_scenario.proofs.LinesRead.{all_given}
+use Rattle.i3c_tracks.specs.Planning.{AreLines, lines_bytes}
 
 nothing_consumed : (known : Option (List ℕ)) (items : List ℕ) → items ≡ [] → Consumes known known items
 nothing_consumed None items none = tt
@@ -15,13 +20,37 @@ nothing_read known lines reading none =
     let few : length lines.bytes.items ≤ 1048576 = omega (arith, ap length none) in
     subst (λ r. IsReadAs r known known lines.bytes.items) (sym reading) (nothing_consumed known lines.bytes.items none, few)
 
-few_read : (known left : Option (List ℕ)) (read : List ℕ) → Consumes known left read → IsAtEnd left → length read ≤ 1048576 → IfSome known (λ bytes. length bytes ≤ 1048576)
-few_read None left read consumed end few = tt
-few_read (Some xs) None read consumed end few = absurd consumed
-few_read (Some xs) (Some ys) read consumed end few = omega (arith, ap length consumed, length-append read ys, ap length end, few)
+-- one more line
+pub bytes_more : (lines : List (Vec ℕ)) (line : Vec ℕ) → lines_bytes (lines ++ line ∷ []) ≡ lines_bytes lines ++ (line.items ++ 10 ∷ [])
+bytes_more [] line = refl
+bytes_more (first ∷ lines) line = ap (λ b. first.items ++ 10 ∷ b) (bytes_more lines line) ∙ sym (append_assoc first.items (10 ∷ lines_bytes lines) (line.items ++ 10 ∷ []))
 
--- the whole file was read
-pub all_few : (known left : Option (List ℕ)) (lines : ScriptLines) → IsReadFrom known left lines → IsGivenOut lines → IfSome known (λ bytes. length bytes ≤ 1048576)
-all_few known left lines is out =
-    let (read, consumed, end, few, bytes) = subst (λ r. IsReadAs r known left lines.bytes.items) out.0 is in
-    few_read known left read consumed end few
+-- the lines that were read so far
+pub record LinesSoFar (script : ScriptLines) (lines : List (Vec ℕ)) : Type 0 where
+  pub feeds : All (λ (line : Vec ℕ). HasNoFeed line.items) lines
+  pub given : given script ≡ lines_bytes lines
+
+-- before the first line
+pub no_lines : (script : ScriptLines) (lines : List (Vec ℕ)) → given script ≡ [] → lines ≡ [] → LinesSoFar script lines
+no_lines script lines none empty = record {
+  feeds = subst (All (λ (l : Vec ℕ). HasNoFeed l.items)) (sym empty) (λ k d lt. absurd (omega (arith, lt)));
+  given = none ∙ ap lines_bytes (sym empty);
+}
+
+-- one more line
+pub one_more : (script further : ScriptLines) (lines more : List (Vec ℕ)) (line : List ℕ) (added : Vec ℕ) → LinesSoFar script lines → GivesLine script further → line ≡ line_in_hand further → added.items ≡ line → more ≡ lines ++ added ∷ []
+    → LinesSoFar further more
+one_more script further lines more line added so_far gives is same all =
+    let here : added.items ≡ line_in_hand further = same ∙ is in
+    record {
+      feeds = subst (All (λ (l : Vec ℕ). HasNoFeed l.items)) (sym all) (All-push (λ (l : Vec ℕ). HasNoFeed l.items) lines added so_far.feeds (subst HasNoFeed (sym here) gives.0));
+      given = gives.1 ∙ ap (λ b. b ++ (line_in_hand further ++ 10 ∷ [])) so_far.given ∙ ap (λ b. lines_bytes lines ++ (b ++ 10 ∷ [])) (sym here) ∙ sym (bytes_more lines added) ∙ ap lines_bytes (sym all);
+    }
+
+-- the last line was read
+pub all_lines : (known left : Option (List ℕ)) (script further : ScriptLines) (lines : List (Vec ℕ)) → LinesSoFar script lines → given further ≡ given script → IsGivenOut further → IsReadFrom known left further → AreLines known lines
+all_lines known left script further lines so_far same out read = (so_far.feeds, subst (λ bytes. IfSome known (λ file. bytes ≡ file ++ 10 ∷ [])) (same ∙ so_far.given) (all_given known left further read out).0)
+
+-- a file that was read isn't too large
+pub all_few : (known left : Option (List ℕ)) (further : ScriptLines) → IsGivenOut further → IsReadFrom known left further → IfSome known (λ file. length file ≤ 1048576)
+all_few known left further out read = (all_given known left further read out).2

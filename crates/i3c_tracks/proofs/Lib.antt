@@ -1,1 +1,3 @@
 mod FileRead
+mod Reading
+mod OnePlan

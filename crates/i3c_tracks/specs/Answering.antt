@@ -1,4 +1,4 @@
--- What the exploration of a plan answers.
+-- What the exploration of a file answers.
 use Rattle.std.specs.Prelude.{◌≡◌, ℕ, List, ◌++◌, ⊤}
 use Rattle.std.specs.Global.{Vec}
 use Rattle.i3c_explore.specs.Blocks.{IsBegun, IsShortestBreak, LeadsOn}
@@ -9,6 +9,7 @@ use Rattle.i3c_scene.specs.declared.line.Line.{Line}
 use Rattle.i3c_tracks.specs.declared.course.Run.{Run}
 use Rattle.i3c_tracks.specs.declared.exploring.Answer.{Answer}
 use Rattle.i3c_tracks.specs.declared.refusal.Refusal.{Refusal}
+use Rattle.i3c_tracks.specs.Planning.{IsPlan}
 use Rattle.i3c_tracks.specs.Telling.{refusal_line, script_text}
 
 -- every order of these blocks, and every beginning of one, leads on from the start; or one breaks an expectation, and no shorter one does
@@ -16,6 +17,11 @@ abbrev pub IsAnswer : Seen → List (Vec (Vec Line)) → Answer → Type 0
 IsAnswer start blocks Answer.Holds = (course : List (List Turn)) → IsBegun blocks course → (end : Seen) × LeadsOn LineSteps blocks start course end
 IsAnswer start blocks Answer.Refused = ⊤
 IsAnswer start blocks Answer.Breaks = (order : List Turn) × IsShortestBreak LineSteps LineBreaks blocks start order
+
+-- the same of the blocks of a file's plan, from its start; of a file that isn't explored nothing is said
+abbrev pub IsExplored : List (Vec ℕ) → Answer → Type 0
+IsExplored lines Answer.Refused = ⊤
+IsExplored lines answer = (start : Seen) × (blocks : List (Vec (Vec Line))) × IsPlan lines start blocks × IsAnswer start blocks answer
 
 -- what is printed with an answer: the line of a refusal, or a script of the file's lines
 abbrev pub IsPrinted : List (Vec ℕ) → Answer → List ℕ → List ℕ → Type 0

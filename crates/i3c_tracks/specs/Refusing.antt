@@ -1,11 +1,12 @@
 -- Why lines of a file are refused.
-use Rattle.std.specs.Prelude.{◌≡◌, ℕ, ◌==◌, Bool, true, false, not, ◌&&◌, ◌||◌, List, [], ◌∷◌, Option, Some, None, is_none, is_some, if◌then◌else◌}
+use Rattle.std.specs.Prelude.{ℕ, ◌==◌, Bool, true, false, not, ◌&&◌, ◌||◌, List, [], ◌∷◌, Option, Some, None, is_none, is_some, if◌then◌else◌}
 use Rattle.i3c_facts.specs.declared.claims.Claim.{Claim}
 use Rattle.i3c_facts.specs.declared.fact.Fact.{Fact}
 use Rattle.i3c_facts.specs.declared.marks.Mark.{Mark}
 use Rattle.i3c_lines.specs.declared.command.Command.{Command}
 use Rattle.i3c_lines.specs.declared.names.Name.{Name}
 use Rattle.i3c_scene.specs.declared.line.Line.{Line}
+use Rattle.i3c_tracks.specs.declared.body.Body.{Body}
 use Rattle.i3c_tracks.specs.declared.draft.Draft.{Draft}
 use Rattle.i3c_tracks.specs.declared.open_block.OpenBlock.{OpenBlock}
 use Rattle.i3c_tracks.specs.declared.refusal.Reason.{Reason}
@@ -73,10 +74,14 @@ abbrev pub has_command : Option Line → Bool
 has_command None = false
 has_command (Some line) = is_some line.command
 
+-- whether a track has begun in the open block
+abbrev pub is_in_track : Option OpenBlock → Bool
+is_in_track None = false
+is_in_track (Some block) = is_some block.last
+
 -- whether the next line begins a track
 abbrev pub begins_track : Option OpenBlock → Option Line → Bool
-begins_track None held = false
-begins_track (Some block) held = is_some block.last && is_none held
+begins_track block held = is_in_track block && is_none held
 
 -- whether a mark has no line before it that it needs
 abbrev pub misses_line : Option OpenBlock → Option Line → Mark → Bool
@@ -100,9 +105,23 @@ or_missed (Some reason) missed = Some reason
 or_missed None true = Some Reason.NoLine
 or_missed None false = None
 
+-- why a mark is refused behind the bus
+abbrev pub refuses_body : Body → Mark → Option Reason
+refuses_body body mark = or_missed (refuses_mark_there body.block mark) (misses_line body.block body.held mark)
+
+-- why a command is refused, behind the bus or before it
+abbrev pub refuses_on : Option Body → Command → Option Reason
+refuses_on None command = None
+refuses_on (Some body) command = refuses_there body.block command
+
+-- the same of a mark
+abbrev pub refuses_on_mark : Option Body → Mark → Option Reason
+refuses_on_mark None mark = Some Reason.NoBus
+refuses_on_mark (Some body) mark = refuses_body body mark
+
 -- why a line is refused behind those that were read: the first reason
 abbrev pub refuses : Draft → Said → Option Reason
 refuses draft Said.Nothing = None
 refuses draft Said.Formless = Some Reason.BadLine
-refuses draft (Said.Does command) = refuses_there draft.block command
-refuses draft (Said.Marks mark) = if is_none draft.start then Some Reason.NoBus else or_missed (refuses_mark_there draft.block mark) (misses_line draft.block draft.held mark)
+refuses draft (Said.Does command) = refuses_on draft.body command
+refuses draft (Said.Marks mark) = refuses_on_mark draft.body mark

@@ -1,7 +1,8 @@
-ghost use Rattle.std.specs.Prelude.{◌≡◌, ◌<◌, ◌≤◌, ℕ, List, [], ◌++◌, Err, IfOk, IfSome, OnOk, length};
+ghost use Rattle.std.specs.Prelude.{◌≡◌, ◌<◌, ◌≤◌, ℕ, List, [], ◌∷◌, ◌++◌, Err, IfOk, IfSome, OnOk, length};
 ghost use Rattle.std.specs.Global.{Vec as VecValue};
 ghost use Rattle.std.specs.Io.KnownBytes.{Appends, IsAtEnd};
-ghost use Rattle.i3c_tracks.specs.Answering.{IsAnswer, IsPrinted};
+ghost use Rattle.i3c_tracks.specs.Answering.{IsAnswer, IsExplored, IsPrinted};
+ghost use Rattle.i3c_tracks.specs.Planning.{AreLines, IsPlan};
 ghost use Rattle.i3c_tracks.specs.Telling.{refusal_line};
 ghost use Rattle.i3c_tracks.specs.declared.exploring.Answer.{Answer as AnswerValue};
 ghost use Rattle.i3c_tracks.specs.declared.refusal.Refusal.{Refusal as RefusalValue};
@@ -44,8 +45,10 @@ pub fn run_explore<R: Read, W: Write>(
     ensures whole { OnOk result (IsAtEnd (R.remaining reader.new)) }
     ensures fits { OnOk result (IfSome (R.remaining reader.old) (λ bytes. length bytes ≤ 1048576)) }
     ensures large { result ≡ Err ScriptFault.TooLarge → IfSome (R.remaining reader.old) (λ bytes. 1048576 < length bytes) }
-    // a refusal, or an order that breaks an expectation as a script of some lines, went out alone
-    ensures printed { IfOk result (λ answer. (lines : List (VecValue ℕ)) × (said : List ℕ) × IsPrinted lines answer [] said × Appends (W.contents writer.old) (W.contents writer.new) said) }
+    // of the plan that the file's lines have, every order leads on and breaks no expectation; or one breaks one, and no shorter one
+    ensures answer { IfOk result (λ answer. (lines : List (VecValue ℕ)) × AreLines (R.remaining reader.old) lines × IsExplored lines answer) }
+    // a refusal, or an order that breaks an expectation as a script of the file's lines, went out alone
+    ensures printed { IfOk result (λ answer. (lines : List (VecValue ℕ)) × (said : List ℕ) × AreLines (R.remaining reader.old) lines × IsPrinted lines answer [] said × Appends (W.contents writer.old) (W.contents writer.new) said) }
 {
     let lines = match read_lines(alloc, reader) {
         Ok(lines) => lines,
@@ -63,6 +66,7 @@ pub fn run_explore<R: Read, W: Write>(
 
 /// The lines of a file, without their line feeds.
 fn read_lines<R: Read>(alloc: Global, reader: &mut R) -> Result<Vec<Vec<u8>>, ScriptFault>
+    ensures lines { IfOk result (λ lines. AreLines (R.remaining reader.old) lines.items) }
     ensures whole { OnOk result (IsAtEnd (R.remaining reader.new)) }
     ensures fits { OnOk result (IfSome (R.remaining reader.old) (λ bytes. length bytes ≤ 1048576)) }
     ensures large { result ≡ Err ScriptFault.TooLarge → IfSome (R.remaining reader.old) (λ bytes. 1048576 < length bytes) }
@@ -88,9 +92,12 @@ fn read_lines<R: Read>(alloc: Global, reader: &mut R) -> Result<Vec<Vec<u8>>, Sc
 }
 
 /// Appends a line.
-fn add_line(alloc: Global, line: &[u8], lines: &mut Vec<Vec<u8>>) -> Result<(), AllocError> {
-    let line = line.to_vec(alloc)?;
-    lines.push(line)?;
+fn add_line(alloc: Global, line: &[u8], lines: &mut Vec<Vec<u8>>) -> Result<(), AllocError>
+    ensures { OnOk result ((added : VecValue ℕ) × (added.items ≡ line.now) × (lines.new.items ≡ lines.old.items ++ added ∷ [])) }
+{
+    let mut copy = Vec::new(alloc);
+    copy.extend_from_slice(line)?;
+    lines.push(copy)?;
     Ok(())
 }
 
@@ -101,7 +108,8 @@ fn answered(
     limits: Limits,
     text: &mut Text,
 ) -> Result<Answer, AllocError>
-    ensures { IfOk result (λ answer. IsPrinted lines.now answer text.old text.new) }
+    ensures answer { IfOk result (IsExplored lines.now) }
+    ensures printed { IfOk result (λ answer. IsPrinted lines.now answer text.old text.new) }
 {
     match read_plan(alloc, lines) {
         Ok(plan) => explored(alloc, lines, &plan, limits, text),

@@ -1,7 +1,10 @@
-use i3c_base::{Addr7, Lvr, Setup, Slot};
+ghost use Rattle.std.specs.Prelude.{◌≡◌, is_some};
+ghost use Rattle.i3c_scene.specs.Scenes.{place_in};
+
+use i3c_base::{Addr7, Identity, Lvr, Setup, Slot};
 use i3c_legacy::Legacies;
 use i3c_lines::{Command, Name, Place};
-use i3c_scene::{Named, Scene};
+use i3c_scene::{Named, Scene, place_in};
 use std::alloc::{AllocError, Global};
 use std::mem;
 
@@ -14,18 +17,23 @@ pub(crate) struct Front {
 }
 
 /// Whether a name was given.
-fn is_given(names: &[Named], name: &Name) -> bool {
-    for named in names {
-        if named.name == *name {
-            return true;
-        }
-    }
-    false
+fn is_given(names: &[Named], name: &Name) -> bool
+    ensures { result ≡ is_some (place_in names.now name.now) }
+{
+    place_in(names, name).is_some()
 }
 
 impl Front {
+    ghost use Rattle.std.specs.Prelude.{◌≡◌, [], IfOk, MatchOption, OnOk};
+    ghost use Rattle.i3c_base.specs.State.{no_board};
+    ghost use Rattle.i3c_lines.specs.declared.command.Command.{Command as CommandValue};
+    ghost use Rattle.i3c_tracks.specs.Drafting.{Begins, Declares};
+
     /// Before the first line.
-    pub(crate) fn new(alloc: Global) -> Front {
+    pub(crate) fn new(alloc: Global) -> Front
+        ensures legacies { result.legacies ≡ no_board }
+        ensures names { result.names.items ≡ [] }
+    {
         Front {
             alloc,
             legacies: Legacies::new(),
@@ -34,15 +42,16 @@ impl Front {
     }
 
     /// Obeys a command as a script does, and answers the bus if the command makes one. A command that is refused does nothing.
-    pub(crate) fn obey(&mut self, command: &Command) -> Result<Option<Scene>, AllocError> {
+    pub(crate) fn obey(&mut self, command: &Command) -> Result<Option<Scene>, AllocError>
+        ensures { IfOk result (λ made. MatchOption made (Declares self.old command.now self.new) (λ start. Begins self.old command.now start)) }
+    {
         match command {
             Command::Legacy { name, address, lvr } => {
                 self.add_legacy(name, *address, *lvr)?;
                 Ok(None)
             }
             Command::Declare { address, identity } => {
-                // a refusal is no fault
-                let _ = self.legacies.declare(*address, *identity);
+                self.declare(*address, *identity);
                 Ok(None)
             }
             Command::Main { name, setup } => self.begin(name, *setup),
@@ -51,7 +60,9 @@ impl Front {
     }
 
     /// `legacy`: declares a legacy target, unless its name was given or its address is refused.
-    fn add_legacy(&mut self, name: &Name, address: Addr7, lvr: Lvr) -> Result<(), AllocError> {
+    fn add_legacy(&mut self, name: &Name, address: Addr7, lvr: Lvr) -> Result<(), AllocError>
+        ensures { OnOk result (Declares self.old (CommandValue.Legacy name.now address lvr) self.new) }
+    {
         if is_given(&self.names, name) {
             return Ok(());
         }
@@ -64,8 +75,19 @@ impl Front {
         }
     }
 
+    /// `declare`: declares an identity, unless its address or the identity is refused, which is no fault.
+    fn declare(&mut self, address: Addr7, identity: Identity)
+        ensures { Declares self.old (CommandValue.Declare address identity) self.new }
+    {
+        match self.legacies.declare(address, identity) {
+            Ok(()) | Err(_) => {}
+        }
+    }
+
     /// `main`: makes the bus, unless the name was given or the device isn't capable of the role.
-    fn begin(&mut self, name: &Name, setup: Setup) -> Result<Option<Scene>, AllocError> {
+    fn begin(&mut self, name: &Name, setup: Setup) -> Result<Option<Scene>, AllocError>
+        ensures { IfOk result (λ made. MatchOption made (Declares self.old (CommandValue.Main name.now setup) self.new) (λ start. Begins self.old (CommandValue.Main name.now setup) start)) }
+    {
         if is_given(&self.names, name) || !setup.identity.bcr.capable() {
             return Ok(None);
         }

@@ -1,10 +1,12 @@
-ghost use Rattle.std.specs.Prelude.{◌≡◌};
+ghost use Rattle.std.specs.Prelude.{◌≡◌, ◌∷◌, [], OnOk};
 ghost use Rattle.i3c_tracks.specs.Refusing.{is_outer, sends_frame};
+ghost use Rattle.i3c_tracks.specs.Drafting.{awaited};
+ghost use Rattle.i3c_tracks.specs.Planning.{step_of};
 
 use crate::refusal::Reason;
 use i3c_facts::Mark;
 use i3c_lines::{Command, Name};
-use i3c_scene::Line;
+use i3c_scene::{Expectation, Line};
 use std::alloc::{AllocError, Global};
 use std::mem;
 
@@ -19,8 +21,8 @@ const MOST_LINES: usize = 64;
 pub(crate) struct OpenBlock {
     /// The device that may lose power in each frame.
     pub risk: Option<Name>,
-    /// The numbers of the lines that say what has to hold after each line.
-    pub always: Vec<u64>,
+    /// What has to hold after each line.
+    always: Vec<Expectation>,
     /// The tracks before the last.
     tracks: Vec<Vec<Line>>,
     /// The last track, if one has begun.
@@ -57,12 +59,38 @@ fn is_outer(command: &Command) -> bool
     )
 }
 
+/// Expects behind a line what has to hold after each line of its block.
+fn expect_always(always: &[Expectation], line: &mut Line) -> Result<(), AllocError>
+    ensures { OnOk result (step_of line.new ≡ awaited (step_of line.old) always.now) }
+{
+    for index in 0..always.len() {
+        expect_again(&always[index], line)?;
+    }
+    Ok(())
+}
+
+/// Expects behind a line the same once more.
+fn expect_again(expectation: &Expectation, line: &mut Line) -> Result<(), AllocError>
+    ensures { OnOk result (step_of line.new ≡ awaited (step_of line.old) (expectation.now ∷ [])) }
+{
+    let facts = expectation.facts.copied()?;
+    line.expectations.push(Expectation {
+        number: expectation.number,
+        facts,
+    })?;
+    Ok(())
+}
+
 impl OpenBlock {
-    ghost use Rattle.std.specs.Prelude.{◌≡◌, ◌++◌, ◌∷◌, ◌==◌, [], None, Some, IfOk, OnOk, is_some, if◌then◌else◌};
+    ghost use Rattle.std.specs.Prelude.{◌≡◌, ◌++◌, ◌∷◌, ◌==◌, [], None, Some, IfOk, OnOk, is_some, option_map, if◌then◌else◌};
     ghost use Rattle.i3c_tracks.specs.Refusing.{refuses_command, refuses_mark, risk_of};
+    ghost use Rattle.i3c_tracks.specs.Drafting.{all_tracks, awaited, open_of, with_line};
+    ghost use Rattle.i3c_tracks.specs.Planning.{step_of, tracks_of};
 
     /// A block of which nothing was read.
-    pub(crate) fn new(alloc: Global) -> OpenBlock {
+    pub(crate) fn new(alloc: Global) -> OpenBlock
+        ensures { open_of result ≡ record { risk = None; always = []; tracks = []; last = None } }
+    {
         OpenBlock {
             risk: None,
             always: Vec::new(alloc),
@@ -112,7 +140,9 @@ impl OpenBlock {
 
     /// One more line has its place in a track: the device that may lose power in it, if it sends a frame.
     pub(crate) fn take_place(&mut self, command: &Command) -> Option<Name>
-        ensures { result ≡ risk_of self.old.risk command.now }
+        ensures risk { result ≡ risk_of self.old.risk command.now }
+        ensures same { open_of self.new ≡ open_of self.old }
+        ensures begun { is_some self.new.last ≡ is_some self.old.last }
     {
         self.lines_left = self.lines_left.saturating_sub(1);
         if sends_frame(command) {
@@ -122,8 +152,22 @@ impl OpenBlock {
         }
     }
 
-    /// Puts a line behind the last one of the last track.
-    pub(crate) fn push(&mut self, line: Line) -> Result<(), AllocError> {
+    /// From now on this has to hold after each line.
+    pub(crate) fn add_always(&mut self, expectation: Expectation) -> Result<(), AllocError>
+        ensures added { OnOk result (open_of self.new ≡ record (open_of self.old) { always = self.old.always.items ++ expectation ∷ [] }) }
+        ensures begun { self.new.last ≡ self.old.last }
+    {
+        self.always.push(expectation)?;
+        Ok(())
+    }
+
+    /// Puts a line behind the last one of the last track, with what has to hold after each line.
+    pub(crate) fn push(&mut self, line: Line) -> Result<(), AllocError>
+        ensures pushed { OnOk result (open_of self.new ≡ with_line (step_of line) (open_of self.old)) }
+        ensures begun { is_some self.new.last ≡ is_some self.old.last }
+    {
+        let mut line = line;
+        expect_always(&self.always, &mut line)?;
         match &mut self.last {
             Some(track) => {
                 track.push(line)?;
@@ -134,7 +178,9 @@ impl OpenBlock {
     }
 
     /// Begins the next track.
-    pub(crate) fn begin_track(&mut self, alloc: Global) -> Result<(), AllocError> {
+    pub(crate) fn begin_track(&mut self, alloc: Global) -> Result<(), AllocError>
+        ensures { OnOk result (open_of self.new ≡ record (open_of self.old) { tracks = all_tracks (open_of self.old).tracks (open_of self.old).last; last = Some [] }) }
+    {
         self.end_track()?;
         self.tracks_left = self.tracks_left.saturating_sub(1);
         self.last = Some(Vec::new(alloc));
@@ -142,7 +188,9 @@ impl OpenBlock {
     }
 
     /// Ends the last track, if one has begun.
-    fn end_track(&mut self) -> Result<(), AllocError> {
+    fn end_track(&mut self) -> Result<(), AllocError>
+        ensures { OnOk result (open_of self.new ≡ record (open_of self.old) { tracks = all_tracks (open_of self.old).tracks (open_of self.old).last; last = None }) }
+    {
         match mem::replace(&mut self.last, None) {
             Some(track) => {
                 self.tracks.push(track)?;
@@ -153,7 +201,9 @@ impl OpenBlock {
     }
 
     /// The tracks of the block, which is closed.
-    pub(crate) fn close(self) -> Result<Vec<Vec<Line>>, AllocError> {
+    pub(crate) fn close(self) -> Result<Vec<Vec<Line>>, AllocError>
+        ensures { IfOk result (λ tracks. tracks_of tracks.items ≡ all_tracks (open_of self).tracks (open_of self).last) }
+    {
         let mut block = self;
         block.end_track()?;
         Ok(block.tracks)

@@ -1,3 +1,6 @@
+ghost use Rattle.std.specs.Prelude.{IfOk};
+ghost use Rattle.i3c_tracks.specs.Planning.{IsPlan};
+
 use crate::draft::Draft;
 use crate::refusal::{Reason, Refusal};
 use i3c_scene::{Line, Scene};
@@ -50,8 +53,10 @@ impl From<AllocError> for PlanFault {
 /// # Errors
 ///
 /// `Refused` has the first line that is refused, and its reason; or why the file is refused at its end.
-pub fn read_plan(alloc: Global, lines: &[Vec<u8>]) -> Result<Plan, PlanFault> {
-    let mut draft = Draft::new(alloc, lines);
+pub fn read_plan(alloc: Global, lines: &[Vec<u8>]) -> Result<Plan, PlanFault>
+    ensures { IfOk result (λ plan. IsPlan lines.now plan.start plan.blocks.items) }
+{
+    let mut draft = Draft::new(alloc);
     for index in 0..lines.len() {
         match draft.take(index as u64 + 1, lines[index].as_slice()) {
             Ok(()) => {}

@@ -1,0 +1,77 @@
+-- A file has one plan at most.
+use Rattle.std.proofs.Common.{◌≡◌, ◌∙◌, ℕ, ◌+◌, List, [], ◌∷◌, Some, ap, arith, inl, inr, refl, subst, sym}
+use Rattle.std.proofs.lemmas.Bool.Decides.{leb_tells}
+use Rattle.std.specs.Global.{Vec}
+use Rattle.i3c_base.specs.declared.device.Setup.{Setup}
+use Rattle.i3c_base.specs.State.{Board, IsPick, IsStart, State, addressed, no_board, unaddressed}
+use Rattle.i3c_facts.proofs.MarkLaws.{marks_apart}
+use Rattle.i3c_facts.proofs.Meaning.{one_mark}
+use Rattle.i3c_lines.specs.declared.command.Command.{Command}
+use Rattle.i3c_lines.specs.Forms.{IsCommand, tokens}
+use Rattle.i3c_lines.proofs.Beginnings.{skipped_is_none}
+use Rattle.i3c_lines.proofs.Meanings.{meant_is}
+use Rattle.i3c_scene.specs.Scenes.{Seen, seen}
+use Rattle.i3c_tracks.specs.declared.said.Said.{Said}
+use Rattle.i3c_tracks.specs.Laws.{FilesHaveOnePlan}
+use Rattle.i3c_tracks.specs.Planning.{AreSaid, IsStartOf, Outline, outline}
+use Rattle.i3c_tracks.specs.Saying.{IsSaid}
+
+one_command : (line : List ℕ) (one other : Command) → IsCommand line one → IsCommand line other → one ≡ other
+one_command line one other first second = sym (meant_is (tokens line) one first.1) ∙ meant_is (tokens line) other second.1
+
+-- a line with a form says one thing
+one_said : (line : List ℕ) (one other : Said) → IsSaid line one → IsSaid line other → (one ≡ Said.Formless → ⊥) → (other ≡ Said.Formless → ⊥) → one ≡ other
+one_said line Said.Nothing Said.Nothing a b f g = refl
+one_said line Said.Nothing (Said.Does command) a b f g = absurd (skipped_is_none line command a.1 b.1)
+one_said line Said.Nothing (Said.Marks mark) a b f g = absurd ((marks_apart line mark b).1 a)
+one_said line (Said.Does command) Said.Nothing a b f g = absurd (skipped_is_none line command b.1 a.1)
+one_said line (Said.Does command) (Said.Does other) a b f g = ap Said.Does (one_command line command other a b)
+one_said line (Said.Does command) (Said.Marks mark) a b f g = absurd ((marks_apart line mark b).0 command a)
+one_said line (Said.Marks mark) Said.Nothing a b f g = absurd ((marks_apart line mark a).1 b)
+one_said line (Said.Marks mark) (Said.Does command) a b f g = absurd ((marks_apart line mark a).0 command b)
+one_said line (Said.Marks mark) (Said.Marks other) a b f g = ap Said.Marks (one_mark line mark other a b)
+one_said line Said.Formless other a b f g = absurd (f refl)
+one_said line one Said.Formless a b f g = absurd (g refl)
+
+all_said : (number : ℕ) (lines : List (Vec ℕ)) (one other : List (ℕ × Said)) → AreSaid number lines one → AreSaid number lines other → one ≡ other
+all_said number [] [] [] a b = refl
+all_said number [] [] (said ∷ other) a b = absurd b
+all_said number [] (said ∷ one) other a b = absurd a
+all_said number (line ∷ lines) [] other a b = absurd a
+all_said number (line ∷ lines) (said ∷ one) [] a b = absurd b
+all_said number (line ∷ lines) ((at, said) ∷ one) ((too, more) ∷ other) a b =
+    let here : at ≡ too = a.0 ∙ sym b.0 in
+    let says : said ≡ more = one_said line.items said more a.1 b.1 a.2 b.2 in
+    let rest : one ≡ other = all_said (number + 1) lines one other a.3 b.3 in
+    cc
+
+-- one address is the least that may be picked
+one_pick : (st : State) (a b : ℕ) → IsPick st a → IsPick st b → a ≡ b
+one_pick st a b first second =
+    elim (leb_tells (a + 1) b) [
+      | inl (_, lt) ↦ absurd (second.1 a (omega (arith, lt)) first.0)
+      | inr (_, le) ↦ elim (leb_tells (b + 1) a) [
+        | inl (_, lt) ↦ absurd (first.1 b (omega (arith, lt)) second.0)
+        | inr (_, ge) ↦ omega (arith, le, ge)
+      ]
+    ]
+
+one_start : (main : Setup) (board : Board) (one other : State) → IsStart main board one → IsStart main board other → one ≡ other
+one_start main board one other (a, pick, is, all) (b, picked, same, every) =
+    is ∙ ap (λ (n : ℕ). addressed 0 n main.identity (unaddressed main board)) (one_pick (unaddressed main board) a b pick picked) ∙ sym same
+
+begun_once : (out : Outline) (one other : Seen) → IsStartOf out one → IsStartOf out other → one ≡ other
+begun_once out one other a b =
+    let state : one.state ≡ other.state = one_start out.main out.board one.state other.state a.state b.state in
+    let policy : one.policy ≡ other.policy = a.policy ∙ sym b.policy in
+    let cuts : one.cuts ≡ other.cuts = a.cuts ∙ sym b.cuts in
+    let names : one.names ≡ other.names = a.names ∙ sym b.names in
+    ap (λ (s : State). seen s one.policy one.cuts one.names) state ∙ ap (λ p. seen other.state p one.cuts one.names) policy ∙ ap (λ c. seen other.state other.policy c one.names) cuts ∙ ap (λ n. seen other.state other.policy other.cuts n) names
+
+pub one_plan : FilesHaveOnePlan
+one_plan lines one other blocks more first second =
+    let said : first.said ≡ second.said = all_said 1 lines first.said second.said first.are second.are in
+    let out : first.outlined ≡ second.outlined = let same : Some first.outlined ≡ Some second.outlined = sym first.is ∙ ap (outline no_board []) said ∙ second.is in cc in (
+      begun_once first.outlined one other first.starts (subst (λ (o : Outline). IsStartOf o other) (sym out) second.starts),
+      first.same ∙ ap (λ (o : Outline). o.blocks) out ∙ sym second.same,
+    )

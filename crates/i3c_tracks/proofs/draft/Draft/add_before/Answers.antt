@@ -1,0 +1,14 @@
+-- A line makes the bus.
+use Rattle.std.proofs.Common.{ap, subst, sym}
+use Rattle.i3c_tracks.specs.declared.draft.Draft.{Draft}
+use Rattle.i3c_tracks.specs.Drafting.{Begins}
+use Rattle.i3c_tracks.proofs.Reading.{read_begun}
+use Rattle.i3c_tracks.proofs.draft.Draft.add_before.Goals as goal
+
+pub returns-in-Some : goal.returns-in-Some
+returns-in-Some c =
+    let old = c.args.self.now in
+    let command = c.args.command.now in
+    let made = rw c.in-Some.is at c.in_ok-start.ensures in
+    let begun = c.begin.ensures in
+    read_begun old c.begin.new.self c.args.number command begun.0 c.requires (ap (λ (d : Draft). d.body) begun.1) (subst (Begins old.front command) (sym begun.2) made) begun.3
