@@ -143,8 +143,8 @@ impl Still {
         let Ok(()) = copy_records(alloc, &mut bus.records, &self.records) else {
             return (hand, Err(OutOfMemory));
         };
-        let (active, role) = Active::new(self.active);
-        retire(mem::replace(&mut bus.active, active), hand.into_role());
+        let (holder, role) = Active::new(self.active);
+        retire(mem::replace(&mut bus.active, holder), hand.into_role());
         bus.devices.copy_from(&self.devices);
         bus.raised = self.raised;
         bus.table.copy_from(&self.table);
@@ -204,12 +204,19 @@ impl Still {
         Ok(())
     }
 
-    /// Whether a bus is in the same state.
+    /// Whether another bus is in the same state.
+    pub fn is_same(&self, other: &Still) -> bool
+        ensures { IsTrue result ↔ (self.now ≡ other.now) }
+    {
+        self.has_same_course(other) && self.has_same_tables(other)
+    }
+
+    /// Whether a bus that is awake is in this state.
     #[inline(never)]
-    pub fn is_same(&self, bus: &Bus) -> bool
+    pub fn is_of(&self, bus: &Bus) -> bool
         ensures { IsTrue result ↔ (self.now ≡ bus.now.state) }
     {
-        self.has_same_course(bus) && self.has_same_tables(bus)
+        self.has_course_of(bus) && self.has_tables_of(bus)
     }
 
     /// How many bits DEFTGTS has from its code on (I3C Basic 5.1.9.3.7), if it is sent now.
@@ -227,7 +234,25 @@ impl Still {
 
     // Whether both have the same devices with the same raises, the same active controller, either both or neither a session,
     // and the same records.
-    fn has_same_course(&self, bus: &Bus) -> bool
+    fn has_same_course(&self, other: &Still) -> bool
+        ensures { IsTrue result ↔ ((self.now.active ≡ other.now.active) × (self.now.in_session ≡ other.now.in_session) × (self.now.raised ≡ other.now.raised) × (self.now.records ≡ other.now.records) × (self.now.devices ≡ other.now.devices)) }
+    {
+        self.active == other.active
+            && self.in_session == other.in_session
+            && self.raised == other.raised
+            && are_same(&self.records, &other.records)
+            && self.devices.is_same(&other.devices)
+    }
+
+    // Whether both controllers know the same, and the legacy targets are the same.
+    fn has_same_tables(&self, other: &Still) -> bool
+        ensures { IsTrue result ↔ ((self.now.given ≡ other.now.given) × (self.now.declared ≡ other.now.declared) × (self.now.listed ≡ other.now.listed) × (self.now.legacy ≡ other.now.legacy)) }
+    {
+        self.table.is_same(&other.table) && self.legacy.is_same(&other.legacy)
+    }
+
+    // The same of a bus that is awake.
+    fn has_course_of(&self, bus: &Bus) -> bool
         ensures { IsTrue result ↔ ((self.now.active ≡ bus.now.state.active) × (self.now.in_session ≡ bus.now.state.in_session) × (self.now.raised ≡ bus.now.state.raised) × (self.now.records ≡ bus.now.state.records) × (self.now.devices ≡ bus.now.state.devices)) }
     {
         self.active == bus.active.slot()
@@ -237,8 +262,8 @@ impl Still {
             && self.devices.is_same(&bus.devices)
     }
 
-    // Whether both controllers know the same, and the legacy targets are the same.
-    fn has_same_tables(&self, bus: &Bus) -> bool
+    // The same of its controller, and of the legacy targets.
+    fn has_tables_of(&self, bus: &Bus) -> bool
         ensures { IsTrue result ↔ ((self.now.given ≡ bus.now.state.given) × (self.now.declared ≡ bus.now.state.declared) × (self.now.listed ≡ bus.now.state.listed) × (self.now.legacy ≡ bus.now.state.legacy)) }
     {
         self.table.is_same(&bus.table) && self.legacy.is_same(&bus.legacy)

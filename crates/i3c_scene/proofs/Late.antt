@@ -1,5 +1,5 @@
 -- Cuts behind the last bit of a line's frame: two of one slot lead to the same.
-use Rattle.std.proofs.Common.{min, Result, Ok, ◌≡◌, ◌∙◌, ℕ, zero, suc, ◌+◌, ◌<◌, ◌≤◌, Bool, true, false, List, Option, None, Some, arith, inl, inr, refl, subst}
+use Rattle.std.proofs.Common.{min, Result, Err, Ok, ◌≡◌, ◌∙◌, ℕ, zero, suc, ◌+◌, ◌<◌, ◌≤◌, Bool, true, false, List, Option, None, Some, arith, inl, inr, refl, subst, sym}
 use Rattle.std.specs.declared.alloc.AllocError.{AllocError}
 use Rattle.std.specs.Prelude.{IfOk}
 use Rattle.std.proofs.Math.Nat.{min-eq_left, min-eq_right}
@@ -26,7 +26,7 @@ use Rattle.i3c_scene.specs.declared.named.Named.{Named}
 use Rattle.i3c_scene.specs.Going.{Assigns, Does, Moves, cut_in, sends}
 use Rattle.i3c_scene.specs.Latest.{last_bit, last_of_frame, latest}
 use Rattle.i3c_scene.specs.Scenes.{Seen, seen}
-use Rattle.i3c_scene.specs.Trying.{LineSteps, Runs, all_hold, slot_at_risk}
+use Rattle.i3c_scene.specs.Trying.{LineBreaks, LineSteps, Runs, all_hold, slot_at_risk}
 
 -- two late cuts of a slot allow the same steps
 step_late : (old : State) (event : Event) (reply : Reply) (new : State) (s bit more : ℕ) → most_bits old event < bit → most_bits old event < more → Step old (recut (and_cut s bit) event) reply new → Step old (recut (and_cut s more) event) reply new
@@ -171,3 +171,17 @@ tried_of old live line way tried result held new same is ok told =
     let t = subst (λ (r : Result Bool AllocError). IfOk r (λ (h : Bool). (before : Before) × Runs live line.command line.risk tried before new × (h ≡ all_hold new before line.expectations.items))) ok told in
     let runs = subst (λ (s : Seen). Runs s line.command line.risk (min way (latest old.state line.risk line.command)) t.0 new) same (subst (λ (w : ℕ). Runs live line.command line.risk w t.0 new) is t.1) in
     (t.0, runs_tried old line.command line.risk t.0 new way runs, t.2)
+
+-- a line that was tried leads on if all that is expected holds
+pub leads_of : (old live : Seen) (line : Line) (way tried : ℕ) (result : Result Bool AllocError) (new : Seen) → live ≡ old → tried ≡ min way (latest old.state line.risk line.command)
+    → IfOk result (λ (h : Bool). (before : Before) × Runs live line.command line.risk tried before new × (h ≡ all_hold new before line.expectations.items))
+    → IfOk result (λ (h : Bool). h ≡ true → LineSteps old line way new)
+leads_of old live line way tried (Ok held) new same is told sure = let t = tried_of old live line way tried (Ok held) held new same is refl told in (t.0, t.1, sym t.2 ∙ sure)
+leads_of old live line way tried (Err short) new same is told = tt
+
+-- and breaks an expectation if not
+pub breaks_of : (old live : Seen) (line : Line) (way tried : ℕ) (result : Result Bool AllocError) (new : Seen) → live ≡ old → tried ≡ min way (latest old.state line.risk line.command)
+    → IfOk result (λ (h : Bool). (before : Before) × Runs live line.command line.risk tried before new × (h ≡ all_hold new before line.expectations.items))
+    → IfOk result (λ (h : Bool). h ≡ false → LineBreaks old line way)
+breaks_of old live line way tried (Ok held) new same is told broken = let t = tried_of old live line way tried (Ok held) held new same is refl told in (t.0, new, t.1, sym t.2 ∙ broken)
+breaks_of old live line way tried (Err short) new same is told = tt

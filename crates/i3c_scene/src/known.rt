@@ -39,6 +39,15 @@ impl Known {
         Ok(Known { names })
     }
 
+    /// They become the same names as others.
+    pub(crate) fn copy_from(&mut self, others: &Known) -> Result<(), AllocError>
+        ensures { OnOk result (self.new ≡ others.now) }
+    {
+        self.names.clear();
+        self.names.extend_from_slice(others.names.as_slice())?;
+        Ok(())
+    }
+
     /// Whether others are the same names, for the same places.
     pub(crate) fn is_same(&self, other: &Known) -> bool
         ensures { IsTrue result → self.now ≡ other.now }

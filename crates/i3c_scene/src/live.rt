@@ -18,7 +18,9 @@ use crate::known::Known;
 use crate::line::{Expectation, Line};
 use crate::scene::Scene;
 use i3c_base::{Addr7, Cuts, Fixed, Setup, Slot};
-use i3c_bus::{ActiveStays, Assignment, Bus, Command as Frame, Event, Hand, Refusal as BusRefusal};
+use i3c_bus::{
+    ActiveStays, Assignment, Bus, Command as Frame, Event, Hand, Refusal as BusRefusal, Still,
+};
 use i3c_facts::{Before, Naming};
 use i3c_frame::Silent;
 use i3c_lines::{Command, Name, Place, Refusal};
@@ -31,12 +33,12 @@ use std::mem;
 /// A scene whose bus is awake, so that lines can be obeyed. It has to be put to rest again.
 ///
 /// The bus's role stands in an `Option`, so that an event can take it, and give one back.
-pub(crate) struct Live {
-    bus: Bus,
+pub struct Live {
+    pub(crate) bus: Bus,
     hand: Option<Hand>,
-    policy: Fixed,
-    cuts: Cuts,
-    known: Known,
+    pub(crate) policy: Fixed,
+    pub(crate) cuts: Cuts,
+    pub(crate) known: Known,
 }
 
 impl Model for Live {
@@ -50,6 +52,22 @@ impl Model for Live {
     ghost view = { λ l. seen l.bus.state l.policy l.cuts l.known };
 
     ghost invariant = { λ l. (hand : HandValue) × (l.hand ≡ Some hand) × HandFits hand l.bus.state };
+}
+
+impl Drop for Live {
+    fn drop(self) {
+        let Live {
+            bus,
+            hand,
+            policy: _,
+            cuts,
+            known,
+        } = self;
+        let Some(hand) = hand else { unreachable!() };
+        drop(cuts);
+        drop(known);
+        drop(bus.rest(hand));
+    }
 }
 
 impl Scene {
@@ -75,7 +93,7 @@ impl Scene {
 }
 
 impl Live {
-    ghost use Rattle.std.specs.Prelude.{◌≡◌, ◌<◌, ◌^◌, IfOk};
+    ghost use Rattle.std.specs.Prelude.{◌≡◌, ◌<◌, ◌^◌, IfOk, OnOk};
     ghost use Rattle.i3c_base.specs.Cutting.{no_cuts};
     ghost use Rattle.i3c_step.specs.declared.events.Event.{Event as EventValue};
     ghost use Rattle.i3c_lines.specs.Naming.{slot_named};
@@ -86,24 +104,48 @@ impl Live {
     ghost use Rattle.i3c_scene.specs.Trying.{Runs, all_hold, slot_at_risk};
     ghost use Rattle.i3c_scene.specs.Going.{Answers, AnswersIn, Assigns, Does, Enters, cut_in, risked};
 
-    /// The bus at rest again.
-    pub(crate) fn rest(self) -> Scene
-        ensures { result ≡ self }
+    /// It comes to a scene.
+    pub(crate) fn wake_to(&mut self, alloc: Global, scene: &Scene) -> Result<(), AllocError>
+        ensures { OnOk result (self.new ≡ scene.now) }
     {
-        let Live {
-            bus,
-            hand,
-            policy,
-            cuts,
-            known,
-        } = self;
-        let Some(hand) = hand else { unreachable!() };
-        Scene {
-            still: bus.rest(hand),
-            policy,
-            cuts,
-            known,
-        }
+        let hand = take(&mut self.hand);
+        let (hand, woken) = scene.still.wake_into(alloc, &mut self.bus, hand);
+        give_back(&mut self.hand, hand);
+        let Ok(()) = woken else {
+            return Err(AllocError);
+        };
+        self.policy = scene.policy;
+        self.cuts = scene.cuts.clone()?;
+        self.known.copy_from(&scene.known)?;
+        Ok(())
+    }
+
+    /// The bus at rest.
+    pub(crate) fn kept(&self, alloc: Global) -> Result<Scene, AllocError>
+        ensures { IfOk result (λ scene. scene ≡ self.now) }
+    {
+        let Ok(still) = Still::of(alloc, &self.bus) else {
+            return Err(AllocError);
+        };
+        Ok(Scene {
+            still,
+            policy: self.policy,
+            cuts: self.cuts.clone()?,
+            known: self.known.copied()?,
+        })
+    }
+
+    /// The bus at rest, in the room of a scene.
+    pub(crate) fn keep_in(&self, alloc: Global, scene: &mut Scene) -> Result<(), AllocError>
+        ensures { OnOk result (scene.new ≡ self.now) }
+    {
+        let Ok(()) = scene.still.copy_from(alloc, &self.bus) else {
+            return Err(AllocError);
+        };
+        scene.policy = self.policy;
+        scene.cuts = self.cuts.clone()?;
+        scene.known.copy_from(&self.known)?;
+        Ok(())
     }
 
     /// The bus.
@@ -120,18 +162,14 @@ impl Live {
         &self.known
     }
 
-    /// Tries a line in a way: the bus at rest afterwards, and whether all that is expected holds.
-    pub(crate) fn tried(mut self, line: &Line, way: usize) -> (Scene, Result<bool, AllocError>)
+    /// Tries a line in a way: whether all that is expected holds.
+    pub(crate) fn tried(&mut self, line: &Line, way: usize) -> Result<bool, AllocError>
         requires { way < 2 ^ 16 }
-        ensures { IfOk result.1 (λ held. (before : BeforeValue) × Runs self line.now.command line.now.risk way before result.0 × (held ≡ all_hold result.0 before line.now.expectations.items)) }
+        ensures { IfOk result (λ held. (before : BeforeValue) × Runs self.old line.now.command line.now.risk way before self.new × (held ≡ all_hold self.new before line.now.expectations.items)) }
     {
-        let outcome = self.run(line, way);
-        match outcome {
-            Ok(before) => {
-                let held = self.all_hold(&before, line.expectations.as_slice());
-                (self.rest(), Ok(held))
-            }
-            Err(short) => (self.rest(), Err(short)),
+        match self.run(line, way) {
+            Ok(before) => Ok(self.all_hold(&before, line.expectations.as_slice())),
+            Err(short) => Err(short),
         }
     }
 

@@ -1,7 +1,5 @@
-ghost use Rattle.std.specs.Prelude.{◌≡◌, ◌≤◌, ◌+◌, min};
-ghost use Rattle.i3c_scene.specs.Latest.{last_bit, last_of_frame, latest};
-
 use crate::line::Line;
+use crate::live::Live;
 use crate::scene::Scene;
 use i3c_explore::Machine;
 use i3c_lines::Command;
@@ -12,9 +10,14 @@ use std::alloc::{AllocError, Global};
 const BEHIND: usize = 2;
 
 impl Machine for Scene {
+    ghost use Rattle.std.specs.Prelude.{◌≡◌, IfOk};
     ghost use Rattle.i3c_scene.specs.Trying.{LineBreaks, LineSteps};
 
     type Line = Line;
+
+    type Runner = Live;
+
+    ghost shown = { λ live. live };
 
     ghost steps = { LineSteps };
 
@@ -24,23 +27,65 @@ impl Machine for Scene {
         self.latest(line)
     }
 
-    fn after(&self, alloc: Global, line: &Line, way: usize) -> Result<Option<Scene>, AllocError> {
+    fn runner(&self, alloc: Global) -> Result<Live, AllocError> {
+        self.wake(alloc)
+    }
+
+    fn run(
+        &self,
+        alloc: Global,
+        line: &Line,
+        way: usize,
+        live: &mut Live,
+    ) -> Result<bool, AllocError> {
         let tried = self.way_tried(line, way);
-        let live = self.wake(alloc)?;
-        let (scene, held) = live.tried(line, tried);
-        if held? { Ok(Some(scene)) } else { Ok(None) }
+        live.wake_to(alloc, self)?;
+        live.tried(line, tried)
     }
 
-    fn same(&self, other: &Scene) -> bool {
-        self.is_same(other)
+    fn kept(alloc: Global, live: &Live, spare: Option<Scene>) -> Result<Scene, AllocError>
+        ensures { IfOk result (λ scene. scene ≡ live.now) }
+    {
+        match spare {
+            Some(mut scene) => {
+                live.keep_in(alloc, &mut scene)?;
+                Ok(scene)
+            }
+            None => live.kept(alloc),
+        }
     }
 
-    fn hash(&self) -> u64 {
-        self.still.key()
+    fn is_of(&self, live: &Live) -> bool {
+        self.is_same(live)
+    }
+
+    fn hash(live: &Live) -> u64 {
+        live.bus.key()
     }
 }
 
 impl Scene {
+    ghost use Rattle.std.specs.Prelude.{◌≡◌, ◌≤◌, ◌+◌, min, None, IfOk, IfSome};
+    ghost use Rattle.i3c_scene.specs.Latest.{last_bit, last_of_frame, latest};
+    ghost use Rattle.i3c_scene.specs.Trying.{LineBreaks, LineSteps};
+
+    /// The scene after a line in a way, or none if the line breaks an expectation.
+    ///
+    /// # Errors
+    ///
+    /// There is no memory for it.
+    pub fn after(&self, alloc: Global, line: &Line, way: usize) -> Result<Option<Scene>, AllocError>
+        ensures leads { IfOk result (λ next. IfSome next (λ new. LineSteps self.now line.now way new)) }
+        ensures broken { IfOk result (λ next. next ≡ None → LineBreaks self.now line.now way) }
+    {
+        let mut live = self.wake(alloc)?;
+        if !self.run(alloc, line, way, &mut live)? {
+            return Ok(None);
+        }
+        let scene = live.kept(alloc)?;
+        Ok(Some(scene))
+    }
+
     /// The last way of a line that has to be tried.
     fn latest(&self, line: &Line) -> usize
         ensures way { result ≡ latest self.now.state line.now.risk line.now.command }

@@ -1,6 +1,7 @@
 ghost use Rattle.std.specs.Prelude.{◌≡◌, ◌↔◌, IsTrue};
 
 use crate::known::Known;
+use crate::live::Live;
 use crate::named::Named;
 use i3c_base::{Cuts, Fixed, Setup};
 use i3c_bus::{Bus, Hand, Still};
@@ -15,7 +16,7 @@ use std::marker::Model;
 /// Clauses see these.
 #[derive(Drop)]
 pub struct Scene {
-    pub(crate) still: Still,
+    pub(crate) still: Box<Still>,
     pub(crate) policy: Fixed,
     pub(crate) cuts: Cuts,
     pub(crate) known: Known,
@@ -26,15 +27,21 @@ impl Model for Scene {
 
     ghost Value = { Seen };
 
-    ghost view = { λ s. seen s.still s.policy s.cuts s.known };
+    ghost view = { λ s. seen s.still.value s.policy s.cuts s.known };
 }
 
-/// The main controller's device isn't capable of the controller role (I3C Basic 5.1.1.2.1).
+/// Why a bus isn't begun.
 #[derive(Clone, Copy, Debug, PartialEq, Eq, Drop)]
-pub struct BeginFault;
+pub enum BeginFault {
+    /// The main controller's device isn't capable of the controller role (I3C Basic 5.1.1.2.1).
+    NotCapable,
+    /// There is no memory.
+    Memory,
+}
 
 impl Scene {
-    ghost use Rattle.std.specs.Prelude.{◌≡◌, ◌↔◌, true, IfOk, IsOk, IsTrue};
+    ghost use Rattle.std.specs.Prelude.{◌≡◌, ◌↔◌, true, false, IfErr, IfOk, IsOk, IsTrue};
+    ghost use Rattle.i3c_scene.specs.declared.scene.BeginFault.{BeginFault as BeginFaultValue};
     ghost use Rattle.i3c_base.specs.Cutting.{no_cuts};
     ghost use Rattle.i3c_base.specs.Numbers.{is_capable};
     ghost use Rattle.i3c_base.specs.State.{IsStart};
@@ -52,20 +59,24 @@ impl Scene {
         legacies: Legacies,
         names: Vec<Named>,
     ) -> Result<Scene, BeginFault>
-        ensures capable { IsOk result ↔ (is_capable main.identity.bcr ≡ true) }
+        ensures capable { IsOk result → is_capable main.identity.bcr ≡ true }
+        ensures fault { IfErr result (λ why. (why ≡ BeginFaultValue.NotCapable) ↔ (is_capable main.identity.bcr ≡ false)) }
         ensures start { IfOk result (λ scene. IsStart main legacies scene.state) }
         ensures policy { IfOk result (λ scene. scene.policy ≡ each_kind Accept) }
         ensures cuts { IfOk result (λ scene. scene.cuts ≡ no_cuts) }
         ensures names { IfOk result (λ scene. scene.names ≡ names.items) }
     {
         match Bus::new(alloc, main, legacies) {
-            Ok((bus, role)) => Ok(Scene {
-                still: bus.rest(Hand::Role(role)),
-                policy: ACCEPT_ALL,
-                cuts: Cuts::new(),
-                known: Known::new(names),
-            }),
-            Err(_) => Err(BeginFault),
+            Ok((bus, role)) => match Box::new(alloc, bus.rest(Hand::Role(role))) {
+                Ok(still) => Ok(Scene {
+                    still,
+                    policy: ACCEPT_ALL,
+                    cuts: Cuts::new(),
+                    known: Known::new(names),
+                }),
+                Err(_) => Err(BeginFault::Memory),
+            },
+            Err(_) => Err(BeginFault::NotCapable),
         }
     }
 
@@ -78,17 +89,17 @@ impl Scene {
         ensures { IfOk result (λ copy. copy ≡ self.now) }
     {
         let live = self.wake(alloc)?;
-        Ok(live.rest())
+        live.kept(alloc)
     }
 
-    /// Whether another scene is the same: its bus is in the same state, with the same policy, cuts and names.
-    pub fn is_same(&self, other: &Scene) -> bool
-        ensures { IsTrue result → self.now ≡ other.now }
+    /// Whether a bus that is awake is the same: in the same state, with the same policy, cuts and names.
+    pub(crate) fn is_same(&self, live: &Live) -> bool
+        ensures { IsTrue result → self.now ≡ live.now }
     {
-        is_same_policy(&self.policy, &other.policy)
-            && are_same_cuts(&self.cuts, &other.cuts)
-            && self.known.is_same(&other.known)
-            && self.still.is_same(&other.still)
+        is_same_policy(&self.policy, &live.policy)
+            && are_same_cuts(&self.cuts, &live.cuts)
+            && self.still.is_of(&live.bus)
+            && self.known.is_same(&live.known)
     }
 }
 

@@ -19,7 +19,7 @@ impl Scene {
     pub fn show(&self, alloc: Global, text: &mut Text) -> Result<(), AllocError> {
         let names = names_of(alloc, self.known.as_slice())?;
         let live = self.wake(alloc)?;
-        live.show(&names, text)
+        show_bus(&live.bus, &names, text)
     }
 
     /// Runs a line in a way, as it is tried. Where it breaks an expectation, what is there is appended to the text, and the
@@ -36,7 +36,7 @@ impl Scene {
         text: &mut Text,
     ) -> Result<Option<u64>, AllocError> {
         let tried = self.way_tried(line, way);
-        let live = self.wake(alloc)?;
+        let mut live = self.wake(alloc)?;
         live.unmet(line, tried, text)
     }
 }
@@ -44,23 +44,14 @@ impl Scene {
 impl Live {
     ghost use Rattle.std.specs.Prelude.{◌<◌, ◌^◌};
 
-    /// Appends what `show` prints, and comes to rest.
-    fn show(self, names: &Names, text: &mut Text) -> Result<(), AllocError> {
-        let shown = show_bus(self.bus(), names, text);
-        let _scene = self.rest();
-        shown
-    }
-
-    /// Runs a line in a way, tells the first expectation that it breaks, and comes to rest.
-    fn unmet(mut self, line: &Line, way: usize, text: &mut Text) -> Result<Option<u64>, AllocError>
+    /// Runs a line in a way, and tells the first expectation that it breaks.
+    fn unmet(&mut self, line: &Line, way: usize, text: &mut Text) -> Result<Option<u64>, AllocError>
         requires { way < 2 ^ 16 }
     {
-        let told = match self.run(line, way) {
+        match self.run(line, way) {
             Ok(before) => self.tell_unmet(&before, line.expectations.as_slice(), text),
             Err(short) => Err(short),
-        };
-        let _scene = self.rest();
-        told
+        }
     }
 
     /// Tells the first expectation that doesn't hold.

@@ -5,7 +5,7 @@ ghost use Rattle.i3c_tracks.specs.declared.course.Run.{Run as RunValue};
 use crate::course::{Run, runs_of};
 use crate::plan::Plan;
 use crate::report::{cut_of, line_at, push_cut};
-use i3c_explore::{Machine, Turn};
+use i3c_explore::Turn;
 use i3c_scene::Scene;
 use i3c_text::Text;
 use std::alloc::{AllocError, Global};
