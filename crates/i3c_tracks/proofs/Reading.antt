@@ -19,10 +19,8 @@ use Rattle.i3c_tracks.specs.declared.body.Body.{Body}
 use Rattle.i3c_tracks.specs.declared.draft.Draft.{Draft}
 use Rattle.i3c_tracks.specs.declared.front.Front.{Front}
 use Rattle.i3c_tracks.specs.declared.open_block.OpenBlock.{OpenBlock}
-use Rattle.i3c_tracks.specs.declared.open_block.OpenBlock.{OpenBlock}
 use Rattle.i3c_tracks.specs.declared.said.Said.{Said}
-use Rattle.i3c_tracks.specs.Drafting.{Begins, Declares, IsBegunBy, IsUnread, Reads, Settles, begun_in, ReadsOn, comes_on, comes_to, held_before, left, open_of, spot_of, stands, tracks_left}
-use Rattle.i3c_tracks.specs.Drafting.{Open}
+use Rattle.i3c_tracks.specs.Drafting.{Begins, Declares, IsBegunBy, IsUnread, Reads, Settles, begun_in, ReadsOn, comes_on, comes_to, left, open_of, spot_of, stands}
 use Rattle.i3c_tracks.specs.Planning.{AreSaid, IsStartOf, Outline, Spot, Step, blocks_in, blocks_of, expected, named, outline, place, stand, step_of}
 use Rattle.i3c_tracks.specs.Refusing.{refuses}
 use Rattle.i3c_tracks.specs.Saying.{IsSaid}
@@ -52,34 +50,6 @@ read_begun old new number command body was is begins none first begun = (
       ∙ ap (λ b. if b then Some (record begins.0 { blocks = place (expected rest) ++ blocks_in false rest }) else None) (none.spot rest) ∙ sym (begins.2 number rest)
       ∙ ap (λ b. comes_on b old.front first ((number, Said.Does command) ∷ rest)) (sym was),
 )
-
--- a line that says nothing, in an open block or outside of one
-nothing_left : (block : Option Open) (held : Option Step) (number : ℕ) (rest : List (ℕ × Said)) → left block held rest ≡ left block held ((number, Said.Nothing) ∷ rest)
-nothing_left None None number rest = refl
-nothing_left None (Some step) number rest = refl
-nothing_left (Some block) held number rest = go block.last held
-  where
-    go : (last : Option (List Step)) (held : Option Step)
-        → held_before last held rest ++ tracks_left block last held rest ∷ blocks_in true rest ≡ held_before last held ((number, Said.Nothing) ∷ rest) ++ tracks_left block last held ((number, Said.Nothing) ∷ rest) ∷ blocks_in true ((number, Said.Nothing) ∷ rest)
-    go None None = refl
-    go None (Some step) = refl
-    go (Some last) None = refl
-    go (Some last) (Some step) = refl
-
-nothing_stands : (spot : Spot) (number : ℕ) (rest : List (ℕ × Said)) → stand spot rest ≡ stand spot ((number, Said.Nothing) ∷ rest)
-nothing_stands Spot.Outside number rest = refl
-nothing_stands Spot.Head number rest = refl
-nothing_stands Spot.Beginning number rest = refl
-nothing_stands Spot.Within number rest = refl
-
-nothing_on : (body : Option Body) (front : Front) (first : Option Outline) (number : ℕ) (rest : List (ℕ × Said)) → comes_on body front first rest ≡ comes_on body front first ((number, Said.Nothing) ∷ rest)
-nothing_on None front first number rest = refl
-nothing_on (Some body) front first number rest =
-    ap (λ bs. if stands body rest then option_map (λ (o : Outline). record o { blocks = blocks_of body.blocks.items ++ bs }) first else None) (nothing_left (option_map open_of body.block) (option_map step_of body.held) number rest)
-    ∙ ap (λ b. if b then option_map (λ (o : Outline). record o { blocks = comes_to body ((number, Said.Nothing) ∷ rest) }) first else None) (nothing_stands (spot_of (option_map open_of body.block) (option_map step_of body.held)) number rest)
-
-pub read_nothing : (draft : Draft) (number : ℕ) → Reads draft (number, Said.Nothing) draft
-read_nothing draft number first begun = (first, begun, λ rest. nothing_on draft.body draft.front first number rest)
 
 -- a line that isn't refused has a form
 pub formed : (draft : Draft) (said : Said) → refuses draft said ≡ None → said ≢ Said.Formless
