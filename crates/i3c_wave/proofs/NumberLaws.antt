@@ -1,5 +1,5 @@
 -- Numbers of few decimal digits.
-use Rattle.std.proofs.Common.{◌≡◌, ◌<◌, ◌≤◌, ◌∙◌, ℕ, zero, suc, ◌+◌, ◌*◌, ◌-◌, ◌||◌, nat_lt, true, false, List, [], ◌∷◌, None, Some, ap, arith, ne_eqb, refl, subst}
+use Rattle.std.proofs.Common.{◌≡◌, ◌<◌, ◌≤◌, ◌∙◌, ℕ, zero, suc, ◌+◌, ◌*◌, ◌-◌, nat_lt, false, List, [], ◌∷◌, Some, ap, arith, ne_eqb, refl, subst}
 use Rattle.i3c_wave.specs.DumpWords.{from_coded, number_from}
 
 -- more than each number of so many digits
@@ -47,10 +47,6 @@ not_less a b le = grind (arith, le)
 -- a digit behind a number of less than nineteen digits
 pub number_step : (number digit : ℕ) (rest : List ℕ) → number ≤ 1000000000000000000 → 48 ≤ digit → digit ≤ 57 → number_from number (digit ∷ rest) ≡ number_from (number * 10 + (digit - 48)) rest
 number_step number digit rest small least most = rw (not_less digit 48 least, not_less 57 digit most, not_less 1000000000000000000 number small) refl
-
--- no digit
-pub no_step : (number digit : ℕ) (rest : List ℕ) → (nat_lt digit 48 || nat_lt 57 digit) ≡ true → number_from number (digit ∷ rest) ≡ None
-no_step number digit rest is = rw is refl
 
 -- a number of nineteen digits at most
 pub number_is : (number : ℕ) → number < 10000000000000000000 → from_coded number [] ≡ Some number
