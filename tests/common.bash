@@ -44,3 +44,8 @@ split_scripts() {
             into { print > into }' "$file"
     done
 }
+
+# legacy_options: of what a script printed, on standard input, the options that name its legacy targets, on one line.
+legacy_options() {
+    awk '$2 == "legacy" && $3 == "at" && NF == 4 { printf "--legacy %s ", $4 }'
+}

@@ -3,12 +3,12 @@ use Rattle.std.specs.Prelude.{⊤}
 use Rattle.std.proofs.Common.{◌≡◌, ◌⊎◌, ◌∙◌, ℕ, List, [], ◌∷◌, ◌++◌, option_to_list, Option, Some, None, Ok, Err, Result, IfSome, MatchResult, ap, append_assoc, append-nil, inl, inr, refl, subst, sym}
 use Rattle.std.specs.Io.KnownBytes.{Consumes, IsAtEnd}
 use Rattle.i3c_base.specs.declared.addresses.Addresses.{Addresses}
-use Rattle.i3c_frame.specs.declared.symbols.Symbol.{Symbol}
 use Rattle.i3c_wave.specs.declared.capture_fault.CaptureFault.{CaptureFault}
+use Rattle.i3c_wave.specs.declared.stamped.Stamped.{Stamped}
 use Rattle.i3c_wave.specs.CaptureTexts.{Closed, Ended, HasSymbols, Input, IsOfReading, byte_read, bytes_read, closed, goes_on, kept, new_input, text_ended, text_read, word_ended}
 
 -- the end of a text, behind its last word
-pub closing : (scl sda : List ℕ) (input mid : Input) (result : Result ⊤ CaptureFault) (new : List Symbol) → word_ended scl sda input ≡ Ok mid
+pub closing : (scl sda : List ℕ) (input mid : Input) (result : Result ⊤ CaptureFault) (new : List Stamped) → word_ended scl sda input ≡ Ok mid
     → MatchResult result (λ _. Closed (closed mid.reached) mid.symbols new) (λ fault. (fault ≡ CaptureFault.Memory) ⊎ (closed mid.reached ≡ Err fault))
     → MatchResult result (λ _. Ended scl sda input new) (λ fault. (fault ≡ CaptureFault.Memory) ⊎ (text_ended scl sda input ≡ Err fault))
 closing scl sda input mid (Ok done) new word (taken, outcome, symbols) = (
@@ -28,7 +28,7 @@ on_both scl sda (Ok input) xs ys more = more input
 on_both scl sda (Err fault) xs ys more = refl
 
 -- some bytes, and then others
-bytes_both : (scl sda : List ℕ) (xs ys : List ℕ) (input : Input) → bytes_read scl sda input (xs ++ ys) ≡ goes_on (bytes_read scl sda input xs) (λ last. bytes_read scl sda last ys)
+pub bytes_both : (scl sda : List ℕ) (xs ys : List ℕ) (input : Input) → bytes_read scl sda input (xs ++ ys) ≡ goes_on (bytes_read scl sda input xs) (λ last. bytes_read scl sda last ys)
 bytes_both scl sda [] ys input = refl
 bytes_both scl sda (x ∷ xs) ys input = on_both scl sda (byte_read scl sda input x) xs ys (bytes_both scl sda xs ys)
 
@@ -63,7 +63,7 @@ fault_read (Some xs) None legacies scl sda items fault one is = absurd one
 fault_read (Some xs) (Some ys) legacies scl sda items fault one is = subst (λ text. text_read legacies scl sda text ≡ Err fault) (sym one) (fault_on legacies scl sda items ys fault is)
 
 -- the symbols of a text of which all bytes were read
-pub ended_with : (legacies : Addresses) (scl sda text : List ℕ) (input : Input) (symbols : List Symbol) → bytes_read scl sda (new_input legacies) text ≡ Ok input → Ended scl sda input symbols
+pub ended_with : (legacies : Addresses) (scl sda text : List ℕ) (input : Input) (symbols : List Stamped) → bytes_read scl sda (new_input legacies) text ≡ Ok input → Ended scl sda input symbols
     → HasSymbols legacies scl sda text symbols
 ended_with legacies scl sda text input symbols is (last, end, same) = (last, ap (λ step. goes_on step (text_ended scl sda)) is ∙ end, same)
 

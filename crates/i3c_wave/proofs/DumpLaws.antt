@@ -1,10 +1,10 @@
 -- The text of levels, one after another.
-use Rattle.std.proofs.Common.{◌≡◌, ◌∙◌, ◌<◌, ◌+◌, ℕ, zero, suc, List, [], ◌∷◌, ◌++◌, ap, append_assoc, arith, drop, get_or, length, refl, sym}
+use Rattle.std.proofs.Common.{◌≡◌, ◌∙◌, ◌<◌, ◌+◌, ℕ, zero, suc, List, [], ◌∷◌, ◌++◌, ap, append_assoc, arith, drop, get_or, length, sym}
 use Rattle.i3c_frame.specs.declared.symbols.Symbol.{Symbol}
 use Rattle.i3c_wave.specs.declared.levels.Level.{Level}
 use Rattle.i3c_wave.specs.declared.timing.Timing.{Timing}
 use Rattle.i3c_wave.specs.declared.wave.Wave.{Wave}
-use Rattle.i3c_wave.specs.Dump.{after_levels, after_symbol, level_text, levels_text, moved, symbol_dump, symbols_dump}
+use Rattle.i3c_wave.specs.Dump.{after_symbol, level_text, levels_text, moved, symbol_dump, symbols_dump}
 
 -- a text with the levels to come, after one more of them
 pub one_more : (timing : Timing) (wave : Wave) (level : Level) (left rest : List Level) (text new whole : List ℕ)

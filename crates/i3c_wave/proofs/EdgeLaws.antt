@@ -1,7 +1,7 @@
 -- What is heard of the levels of symbols.
-use Rattle.std.proofs.Common.{◌≡◌, ◌∙◌, Bool, true, false, List, [], ◌∷◌, ◌++◌, Option, Some, None, flat_map, map, option_to_list, ap, append_assoc, refl, sym}
+use Rattle.std.proofs.Common.{◌≡◌, Bool, true, false, List, [], ◌∷◌, ◌++◌, Option, Some, None, flat_map, map, option_to_list, ap, refl}
 use Rattle.i3c_frame.specs.declared.symbols.Symbol.{Symbol}
-use Rattle.i3c_frame.specs.declared.symbols.Symbol.TheVariants.{Start, Repeated, Stop, Header, Word, Identity, AddressByte, LegacyWord}
+use Rattle.i3c_frame.specs.declared.symbols.Symbol.TheVariants.{Start, Repeated, Stop}
 use Rattle.i3c_wave.specs.declared.edges.Edges.{Edges}
 use Rattle.i3c_wave.specs.declared.edges.Mark.{Mark}
 use Rattle.i3c_wave.specs.declared.levels.Level.{Level}

@@ -1,12 +1,12 @@
 -- Levels and bits by their numbers.
-use Rattle.std.proofs.Common.{◌≡◌, ◌∙◌, ℕ, zero, suc, ◌+◌, ◌-◌, ◌/◌, ◌%◌, ◌<◌, ◌≤◌, ◌==◌, Bool, true, false, List, [], ◌∷◌, ◌++◌, drop, Option, Some, None, arith, refl, ap, sym, length, eq-zero-or-pos, inl, inr}
+use Rattle.std.proofs.Common.{◌≡◌, ◌∙◌, ℕ, zero, suc, ◌+◌, ◌-◌, ◌/◌, ◌%◌, ◌<◌, ◌≤◌, ◌==◌, Bool, List, [], ◌∷◌, ◌++◌, drop, Option, Some, None, arith, refl, ap, sym, length, eq-zero-or-pos, inl, inr}
 use Rattle.std.specs.Int.{bit_at}
 use Rattle.std.specs.List.{slice_get}
 use Rattle.i3c_frame.specs.declared.symbols.Symbol.{Symbol}
 use Rattle.i3c_frame.specs.declared.symbols.Symbol.TheVariants.{Start, Repeated, Stop, Header, Word, Identity, AddressByte, LegacyWord}
 use Rattle.i3c_wave.specs.declared.levels.Level.{Level}
 use Rattle.i3c_wave.specs.Laws.{HasBits, at_rising_edges}
-use Rattle.i3c_wave.specs.Levels.{bits, bits_of, clocked, high, levels_of, low}
+use Rattle.i3c_wave.specs.Levels.{bits, bits_of, clocked, high, levels_of}
 
 -- a level of SDA at a bit, if there is one
 abbrev pub level_with : Bool → Option Bool → Option Level

@@ -7,3 +7,5 @@ pub mod EdgeLaws
 pub mod BitLaws
 pub mod ReadBack
 pub mod CaptureLaws
+pub mod PartLaws
+pub mod NumberLaws

@@ -11,7 +11,7 @@ use Rattle.i3c_wave.specs.declared.reader.Reading.{Reading}
 use Rattle.i3c_wave.specs.Awaited.{IsWireFrom, bits_in, goes_on, next_awaited, next_place, open_place, symbol_in}
 use Rattle.i3c_wave.specs.Edges.{AreFrames, free_lines, marks_heard, marks_of}
 use Rattle.i3c_wave.specs.Levels.{bits, bits_of, wire_levels}
-use Rattle.i3c_wave.specs.Reading.{Turn, awaiting, entered, entered_at, framed, read_from, shifted, told, turn}
+use Rattle.i3c_wave.specs.Reading.{Turn, awaiting, entered, entered_at, framed, read_from, told}
 use Rattle.i3c_wave.proofs.BitLaws.{bit_small, bits_snoc, half_is, last_is, no_bits, not_last_is, one_bit}
 use Rattle.i3c_wave.proofs.EdgeLaws.{frames_heard}
 

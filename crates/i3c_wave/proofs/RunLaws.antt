@@ -1,13 +1,13 @@
 -- What goes out of a text that is no trace.
-use Rattle.std.proofs.Common.{◌≡◌, ◌⊎◌, ◌∙◌, ℕ, ◌≤◌, List, [], ◌++◌, Option, Some, None, Err, IfSome, ap, arith, inl, inr, length, refl, subst, take}
+use Rattle.std.proofs.Common.{◌≡◌, ◌⊎◌, ◌∙◌, ℕ, List, [], ◌++◌, Option, Some, None, Err, IfSome, ap, arith, inl, inr, refl, subst}
 use Rattle.std.proofs.lemmas.List.{append-nil, take_all}
-use Rattle.std.specs.Io.KnownBytes.{Appends, Keeps}
+use Rattle.std.specs.Io.KnownBytes.{Keeps}
 use Rattle.i3c_frame.specs.declared.traces.TraceFault.{TraceFault}
 use Rattle.i3c_frame.specs.Parts.{parts}
 use Rattle.i3c_frame.specs.Traces.{IsFirstFault}
 use Rattle.i3c_wave.specs.declared.fault.WaveFault.{WaveFault}
 use Rattle.i3c_wave.specs.Output.{AppendsSome}
-use Rattle.i3c_wave.specs.Runs.{CameTo, GoesOut, fault_line}
+use Rattle.i3c_wave.specs.Runs.{GoesOut, fault_line}
 
 -- a prefix of no text is none
 none_grown : (old new : Option (List ℕ)) → AppendsSome old new [] → Keeps old new

@@ -1,16 +1,14 @@
 -- The text of a capture: its words, the symbols that are read of them, and its first fault.
-use Rattle.std.specs.Prelude.{◌≡◌, ◌⊎◌, ℕ, ◌+◌, ◌==◌, min, nat_lt, Bool, ◌||◌, List, [], ◌∷◌, ◌++◌, length, option_to_list, ⊤, Option, Some, None, IfSome, Result, Ok, Err, if◌then◌else◌}
+use Rattle.std.specs.Prelude.{◌≡◌, ◌⊎◌, ℕ, ◌+◌, ◌==◌, min, nat_lt, Bool, not, ◌&&◌, List, [], ◌∷◌, ◌++◌, length, position, unwrap_or, option_to_list, ⊤, Option, Some, None, Result, Ok, Err, MatchResult, if◌then◌else◌}
 use Rattle.i3c_base.specs.declared.addresses.Addresses.{Addresses}
-use Rattle.i3c_frame.specs.declared.symbols.Symbol.{Symbol}
 use Rattle.i3c_frame.specs.Texts.{text_of}
 use Rattle.i3c_wave.specs.declared.capture.Capture.{Capture}
-use Rattle.i3c_wave.specs.declared.capture.Heard.{Heard}
 use Rattle.i3c_wave.specs.declared.capture_fault.CaptureFault.{CaptureFault}
 use Rattle.i3c_wave.specs.declared.capture_text.Reached.{Reached}
-use Rattle.i3c_wave.specs.declared.capture_text.Taken.{Taken}
 use Rattle.i3c_wave.specs.declared.dump.Item.{Item}
 use Rattle.i3c_wave.specs.declared.dump.Said.{Said}
-use Rattle.i3c_wave.specs.Captures.{at_time, changed, heard, new_capture, with_line}
+use Rattle.i3c_wave.specs.declared.stamped.Stamped.{Stamped}
+use Rattle.i3c_wave.specs.Captures.{Heard, at_time, changed, heard, new_capture, with_line}
 use Rattle.i3c_wave.specs.Dump.{line}
 use Rattle.i3c_wave.specs.Dumps.{is_ended, new_dump, word_said}
 
@@ -18,15 +16,24 @@ use Rattle.i3c_wave.specs.Dumps.{is_ended, new_dump, word_said}
 pub record Input : Type 0 where
   pub reached : Reached
   pub word : List ℕ
-  pub symbols : List Symbol
+  pub symbols : List Stamped
+
+-- what a text is read as so far
+abbrev pub input : Reached → List ℕ → List Stamped → Input
+input reached word symbols = record { reached = reached; word = word; symbols = symbols }
+
+-- what is read of whole words, and the symbol that is whole by the last of them
+pub record Taken : Type 0 where
+  pub reached : Reached
+  pub symbol : Option Stamped
 
 -- before the first word
 abbrev pub new_reached : Addresses → Reached
 new_reached legacies = record { dump = new_dump; capture = new_capture legacies; line = 1 }
 
--- a space, a tab, a line feed or a carriage return
+-- a space, or a control byte, such as a tab or a line feed
 abbrev pub is_space : ℕ → Bool
-is_space byte = (byte == 32 || byte == 9) || (byte == 10 || byte == 13)
+is_space byte = nat_lt byte 33
 
 -- what is heard of the lines
 abbrev pub item_taken : Reached → Result Heard CaptureFault → Result Taken CaptureFault
@@ -55,7 +62,7 @@ abbrev pub word_taken : List ℕ → List ℕ → Reached → List ℕ → Resul
 word_taken scl sda reached word = said_taken reached (word_said scl sda reached.dump reached.line word)
 
 -- a word is whole, and a symbol may be by it
-abbrev pub kept : List Symbol → Result Taken CaptureFault → Result Input CaptureFault
+abbrev pub kept : List Stamped → Result Taken CaptureFault → Result Input CaptureFault
 kept symbols (Ok taken) = Ok (record { reached = taken.reached; word = []; symbols = symbols ++ option_to_list taken.symbol })
 kept symbols (Err fault) = Err fault
 
@@ -82,6 +89,19 @@ abbrev pub goes_on : Result Input CaptureFault → (Input → Result Input Captu
 goes_on (Ok input) next = next input
 goes_on (Err fault) next = Err fault
 
+-- letters of a word that is open
+abbrev pub letters_kept : Input → List ℕ → Result Input CaptureFault
+letters_kept input letters = if not (length letters == 0) && nat_lt 65536 (length input.word + length letters) then Err (CaptureFault.BadWord input.reached.line)
+    else Ok (record input { word = input.word ++ letters })
+
+-- such letters, and a space behind them
+abbrev pub part_read : List ℕ → List ℕ → Input → List ℕ → ℕ → Result Input CaptureFault
+part_read scl sda input letters space = parted space (goes_on (letters_kept input letters) (word_ended scl sda))
+
+-- how many letters are before the first space, or before the end
+abbrev pub letters_in : List ℕ → ℕ
+letters_in bytes = unwrap_or (position is_space bytes) (length bytes)
+
 -- bytes, one after another
 abbrev pub bytes_read : List ℕ → List ℕ → Input → List ℕ → Result Input CaptureFault
 bytes_read scl sda input [] = Ok input
@@ -100,11 +120,11 @@ abbrev pub text_ended : List ℕ → List ℕ → Input → Result Input Capture
 text_ended scl sda input = goes_on (word_ended scl sda input) (λ next. kept next.symbols (closed next.reached))
 
 -- these are the symbols of a text that ended
-abbrev pub Ended : List ℕ → List ℕ → Input → List Symbol → Type 0
+abbrev pub Ended : List ℕ → List ℕ → Input → List Stamped → Type 0
 Ended scl sda input symbols = (last : Input) × (text_ended scl sda input ≡ Ok last) × (last.symbols ≡ symbols)
 
 -- the symbols before the end, and after it
-abbrev pub Closed : Result Taken CaptureFault → List Symbol → List Symbol → Type 0
+abbrev pub Closed : Result Taken CaptureFault → List Stamped → List Stamped → Type 0
 Closed outcome old new = (taken : Taken) × (outcome ≡ Ok taken) × (new ≡ old ++ option_to_list taken.symbol)
 
 -- before a text
@@ -116,14 +136,22 @@ abbrev pub text_read : Addresses → List ℕ → List ℕ → List ℕ → Resu
 text_read legacies scl sda text = goes_on (bytes_read scl sda (new_input legacies) text) (text_ended scl sda)
 
 -- the text's symbols
-abbrev pub HasSymbols : Addresses → List ℕ → List ℕ → List ℕ → List Symbol → Type 0
+abbrev pub HasSymbols : Addresses → List ℕ → List ℕ → List ℕ → List Stamped → Type 0
 HasSymbols legacies scl sda text symbols = (input : Input) × (text_read legacies scl sda text ≡ Ok input) × (input.symbols ≡ symbols)
+
+-- a call reads so: with `Ok` it leads there, and otherwise it ends with the fault that is told, or memory was short
+abbrev pub Reads : Result Input CaptureFault → Reached → List ℕ → List Stamped → Result ⊤ CaptureFault → Type 0
+Reads outcome reached word symbols result = MatchResult result (λ _. outcome ≡ Ok (input reached word symbols)) (λ fault. (fault ≡ CaptureFault.Memory) ⊎ (outcome ≡ Err fault))
+
+-- a call takes a word so
+abbrev pub Takes : Result Taken CaptureFault → Reached → Result (Option Stamped) CaptureFault → Type 0
+Takes outcome reached result = MatchResult result (λ symbol. outcome ≡ Ok (record { reached = reached; symbol = symbol })) (λ fault. outcome ≡ Err fault)
 
 -- a fault of memory, or of the reader
 abbrev pub IsOfReading : CaptureFault → Type 0
 IsOfReading fault = (fault ≡ CaptureFault.Memory) ⊎ (fault ≡ CaptureFault.Read)
 
 -- the texts of symbols, each on a line of its own
-abbrev pub lines_of : List Symbol → List ℕ
+abbrev pub lines_of : List Stamped → List ℕ
 lines_of [] = []
-lines_of (symbol ∷ rest) = line (text_of symbol) ++ lines_of rest
+lines_of (stamped ∷ rest) = line (text_of stamped.symbol) ++ lines_of rest

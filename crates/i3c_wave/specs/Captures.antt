@@ -1,18 +1,27 @@
 -- What is read of a capture: the levels that last, what is heard of them, and the symbols of that.
-use Rattle.std.specs.Prelude.{ℕ, ◌-◌, nat_lt, Bool, true, false, Option, Some, None, Result, Ok, Err, if◌then◌else◌}
+use Rattle.std.specs.Prelude.{◌≡◌, ℕ, ◌-◌, nat_lt, Bool, true, false, Option, Some, None, Result, Ok, Err, MatchResult, if◌then◌else◌}
 use Rattle.i3c_base.specs.declared.addresses.Addresses.{Addresses}
 use Rattle.i3c_frame.specs.declared.symbols.Symbol.{Symbol}
 use Rattle.i3c_wave.specs.declared.capture.Capture.{Capture}
-use Rattle.i3c_wave.specs.declared.capture.Heard.{Heard}
 use Rattle.i3c_wave.specs.declared.capture.Line.{Line}
 use Rattle.i3c_wave.specs.declared.capture_fault.CaptureFault.{CaptureFault}
 use Rattle.i3c_wave.specs.declared.edges.Edges.{Edges}
 use Rattle.i3c_wave.specs.declared.edges.Mark.{Mark}
 use Rattle.i3c_wave.specs.declared.levels.Level.{Level}
 use Rattle.i3c_wave.specs.declared.reader.Reading.{Reading}
+use Rattle.i3c_wave.specs.declared.stamped.Stamped.{Stamped}
 use Rattle.i3c_wave.specs.Edges.{edges_after, mark_at}
 use Rattle.i3c_wave.specs.Levels.{high}
 use Rattle.i3c_wave.specs.Reading.{awaiting, turn}
+
+-- a capture after a change, and the symbol that is whole by it
+pub record Heard : Type 0 where
+  pub capture : Capture
+  pub symbol : Option Stamped
+
+-- a call hears so
+abbrev pub Hears : Result Heard CaptureFault → Capture → Result (Option Stamped) CaptureFault → Type 0
+Hears outcome capture result = MatchResult result (λ symbol. outcome ≡ Ok (record { capture = capture; symbol = symbol })) (λ fault. outcome ≡ Err fault)
 
 -- before the first change: a line without a value is high
 abbrev pub new_capture : Addresses → Capture
@@ -41,9 +50,9 @@ is_same_level one other = if is_same_bit one.scl other.scl then is_same_bit one.
 abbrev pub quiet : Capture → Heard
 quiet capture = record { capture = capture; symbol = None }
 
--- a symbol is whole
+-- a symbol is whole where the level begins that ends it
 abbrev pub begins : Capture → Symbol → Heard
-begins capture symbol = record { capture = record capture { started = true }; symbol = Some symbol }
+begins capture symbol = record { capture = record capture { started = true }; symbol = Some (record { symbol = symbol; time = capture.since }) }
 
 -- what a reading makes of a capture: before the first START nothing is a fault
 abbrev pub read_as : Capture → Reading → Result Heard CaptureFault

@@ -1,5 +1,5 @@
 -- The words of a value change dump (IEEE 1364).
-use Rattle.std.specs.Prelude.{ℕ, ◌+◌, ◌*◌, ◌-◌, ◌==◌, ◌/◌, max, nat_lt, Bool, true, false, ◌||◌, ◌&&◌, List, [], ◌∷◌, length, position, codes, bytes_eq, Option, Some, None, unwrap_or, if◌then◌else◌}
+use Rattle.std.specs.Prelude.{ℕ, ◌+◌, ◌*◌, ◌-◌, ◌==◌, ◌/◌, max, nat_lt, Bool, false, ◌||◌, ◌&&◌, List, [], ◌∷◌, length, position, codes, bytes_eq, Option, Some, None, unwrap_or, if◌then◌else◌}
 use Rattle.std.specs.Option.{option_and_then}
 use Rattle.i3c_wave.specs.declared.dump_word.Code.{Code}
 use Rattle.i3c_wave.specs.declared.dump_word.Command.{Command}
@@ -44,6 +44,10 @@ digit_more number digit = if (nat_lt digit 48 || nat_lt 57 digit) || nat_lt 1000
 abbrev pub number_from : ℕ → List ℕ → Option ℕ
 number_from number [] = Some number
 number_from number (digit ∷ rest) = option_and_then (λ next. number_from next rest) (digit_more number digit)
+
+-- the same behind a number, where one that is too large stands for none
+abbrev pub from_coded : ℕ → List ℕ → Option ℕ
+from_coded number digits = if number == 18446744073709551615 then None else number_from number digits
 
 -- the number of decimal digits, of which there is one at least
 abbrev pub number_of : List ℕ → Option ℕ

@@ -1,5 +1,5 @@
 -- What the words of a value change dump (IEEE 1364) say of two of its signals.
-use Rattle.std.specs.Prelude.{⊤, ℕ, ◌==◌, Bool, true, false, List, [], ◌∷◌, length, take, drop, codes, bytes_eq, Option, Some, None, Result, Ok, Err, if◌then◌else◌}
+use Rattle.std.specs.Prelude.{◌≡◌, ⊤, ℕ, ◌==◌, Bool, true, false, List, [], ◌∷◌, length, take, drop, codes, bytes_eq, Option, Some, None, Result, Ok, Err, MatchResult, if◌then◌else◌}
 use Rattle.i3c_wave.specs.declared.capture.Line.{Line}
 use Rattle.i3c_wave.specs.declared.capture_fault.CaptureFault.{CaptureFault}
 use Rattle.i3c_wave.specs.declared.dump.Dump.{Dump}
@@ -11,6 +11,10 @@ use Rattle.i3c_wave.specs.declared.dump_word.Command.{Command}
 use Rattle.i3c_wave.specs.declared.dump_word.Lead.{Lead}
 use Rattle.i3c_wave.specs.declared.dump_word.Magnitude.{Magnitude}
 use Rattle.i3c_wave.specs.DumpWords.{code_of, command_of, digits_in, is_same_code_as, lead_of, magnitude_of, number_of, scaled, unit_setup}
+
+-- a call says so
+abbrev pub Says : Result Said CaptureFault → Dump → Result Item CaptureFault → Type 0
+Says outcome dump result = MatchResult result (λ item. outcome ≡ Ok (record { dump = dump; item = item })) (λ fault. outcome ≡ Err fault)
 
 -- before the first word: without a timescale a unit is 1 ns
 abbrev pub new_dump : Dump

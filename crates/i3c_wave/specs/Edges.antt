@@ -1,5 +1,5 @@
 -- What is heard of the lines: START, STOP, and bits.
-use Rattle.std.specs.Prelude.{⊤, Bool, true, false, List, [], ◌∷◌, ◌++◌, Option, Some, None, flat_map, map, option_to_list, if◌then◌else◌}
+use Rattle.std.specs.Prelude.{⊤, Bool, true, false, List, [], ◌∷◌, ◌++◌, Option, Some, None, map, option_to_list, if◌then◌else◌}
 use Rattle.i3c_frame.specs.declared.symbols.Symbol.{Symbol}
 use Rattle.i3c_frame.specs.declared.symbols.Symbol.TheVariants.{Start, Repeated, Stop}
 use Rattle.i3c_wave.specs.declared.edges.Edges.{Edges}

@@ -11,4 +11,5 @@ pub mod Output
 pub mod Reading
 pub mod Runs
 pub mod Scripts
+pub mod Timed
 pub mod Timing

@@ -1,10 +1,11 @@
 ghost use Rattle.std.specs.Prelude.{◌≡◌};
-ghost use Rattle.i3c_wave.specs.Captures.{begins, come_to, is_same_level, quiet, with_line};
+ghost use Rattle.i3c_wave.specs.Captures.{is_same_level, with_line};
 
 use crate::capture_fault::CaptureFault;
 use crate::edges::{Edges, Mark};
 use crate::levels::Level;
 use crate::reader::{Reader, Reading};
+use crate::stamped::Stamped;
 use i3c_base::Addresses;
 use i3c_frame::Symbol;
 
@@ -31,16 +32,9 @@ pub(crate) struct Capture {
     started: bool,
 }
 
-/// A capture after a change, and the symbol that is whole by it.
-#[derive(Clone, Copy, Debug, Drop)]
-pub(crate) struct Heard {
-    pub capture: Capture,
-    pub symbol: Option<Symbol>,
-}
-
 impl Capture {
-    ghost use Rattle.std.specs.Prelude.{◌≡◌};
-    ghost use Rattle.i3c_wave.specs.Captures.{at_level, at_time, changed, first_heard, heard, mark_read, new_capture, read_as, settled, watched};
+    ghost use Rattle.std.specs.Prelude.{◌≡◌, Some, None, if◌then◌else◌};
+    ghost use Rattle.i3c_wave.specs.Captures.{Hears, at_time, changed, heard, mark_read, new_capture, read_as, settled, watched};
 
     /// Before the first change. Legacy targets have these addresses. A line without a value is high.
     pub fn new(legacies: Addresses) -> Capture
@@ -67,133 +61,105 @@ impl Capture {
         self.time
     }
 
-    /// The capture at this time, unless it lies before the time that was.
-    pub fn at(self, time: u64) -> Option<Capture>
-        ensures { result ≡ at_time self time }
+    /// Goes on to a time, unless it lies before the time that was.
+    pub fn advance(&mut self, time: u64) -> bool
+        ensures { at_time self.old time ≡ if result then Some self.new else None }
     {
         if time < self.time {
-            return None;
+            return false;
         }
-        Some(Capture { time, ..self })
+        self.time = time;
+        true
     }
 
-    /// The capture where a line has this level from now on. A level of the lines that lasted for less than a setup time is left
-    /// out.
-    pub fn change(self, line: Line, high: bool, setup: u64) -> Result<Heard, CaptureFault>
-        ensures { result ≡ changed setup self (with_line self.level line high) }
+    /// A line has this level from now on: the symbol that is whole by it. A level of the lines that lasted for less than a setup
+    /// time is left out.
+    pub fn change(
+        &mut self,
+        line: Line,
+        high: bool,
+        setup: u64,
+    ) -> Result<Option<Stamped>, CaptureFault>
+        ensures { Hears (changed setup self.old (with_line self.old.level line high)) self.new result }
     {
         let level = with_line(self.level, line, high);
         if is_same_level(self.level, level) {
-            return Ok(quiet(self));
+            return Ok(None);
         }
         match self.settle(setup) {
-            Ok(heard) => Ok(come_to(heard, level)),
+            Ok(symbol) => {
+                self.level = level;
+                self.since = self.time;
+                Ok(symbol)
+            }
             Err(fault) => Err(fault),
         }
     }
 
     /// What is heard of the level so far, if it lasted.
-    fn settle(self, setup: u64) -> Result<Heard, CaptureFault>
-        ensures { result ≡ settled setup self }
+    fn settle(&mut self, setup: u64) -> Result<Option<Stamped>, CaptureFault>
+        ensures { Hears (settled setup self.old) self.new result }
     {
         if self.time.saturating_sub(self.since) < setup {
-            Ok(quiet(self))
+            Ok(None)
         } else {
             self.hear()
         }
     }
 
     /// What is heard of the level so far. The last level of a capture lasts.
-    pub fn hear(self) -> Result<Heard, CaptureFault>
-        ensures { result ≡ heard self }
+    pub fn hear(&mut self) -> Result<Option<Stamped>, CaptureFault>
+        ensures { Hears (heard self.old) self.new result }
     {
         match self.edges {
-            None => Ok(quiet(self.watch(Edges {
-                level: self.level,
-                bit: None,
-            }))),
+            None => {
+                self.edges = Some(Edges {
+                    level: self.level,
+                    bit: None,
+                });
+                Ok(None)
+            }
             Some(edges) => self.hear_edges(edges),
         }
     }
 
     /// What one who watches the lines hears of it.
-    fn hear_edges(self, edges: Edges) -> Result<Heard, CaptureFault>
-        ensures { result ≡ watched self edges }
+    fn hear_edges(&mut self, edges: Edges) -> Result<Option<Stamped>, CaptureFault>
+        ensures { Hears (watched self.old edges) self.new result }
     {
         let mut next = edges;
-        match next.hear(self.level) {
-            None => Ok(quiet(self.watch(next))),
-            Some(mark) => self.watch(next).read(mark),
-        }
-    }
-
-    /// The capture with one who watches the lines.
-    fn watch(self, edges: Edges) -> Capture
-        ensures { result ≡ first_heard self edges }
-    {
-        Capture {
-            edges: Some(edges),
-            ..self
+        let mark = next.hear(self.level);
+        self.edges = Some(next);
+        match mark {
+            None => Ok(None),
+            Some(mark) => self.read(mark),
         }
     }
 
     /// What is read of a mark.
-    fn read(self, mark: Mark) -> Result<Heard, CaptureFault>
-        ensures { result ≡ mark_read self mark }
+    fn read(&mut self, mark: Mark) -> Result<Option<Stamped>, CaptureFault>
+        ensures { Hears (mark_read self.old mark) self.new result }
     {
-        let mut reader = self.reader;
-        let reading = reader.read(mark);
-        Capture { reader, ..self }.read_as(reading)
+        let reading = self.reader.read(mark);
+        self.read_as(reading)
     }
 
     /// What a reading makes of it. Before the first START nothing is a fault.
-    fn read_as(self, reading: Reading) -> Result<Heard, CaptureFault>
-        ensures { result ≡ read_as self reading }
+    fn read_as(&mut self, reading: Reading) -> Result<Option<Stamped>, CaptureFault>
+        ensures { Hears (read_as self.old reading) self.new result }
     {
         match reading {
-            Reading::Partial => Ok(quiet(self)),
-            Reading::Symbol(symbol) => Ok(begin(self, symbol)),
+            Reading::Partial => Ok(None),
+            Reading::Symbol(symbol) => {
+                self.started = true;
+                Ok(Some(Stamped {
+                    symbol,
+                    time: self.since,
+                }))
+            }
             Reading::Misread if self.started => Err(CaptureFault::Misread(self.since)),
-            Reading::Misread => Ok(quiet(self)),
+            Reading::Misread => Ok(None),
         }
-    }
-}
-
-/// A capture after a change by which no symbol is whole.
-fn quiet(capture: Capture) -> Heard
-    ensures { result ≡ quiet capture }
-{
-    Heard {
-        capture,
-        symbol: None,
-    }
-}
-
-/// A capture after a change by which a symbol is whole.
-fn begin(capture: Capture, symbol: Symbol) -> Heard
-    ensures { result ≡ begins capture symbol }
-{
-    Heard {
-        capture: Capture {
-            started: true,
-            ..capture
-        },
-        symbol: Some(symbol),
-    }
-}
-
-/// A capture whose lines come to a level now.
-fn come_to(heard: Heard, level: Level) -> Heard
-    ensures { result ≡ come_to heard level }
-{
-    let since = heard.capture.time;
-    Heard {
-        capture: Capture {
-            level,
-            since,
-            ..heard.capture
-        },
-        symbol: heard.symbol,
     }
 }
 

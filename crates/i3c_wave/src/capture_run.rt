@@ -1,10 +1,10 @@
 ghost use Rattle.std.specs.Prelude.{◌≡◌, ◌⊎◌, ◌<◌, Err, Ok, IfSome, length, MatchResult};
-ghost use Rattle.i3c_wave.specs.CaptureTexts.{Closed, Ended, HasSymbols, IsOfReading, bytes_read, closed, text_ended, text_read};
+ghost use Rattle.i3c_wave.specs.CaptureTexts.{Closed, Ended, HasSymbols, IsOfReading, Reads, bytes_read, closed, input, text_ended, text_read};
 
 use crate::capture_fault::CaptureFault;
-use crate::capture_text::{Reached, keep};
+use crate::capture_text::{Reached, letters_in};
+use crate::stamped::{Stamped, keep_symbol};
 use i3c_base::Addresses;
-use i3c_frame::Symbol;
 use i3c_text::Text;
 use std::alloc::Global;
 use std::io::Read;
@@ -20,7 +20,7 @@ pub fn read_capture<R: Read>(
     scl: &[u8],
     sda: &[u8],
     reader: &mut R,
-) -> Result<Vec<Symbol>, CaptureFault>
+) -> Result<Vec<Stamped>, CaptureFault>
     ensures { MatchResult result
         (λ symbols. IfSome (R.remaining reader.old) (λ text. HasSymbols legacies scl.now sda.now text symbols.items))
         (λ fault. IsOfReading fault ⊎ IfSome (R.remaining reader.old) (λ text. text_read legacies scl.now sda.now text ≡ Err fault)) }
@@ -39,7 +39,7 @@ fn read_chunks<R: Read>(
     sda: &[u8],
     reader: &mut R,
     chunk: &mut [u8],
-) -> Result<Vec<Symbol>, CaptureFault>
+) -> Result<Vec<Stamped>, CaptureFault>
     requires { 0 < length chunk.old }
     ensures { MatchResult result
         (λ symbols. IfSome (R.remaining reader.old) (λ text. HasSymbols legacies scl.now sda.now text symbols.items))
@@ -53,68 +53,70 @@ fn read_chunks<R: Read>(
             return Err(CaptureFault::Read);
         };
         if count == 0 {
-            return match end_text(reached, scl, sda, &mut word, &mut symbols) {
+            return match end_text(&mut reached, scl, sda, &mut word, &mut symbols) {
                 Ok(()) => Ok(symbols),
                 Err(fault) => Err(fault),
             };
         }
-        match take_bytes(reached, scl, sda, &chunk[..count], &mut word, &mut symbols) {
-            Ok(next) => reached = next,
+        let bytes = &chunk[..count];
+        match take_bytes(&mut reached, scl, sda, bytes, &mut word, &mut symbols) {
+            Ok(()) => {}
             Err(fault) => return Err(fault),
         }
     }
     Err(CaptureFault::Read)
 }
 
-/// Takes the next bytes of a text.
+/// Takes the next bytes of a text: words with the spaces behind them, and the letters of a word that is open at their end.
 fn take_bytes(
-    before: Reached,
+    reached: &mut Reached,
     scl: &[u8],
     sda: &[u8],
     bytes: &[u8],
     word: &mut Text,
-    symbols: &mut Vec<Symbol>,
-) -> Result<Reached, CaptureFault>
-    ensures { MatchResult result
-        (λ next. bytes_read scl.now sda.now (record { reached = before; word = word.old; symbols = symbols.old.items }) bytes.now ≡ Ok (record { reached = next; word = word.new; symbols = symbols.new.items }))
-        (λ fault. (fault ≡ CaptureFault.Memory) ⊎ (bytes_read scl.now sda.now (record { reached = before; word = word.old; symbols = symbols.old.items }) bytes.now ≡ Err fault)) }
+    symbols: &mut Vec<Stamped>,
+) -> Result<(), CaptureFault>
+    ensures { Reads (bytes_read scl.now sda.now (input reached.old word.old symbols.old.items) bytes.now) reached.new word.new symbols.new.items result }
 {
-    let mut reached = before;
-    for byte in bytes {
-        reached = reached.take_byte(scl, sda, *byte, word, symbols)?;
+    let mut rest = bytes;
+    let mut count = letters_in(rest);
+    while count < rest.len() {
+        match reached.take_part(scl, sda, &rest[..count], rest[count], word, symbols) {
+            Ok(()) => {}
+            Err(fault) => return Err(fault),
+        }
+        rest = &rest[count + 1..];
+        count = letters_in(rest);
     }
-    Ok(reached)
+    reached.keep_letters(rest, word)
 }
 
 /// Ends a text: takes its last word, and the level that lasts.
 fn end_text(
-    before: Reached,
+    reached: &mut Reached,
     scl: &[u8],
     sda: &[u8],
     word: &mut Text,
-    symbols: &mut Vec<Symbol>,
+    symbols: &mut Vec<Stamped>,
 ) -> Result<(), CaptureFault>
     ensures { MatchResult result
-        (λ _. Ended scl.now sda.now (record { reached = before; word = word.old; symbols = symbols.old.items }) symbols.new.items)
-        (λ fault. (fault ≡ CaptureFault.Memory) ⊎ (text_ended scl.now sda.now (record { reached = before; word = word.old; symbols = symbols.old.items }) ≡ Err fault)) }
+        (λ _. Ended scl.now sda.now (input reached.old word.old symbols.old.items) symbols.new.items)
+        (λ fault. (fault ≡ CaptureFault.Memory) ⊎ (text_ended scl.now sda.now (input reached.old word.old symbols.old.items) ≡ Err fault)) }
 {
-    match before.end_word(scl, sda, word, symbols) {
-        Ok(reached) => close(reached, symbols),
+    match reached.end_word(scl, sda, word, symbols) {
+        Ok(()) => close(reached, symbols),
         Err(fault) => Err(fault),
     }
 }
 
 /// Takes the level that lasts to the end of a text.
-fn close(reached: Reached, symbols: &mut Vec<Symbol>) -> Result<(), CaptureFault>
+fn close(reached: &mut Reached, symbols: &mut Vec<Stamped>) -> Result<(), CaptureFault>
     ensures { MatchResult result
-        (λ _. Closed (closed reached) symbols.old.items symbols.new.items)
-        (λ fault. (fault ≡ CaptureFault.Memory) ⊎ (closed reached ≡ Err fault)) }
+        (λ _. Closed (closed reached.old) symbols.old.items symbols.new.items)
+        (λ fault. (fault ≡ CaptureFault.Memory) ⊎ (closed reached.old ≡ Err fault)) }
 {
     match reached.close() {
-        Ok(taken) => match keep(taken, symbols) {
-            Ok(_) => Ok(()),
-            Err(fault) => Err(fault),
-        },
+        Ok(symbol) => keep_symbol(symbol, symbols),
         Err(fault) => Err(fault),
     }
 }

@@ -1,11 +1,11 @@
-ghost use Rattle.std.specs.Prelude.{◌≡◌, ◌++◌, None, MatchResult, option_to_list};
-ghost use Rattle.i3c_wave.specs.CaptureTexts.{is_space};
+ghost use Rattle.std.specs.Prelude.{◌≡◌, position};
+ghost use Rattle.i3c_wave.specs.CaptureTexts.{is_space, letters_in};
 
-use crate::capture::{Capture, Heard};
+use crate::capture::Capture;
 use crate::capture_fault::CaptureFault;
 use crate::dump::{Dump, Item};
+use crate::stamped::{Stamped, keep_symbol};
 use i3c_base::Addresses;
-use i3c_frame::Symbol;
 use i3c_text::Text;
 
 /// How many bytes a word of a dump may have.
@@ -19,16 +19,10 @@ pub(crate) struct Reached {
     line: u64,
 }
 
-/// The same behind a word, and the symbol that is whole by it.
-#[derive(Clone, Copy, Debug, Drop)]
-pub(crate) struct Taken {
-    pub reached: Reached,
-    pub symbol: Option<Symbol>,
-}
-
 impl Reached {
-    ghost use Rattle.std.specs.Prelude.{◌≡◌, ◌⊎◌, Ok, Err, MatchResult};
-    ghost use Rattle.i3c_wave.specs.CaptureTexts.{Input, behind, byte_read, closed, item_heard, item_taken, new_reached, word_ended, word_taken};
+    ghost use Rattle.std.specs.Prelude.{◌≡◌, [], List};
+    ghost use Rattle.i3c_wave.specs.declared.stamped.Stamped.{Stamped as StampedValue};
+    ghost use Rattle.i3c_wave.specs.CaptureTexts.{Reads, Takes, behind, closed, input, item_heard, letters_kept, new_reached, part_read, parted, word_ended, word_taken};
 
     /// Before the first word. Legacy targets have these addresses.
     pub fn new(legacies: Addresses) -> Reached
@@ -41,162 +35,170 @@ impl Reached {
         }
     }
 
-    /// Takes the next byte of the text, behind the letters of a word that it may end.
-    pub fn take_byte(
-        self,
+    /// Takes letters, which go on with the word that is open, and the space behind them. As a rule they are a whole word.
+    pub fn take_part(
+        &mut self,
         scl: &[u8],
         sda: &[u8],
-        byte: u8,
+        letters: &[u8],
+        space: u8,
         word: &mut Text,
-        symbols: &mut Vec<Symbol>,
-    ) -> Result<Reached, CaptureFault>
-        ensures { MatchResult result
-            (λ next. byte_read scl.now sda.now (record { reached = self; word = word.old; symbols = symbols.old.items }) byte ≡ Ok (record { reached = next; word = word.new; symbols = symbols.new.items }))
-            (λ fault. (fault ≡ CaptureFault.Memory) ⊎ (byte_read scl.now sda.now (record { reached = self; word = word.old; symbols = symbols.old.items }) byte ≡ Err fault)) }
+        symbols: &mut Vec<Stamped>,
+    ) -> Result<(), CaptureFault>
+        ensures { Reads (part_read scl.now sda.now (input self.old word.old symbols.old.items) letters.now space) self.new word.new symbols.new.items result }
     {
-        if is_space(byte) {
-            match self.end_word(scl, sda, word, symbols) {
-                Ok(reached) => Ok(reached.behind(byte)),
-                Err(fault) => Err(fault),
+        if word.as_bytes().is_empty() && letters.len() <= MOST_LETTERS {
+            return self.take_whole(scl, sda, letters, space, symbols);
+        }
+        match self.keep_letters(letters, word) {
+            Ok(()) => {}
+            Err(fault) => return Err(fault),
+        }
+        match self.end_word(scl, sda, word, symbols) {
+            Ok(()) => {
+                self.pass(space);
+                Ok(())
             }
-        } else if word.as_bytes().len() >= MOST_LETTERS {
-            Err(CaptureFault::BadWord(self.line))
-        } else {
-            match word.push(&[byte]) {
-                Ok(()) => Ok(self),
-                Err(_) => Err(CaptureFault::Memory),
+            Err(fault) => Err(fault),
+        }
+    }
+
+    /// Takes a whole word, and the space behind it.
+    fn take_whole(
+        &mut self,
+        scl: &[u8],
+        sda: &[u8],
+        word: &[u8],
+        space: u8,
+        symbols: &mut Vec<Stamped>,
+    ) -> Result<(), CaptureFault>
+        ensures { Reads (parted space (word_ended scl.now sda.now (input self.old word.now symbols.old.items))) self.new [] symbols.new.items result }
+    {
+        match self.end_letters(scl, sda, word, symbols) {
+            Ok(()) => {
+                self.pass(space);
+                Ok(())
             }
+            Err(fault) => Err(fault),
+        }
+    }
+
+    /// Keeps letters of a word that is open.
+    pub fn keep_letters(&self, letters: &[u8], word: &mut Text) -> Result<(), CaptureFault>
+        ensures { (symbols : List StampedValue) → Reads (letters_kept (input self.now word.old symbols) letters.now) self.now word.new symbols result }
+    {
+        if !letters.is_empty() && word.as_bytes().len() + letters.len() > MOST_LETTERS {
+            return Err(CaptureFault::BadWord(self.line));
+        }
+        match word.push(letters) {
+            Ok(()) => Ok(()),
+            Err(_) => Err(CaptureFault::Memory),
         }
     }
 
     /// Ends a word, if it has letters.
     pub fn end_word(
-        self,
+        &mut self,
         scl: &[u8],
         sda: &[u8],
         word: &mut Text,
-        symbols: &mut Vec<Symbol>,
-    ) -> Result<Reached, CaptureFault>
-        ensures { MatchResult result
-            (λ next. word_ended scl.now sda.now (record { reached = self; word = word.old; symbols = symbols.old.items }) ≡ Ok (record { reached = next; word = word.new; symbols = symbols.new.items }))
-            (λ fault. (fault ≡ CaptureFault.Memory) ⊎ (word_ended scl.now sda.now (record { reached = self; word = word.old; symbols = symbols.old.items }) ≡ Err fault)) }
+        symbols: &mut Vec<Stamped>,
+    ) -> Result<(), CaptureFault>
+        ensures { Reads (word_ended scl.now sda.now (input self.old word.old symbols.old.items)) self.new word.new symbols.new.items result }
     {
-        if word.as_bytes().is_empty() {
-            return Ok(self);
-        }
-        match self.take(scl, sda, word.as_bytes()) {
-            Ok(taken) => {
+        match self.end_letters(scl, sda, word.as_bytes(), symbols) {
+            Ok(()) => {
                 word.clear();
-                keep(taken, symbols)
+                Ok(())
             }
             Err(fault) => Err(fault),
         }
     }
 
-    /// Takes the next word.
-    fn take(self, scl: &[u8], sda: &[u8], word: &[u8]) -> Result<Taken, CaptureFault>
-        ensures { result ≡ word_taken scl.now sda.now self word.now }
+    /// Takes the letters of a whole word, if there are any.
+    fn end_letters(
+        &mut self,
+        scl: &[u8],
+        sda: &[u8],
+        letters: &[u8],
+        symbols: &mut Vec<Stamped>,
+    ) -> Result<(), CaptureFault>
+        ensures { Reads (word_ended scl.now sda.now (input self.old letters.now symbols.old.items)) self.new [] symbols.new.items result }
     {
-        match self.dump.take(scl, sda, self.line, word) {
-            Ok(said) => self.with_dump(said.dump).take_item(said.item),
+        if letters.is_empty() {
+            return Ok(());
+        }
+        match self.take(scl, sda, letters) {
+            Ok(symbol) => keep_symbol(symbol, symbols),
             Err(fault) => Err(fault),
         }
     }
 
-    /// The same with another dump.
-    fn with_dump(self, dump: Dump) -> Reached
-        ensures { result ≡ record self { dump = dump } }
+    /// Takes the next word, and gives the symbol that is whole by it.
+    fn take(&mut self, scl: &[u8], sda: &[u8], word: &[u8]) -> Result<Option<Stamped>, CaptureFault>
+        ensures { Takes (word_taken scl.now sda.now self.old word.now) self.new result }
     {
-        Reached { dump, ..self }
+        match self.dump.take(scl, sda, self.line, word) {
+            Ok(item) => self.take_item(item),
+            Err(fault) => Err(fault),
+        }
     }
 
     /// Takes what a word says.
-    fn take_item(self, item: Item) -> Result<Taken, CaptureFault>
-        ensures { result ≡ item_heard self item }
+    fn take_item(&mut self, item: Item) -> Result<Option<Stamped>, CaptureFault>
+        ensures { Takes (item_heard self.old item) self.new result }
     {
         match item {
-            Item::Nothing => Ok(quiet_at(self)),
-            Item::Time(time) => match self.capture.at(time) {
-                Some(capture) => Ok(quiet_at(Reached { capture, ..self })),
-                None => Err(CaptureFault::BadTime(self.line)),
-            },
+            Item::Nothing => Ok(None),
+            Item::Time(time) => {
+                if self.capture.advance(time) {
+                    Ok(None)
+                } else {
+                    Err(CaptureFault::BadTime(self.line))
+                }
+            }
             Item::NoLevel => Err(CaptureFault::NoLevel(self.capture.time())),
-            Item::Level(line, high) => {
-                self.take_heard(self.capture.change(line, high, self.dump.setup()))
-            }
+            Item::Level(line, high) => self.capture.change(line, high, self.dump.setup()),
         }
     }
 
-    /// Takes what is heard of the lines.
-    fn take_heard(self, heard: Result<Heard, CaptureFault>) -> Result<Taken, CaptureFault>
-        ensures { result ≡ item_taken self heard }
+    /// Passes over a space. A line feed ends a line.
+    fn pass(&mut self, space: u8)
+        ensures { self.new ≡ behind self.old space }
     {
-        match heard {
-            Ok(heard) => Ok(Taken {
-                reached: Reached {
-                    capture: heard.capture,
-                    ..self
-                },
-                symbol: heard.symbol,
-            }),
-            Err(fault) => Err(fault),
-        }
-    }
-
-    /// The same behind a space.
-    fn behind(self, byte: u8) -> Reached
-        ensures { result ≡ behind self byte }
-    {
-        if byte == b'\n' {
-            Reached {
-                line: self.line.saturating_add(1),
-                ..self
-            }
-        } else {
-            self
+        if space == b'\n' && self.line < u64::MAX {
+            self.line += 1;
         }
     }
 
     /// What is heard at the end of the text.
-    pub fn close(self) -> Result<Taken, CaptureFault>
-        ensures { result ≡ closed self }
+    pub fn close(&mut self) -> Result<Option<Stamped>, CaptureFault>
+        ensures { Takes (closed self.old) self.new result }
     {
         match self.dump.end_text(self.line) {
-            Ok(()) => self.take_heard(self.capture.hear()),
+            Ok(()) => self.capture.hear(),
             Err(fault) => Err(fault),
         }
     }
 }
 
-/// What is read where no symbol is whole.
-fn quiet_at(reached: Reached) -> Taken
-    ensures { result ≡ record { reached = reached; symbol = None } }
+/// How many letters of a word are before the first space, or before the end.
+pub(crate) fn letters_in(bytes: &[u8]) -> usize
+    ensures { result ≡ letters_in bytes.now }
 {
-    Taken {
-        reached,
-        symbol: None,
-    }
+    first_space(bytes).unwrap_or(bytes.len())
 }
 
-/// Keeps a symbol that is whole.
-pub(crate) fn keep(taken: Taken, symbols: &mut Vec<Symbol>) -> Result<Reached, CaptureFault>
-    ensures { MatchResult result
-        (λ reached. (reached ≡ taken.reached) × (symbols.new.items ≡ symbols.old.items ++ option_to_list taken.symbol))
-        (λ fault. fault ≡ CaptureFault.Memory) }
+/// Where the first space is.
+fn first_space(bytes: &[u8]) -> Option<usize>
+    ensures { result ≡ position is_space bytes.now }
 {
-    let Taken { reached, symbol } = taken;
-    match symbol {
-        None => Ok(reached),
-        Some(symbol) => match symbols.push(symbol) {
-            Ok(()) => Ok(reached),
-            Err(_) => Err(CaptureFault::Memory),
-        },
-    }
+    bytes.iter().position(|byte| is_space(*byte))
 }
 
-/// Whether a byte parts words: a space, a tab, a line feed or a carriage return.
+/// Whether a byte parts words: a space, or a control byte.
 fn is_space(byte: u8) -> bool
     ensures { result ≡ is_space byte }
 {
-    matches!(byte, b' ' | b'\t' | b'\n' | b'\r')
+    byte <= b' '
 }

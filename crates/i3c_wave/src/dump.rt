@@ -62,9 +62,9 @@ pub(crate) struct Said {
 }
 
 impl Dump {
-    ghost use Rattle.std.specs.Prelude.{◌≡◌};
+    ghost use Rattle.std.specs.Prelude.{◌≡◌, bytes_eq, codes, if◌then◌else◌};
     ghost use Rattle.i3c_wave.specs.DumpWords.{code_of, unit_setup};
-    ghost use Rattle.i3c_wave.specs.Dumps.{at_place, begun_word, behind_vector, command_said, ended, is_ended, inside, line_of, missing, named, new_dump, scale_word, scaled_by, scaled_unit, value_said, word_said};
+    ghost use Rattle.i3c_wave.specs.Dumps.{Says, at_place, begun_word, command_said, ended, is_ended, inside, line_of, missing, named, new_dump, scale_word, scaled_by, scaled_unit, value_said, word_said};
 
     /// Before the first word.
     pub fn new() -> Dump
@@ -85,15 +85,57 @@ impl Dump {
         self.setup
     }
 
-    /// Takes the next word, which stands at this line of the text. The signals of these names are SCL and SDA.
-    pub fn take(self, scl: &[u8], sda: &[u8], at: u64, word: &[u8]) -> Result<Said, CaptureFault>
-        ensures { result ≡ word_said scl.now sda.now self at word.now }
+    /// Takes the next word, which stands at this line of the text, and gives what it says. The signals of these names are SCL and
+    /// SDA.
+    pub fn take(
+        &mut self,
+        scl: &[u8],
+        sda: &[u8],
+        at: u64,
+        word: &[u8],
+    ) -> Result<Item, CaptureFault>
+        ensures { Says (word_said scl.now sda.now self.old at word.now) self.new result }
     {
         match self.place {
             Place::Between => self.begin(at, word),
-            Place::Vector => Ok(self.behind_vector(word)),
-            _ if is_word(word, b"$end") => self.end(at),
-            _ => self.inside(scl, sda, at, word),
+            Place::Vector => {
+                self.place = Place::Between;
+                Ok(self.value(None, word))
+            }
+            _ => self.take_inside(scl, sda, at, word),
+        }
+    }
+
+    /// Takes a word of a command, or its end.
+    #[inline(never)]
+    fn take_inside(
+        &mut self,
+        scl: &[u8],
+        sda: &[u8],
+        at: u64,
+        word: &[u8],
+    ) -> Result<Item, CaptureFault>
+        ensures { Says (if bytes_eq word.now (codes "$end") then ended self.old at else inside scl.now sda.now self.old at word.now) self.new result }
+    {
+        if is_word(word, b"$end") {
+            let said = self.end(at);
+            self.keep(said)
+        } else {
+            let said = self.inside(scl, sda, at, word);
+            self.keep(said)
+        }
+    }
+
+    /// Keeps the dump behind a word.
+    fn keep(&mut self, said: Result<Said, CaptureFault>) -> Result<Item, CaptureFault>
+        ensures { Says said self.new result }
+    {
+        match said {
+            Ok(said) => {
+                *self = said.dump;
+                Ok(said.item)
+            }
+            Err(fault) => Err(fault),
         }
     }
 
@@ -119,27 +161,39 @@ impl Dump {
     }
 
     /// Takes a word between commands.
-    fn begin(self, at: u64, word: &[u8]) -> Result<Said, CaptureFault>
-        ensures { result ≡ begun_word self at word.now }
+    fn begin(&mut self, at: u64, word: &[u8]) -> Result<Item, CaptureFault>
+        ensures { Says (begun_word self.old at word.now) self.new result }
     {
         let [first, rest @ ..] = word else {
             return Err(CaptureFault::BadWord(at));
         };
         match lead_of(*first) {
-            Lead::Command => self.command(command_of(word)),
+            Lead::Command => self.begin_command(command_of(word)),
             Lead::Time => match number_of(rest) {
-                Some(time) => Ok(saying(self, Item::Time(time))),
+                Some(time) => Ok(Item::Time(time)),
                 None => Err(CaptureFault::BadTime(at)),
             },
             Lead::Low => Ok(self.value(Some(false), rest)),
             Lead::High => Ok(self.value(Some(true), rest)),
             Lead::NoLevel => Ok(self.value(None, rest)),
-            Lead::Vector => Ok(nothing(self.at_place(Place::Vector))),
+            Lead::Vector => {
+                self.place = Place::Vector;
+                Ok(Item::Nothing)
+            }
             Lead::Other => Err(CaptureFault::BadWord(at)),
         }
     }
 
     /// Begins a command.
+    #[inline(never)]
+    fn begin_command(&mut self, command: Command) -> Result<Item, CaptureFault>
+        ensures { Says (command_said self.old command) self.new result }
+    {
+        let said = self.command(command);
+        self.keep(said)
+    }
+
+    /// The dump behind the word that begins a command.
     fn command(self, command: Command) -> Result<Said, CaptureFault>
         ensures { result ≡ command_said self command }
     {
@@ -155,19 +209,19 @@ impl Dump {
         }
     }
 
-    /// Takes the value of a signal.
-    fn value(self, level: Option<bool>, code: &[u8]) -> Said
-        ensures { result ≡ value_said self level (code_of code.now) }
+    /// What the value of a signal says.
+    fn value(&self, level: Option<bool>, code: &[u8]) -> Item
+        ensures { value_said self.now level (code_of code.now) ≡ record { dump = self.now; item = result } }
     {
         match code_of(code) {
-            Some(code) => saying(self, level_said(self.line_of(code), level)),
-            None => nothing(self),
+            Some(code) => level_said(self.line_of(code), level),
+            None => Item::Nothing,
         }
     }
 
     /// The line that has a code.
-    fn line_of(self, code: Code) -> Option<Line>
-        ensures { result ≡ line_of self code }
+    fn line_of(&self, code: Code) -> Option<Line>
+        ensures { result ≡ line_of self.now code }
     {
         if has_code(self.scl, code) {
             Some(Line::Scl)
@@ -176,13 +230,6 @@ impl Dump {
         } else {
             None
         }
-    }
-
-    /// Takes the code behind a vector. A vector is no level of a line.
-    fn behind_vector(self, code: &[u8]) -> Said
-        ensures { result ≡ behind_vector self code.now }
-    {
-        self.at_place(Place::Between).value(None, code)
     }
 
     /// Ends a command.

@@ -1,5 +1,5 @@
-ghost use Rattle.std.specs.Prelude.{◌≡◌, bytes_eq, nat_lt, position};
-ghost use Rattle.i3c_wave.specs.DumpWords.{code_of, command_of, digit_more, digits_in, is_same_code_as, lead_of, magnitude_of, number_from, number_of, scaled, unit_setup, values_of};
+ghost use Rattle.std.specs.Prelude.{◌≡◌, ◌≤◌, [], bytes_eq, length, nat_lt, position};
+ghost use Rattle.i3c_wave.specs.DumpWords.{code_of, command_of, digit_more, digits_in, from_coded, is_same_code_as, lead_of, magnitude_of, number_from, number_of, scaled, unit_setup, values_of};
 
 /// The setup time of push-pull data, 3 ns (I3C Basic 6.2), in units of 1 fs, 1 ps and 1 ns, and one unit of a longer one.
 const FEMTOSECONDS: u64 = 3_000_000;
@@ -12,6 +12,12 @@ const LONGER: u64 = 1;
 
 /// Ten times this and nine is a time.
 const MOST_LED: u64 = 1_000_000_000_000_000_000;
+
+/// Numbers of so many digits fit.
+const FITTING: usize = 19;
+
+/// What stands for no number: more than any of nineteen digits.
+const NO_NUMBER: u64 = u64::MAX;
 
 /// What a dump calls a signal by: one to four characters, and zeros behind them.
 #[derive(Clone, Copy, Debug, PartialEq, Eq)]
@@ -126,18 +132,42 @@ pub(crate) fn has_code(declared: Option<Code>, code: Code) -> bool
     }
 }
 
-/// The number of decimal digits, if they are digits, and it fits.
+/// The number of decimal digits, if they are digits, and it fits. Nineteen digits fit.
 pub(crate) fn number_of(digits: &[u8]) -> Option<u64>
     ensures { result ≡ number_of digits.now }
 {
     if digits.is_empty() {
         return None;
     }
-    number_from(digits)
+    if digits.len() > FITTING {
+        return long_number(digits);
+    }
+    let number = short_number(digits);
+    if number == NO_NUMBER {
+        None
+    } else {
+        Some(number)
+    }
 }
 
-/// The number of decimal digits, or 0 of none.
-fn number_from(digits: &[u8]) -> Option<u64>
+/// The number of nineteen digits at most, or of something else.
+fn short_number(digits: &[u8]) -> u64
+    requires { length digits.now ≤ 19 }
+    ensures { from_coded result [] ≡ number_from 0 digits.now }
+{
+    let mut number = 0;
+    for digit in digits {
+        if *digit < b'0' || *digit > b'9' {
+            return NO_NUMBER;
+        }
+        number = number * 10 + u64::from(*digit - b'0');
+    }
+    number
+}
+
+/// The number of many decimal digits.
+#[inline(never)]
+fn long_number(digits: &[u8]) -> Option<u64>
     ensures { result ≡ number_from 0 digits.now }
 {
     let mut number = 0;

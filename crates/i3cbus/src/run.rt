@@ -5,16 +5,17 @@ use crate::stressing::run_stress;
 use crate::version::print_version;
 use crate::waving::wave_script;
 use crate::witness::Errors;
-use crate::words::{Capturing, STANDARD_INPUT, Task, Work, task_named};
+use crate::words::{Capturing, STANDARD_INPUT, Task, Telling, Work, task_named};
 use i3c_base::Addresses;
 use i3c_drive::run_driven;
 use i3c_explore::Limits;
 use i3c_scenario::{
     ScriptFault, Tally, WatchFault, Watching, check_script, run_explained, run_lint, run_script,
-    run_trace, run_viewed, run_watched,
+    run_trace, run_watched, write_out,
 };
+use i3c_text::Text;
 use i3c_tracks::run_explore;
-use i3c_wave::{read_capture, run_wave, symbols_text};
+use i3c_wave::{frame_times, push_timed, read_capture, run_wave, symbols_text};
 use std::alloc::Global;
 use std::io::{ErrorKind, Read, Write};
 use std::rt::{Env, Files};
@@ -43,7 +44,7 @@ where
     let words = words_given(rt)?;
     match task_named(rt.alloc(), &words)? {
         Task::File(work, file) => ran(run_file(rt, work, file)),
-        Task::Capture(capturing, work, file) => ran(run_capture(rt, capturing, work, file)),
+        Task::Capture(capturing, telling, file) => ran(run_capture(rt, capturing, telling, file)),
         Task::Explore(limits, file) => run_exploration(rt, limits, file),
         Task::Stress(stress) => ran(run_stress(rt, &stress, is_watched)),
         Task::Version => ran(print_version(rt)),
@@ -64,16 +65,21 @@ where
     }
 }
 
-/// Does this with the symbols of a capture, of a file or of standard input.
-fn run_capture<R>(rt: &R, capturing: Capturing<'_>, work: Work, file: &str) -> Result<Tally, Fault>
+/// Tells the symbols of a capture, of a file or of standard input.
+fn run_capture<R>(
+    rt: &R,
+    capturing: Capturing<'_>,
+    telling: Telling,
+    file: &str,
+) -> Result<Tally, Fault>
 where
     R: Files + Input + Print + Eprint + AllocGlobal,
 {
     if file == STANDARD_INPUT {
-        return capture_from(rt, capturing, work, &mut rt.reader());
+        return capture_from(rt, capturing, telling, &mut rt.reader());
     }
     match fs::open(rt, file) {
-        Ok(mut input) => capture_from(rt, capturing, work, &mut input),
+        Ok(mut input) => capture_from(rt, capturing, telling, &mut input),
         Err(error) => Err(reading_fault(&error)),
     }
 }
@@ -124,12 +130,24 @@ fn run_from<R: Print + Eprint + AllocGlobal, S: Read>(
         Work::Run => run_script(rt.alloc(), input, &mut printed),
         Work::Drive => run_driven(rt.alloc(), input, &mut printed),
         Work::Check => check_script(rt.alloc(), input, &mut printed),
-        Work::Trace => run_trace(rt.alloc(), input, &mut printed),
-        Work::Lint(legacies) => run_lint(rt.alloc(), legacies, input, &mut printed),
-        Work::Explain(legacies) => explain_from(rt, legacies, input, &mut printed),
+        Work::Tell(telling) => tell_from(rt, telling, input, &mut printed),
     };
     let flushed = printed.flush().is_ok();
     came_to(outcome, flushed)
+}
+
+/// Tells the trace of a reader.
+fn tell_from<R: Eprint + AllocGlobal, S: Read, W: Write>(
+    rt: &R,
+    telling: Telling,
+    input: &mut S,
+    printed: &mut W,
+) -> Result<Tally, ScriptFault> {
+    match telling {
+        Telling::Plain => run_trace(rt.alloc(), input, printed),
+        Telling::Lint(legacies) => run_lint(rt.alloc(), legacies, input, printed),
+        Telling::Explain(legacies) => explain_from(rt, legacies, input, printed),
+    }
 }
 
 /// Tells the trace of a reader, and standard error why its lines are refused that are.
@@ -146,11 +164,11 @@ fn explain_from<R: Eprint + AllocGlobal, S: Read, W: Write>(
     outcome
 }
 
-/// Does this with the symbols of a reader's capture.
+/// Tells the symbols of a reader's capture.
 fn capture_from<R: Print + Eprint + AllocGlobal, S: Read>(
     rt: &R,
     capturing: Capturing<'_>,
-    work: Work,
+    telling: Telling,
     input: &mut S,
 ) -> Result<Tally, Fault> {
     let scl = capturing.scl.as_bytes();
@@ -158,7 +176,36 @@ fn capture_from<R: Print + Eprint + AllocGlobal, S: Read>(
     let symbols = read_capture(rt.alloc(), capturing.legacies, scl, sda, input)?;
     let text = symbols_text(rt.alloc(), &symbols)?;
     let mut trace = text.as_bytes();
-    run_from(rt, work, &mut trace)
+    if capturing.numbers {
+        let times = frame_times(rt.alloc(), &symbols)?;
+        return timed_from(rt, telling, &times, &mut trace);
+    }
+    run_from(rt, Work::Tell(telling), &mut trace)
+}
+
+/// Tells the trace of a reader, whose frames begin at these times. What is told is gathered, and goes out on a fault too.
+fn timed_from<R: Print + Eprint + AllocGlobal, S: Read>(
+    rt: &R,
+    telling: Telling,
+    times: &[u64],
+    input: &mut S,
+) -> Result<Tally, Fault> {
+    let mut told = Vec::new(rt.alloc());
+    let outcome = gathered(tell_from(rt, telling, input, &mut told));
+    let mut text = Text::new(rt.alloc());
+    push_timed(times, &told, &mut text)?;
+    let mut printed = io::writer(rt);
+    let written = write_out(text.as_bytes(), &mut printed).is_ok();
+    let flushed = printed.flush().is_ok();
+    came_to(outcome, written && flushed)
+}
+
+/// What came of lines that are gathered, which are lost for want of memory alone.
+fn gathered(outcome: Result<Tally, ScriptFault>) -> Result<Tally, ScriptFault> {
+    match outcome {
+        Err(ScriptFault::Write) => Err(ScriptFault::Memory),
+        outcome => outcome,
+    }
 }
 
 /// Prints the waveform of a reader's trace.

@@ -18,7 +18,8 @@ pub(crate) const STANDARD_INPUT: &str = "-";
 /// The command that runs a script.
 const RUN: &str = "run";
 
-/// Its options: the run ends at a line without a form; lines are numbered, go out themselves, and are explained.
+/// Its options: the run ends at a line without a form; lines are numbered, go out themselves, and are explained. A capture's
+/// frames have their times by the second.
 const STRICT: &str = "strict";
 
 const NUMBERS: &str = "numbers";
@@ -171,8 +172,8 @@ docs/EXPLORING.md has all of it; examples/explore/ has files.";
 pub(crate) enum Task<'a> {
     /// Reads this file, and does this with it.
     File(Work, &'a str),
-    /// Reads this file as a capture, and does this with its symbols.
-    Capture(Capturing<'a>, Work, &'a str),
+    /// Reads this file as a capture, and tells its symbols.
+    Capture(Capturing<'a>, Telling, &'a str),
     /// Tries every order of this file's tracks, within these limits.
     Explore(Limits, &'a str),
     /// Lets devices post from threads of their own.
@@ -195,14 +196,21 @@ pub(crate) enum Work {
     /// Runs it as a script, and prints a picture of its wire.
     Draw,
     /// Tells it as a trace.
-    Trace,
-    /// Tells it as a trace with its faults. Legacy targets have these addresses.
-    Lint(Addresses),
+    Tell(Telling),
     /// Runs it as a script, and prints its wire as a value change dump. Legacy targets have these addresses.
     WaveScript(Addresses),
     /// Prints it, as a trace, as a value change dump. Legacy targets have these addresses.
     Wave(Addresses),
-    /// Tells it as a trace, with its faults if there are addresses of legacy targets, and says why lines are refused.
+}
+
+/// How a trace is told.
+#[derive(Clone, Copy, Debug, PartialEq, Eq)]
+pub(crate) enum Telling {
+    /// What it means.
+    Plain,
+    /// With its faults. Legacy targets have these addresses.
+    Lint(Addresses),
+    /// With its faults if there are addresses of legacy targets, and standard error is told why lines are refused.
     Explain(Option<Addresses>),
 }
 
@@ -214,6 +222,8 @@ pub(crate) struct Capturing<'a> {
     pub sda: &'a str,
     /// Legacy targets have these addresses.
     pub legacies: Addresses,
+    /// Whether each frame has its time.
+    pub numbers: bool,
 }
 
 /// How many devices post, and how often each tries to.
@@ -284,29 +294,30 @@ fn task_given<'a>(matches: &ArgMatches<'a>) -> Result<Task<'a>, Fault> {
 fn trace_given<'a>(matches: &ArgMatches<'a>) -> Result<Task<'a>, Fault> {
     let file = matches.get_str(FILE).unwrap_or(STANDARD_INPUT);
     let legacies = legacies_given(matches.get_strs(LEGACY).unwrap_or(&[]))?;
-    let work = trace_work(matches, legacies);
+    let telling = telling_given(matches, legacies);
     if !matches.get_flag(VCD) {
-        return Ok(Task::File(work, file));
+        return Ok(Task::File(Work::Tell(telling), file));
     }
     let capturing = Capturing {
         scl: matches.get_str(SCL).unwrap_or(SCL),
         sda: matches.get_str(SDA).unwrap_or(SDA),
         legacies,
+        numbers: matches.get_flag(NUMBERS),
     };
-    Ok(Task::Capture(capturing, work, file))
+    Ok(Task::Capture(capturing, telling, file))
 }
 
-/// What is done with a trace. Legacy targets have these addresses.
-fn trace_work(matches: &ArgMatches<'_>, legacies: Addresses) -> Work {
+/// How a trace is to be told. Legacy targets have these addresses.
+fn telling_given(matches: &ArgMatches<'_>, legacies: Addresses) -> Telling {
     let linted = if matches.get_flag(LINT) {
         Some(legacies)
     } else {
         None
     };
     match linted {
-        linted if matches.get_flag(EXPLAIN) => Work::Explain(linted),
-        Some(legacies) => Work::Lint(legacies),
-        None => Work::Trace,
+        linted if matches.get_flag(EXPLAIN) => Telling::Explain(linted),
+        Some(legacies) => Telling::Lint(legacies),
+        None => Telling::Plain,
     }
 }
 
@@ -524,7 +535,13 @@ fn with_capture<'a>(alloc: Global, trace: Command<'a>) -> Result<Command<'a>, Fa
     trace
         .arg(capture_argument(alloc).group(WITH_LEGACIES)?)?
         .arg(signal_argument(alloc, SCL, "The signal of SCL, scl without this").requires_arg(VCD)?)?
-        .arg(signal_argument(alloc, SDA, "The signal of SDA, sda without this").requires_arg(VCD)?)
+        .arg(signal_argument(alloc, SDA, "The signal of SDA, sda without this").requires_arg(VCD)?)?
+        .arg(flag(
+            alloc,
+            NUMBERS,
+            "Ends the line of each frame with the time of its START",
+        )
+        .requires_arg(VCD)?)
         .or(Err(Fault::Memory))
 }
 

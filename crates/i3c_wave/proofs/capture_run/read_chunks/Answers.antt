@@ -44,5 +44,5 @@ loop-preserved g c =
     let inv = c.loop.invariant.1 in
     let piece = take c.in-Ok.count c.read.new.buf in (
       omega (arith, c.read.auto.buf, c.loop.invariant.0),
-      (inv.0 ++ piece, more_read first old new inv.0 piece inv.1 c.in-Ok.ensures.bytes.0, bytes_on c.args.scl.now c.args.sda.now inv.0 piece (new_input c.args.legacies) (record { reached = c.loop.reached; word = c.loop.word; symbols = c.loop.symbols.items }) (Ok (record { reached = c.in-Ok-take_bytes.next; word = c.take_bytes.new.word; symbols = c.take_bytes.new.symbols.items })) inv.2 c.in-Ok-take_bytes.ensures),
+      (inv.0 ++ piece, more_read first old new inv.0 piece inv.1 c.in-Ok.ensures.bytes.0, bytes_on c.args.scl.now c.args.sda.now inv.0 piece (new_input c.args.legacies) (record { reached = c.loop.reached; word = c.loop.word; symbols = c.loop.symbols.items }) (Ok (record { reached = c.take_bytes.new.reached; word = c.take_bytes.new.word; symbols = c.take_bytes.new.symbols.items })) inv.2 c.in-Ok-take_bytes.ensures),
     )

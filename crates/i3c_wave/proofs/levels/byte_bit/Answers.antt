@@ -1,4 +1,4 @@
-use Rattle.std.proofs.Common.{◌≡◌, ◌∙◌, ◌+◌, ◌≤◌, [], ◌∷◌, ap, arith, sym}
+use Rattle.std.proofs.Common.{◌∙◌, [], ◌∷◌, ap, arith, sym}
 use Rattle.std.specs.List.{slice_get}
 use Rattle.i3c_wave.specs.Levels.{bits}
 use Rattle.i3c_wave.proofs.LevelLaws.{behind_at, bits_alone}

@@ -1,4 +1,4 @@
-use Rattle.std.proofs.Common.{◌≡◌, ◌≤◌, ◌<◌, ◌+◌, IfSome, ap, arith, length, subst}
+use Rattle.std.proofs.Common.{◌≡◌, ◌<◌, IfSome, ap, arith, length, subst}
 use Rattle.i3c_wave.proofs.ReadLaws.{whole_read}
 use Rattle.i3c_wave.proofs.reading.read_text.Goals as goal
 

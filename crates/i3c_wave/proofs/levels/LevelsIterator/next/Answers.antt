@@ -1,4 +1,4 @@
-use Rattle.std.proofs.Common.{◌≡◌, ◌∷◌, [], ap, arith, length, rules, sym}
+use Rattle.std.proofs.Common.{◌≡◌, [], ap, length, rules, sym}
 use Rattle.i3c_wave.specs.Levels.{levels_left, levels_of}
 use Rattle.i3c_wave.proofs.LevelLaws.{left_none, left_some}
 use Rattle.i3c_wave.proofs.levels.LevelsIterator.next.Goals as goal

@@ -1,6 +1,6 @@
 use Rattle.std.proofs.Common.{◌≡◌, drop}
 use Rattle.i3c_wave.specs.DumpWords.{number_from}
-use Rattle.i3c_wave.proofs.dump_word.number_from.Given as goal
+use Rattle.i3c_wave.proofs.dump_word.long_number.Given as goal
 
 -- the number so far leads with the digits to come to that of all
 abbrev pub invariant-loop-digit : goal.invariant-loop-digit
