@@ -176,12 +176,12 @@ tried_of old live line way tried result held new same is ok told =
 pub leads_of : (old live : Seen) (line : Line) (way tried : ℕ) (result : Result Bool AllocError) (new : Seen) → live ≡ old → tried ≡ min way (latest old.state line.risk line.command)
     → IfOk result (λ (h : Bool). (before : Before) × Runs live line.command line.risk tried before new × (h ≡ all_hold new before line.expectations.items))
     → IfOk result (λ (h : Bool). h ≡ true → LineSteps old line way new)
-leads_of old live line way tried (Ok held) new same is told sure = let t = tried_of old live line way tried (Ok held) held new same is refl told in (t.0, t.1, sym t.2 ∙ sure)
+leads_of old live line way tried (Ok held) new same is told = λ sure. let t = tried_of old live line way tried (Ok held) held new same is refl told in (t.0, t.1, sym t.2 ∙ sure)
 leads_of old live line way tried (Err short) new same is told = tt
 
 -- and breaks an expectation if not
 pub breaks_of : (old live : Seen) (line : Line) (way tried : ℕ) (result : Result Bool AllocError) (new : Seen) → live ≡ old → tried ≡ min way (latest old.state line.risk line.command)
     → IfOk result (λ (h : Bool). (before : Before) × Runs live line.command line.risk tried before new × (h ≡ all_hold new before line.expectations.items))
     → IfOk result (λ (h : Bool). h ≡ false → LineBreaks old line way)
-breaks_of old live line way tried (Ok held) new same is told broken = let t = tried_of old live line way tried (Ok held) held new same is refl told in (t.0, new, t.1, sym t.2 ∙ broken)
+breaks_of old live line way tried (Ok held) new same is told = λ broken. let t = tried_of old live line way tried (Ok held) held new same is refl told in (t.0, new, t.1, sym t.2 ∙ broken)
 breaks_of old live line way tried (Err short) new same is told = tt
