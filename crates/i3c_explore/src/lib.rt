@@ -11,7 +11,7 @@
 //! That is kept if it is new, in the room of a state of the layer before. So a step makes no state that it doesn't keep.
 //!
 //! Not claimed: that there is memory enough, that the limits are, or how much time it takes. Where a machine's steps are not
-//! determined, a run that its `after` doesn't choose is not tried.
+//! determined, what its `run` doesn't choose is not tried.
 #![tactic(auto)]
 
 mod block;

@@ -52,7 +52,7 @@ impl Scene {
     ///
     /// # Errors
     ///
-    /// The main controller isn't capable of its role.
+    /// The main controller isn't capable of its role, or there is no memory.
     pub fn begin(
         alloc: Global,
         main: Setup,
