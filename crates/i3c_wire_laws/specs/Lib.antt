@@ -1,3 +1,4 @@
 pub mod Wires
 pub mod Fitting
 pub mod Laws
+pub mod Numbers
