@@ -37,7 +37,7 @@ header_long address read ack =
     let parts = length-append (bits 7 address) (read ∷ not ack ∷ []) in
     omega (arith, whole, parts, bits_long 7 address)
 
-word_long : (word : Word) → length (flat_map bits_of (Symbol.Word word ∷ [])) ≡ 9
+pub word_long : (word : Word) → length (flat_map bits_of (Symbol.Word word ∷ [])) ≡ 9
 word_long word =
     let whole = length-append (bits 8 word.byte ++ word.t ∷ []) [] in
     let parts = length-append (bits 8 word.byte) (word.t ∷ []) in
@@ -93,7 +93,7 @@ past_front (b ∷ front) more zero number e = absurd (omega (arith, e))
 past_front (b ∷ front) more (suc i) number e = past_front front more i number (omega (arith, e))
 
 -- what stands behind some of the symbols that are sent
-sent_later : (sda : Bool) (wire front more : List Symbol) (first bits to : ℕ) → IsSentFrom sda wire first (front ++ more) → length (flat_map bits_of front) ≡ bits → to ≡ first + bits
+pub sent_later : (sda : Bool) (wire front more : List Symbol) (first bits to : ℕ) → IsSentFrom sda wire first (front ++ more) → length (flat_map bits_of front) ≡ bits → to ≡ first + bits
     → IsSentFrom sda wire to more
 sent_later sda wire front more first bits to sent long e number =
     let same : to + number ≡ first + (bits + number) = omega (arith, e) in

@@ -15,3 +15,5 @@ pub mod Sent
 pub mod Numbered
 pub mod FrameNumbers
 pub mod EventNumbers
+pub mod Answered
+pub mod EventAnswers

@@ -2,3 +2,4 @@ pub mod Wires
 pub mod Fitting
 pub mod Laws
 pub mod Numbers
+pub mod Answering

@@ -14,4 +14,5 @@ pub use laws::{
 };
 pub use numbers::{
     events_send_the_bits_by_number, events_send_the_bits_in_order, runs_send_the_bits_in_order,
+    targets_answer_at_their_bits,
 };

@@ -1,3 +1,4 @@
+ghost use Rattle.i3c_wire_laws.specs.Answering.{TargetsAnswerAtTheirBits};
 ghost use Rattle.i3c_wire_laws.specs.Numbers.{EventsSendTheBitsByNumber, EventsSendTheBitsInOrder, RunsSendTheBitsInOrder};
 
 /// At the rising edges of SCL that clock a bit, SDA has the bits of what an event of a sound bus sends, one after another,
@@ -15,4 +16,11 @@ pub fn events_send_the_bits_by_number()
 /// The same of all that the events of a legal run send, one behind the other.
 pub fn runs_send_the_bits_in_order()
     ensures { RunsSendTheBitsInOrder }
+{}
+
+/// The answer to the header of a command's or a transfer's target is at the bit of the frame that its cuts have for it: SDA
+/// is low at that rising edge exactly where somebody isn't lost by that bit who would answer. Of a handover this is about
+/// one that isn't granted.
+pub fn targets_answer_at_their_bits()
+    ensures { TargetsAnswerAtTheirBits }
 {}
