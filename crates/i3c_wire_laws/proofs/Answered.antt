@@ -40,7 +40,7 @@ transfer_at sda wire begun own address read ack rest sent e =
     ap (at_bit (high sda) (wire_levels wire)) same ∙ sent 8 ∙ ap (λ symbols. slice_get (flat_map bits_of symbols) 8) e ∙ ninth address read ack rest
 
 -- of a command, whose own part begins with its code
-command_at : (sda : Bool) (wire : List Symbol) (begun : ℕ) (own : List Symbol) (code : Word) (address : ℕ) (read ack : Bool) (rest : List Symbol)
+pub command_at : (sda : Bool) (wire : List Symbol) (begun : ℕ) (own : List Symbol) (code : Word) (address : ℕ) (read ack : Bool) (rest : List Symbol)
     → IsSentFrom sda wire (1 + begun) own → own ≡ Symbol.Word code ∷ Repeated ∷ Header address read ack ∷ rest → at_bit (high sda) (wire_levels wire) (begun + 18) ≡ Some (not ack)
 command_at sda wire begun own code address read ack rest sent e =
     let whole : IsSentFrom sda wire (1 + begun) (Symbol.Word code ∷ Repeated ∷ Header address read ack ∷ rest) = subst (IsSentFrom sda wire (1 + begun)) e sent in

@@ -33,10 +33,12 @@ TargetAnswers sda old cuts (ReadFrom a policy others) begun wire = IsAnsweredAt 
 TargetAnswers sda old cuts (WriteTo a bytes policy others) begun wire = IsAnsweredAt sda wire (begun + 9) (AnyAnswers old a (lost_by cuts (begun + 9)))
 TargetAnswers sda old cuts event begun wire = ⊤
 
--- the answer in what an event sends, where the reply is an answer of its frame
+-- the answer in what an event sends, if it sends a frame with a target
 abbrev pub IsAnswering : Bool → State → Event → Reply → List Symbol → Type 0
 IsAnswering sda old event (Reply.Framed framed) wire =
     OfCuts event (λ cuts. (word : ℕ) × IsWordBits old framed.served word × TargetAnswers sda old cuts event (word + header_bits framed.served) wire)
+IsAnswering sda old event (Reply.Handed served) wire =
+    OfCuts event (λ cuts. (word : ℕ) × IsWordBits old served word × TargetAnswers sda old cuts event (word + header_bits served) wire)
 IsAnswering sda old event reply wire = ⊤
 
 -- on the lines of a sound bus, the answer of each frame's target is at its bit

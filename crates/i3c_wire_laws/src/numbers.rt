@@ -19,8 +19,7 @@ pub fn runs_send_the_bits_in_order()
 {}
 
 /// The answer to the header of a command's or a transfer's target is at the bit of the frame that its cuts have for it: SDA
-/// is low at that rising edge exactly where somebody isn't lost by that bit who would answer. Of a handover this is about
-/// one that isn't granted.
+/// is low at that rising edge exactly where somebody isn't lost by that bit who would answer.
 pub fn targets_answer_at_their_bits()
     ensures { TargetsAnswerAtTheirBits }
 {}
