@@ -1,4 +1,5 @@
 pub mod LevelLaws
+pub mod ClockLaws
 pub mod DumpLaws
 pub mod Written
 pub mod ReadLaws

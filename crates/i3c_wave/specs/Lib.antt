@@ -1,6 +1,7 @@
 pub mod Awaited
 pub mod Captures
 pub mod CaptureTexts
+pub mod Clocks
 pub mod Dump
 pub mod DumpWords
 pub mod Dumps

@@ -3,7 +3,7 @@
 //! `levels` is what the two lines are at, symbol by symbol. `timing` says for how long, and `wave` is the dump (IEEE 1364) of
 //! one symbol after another. `script_wave` has the lines of a script and what they print. `run` writes the dump of a trace as
 //! a stream, by `reading` and `output`. `edges` is one who watches the two lines. `laws` says that SDA has a symbol's bits
-//! where SCL rises, and what is heard of a trace's levels. `dump_word` and `dump` say what the words of a dump say of two
+//! where SCL rises, and what is heard of a trace's levels; `clock_laws` says the same of whole frames, bit by bit. `dump_word` and `dump` say what the words of a dump say of two
 //! signals, `capture` reads symbols of the signals' levels, each with its time (`stamped`), and `capture_text` and
 //! `capture_run` those of a whole text. `timed` puts the times of frames behind what is told of them.
 #![tactic(auto)]
@@ -13,6 +13,7 @@ mod capture;
 mod capture_fault;
 mod capture_run;
 mod capture_text;
+mod clock_laws;
 mod dump;
 mod dump_word;
 mod edges;
@@ -34,6 +35,9 @@ pub use awaited::Awaited;
 pub use capture::Line;
 pub use capture_fault::CaptureFault;
 pub use capture_run::read_capture;
+pub use clock_laws::{
+    bits_have_their_numbers, frames_have_the_bits_in_order, rising_edges_are_in_order,
+};
 pub use edges::{Edges, Mark};
 pub use fault::WaveFault;
 pub use laws::{edges_give_the_marks, rising_edges_have_the_bits, symbols_are_read_back};

@@ -30,7 +30,7 @@ byte_fits st cuts a None h = tt
 byte_fits st cuts a (Some byte) h = (h.small, tt)
 
 -- one record was appended
-one_record : (records : List Record) (r s : Record) → records ++ r ∷ [] ≡ records ++ s ∷ [] → r ≡ s
+pub one_record : (records : List Record) (r s : Record) → records ++ r ∷ [] ≡ records ++ s ∷ [] → r ≡ s
 one_record records r s e = let same : r ∷ [] ≡ s ∷ [] = append_cancel_left records (r ∷ []) (s ∷ []) e in cc
 
 -- a frame's beginning, where a step served the request and kept the records
@@ -58,7 +58,7 @@ on_fits old cuts (Recorded place) word on h = subst AreInRange (sym h.2) (tt, (o
 on_fits old cuts Torn word on h = subst AreInRange (sym h.2) (tt, (omega arith, tt))
 
 -- what a frame leaves of the records, where its own part keeps them
-records_kept : (old : State) (policy : Fixed) (cuts : CutList) (served : Served) (rest : ℕ) (Own : Lost → State → State → Type 0) (new : State) → (f : Frame old policy cuts served rest Own new)
+pub records_kept : (old : State) (policy : Fixed) (cuts : CutList) (served : Served) (rest : ℕ) (Own : Lost → State → State → Type 0) (new : State) → (f : Frame old policy cuts served rest Own new)
     → ((lost : Lost) (mid done : State) → Own lost mid done → done.records ≡ mid.records) → new.records ≡ f.mid.records
 records_kept old policy cuts served rest Own new f own = ap (λ (st : State). st.records) f.left ∙ own _ f.mid f.done f.own
 

@@ -12,3 +12,8 @@ pub mod FitsKept
 pub mod RunRanges
 pub mod RunWalks
 pub mod Sent
+pub mod Numbered
+pub mod FrameNumbers
+pub mod EventNumbers
+pub mod Answered
+pub mod EventAnswers
