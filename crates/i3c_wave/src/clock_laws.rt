@@ -1,7 +1,8 @@
 ghost use Rattle.i3c_wave.specs.Clocks.{BitsHaveTheirNumbers, FramesHaveTheBitsInOrder, RisingEdgesAreInOrder};
 
-/// In the levels of any symbols, SDA is at the rising edges of SCL what the symbols have there, one after another: their
-/// bits, 1 for a repeated START and 0 for a STOP, which have a rising edge of their own, and nothing for a START.
+/// In the levels of any symbols, with SCL high before them, SDA is at the rising edges of SCL what the symbols have there, one
+/// after another: their bits, 1 for a repeated START and 0 for a STOP, which have a rising edge of their own, and nothing for
+/// a START.
 pub fn rising_edges_are_in_order()
     ensures { RisingEdgesAreInOrder }
 {}
@@ -12,8 +13,8 @@ pub fn frames_have_the_bits_in_order()
     ensures { FramesHaveTheBitsInOrder }
 {}
 
-/// Bit 0 of a frame, as cuts are numbered, is the answer to its first header, and is clocked by the ninth rising edge. The
-/// bits of what follows have the numbers from 1 on, as the rising edges that clock them. In a round the count begins anew.
+/// Bit 0 of a frame, as cuts are numbered, is the answer to its first header: of the rising edges that clock a bit, the ninth
+/// clocks it. The next edges clock the bits of what follows, from 1 on. In a round the count begins anew.
 pub fn bits_have_their_numbers()
     ensures { BitsHaveTheirNumbers }
 {}

@@ -7,8 +7,8 @@ pub fn events_send_the_bits_in_order()
     ensures { EventsSendTheBitsInOrder }
 {}
 
-/// The bits have the numbers by which cuts name them: bit 0, at the ninth rising edge, is the answer to the first header. A
-/// frame's own part comes behind as many bits as its definition takes the part to come after.
+/// The bits have the numbers by which cuts name them: bit 0, at the ninth of these edges, is the answer to the first header.
+/// A frame's own part comes behind as many bits as its definition takes the part to come after.
 pub fn events_send_the_bits_by_number()
     ensures { EventsSendTheBitsByNumber }
 {}
