@@ -1,5 +1,5 @@
 -- The run of a viewed script, line by line.
-use Rattle.std.proofs.Common.{◌≡◌, ◌⊎◌, ◌∙◌, ℕ, ◌+◌, List, [], ◌∷◌, ◌++◌, min, Option, IfSome, MatchResult, OnOk, Result, Ok, Err, ap, append_assoc, inl, inr, refl, subst, sym}
+use Rattle.std.proofs.Common.{◌≡◌, ◌⊎◌, ◌∙◌, ℕ, ◌+◌, List, [], ◌∷◌, ◌++◌, min, Option, IfSome, OnOk, Result, Ok, Err, ap, append_assoc, inl, inr, refl, subst, sym}
 use Rattle.i3c_frame.specs.declared.symbols.Symbol.{Symbol}
 use Rattle.i3c_script.specs.declared.faults.Stop.{Stop}
 use Rattle.i3c_script.specs.Obeying.{wire_on}
@@ -11,7 +11,7 @@ use Rattle.i3c_scenario.specs.Lines.{GivesLine, IsGivenOut, IsReadFrom, given, l
 use Rattle.i3c_scenario.specs.Outcomes.{HasNoFeed}
 use Rattle.i3c_scenario.specs.Scripts.{LineDoes}
 use Rattle.i3c_scenario.specs.ScriptSteps.{Progress}
-use Rattle.i3c_scenario.specs.Viewed.{AreRun, AreSeen, Fails, LineEnds, LineFailed, LineRan, LineViewed, Shown, ViewedEnds, ViewedPart, ViewedTo, ViewedWhole, Views, bytes_of, kept}
+use Rattle.i3c_scenario.specs.Viewed.{AreRun, AreSeen, Fails, LineFailed, LineRan, LineViewed, Shown, ViewedEnds, ViewedPart, ViewedWhole, Views, bytes_of, kept}
 use Rattle.i3c_scenario.proofs.LinesRead.{all_given, first_given}
 use Rattle.i3c_scenario.proofs.ScriptRead.{script_is, unread}
 use Rattle.i3c_scenario.proofs.TraceRead.{none_read}
@@ -40,7 +40,7 @@ bytes_more [] shown = refl
 bytes_more (first ∷ lines) shown = ap (λ b. first.line ++ 10 ∷ b) (bytes_more lines shown) ∙ sym (append_assoc first.line (10 ∷ bytes_of lines) (shown.line ++ 10 ∷ []))
 
 -- the line in hand, as it was shown
-of : List ℕ → List ℕ → List Symbol → Shown
+abbrev of : List ℕ → List ℕ → List Symbol → Shown
 of line printed wire = record { line = line; printed = printed; wire = wire }
 
 -- one more line was run and shown
@@ -109,12 +109,6 @@ viewed_ends gives fails known now next reader further old mid new from at fault 
 pub none_viewed : {V : Type 0} (gives : Views V) (known : Option (List ℕ)) (old : V) (from : Progress) → ViewedPart gives known old old from
 none_viewed gives known old from =
     record { lines = []; to = from; rest = unread known ++ 10 ∷ []; run = refl; seen = refl; first = script_is known known [] [] [] (none_read known [] refl) refl }
-
--- what a line comes to that was run, and that the viewer was shown
-pub line_ends : {V : Type 0} (gives : Views V) (fails : Fails V) (line printed : List ℕ) (wire : List Symbol) (old new : V) (from to : Progress) (result : Result (Unit {0}) ScriptFault) → LineRan line printed wire from to
-    → MatchResult result (λ _. gives old line printed wire new) (λ fault. fails old line printed wire fault new) → LineEnds gives fails line old new from to result
-line_ends gives fails line printed wire old new from to (Ok done) ran shown = (printed, wire, ran, shown)
-line_ends gives fails line printed wire old new from to (Err fault) ran failed = inr (printed, wire, to, ran, failed)
 
 -- a line that was run
 pub line_ran : (line said text : List ℕ) (wire : List Symbol) (outcome : Result (Unit {0}) Stop) (from to : Progress) → LineDoes from.state line said (refusal_in outcome) to.state

@@ -116,7 +116,11 @@ impl ViewedRun {
         ensures { LineEnds V.view_gives V.view_fails line.now viewer.old viewer.new (progress self.old.script) (progress self.new.script) result }
     {
         match self.obey(line) {
-            Ok(()) => viewer.view(line, self.script.text.as_bytes(), &self.wire),
+            Ok(()) => {}
+            Err(fault) => return Err(fault),
+        }
+        match viewer.view(line, self.script.text.as_bytes(), &self.wire) {
+            Ok(()) => Ok(()),
             Err(fault) => Err(fault),
         }
     }

@@ -1,23 +1,22 @@
 -- What goes out of a script as a dump, line by line.
-use Rattle.std.proofs.Common.{◌≡◌, ◌⊎◌, ◌∙◌, ℕ, List, [], ◌∷◌, ◌++◌, MatchResult, Option, IfSome, Result, Ok, Err, ap, append_assoc, append-nil, inl, inr, refl, subst, sym}
+use Rattle.std.proofs.Common.{◌≡◌, ◌∙◌, ℕ, List, [], ◌∷◌, ◌++◌, Option, IfSome, Result, Ok, Err, ap, append_assoc, append-nil, inl, inr, refl, subst, sym}
 use Rattle.std.specs.Io.KnownBytes.{Appends}
-use Rattle.i3c_frame.specs.declared.symbols.Symbol.{Symbol}
 use Rattle.i3c_script.specs.Obeying.{IsBegun}
 use Rattle.i3c_wave.specs.declared.wave.Wave.{Wave}
 use Rattle.i3c_wave.specs.Dump.{free_bus}
 use Rattle.i3c_wave.specs.Scripts.{script_preamble}
 use Rattle.i3c_scenario.specs.declared.faults.ScriptFault.{ScriptFault}
 use Rattle.i3c_scenario.specs.declared.script.Tally.{Tally}
-use Rattle.i3c_scenario.specs.Outcomes.{AppendsSome, Puts, PutsOrFails, output, written}
+use Rattle.i3c_scenario.specs.Outcomes.{AppendsSome, Puts, PutsOrFails, output}
 use Rattle.i3c_scenario.specs.ScriptSteps.{Progress}
 use Rattle.i3c_scenario.specs.Viewed.{AreRun, AreSeen, Fails, Shown, ViewedGoes, Views, bytes_of}
-use Rattle.i3c_scenario.proofs.Gathered.{flush_all, flush_some, puts_both, puts_none, puts_whole, some_puts}
+use Rattle.i3c_scenario.proofs.Gathered.{flush_all, flush_some, puts_both, puts_none, some_puts}
 use Rattle.i3c_scenario.proofs.TraceWritten.{front_out}
 use Rattle.i3c_scenario.proofs.ViewRuns.{bytes_more}
-use Rattle.i3cbus.specs.Wavings.{Dumping, FailsLine, GoesLast, IsWaved, WavedPart, WavesLine, WentOut, after_wire, script_dump, seen_dump, shown_dump}
+use Rattle.i3cbus.specs.Wavings.{Dumping, FailsLine, GoesLast, IsWaved, WavesLine, WentOut, after_wire, dump_at, script_dump, seen_dump, shown_dump}
 
 -- the dump after lines, one after another
-after_lines : ℕ → Wave → List Shown → Wave
+abbrev after_lines : ℕ → Wave → List Shown → Wave
 after_lines legacies wave [] = wave
 after_lines legacies wave (shown ∷ rest) = after_lines legacies (after_wire legacies wave shown.wire) rest
 
@@ -93,13 +92,13 @@ part_out legacies known a b c text fault result from to lines rest begun run fir
   go ScriptFault.TooLarge (inr (is, out)) = subst (IsWaved legacies known a c) (sym is) (part ScriptFault.Write (some out))
 
 -- lines that were put behind the beginning of a dump
-from_start : (legacies : ℕ) (a b : Option (List ℕ)) (text : List ℕ) (old new : Dumping) (lines : List Shown) → old ≡ record { legacies = legacies; wave = free_bus; output = output a script_preamble } → new.output ≡ output b text
+from_start : (legacies : ℕ) (a b : Option (List ℕ)) (text : List ℕ) (old new : Dumping) (lines : List Shown) → old ≡ dump_at legacies free_bus a script_preamble → new.output ≡ output b text
     → Puts old.output new.output (shown_dump old.legacies old.wave lines) → Puts (output a script_preamble) (output b text) (shown_dump legacies free_bus lines)
 from_start legacies a b text old new lines start end puts =
     subst (λ o. Puts (output a script_preamble) o (shown_dump legacies free_bus lines)) end (subst (λ d. Puts d.output new.output (shown_dump d.legacies d.wave lines)) start puts)
 
 -- the same with the prefix of a line, of which the writer took no more
-cut_start : (legacies : ℕ) (a b : Option (List ℕ)) (text : List ℕ) (old mid new : Dumping) (lines : List Shown) (last : Shown) → old ≡ record { legacies = legacies; wave = free_bus; output = output a script_preamble } → new.output ≡ output b text
+cut_start : (legacies : ℕ) (a b : Option (List ℕ)) (text : List ℕ) (old mid new : Dumping) (lines : List Shown) (last : Shown) → old ≡ dump_at legacies free_bus a script_preamble → new.output ≡ output b text
     → Seen old mid lines → PutsOrFails mid.output new.output (seen_dump mid.legacies mid.wave last.line last.printed last.wire) (Err ScriptFault.Write) → AppendsSome a b (script_dump legacies (lines ++ last ∷ []))
 cut_start legacies a b text old mid new lines last start end seen failed =
     let shown = shown_dump old.legacies old.wave lines in
@@ -112,16 +111,16 @@ cut_start legacies a b text old mid new lines last start end seen failed =
     (subst (λ d. AppendsSome d.output.out new.output.out (d.output.gathered ++ shown_dump d.legacies d.wave (lines ++ last ∷ []))) start whole)
 
 -- what goes out of a script whose lines were shown, from the first one on
-pub waved_by : {V : Type 0} (dumping : V → Dumping) (legacies : ℕ) (known a b c : Option (List ℕ)) (text : List ℕ) (old new : V) (outcome result : Result Tally ScriptFault)
-    → dumping old ≡ record { legacies = legacies; wave = free_bus; output = output a script_preamble } → (dumping new).output ≡ output b text
-    → ViewedGoes (gives dumping) (fails dumping) known old new outcome → GoesLast b c text outcome result → IsWaved legacies known a c result
-waved_by dumping legacies known a b c text old new (Ok tally) result start end (from, begun, none, to, counted, whole) (inl (is, out)) =
+pub waved_by : {V : Type 0} (old new : V) (dumping : V → Dumping) (legacies : ℕ) (known a b c : Option (List ℕ)) (text : List ℕ) (outcome result : Result Tally ScriptFault)
+    → ViewedGoes (gives dumping) (fails dumping) known old new outcome → dumping old ≡ dump_at legacies free_bus a script_preamble → (dumping new).output ≡ output b text
+    → GoesLast b c text outcome result → IsWaved legacies known a c result
+waved_by old new dumping legacies known a b c text (Ok tally) result (from, begun, none, (to, counted, whole)) start end (inl (is, out)) =
     let lines = whole.lines in
     let puts = from_start legacies a b text (dumping old) (dumping new) lines start end (seen_puts dumping lines old new whole.seen).puts in
     let (front, one, e) = flush_all (output a script_preamble) (output b text) c (shown_dump legacies free_bus lines) puts out in
     subst (IsWaved legacies known a c) (sym is)
     (record { from = from; to = to; lines = lines; begun = begun; none = none; counted = counted; run = whole.run; all = whole.all; out = subst (Appends a c) (sym (e ∙ append-nil front)) one })
-waved_by dumping legacies known a b c text old new (Ok tally) result start end (from, begun, none, to, counted, whole) (inr (is, out)) =
+waved_by old new dumping legacies known a b c text (Ok tally) result (from, begun, none, (to, counted, whole)) start end (inr (is, out)) =
     let lines = whole.lines in
     let puts = from_start legacies a b text (dumping old) (dumping new) lines start end (seen_puts dumping lines old new whole.seen).puts in
     subst (IsWaved legacies known a c) (sym is)
@@ -135,10 +134,10 @@ waved_by dumping legacies known a b c text old new (Ok tally) result start end (
       first = subst (λ bytes. IfSome known (λ script. bytes ≡ script ++ 10 ∷ [])) (sym (append-nil (bytes_of lines))) whole.all;
       out = flush_some (output a script_preamble) (output b text) c (shown_dump legacies free_bus lines) puts out;
     }))
-waved_by dumping legacies known a b c text old new (Err fault) result start end (from, begun, none, inl part) last =
+waved_by old new dumping legacies known a b c text (Err fault) result (from, begun, none, inl part) start end last =
     part_out legacies known a b c text fault result from part.to part.lines part.rest begun part.run part.first
     (from_start legacies a b text (dumping old) (dumping new) part.lines start end (seen_puts dumping part.lines old new part.seen).puts) last
-waved_by dumping legacies known a b c text old new (Err fault) result start end (from, begun, none, inr to) last = failed_out fault to.failed last where
+waved_by old new dumping legacies known a b c text (Err fault) result (from, begun, none, inr to) start end last = failed_out fault to.failed last where
   failed_out : (stop : ScriptFault) → FailsLine (dumping to.mid) to.last.line to.last.printed to.last.wire stop (dumping new) → GoesLast b c text (Err stop) result → IsWaved legacies known a c result
   failed_out ScriptFault.Memory none last =
       let d = dumping old in

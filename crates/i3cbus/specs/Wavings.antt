@@ -1,5 +1,5 @@
 -- The dump of a script.
-use Rattle.std.specs.Prelude.{◌≡◌, ◌⊎◌, ℕ, List, [], ◌∷◌, ◌++◌, Option, IfSome, Result, Ok, Err, MatchResult}
+use Rattle.std.specs.Prelude.{◌≡◌, ◌⊎◌, ℕ, List, [], ◌∷◌, ◌++◌, Option, IfSome, Result, Err, MatchResult}
 use Rattle.std.specs.Io.KnownBytes.{Appends}
 use Rattle.i3c_frame.specs.declared.symbols.Symbol.{Symbol}
 use Rattle.i3c_script.specs.Obeying.{IsBegun}
@@ -8,7 +8,7 @@ use Rattle.i3c_wave.specs.Dump.{after_symbol, free_bus, symbols_dump}
 use Rattle.i3c_wave.specs.Scripts.{script_preamble, string_text}
 use Rattle.i3c_scenario.specs.declared.faults.ScriptFault.{ScriptFault}
 use Rattle.i3c_scenario.specs.declared.script.Tally.{Tally}
-use Rattle.i3c_scenario.specs.Outcomes.{AppendsSome, Output, Puts, PutsOrFails}
+use Rattle.i3c_scenario.specs.Outcomes.{AppendsSome, Output, Puts, PutsOrFails, output}
 use Rattle.i3c_scenario.specs.ScriptSteps.{Progress}
 use Rattle.i3c_scenario.specs.Viewed.{AreRun, Shown, bytes_of}
 
@@ -40,6 +40,9 @@ pub record Dumping : Type 0 where
   pub legacies : ℕ
   pub wave : Wave
   pub output : Output
+
+abbrev pub dump_at : ℕ → Wave → Option (List ℕ) → List ℕ → Dumping
+dump_at legacies wave out gathered = record { legacies = legacies; wave = wave; output = output out gathered }
 
 -- a line was put behind, of which some may go out
 abbrev pub WavesLine : Dumping → List ℕ → List ℕ → List Symbol → Dumping → Type 0

@@ -59,12 +59,11 @@ struct Waving<W> {
 
 // A line without symbols isn't in the dump.
 impl<W: Write> Viewer for Waving<W> {
-    ghost use Rattle.i3c_scenario.specs.Outcomes.{output};
-    ghost use Rattle.i3cbus.specs.Wavings.{FailsLine, WavesLine};
+    ghost use Rattle.i3cbus.specs.Wavings.{FailsLine, WavesLine, dump_at};
 
-    ghost view_gives = { λ old line printed wire new. WavesLine (record { legacies = old.legacies.0; wave = old.wave; output = output (W.contents old.out) old.text }) line printed wire (record { legacies = new.legacies.0; wave = new.wave; output = output (W.contents new.out) new.text }) };
+    ghost view_gives = { λ old line printed wire new. WavesLine (dump_at old.legacies.0 old.wave (W.contents old.out) old.text) line printed wire (dump_at new.legacies.0 new.wave (W.contents new.out) new.text) };
 
-    ghost view_fails = { λ old line printed wire fault new. FailsLine (record { legacies = old.legacies.0; wave = old.wave; output = output (W.contents old.out) old.text }) line printed wire fault (record { legacies = new.legacies.0; wave = new.wave; output = output (W.contents new.out) new.text }) };
+    ghost view_fails = { λ old line printed wire fault new. FailsLine (dump_at old.legacies.0 old.wave (W.contents old.out) old.text) line printed wire fault (dump_at new.legacies.0 new.wave (W.contents new.out) new.text) };
 
     fn view(&mut self, line: &[u8], printed: &[u8], wire: &[Symbol]) -> Result<(), ScriptFault> {
         if wire.is_empty() {
