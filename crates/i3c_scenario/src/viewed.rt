@@ -121,7 +121,7 @@ impl ViewedRun {
         }
         match viewer.view(line, self.script.text.as_bytes(), &self.wire) {
             Ok(()) => Ok(()),
-            Err(fault) => Err(fault),
+            Err(failed) => Err(failed),
         }
     }
 

@@ -1,4 +1,4 @@
-use Rattle.std.proofs.Common.{◌≡◌, ◌∙◌, ◌++◌, ap, sym}
+use Rattle.std.proofs.Common.{◌∙◌, ◌++◌, ap, sym}
 use Rattle.i3c_wave.specs.Dump.{free_bus}
 use Rattle.i3c_wave.specs.Scripts.{script_preamble}
 use Rattle.i3c_scenario.specs.Outcomes.{output}
