@@ -1,61 +1,114 @@
 -- The run of a viewed script, line by line.
-use Rattle.std.proofs.Common.{◌≡◌, ◌∙◌, ℕ, ◌+◌, List, [], ◌∷◌, ◌++◌, min, Option, IfSome, OnOk, Result, Ok, Err, ap, append_assoc, refl, subst, sym}
+use Rattle.std.proofs.Common.{◌≡◌, ◌⊎◌, ◌∙◌, ℕ, ◌+◌, List, [], ◌∷◌, ◌++◌, min, Option, IfSome, OnOk, Result, Ok, Err, ap, append_assoc, inl, inr, refl, subst, sym}
 use Rattle.i3c_frame.specs.declared.symbols.Symbol.{Symbol}
 use Rattle.i3c_script.specs.declared.faults.Stop.{Stop}
 use Rattle.i3c_script.specs.Obeying.{wire_on}
 use Rattle.i3c_script.specs.Printed.{end_text}
 use Rattle.i3c_script.specs.Stops.{refusals}
+use Rattle.i3c_scenario.specs.declared.faults.ScriptFault.{ScriptFault}
 use Rattle.i3c_scenario.specs.declared.script_lines.ScriptLines.{ScriptLines}
 use Rattle.i3c_scenario.specs.Lines.{GivesLine, IsGivenOut, IsReadFrom, given, line_in_hand}
 use Rattle.i3c_scenario.specs.Outcomes.{HasNoFeed}
 use Rattle.i3c_scenario.specs.Scripts.{LineDoes}
 use Rattle.i3c_scenario.specs.ScriptSteps.{Progress}
-use Rattle.i3c_scenario.specs.Viewed.{AreViewed, LineRan, LineViewed, RunsViewed, Views, bytes_of, kept}
-use Rattle.i3c_scenario.proofs.LinesRead.{all_given}
+use Rattle.i3c_scenario.specs.Viewed.{AreRun, AreSeen, Fails, LineFailed, LineRan, LineViewed, Shown, ViewedEnds, ViewedPart, ViewedWhole, Views, bytes_of, kept}
+use Rattle.i3c_scenario.proofs.LinesRead.{all_given, first_given}
+use Rattle.i3c_scenario.proofs.ScriptRead.{script_is, unread}
+use Rattle.i3c_scenario.proofs.TraceRead.{none_read}
 use Rattle.i3c_scenario.proofs.ScriptRuns.{its_refusals, its_text, refusal_in}
 
 -- the lines that were run and shown so far
 pub record ViewedSoFar {V : Type 0} (gives : Views V) (known now : Option (List ℕ)) (reader : ScriptLines) (old new : V) (from to : Progress) : Type 0 where
-  pub lines : List (List ℕ)
-  pub are : AreViewed gives old lines new from to
+  pub lines : List Shown
+  pub run : AreRun from lines to
+  pub seen : AreSeen gives old lines new
   pub bytes : given reader ≡ bytes_of lines
   pub read : IsReadFrom known now reader
 
 -- lines, and then one more
-one_more : {V : Type 0} (gives : Views V) (lines : List (List ℕ)) (line : List ℕ) (old mid new : V) (from at to : Progress) → AreViewed gives old lines mid from at → HasNoFeed line → LineViewed gives line mid new at to
-    → AreViewed gives old (lines ++ line ∷ []) new from to
-one_more gives [] line old mid new from at to are one done =
-    (new, to, one, subst (λ p. LineViewed gives line old new p to) are.1 (subst (λ v. LineViewed gives line v new at to) are.0 done), (refl, refl))
-one_more gives (first ∷ lines) line old mid new from at to are one done =
-    (are.0, are.1, are.2, are.3, one_more gives lines line are.0 mid new are.1 at to are.4 one done)
+run_more : (lines : List Shown) (shown : Shown) (from at to : Progress) → AreRun from lines at → HasNoFeed shown.line → LineRan shown.line shown.printed shown.wire at to → AreRun from (lines ++ shown ∷ []) to
+run_more [] shown from at to run one ran = (to, one, subst (λ p. LineRan shown.line shown.printed shown.wire p to) run ran, refl)
+run_more (first ∷ lines) shown from at to run one ran = (run.0, run.1, run.2, run_more lines shown run.0 at to run.3 one ran)
+
+seen_more : {V : Type 0} (gives : Views V) (lines : List Shown) (shown : Shown) (old mid new : V) → AreSeen gives old lines mid → gives mid shown.line shown.printed shown.wire new → AreSeen gives old (lines ++ shown ∷ []) new
+seen_more gives [] shown old mid new seen one = (new, subst (λ v. gives v shown.line shown.printed shown.wire new) seen one, refl)
+seen_more gives (first ∷ lines) shown old mid new seen one = (seen.0, seen.1, seen_more gives lines shown seen.0 mid new seen.2 one)
 
 -- the bytes of lines, and of one more
-bytes_more : (lines : List (List ℕ)) (line : List ℕ) → bytes_of (lines ++ line ∷ []) ≡ bytes_of lines ++ (line ++ 10 ∷ [])
-bytes_more [] line = refl
-bytes_more (first ∷ lines) line = ap (λ b. first ++ 10 ∷ b) (bytes_more lines line) ∙ sym (append_assoc first (10 ∷ bytes_of lines) (line ++ 10 ∷ []))
+pub bytes_more : (lines : List Shown) (shown : Shown) → bytes_of (lines ++ shown ∷ []) ≡ bytes_of lines ++ (shown.line ++ 10 ∷ [])
+bytes_more [] shown = refl
+bytes_more (first ∷ lines) shown = ap (λ b. first.line ++ 10 ∷ b) (bytes_more lines shown) ∙ sym (append_assoc first.line (10 ∷ bytes_of lines) (shown.line ++ 10 ∷ []))
+
+-- the line in hand, as it was shown
+abbrev of : List ℕ → List ℕ → List Symbol → Shown
+of line printed wire = record { line = line; printed = printed; wire = wire }
 
 -- one more line was run and shown
 pub one_viewed : {V : Type 0} (gives : Views V) (known now next : Option (List ℕ)) (reader further : ScriptLines) (old mid new : V) (from at to : Progress)
     → ViewedSoFar gives known now reader old mid from at → GivesLine reader further → IsReadFrom known next further → LineViewed gives (line_in_hand further) mid new at to
     → ViewedSoFar gives known next further old new from to
-one_viewed gives known now next reader further old mid new from at to so_far given_line read done =
+one_viewed gives known now next reader further old mid new from at to so_far given_line read (printed, wire, ran, shown) =
     let line = line_in_hand further in
     let lines = so_far.lines in
     record {
-      lines = lines ++ line ∷ [];
-      are = one_more gives lines line old mid new from at to so_far.are given_line.0 done;
-      bytes = given_line.1 ∙ ap (λ b. b ++ (line ++ 10 ∷ [])) so_far.bytes ∙ sym (bytes_more lines line);
+      lines = lines ++ of line printed wire ∷ [];
+      run = run_more lines (of line printed wire) from at to so_far.run given_line.0 ran;
+      seen = seen_more gives lines (of line printed wire) old mid new so_far.seen shown;
+      bytes = given_line.1 ∙ ap (λ b. b ++ (line ++ 10 ∷ [])) so_far.bytes ∙ sym (bytes_more lines (of line printed wire));
       read = read;
     }
 
 -- the last line was run and shown
 pub all_viewed : {V : Type 0} (gives : Views V) (known now next : Option (List ℕ)) (reader further : ScriptLines) (old new : V) (from to : Progress)
-    → ViewedSoFar gives known now reader old new from to → given further ≡ given reader → IsGivenOut further → IsReadFrom known next further → RunsViewed gives known old new from to
-all_viewed gives known now next reader further old new from to so_far same end read = (
-  so_far.lines,
-  subst (λ bytes. IfSome known (λ script. bytes ≡ script ++ 10 ∷ [])) (same ∙ so_far.bytes) (all_given known next further read end).0,
-  so_far.are,
-)
+    → ViewedSoFar gives known now reader old new from to → given further ≡ given reader → IsGivenOut further → IsReadFrom known next further → ViewedWhole gives known old new from to
+all_viewed gives known now next reader further old new from to so_far same end read = record {
+  lines = so_far.lines;
+  run = so_far.run;
+  seen = so_far.seen;
+  all = subst (λ bytes. IfSome known (λ script. bytes ≡ script ++ 10 ∷ [])) (same ∙ so_far.bytes) (all_given known next further read end).0;
+}
+
+-- a fault before the next line
+pub viewed_stops : {V : Type 0} (gives : Views V) (known now : Option (List ℕ)) (reader : ScriptLines) (old new : V) (from to : Progress) → ViewedSoFar gives known now reader old new from to → ViewedPart gives known old new from
+viewed_stops gives known now reader old new from to so_far =
+    let first = first_given known now reader so_far.read in
+    record {
+      lines = so_far.lines;
+      to = to;
+      rest = first.0;
+      run = so_far.run;
+      seen = so_far.seen;
+      first = subst (λ bytes. IfSome known (λ script. bytes ++ first.0 ≡ script ++ 10 ∷ [])) so_far.bytes first.1;
+    }
+
+-- a fault at the next line: of the run, or of the viewer
+pub viewed_ends : {V : Type 0} (gives : Views V) (fails : Fails V) (known now next : Option (List ℕ)) (reader further : ScriptLines) (old mid new : V) (from at : Progress) (fault : ScriptFault)
+    → ViewedSoFar gives known now reader old mid from at → GivesLine reader further → IsReadFrom known next further → (new ≡ mid) ⊎ LineFailed fails (line_in_hand further) mid new at fault
+    → ViewedEnds gives fails known old new from fault
+viewed_ends gives fails known now next reader further old mid new from at fault so_far given_line read (inl same) =
+    inl (subst (λ v. ViewedPart gives known old v from) (sym same) (viewed_stops gives known now reader old mid from at so_far))
+viewed_ends gives fails known now next reader further old mid new from at fault so_far given_line read (inr (printed, wire, to, ran, failed)) =
+    let line = line_in_hand further in
+    let lines = so_far.lines in
+    let last = of line printed wire in
+    let first = first_given known next further read in
+    let bytes : given further ≡ bytes_of (lines ++ last ∷ []) = given_line.1 ∙ ap (λ b. b ++ (line ++ 10 ∷ [])) so_far.bytes ∙ sym (bytes_more lines last) in
+    inr record {
+      lines = lines;
+      last = last;
+      mid = mid;
+      to = to;
+      rest = first.0;
+      run = run_more lines last from at to so_far.run given_line.0 ran;
+      seen = so_far.seen;
+      failed = failed;
+      first = subst (λ bytes. IfSome known (λ script. bytes ++ first.0 ≡ script ++ 10 ∷ [])) bytes first.1;
+    }
+
+-- no line was run
+pub none_viewed : {V : Type 0} (gives : Views V) (known : Option (List ℕ)) (old : V) (from : Progress) → ViewedPart gives known old old from
+none_viewed gives known old from =
+    record { lines = []; to = from; rest = unread known ++ 10 ∷ []; run = refl; seen = refl; first = script_is known known [] [] [] (none_read known [] refl) refl }
 
 -- a line that was run
 pub line_ran : (line said text : List ℕ) (wire : List Symbol) (outcome : Result (Unit {0}) Stop) (from to : Progress) → LineDoes from.state line said (refusal_in outcome) to.state

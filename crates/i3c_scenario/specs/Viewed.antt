@@ -1,5 +1,5 @@
 -- What a viewer is shown of a script.
-use Rattle.std.specs.Prelude.{◌≡◌, ℕ, ◌+◌, ◌-◌, drop, length, List, [], ◌∷◌, ◌++◌, min, Option, IfSome, Result, IfOk}
+use Rattle.std.specs.Prelude.{◌≡◌, ◌⊎◌, ℕ, ◌+◌, ◌-◌, drop, length, List, [], ◌∷◌, ◌++◌, min, Option, IfSome, Result, MatchResult}
 use Rattle.i3c_frame.specs.declared.symbols.Symbol.{Symbol}
 use Rattle.i3c_lines.specs.declared.refusals.Refusal.{Refusal}
 use Rattle.i3c_scenario.specs.declared.faults.ScriptFault.{ScriptFault}
@@ -12,6 +12,16 @@ use Rattle.i3c_script.specs.Obeying.{IsBegun, wire_on}
 -- what a viewer may be after it was shown a line, what the line printed, and the symbols that it sent
 abbrev pub Views : Type 0 → Type 1
 Views V = V → List ℕ → List ℕ → List Symbol → V → Type 0
+
+-- what it may be where it fails at a line, by its fault
+abbrev pub Fails : Type 0 → Type 1
+Fails V = V → List ℕ → List ℕ → List Symbol → ScriptFault → V → Type 0
+
+-- what a viewer is shown of a line: its bytes without the line feed, what it printed, and the symbols that it sent
+pub record Shown : Type 0 where
+  pub line : List ℕ
+  pub printed : List ℕ
+  pub wire : List Symbol
 
 -- the last symbols of a wire, as many as are kept
 abbrev pub kept : List Symbol → List Symbol
@@ -30,22 +40,67 @@ pub record LineRan (line printed : List ℕ) (wire : List Symbol) (from to : Pro
 abbrev pub LineViewed : {V : Type 0} → Views V → List ℕ → V → V → Progress → Progress → Type 0
 LineViewed gives line old new from to = (printed : List ℕ) × (wire : List Symbol) × LineRan line printed wire from to × gives old line printed wire new
 
--- lines were run and shown, one after another
-abbrev pub AreViewed : {V : Type 0} → Views V → V → List (List ℕ) → V → Progress → Progress → Type 0
-AreViewed gives old [] new from to = (new ≡ old) × (to ≡ from)
-AreViewed {V} gives old (line ∷ rest) new from to = (mid : V) × (at : Progress) × HasNoFeed line × LineViewed gives line old mid from at × AreViewed gives mid rest new at to
+-- a line was run, and the viewer failed at it
+abbrev pub LineFailed : {V : Type 0} → Fails V → List ℕ → V → V → Progress → ScriptFault → Type 0
+LineFailed fails line old new from fault = (printed : List ℕ) × (wire : List Symbol) × (to : Progress) × LineRan line printed wire from to × fails old line printed wire fault new
+
+-- what a line comes to: with a fault of the run the viewer wasn't shown it
+abbrev pub LineEnds : {V : Type 0} → Views V → Fails V → List ℕ → V → V → Progress → Progress → Result (Unit {0}) ScriptFault → Type 0
+LineEnds gives fails line old new from to result =
+    MatchResult result (λ _. LineViewed gives line old new from to) (λ fault. (new ≡ old) ⊎ LineFailed fails line old new from fault)
+
+-- lines were run, one after another
+abbrev pub AreRun : Progress → List Shown → Progress → Type 0
+AreRun from [] to = to ≡ from
+AreRun from (shown ∷ rest) to = (at : Progress) × HasNoFeed shown.line × LineRan shown.line shown.printed shown.wire from at × AreRun at rest to
+
+-- a viewer was shown them
+abbrev pub AreSeen : {V : Type 0} → Views V → V → List Shown → V → Type 0
+AreSeen gives old [] new = new ≡ old
+AreSeen {V} gives old (shown ∷ rest) new = (mid : V) × gives old shown.line shown.printed shown.wire mid × AreSeen gives mid rest new
 
 -- the bytes of lines, each with its line feed
-abbrev pub bytes_of : List (List ℕ) → List ℕ
+abbrev pub bytes_of : List Shown → List ℕ
 bytes_of [] = []
-bytes_of (line ∷ rest) = line ++ 10 ∷ bytes_of rest
+bytes_of (shown ∷ rest) = shown.line ++ 10 ∷ bytes_of rest
 
 -- each line of a script was run, its last one too, and shown
-abbrev pub RunsViewed : {V : Type 0} → Views V → Option (List ℕ) → V → V → Progress → Progress → Type 0
-RunsViewed gives known old new from to =
-    (lines : List (List ℕ)) × IfSome known (λ script. bytes_of lines ≡ script ++ 10 ∷ []) × AreViewed gives old lines new from to
+pub record ViewedWhole {V : Type 0} (gives : Views V) (known : Option (List ℕ)) (old new : V) (from to : Progress) : Type 0 where
+  pub lines : List Shown
+  pub run : AreRun from lines to
+  pub seen : AreSeen gives old lines new
+  pub all : IfSome known (λ script. bytes_of lines ≡ script ++ 10 ∷ [])
+
+-- the first lines of a script were run and shown, and then a fault ended the run
+pub record ViewedPart {V : Type 0} (gives : Views V) (known : Option (List ℕ)) (old new : V) (from : Progress) : Type 0 where
+  pub lines : List Shown
+  pub to : Progress
+  pub rest : List ℕ
+  pub run : AreRun from lines to
+  pub seen : AreSeen gives old lines new
+  pub first : IfSome known (λ script. bytes_of lines ++ rest ≡ script ++ 10 ∷ [])
+
+-- the first lines of a script were run, and the viewer, which was shown those before the last of them, failed at that one
+pub record ViewedTo {V : Type 0} (gives : Views V) (fails : Fails V) (known : Option (List ℕ)) (old new : V) (from : Progress) (fault : ScriptFault) : Type 0 where
+  pub lines : List Shown
+  pub last : Shown
+  pub mid : V
+  pub to : Progress
+  pub rest : List ℕ
+  pub run : AreRun from (lines ++ last ∷ []) to
+  pub seen : AreSeen gives old lines mid
+  pub failed : fails mid last.line last.printed last.wire fault new
+  pub first : IfSome known (λ script. bytes_of (lines ++ last ∷ []) ++ rest ≡ script ++ 10 ∷ [])
+
+-- what ends a run early
+abbrev pub ViewedEnds : {V : Type 0} → Views V → Fails V → Option (List ℕ) → V → V → Progress → ScriptFault → Type 0
+ViewedEnds gives fails known old new from fault = ViewedPart gives known old new from ⊎ ViewedTo gives fails known old new from fault
+
+-- what a run comes to
+abbrev pub RunsViewed : {V : Type 0} → Views V → Fails V → Option (List ℕ) → V → V → Progress → Progress → Result (Unit {0}) ScriptFault → Type 0
+RunsViewed gives fails known old new from to result = MatchResult result (λ _. ViewedWhole gives known old new from to) (ViewedEnds gives fails known old new from)
 
 -- the same from a script's start, where the tally counts the refused lines
-abbrev pub ViewedGoes : {V : Type 0} → Views V → Option (List ℕ) → V → V → Result Tally ScriptFault → Type 0
-ViewedGoes gives known old new result = IfOk result
-    (λ tally. (from : Progress) × (to : Progress) × IsBegun from.state × (from.refused ≡ 0) × (to.refused ≡ tally.refused) × RunsViewed gives known old new from to)
+abbrev pub ViewedGoes : {V : Type 0} → Views V → Fails V → Option (List ℕ) → V → V → Result Tally ScriptFault → Type 0
+ViewedGoes gives fails known old new result = (from : Progress) × IsBegun from.state × (from.refused ≡ 0)
+    × MatchResult result (λ tally. (to : Progress) × (to.refused ≡ tally.refused) × ViewedWhole gives known old new from to) (ViewedEnds gives fails known old new from)

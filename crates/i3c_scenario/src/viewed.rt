@@ -1,6 +1,7 @@
-ghost use Rattle.std.specs.Prelude.{◌≡◌, ◌<◌, ◌≤◌, ◌↔◌, ℕ, List, length, IfSome, IsTrue, OnOk};
+ghost use Rattle.std.specs.Prelude.{◌≡◌, ◌<◌, ◌≤◌, ◌↔◌, ℕ, List, length, IfSome, IsTrue, MatchResult, OnOk};
 ghost use Rattle.std.specs.Io.KnownBytes.{IsAtEnd};
 ghost use Rattle.i3c_frame.specs.declared.symbols.Symbol.{Symbol as SymbolValue};
+ghost use Rattle.i3c_scenario.specs.declared.faults.ScriptFault.{ScriptFault as FaultValue};
 ghost use Rattle.i3c_scenario.specs.Viewed.{ViewedGoes, kept};
 
 use crate::faults::ScriptFault;
@@ -19,9 +20,12 @@ pub trait Viewer {
     /// What a viewer may be after it was shown a line, what the line printed, and the symbols that it sent.
     ghost view_gives: { Self → List ℕ → List ℕ → List SymbolValue → Self → Type 0 };
 
-    /// Is shown the next line, without its line feed, with what it printed and the symbols that it sent.
+    /// What a viewer may be where it fails at a line.
+    ghost view_fails: { Self → List ℕ → List ℕ → List SymbolValue → FaultValue → Self → Type 0 };
+
+    /// Is shown the next line, without its line feed, with what it printed and the symbols that it sent. With a fault the run ends.
     fn view(&mut self, line: &[u8], printed: &[u8], wire: &[Symbol]) -> Result<(), ScriptFault>
-        ensures { OnOk result (view_gives self.old line.now printed.now wire.now self.new) };
+        ensures { MatchResult result (λ _. view_gives self.old line.now printed.now wire.now self.new) (λ fault. view_fails self.old line.now printed.now wire.now fault self.new) };
 }
 
 /// Runs a script as `run_script` does, and shows each of its lines to a viewer. Nothing is written.
@@ -32,8 +36,9 @@ pub fn run_viewed<R: Read, V: Viewer>(
 ) -> Result<Tally, ScriptFault>
     ensures whole { OnOk result (IsAtEnd (R.remaining reader.new)) }
     ensures fits { OnOk result (IfSome (R.remaining reader.old) (λ bytes. length bytes ≤ MOST_BYTES)) }
-    // each line of the script was run, its last one too, and shown, in their order, and the tally counts the refused ones
-    ensures lines { ViewedGoes V.view_gives (R.remaining reader.old) viewer.old viewer.new result }
+    // each line of the script was run, its last one too, and shown, in their order, and the tally counts the refused ones; a
+    // fault comes after the first lines, which were run and shown, or the viewer failed at the last one that was run
+    ensures lines { ViewedGoes V.view_gives V.view_fails (R.remaining reader.old) viewer.old viewer.new result }
 {
     let mut run = ViewedRun::new(alloc);
     let Ok(mut chunk) = vec![in alloc; 0u8; CHUNK] else {
@@ -61,7 +66,7 @@ struct ViewedRun {
 
 impl ViewedRun {
     ghost use Rattle.i3c_scenario.specs.ScriptSteps.{progress, state};
-    ghost use Rattle.i3c_scenario.specs.Viewed.{LineRan, LineViewed, RunsViewed, kept};
+    ghost use Rattle.i3c_scenario.specs.Viewed.{LineEnds, LineRan, RunsViewed, kept};
     ghost use Rattle.std.specs.Prelude.{◌++◌};
     ghost use Rattle.i3c_script.specs.Obeying.{IsBegun, wire_on};
 
@@ -88,7 +93,7 @@ impl ViewedRun {
         requires { 0 < length chunk.old }
         ensures whole { OnOk result (IsAtEnd (R.remaining reader.new)) }
         ensures fits { OnOk result (IfSome (R.remaining reader.old) (λ bytes. length bytes ≤ MOST_BYTES)) }
-        ensures runs { OnOk result (RunsViewed V.view_gives (R.remaining reader.old) viewer.old viewer.new (progress self.old.script) (progress self.new.script)) }
+        ensures runs { RunsViewed V.view_gives V.view_fails (R.remaining reader.old) viewer.old viewer.new (progress self.old.script) (progress self.new.script) result }
     {
         let mut lines = ScriptLines::new(self.script.alloc);
         for _ in 0..u64::MAX {
@@ -108,11 +113,15 @@ impl ViewedRun {
 
     /// Runs a line and shows it.
     fn run_line<V: Viewer>(&mut self, line: &[u8], viewer: &mut V) -> Result<(), ScriptFault>
-        ensures { OnOk result (LineViewed V.view_gives line.now viewer.old viewer.new (progress self.old.script) (progress self.new.script)) }
+        ensures { LineEnds V.view_gives V.view_fails line.now viewer.old viewer.new (progress self.old.script) (progress self.new.script) result }
     {
         match self.obey(line) {
-            Ok(()) => viewer.view(line, self.script.text.as_bytes(), &self.wire),
-            Err(fault) => Err(fault),
+            Ok(()) => {}
+            Err(fault) => return Err(fault),
+        }
+        match viewer.view(line, self.script.text.as_bytes(), &self.wire) {
+            Ok(()) => Ok(()),
+            Err(failed) => Err(failed),
         }
     }
 

@@ -1,1 +1,2 @@
 pub mod DrawnOut
+pub mod WavedOut

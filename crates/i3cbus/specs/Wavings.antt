@@ -1,10 +1,16 @@
 -- The dump of a script.
-use Rattle.std.specs.Prelude.{◌≡◌, ℕ, List, [], ◌∷◌, ◌++◌, Option}
+use Rattle.std.specs.Prelude.{◌≡◌, ◌⊎◌, ℕ, List, [], ◌∷◌, ◌++◌, Option, IfSome, Result, Err, MatchResult}
+use Rattle.std.specs.Io.KnownBytes.{Appends}
 use Rattle.i3c_frame.specs.declared.symbols.Symbol.{Symbol}
+use Rattle.i3c_script.specs.Obeying.{IsBegun}
 use Rattle.i3c_wave.specs.declared.wave.Wave.{Wave}
-use Rattle.i3c_wave.specs.Dump.{after_symbol, symbols_dump}
-use Rattle.i3c_wave.specs.Scripts.{string_text}
-use Rattle.i3c_scenario.specs.Outcomes.{WritesFront}
+use Rattle.i3c_wave.specs.Dump.{after_symbol, free_bus, symbols_dump}
+use Rattle.i3c_wave.specs.Scripts.{script_preamble, string_text}
+use Rattle.i3c_scenario.specs.declared.faults.ScriptFault.{ScriptFault}
+use Rattle.i3c_scenario.specs.declared.script.Tally.{Tally}
+use Rattle.i3c_scenario.specs.Outcomes.{AppendsSome, Output, Puts, PutsOrFails, output}
+use Rattle.i3c_scenario.specs.ScriptSteps.{Progress}
+use Rattle.i3c_scenario.specs.Viewed.{AreRun, Shown, bytes_of}
 
 -- the dump after symbols, one after another
 abbrev pub after_wire : ℕ → Wave → List Symbol → Wave
@@ -15,8 +21,72 @@ after_wire legacies wave (symbol ∷ rest) = after_wire legacies (after_symbol l
 abbrev pub line_dump : ℕ → Wave → List ℕ → List ℕ → List Symbol → List ℕ
 line_dump legacies wave line printed wire = string_text 108 line ++ (symbols_dump legacies wave wire ++ string_text 112 printed)
 
--- a line is in the dump, of which some may go out, unless it sent nothing
-abbrev pub WavesLine : ℕ → List ℕ → List ℕ → List Symbol → Option (List ℕ) → Option (List ℕ) → List ℕ → List ℕ → Wave → Wave → Type 0
-WavesLine legacies line printed [] old new before text wave next = (new ≡ old) × (text ≡ before) × (next ≡ wave)
-WavesLine legacies line printed (symbol ∷ wire) old new before text wave next =
-    WritesFront old new (before ++ line_dump legacies wave line printed (symbol ∷ wire)) text × (next ≡ after_wire legacies wave (symbol ∷ wire))
+-- the same of a line that was run, unless it sent nothing
+abbrev pub seen_dump : ℕ → Wave → List ℕ → List ℕ → List Symbol → List ℕ
+seen_dump legacies wave line printed [] = []
+seen_dump legacies wave line printed (symbol ∷ wire) = line_dump legacies wave line printed (symbol ∷ wire)
+
+-- what a dump has of lines, one after another
+abbrev pub shown_dump : ℕ → Wave → List Shown → List ℕ
+shown_dump legacies wave [] = []
+shown_dump legacies wave (shown ∷ rest) = seen_dump legacies wave shown.line shown.printed shown.wire ++ shown_dump legacies (after_wire legacies wave shown.wire) rest
+
+-- the whole dump of a script's lines
+abbrev pub script_dump : ℕ → List Shown → List ℕ
+script_dump legacies lines = script_preamble ++ shown_dump legacies free_bus lines
+
+-- a dump that is being written: what went out, and what is gathered behind it
+pub record Dumping : Type 0 where
+  pub legacies : ℕ
+  pub wave : Wave
+  pub output : Output
+
+abbrev pub dump_at : ℕ → Wave → Option (List ℕ) → List ℕ → Dumping
+dump_at legacies wave out gathered = record { legacies = legacies; wave = wave; output = output out gathered }
+
+-- a line was put behind, of which some may go out
+abbrev pub WavesLine : Dumping → List ℕ → List ℕ → List Symbol → Dumping → Type 0
+WavesLine old line printed wire new =
+    (new.legacies ≡ old.legacies) × (new.wave ≡ after_wire old.legacies old.wave wire) × Puts old.output new.output (seen_dump old.legacies old.wave line printed wire)
+
+-- a line wasn't: for want of memory nothing of it is there, and a writer that fails took a prefix
+abbrev pub FailsLine : Dumping → List ℕ → List ℕ → List Symbol → ScriptFault → Dumping → Type 0
+FailsLine old line printed wire fault new = PutsOrFails old.output new.output (seen_dump old.legacies old.wave line printed wire) (Err fault)
+
+-- what is gathered goes out in the end, whatever lines came to; but nothing goes to a writer that failed
+abbrev pub GoesLast : Option (List ℕ) → Option (List ℕ) → List ℕ → Result Tally ScriptFault → Result Tally ScriptFault → Type 0
+GoesLast old new gathered (Err ScriptFault.Write) result = (result ≡ Err ScriptFault.Write) × (new ≡ old)
+GoesLast old new gathered outcome result = ((result ≡ outcome) × Appends old new gathered) ⊎ ((result ≡ Err ScriptFault.Write) × AppendsSome old new gathered)
+
+-- the dump of all lines went out, or of a writer that failed a prefix of it
+abbrev pub WentOut : ScriptFault → Option (List ℕ) → Option (List ℕ) → List ℕ → Type 0
+WentOut ScriptFault.Write old new dump = AppendsSome old new dump
+WentOut fault old new dump = Appends old new dump
+
+-- each line of a script was run, from its start, and the dump of them went out
+pub record WavedWhole (legacies : ℕ) (known old new : Option (List ℕ)) (tally : Tally) : Type 0 where
+  pub from : Progress
+  pub to : Progress
+  pub lines : List Shown
+  pub begun : IsBegun from.state
+  pub none : from.refused ≡ 0
+  pub counted : to.refused ≡ tally.refused
+  pub run : AreRun from lines to
+  pub all : IfSome known (λ script. bytes_of lines ≡ script ++ 10 ∷ [])
+  pub out : Appends old new (script_dump legacies lines)
+
+-- the first lines were run, and their dump went out
+pub record WavedPart (legacies : ℕ) (known old new : Option (List ℕ)) (fault : ScriptFault) : Type 0 where
+  pub from : Progress
+  pub to : Progress
+  pub lines : List Shown
+  pub rest : List ℕ
+  pub begun : IsBegun from.state
+  pub run : AreRun from lines to
+  pub first : IfSome known (λ script. bytes_of lines ++ rest ≡ script ++ 10 ∷ [])
+  pub out : WentOut fault old new (script_dump legacies lines)
+
+-- what goes out of a script as a dump; where memory is short at once, nothing does
+abbrev pub IsWaved : ℕ → Option (List ℕ) → Option (List ℕ) → Option (List ℕ) → Result Tally ScriptFault → Type 0
+IsWaved legacies known old new result =
+    MatchResult result (WavedWhole legacies known old new) (λ fault. ((fault ≡ ScriptFault.Memory) × (new ≡ old)) ⊎ WavedPart legacies known old new fault)

@@ -1,7 +1,6 @@
 ghost use Rattle.std.specs.Prelude.{◌≡◌, ◌++◌, codes, OnOk};
-ghost use Rattle.std.specs.Io.KnownBytes.{Appends};
 ghost use Rattle.i3c_draw.specs.Pictures.{head_text, line, picture_text};
-ghost use Rattle.i3cbus.specs.Drawings.{IsDrawn};
+ghost use Rattle.i3cbus.specs.Drawings.{IsDrawn, IsWritten};
 
 use i3c_draw::Picture;
 use i3c_frame::Symbol;
@@ -13,7 +12,8 @@ use std::io::{Read, Write};
 /// A picture has at most so many bytes, since its rows are gathered before its height is known.
 const MOST_BYTES: usize = 16_777_216;
 
-/// Runs a script, and writes a picture of it once it was run to its end.
+/// Runs a script, and writes a picture of it once it was run to its end. With a fault nothing is written, unless writing is what
+/// failed.
 pub(crate) fn draw_script<R: Read, W: Write>(
     alloc: Global,
     reader: &mut R,
@@ -52,9 +52,11 @@ impl Drawing {
 
 // A line that is empty has no row.
 impl Viewer for Drawing {
-    ghost use Rattle.i3cbus.specs.Drawings.{Draws};
+    ghost use Rattle.i3cbus.specs.Drawings.{Draws, DrawsNot};
 
     ghost view_gives = { Draws };
+
+    ghost view_fails = { DrawsNot };
 
     fn view(&mut self, line: &[u8], printed: &[u8], wire: &[Symbol]) -> Result<(), ScriptFault> {
         if line.is_empty() {
@@ -71,9 +73,9 @@ impl Viewer for Drawing {
     }
 }
 
-/// Writes a picture.
+/// Writes a picture. For want of memory nothing is written, and a writer that fails takes a prefix.
 fn write_picture<W: Write>(alloc: Global, picture: &Picture, out: &mut W) -> Result<(), ScriptFault>
-    ensures { OnOk result (Appends (W.contents out.old) (W.contents out.new) (picture_text picture.now)) }
+    ensures { IsWritten (W.contents out.old) (W.contents out.new) (picture_text picture.now) result }
 {
     let mut head = Text::new(alloc);
     let mut end = Text::new(alloc);

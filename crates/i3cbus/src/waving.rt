@@ -1,7 +1,7 @@
-ghost use Rattle.std.specs.Prelude.{◌≡◌, ◌++◌, OnOk};
+ghost use Rattle.std.specs.Prelude.{◌≡◌, ◌++◌, MatchResult, OnOk};
 ghost use Rattle.i3c_wave.specs.Dump.{symbols_dump};
-ghost use Rattle.i3c_scenario.specs.Outcomes.{WritesFront};
-ghost use Rattle.i3cbus.specs.Wavings.{after_wire, line_dump};
+ghost use Rattle.i3c_scenario.specs.Outcomes.{AppendsSome, PutsOrFails, WritesFront, output};
+ghost use Rattle.i3cbus.specs.Wavings.{GoesLast, IsWaved, after_wire, line_dump};
 
 use i3c_base::Addresses;
 use i3c_frame::Symbol;
@@ -15,13 +15,15 @@ use std::io::{Read, Write};
 const GATHERED: usize = 1024;
 
 /// Runs a script, and writes the value change dump (IEEE 1364) of its wire, with its lines and what they printed, to a writer that
-/// it gives back. Legacy targets have these addresses.
+/// it gives back. Legacy targets have these addresses. What lines sent before a fault goes out too.
 pub(crate) fn wave_script<R: Read, W: Write>(
     alloc: Global,
     legacies: Addresses,
     reader: &mut R,
     out: W,
-) -> (Result<Tally, ScriptFault>, W) {
+) -> (Result<Tally, ScriptFault>, W)
+    ensures { IsWaved legacies.0 (R.remaining reader.old) (W.contents out) (W.contents result.1) result.0 }
+{
     let mut text = Text::new(alloc);
     match push_script_preamble(&mut text) {
         Ok(()) => {}
@@ -30,6 +32,7 @@ pub(crate) fn wave_script<R: Read, W: Write>(
     let mut waving = Waving {
         legacies,
         wave: Wave::new(),
+        line: Text::new(alloc),
         text,
         out,
     };
@@ -37,42 +40,45 @@ pub(crate) fn wave_script<R: Read, W: Write>(
     let Waving {
         legacies: _,
         wave: _,
+        line: _,
         text,
         mut out,
     } = waving;
-    match write_out(text.as_bytes(), &mut out) {
-        Ok(()) => (outcome, out),
-        Err(fault) => (Err(fault), out),
-    }
+    let result = write_last(outcome, text.as_bytes(), &mut out);
+    (result, out)
 }
 
-/// The dump of a script that runs, of which the last bytes are gathered.
+/// The dump of a script that runs, of which the last bytes are gathered, and what it has of the line in hand.
 struct Waving<W> {
     legacies: Addresses,
     wave: Wave,
+    line: Text,
     text: Text,
     out: W,
 }
 
 // A line without symbols isn't in the dump.
 impl<W: Write> Viewer for Waving<W> {
-    ghost use Rattle.i3cbus.specs.Wavings.{WavesLine};
+    ghost use Rattle.i3cbus.specs.Wavings.{FailsLine, WavesLine, dump_at};
 
-    ghost view_gives = { λ old line printed wire new. WavesLine old.legacies.0 line printed wire (W.contents old.out) (W.contents new.out) old.text new.text old.wave new.wave };
+    ghost view_gives = { λ old line printed wire new. WavesLine (dump_at old.legacies.0 old.wave (W.contents old.out) old.text) line printed wire (dump_at new.legacies.0 new.wave (W.contents new.out) new.text) };
+
+    ghost view_fails = { λ old line printed wire fault new. FailsLine (dump_at old.legacies.0 old.wave (W.contents old.out) old.text) line printed wire fault (dump_at new.legacies.0 new.wave (W.contents new.out) new.text) };
 
     fn view(&mut self, line: &[u8], printed: &[u8], wire: &[Symbol]) -> Result<(), ScriptFault> {
         if wire.is_empty() {
             return Ok(());
         }
+        self.line.clear();
         match push_line(
             self.legacies,
             &mut self.wave,
             line,
             printed,
             wire,
-            &mut self.text,
+            &mut self.line,
         ) {
-            Ok(()) => write_gathered(&mut self.text, &mut self.out),
+            Ok(()) => gather(self.line.as_bytes(), &mut self.text, &mut self.out),
             Err(_) => Err(ScriptFault::Memory),
         }
     }
@@ -113,9 +119,21 @@ fn push_wire(
     Ok(())
 }
 
+/// Gathers the dump of a line, and writes out what is gathered, once it is long enough.
+fn gather<W: Write>(dump: &[u8], text: &mut Text, out: &mut W) -> Result<(), ScriptFault>
+    ensures { PutsOrFails (output (W.contents out.old) text.old) (output (W.contents out.new) text.new) dump.now result }
+{
+    match text.push(dump) {
+        Ok(()) => write_gathered(text, out),
+        Err(_) => Err(ScriptFault::Memory),
+    }
+}
+
 /// Writes out what is gathered, once it is long enough.
 fn write_gathered<W: Write>(text: &mut Text, out: &mut W) -> Result<(), ScriptFault>
-    ensures { OnOk result (WritesFront (W.contents out.old) (W.contents out.new) text.old text.new) }
+    ensures { MatchResult result
+        (λ _. WritesFront (W.contents out.old) (W.contents out.new) text.old text.new)
+        (λ fault. (fault ≡ ScriptFault.Write) × AppendsSome (W.contents out.old) (W.contents out.new) text.old) }
 {
     if text.as_bytes().len() < GATHERED {
         return Ok(());
@@ -126,5 +144,24 @@ fn write_gathered<W: Write>(text: &mut Text, out: &mut W) -> Result<(), ScriptFa
             Ok(())
         }
         Err(fault) => Err(fault),
+    }
+}
+
+/// Writes out what is gathered in the end, whatever the lines came to. But to a writer that failed nothing is written.
+fn write_last<W: Write>(
+    outcome: Result<Tally, ScriptFault>,
+    gathered: &[u8],
+    out: &mut W,
+) -> Result<Tally, ScriptFault>
+    ensures { GoesLast (W.contents out.old) (W.contents out.new) gathered.now outcome result }
+{
+    match outcome {
+        Err(ScriptFault::Write) => Err(ScriptFault::Write),
+        Ok(_) | Err(ScriptFault::Memory | ScriptFault::Read | ScriptFault::TooLarge) => {
+            match write_out(gathered, out) {
+                Ok(()) => outcome,
+                Err(fault) => Err(fault),
+            }
+        }
     }
 }
