@@ -1,11 +1,13 @@
 -- Cuts as a mask and an array are the cuts by slot.
 use Rattle.std.specs.Prelude.{map}
-use Rattle.std.proofs.Common.{Bool, true, false, option_map, ◌≡◌, ◌≢◌, ℕ, zero, suc, ◌+◌, ◌*◌, ◌/◌, ◌%◌, ◌<◌, ◌≤◌, ◌^◌, List, [], ◌∷◌, length, get_or, replicate, set, Option, Some, None, ◌==◌, inl, inr, lit<, if◌then◌else◌, sym, refl, ap, subst, ◌∙◌, arith, zero-add}
+use Rattle.std.proofs.Common.{Bool, true, false, option_map, ◌≡◌, ◌≢◌, ℕ, zero, suc, ◌+◌, ◌*◌, ◌/◌, ◌%◌, ◌<◌, ◌≤◌, ◌^◌, List, [], ◌∷◌, length, get_or, replicate, set, Option, Some, None, ◌==◌, inl, inr, if◌then◌else◌, sym, refl, ap, subst, ◌∙◌, arith, zero-add}
 use Rattle.std.proofs.lemmas.Bool.{cond-true, cond-false, eq-eqb, ne_eqb, cases_eq, cases_lt}
 use Rattle.std.proofs.lemmas.List.{get_or_past}
 use Rattle.std.proofs.lemmas.Option.{none-some}
+use Rattle.std.proofs.lemmas.Nat.{one_shl, or_lt, pow_pos}
+use Rattle.std.proofs.Math.Pow.{pow-lt}
 use Rattle.std.proofs.lemmas.Nat.Bits.{shr_and_one, bit_at_set_same, bit_at_set_other, bit_at-lt, bit_at-zero, same_from_bits_below}
-use Rattle.std.specs.Int.{bit_at, w16}
+use Rattle.std.specs.Int.{bit_at, w64}
 use Rattle.std.specs.Int.RustNames.{bit_or}
 use lib.Bits.{bit_and}
 use Rattle.i3c_base.specs.Places.{masked_from}
@@ -68,8 +70,8 @@ uncut_zero xs s = elim (cases_lt s (length xs)) [
   | inr l ↦ get_or_past (masked_from 0 0 xs) s None (subst (λ m. m ≤ s) (sym (length-masked_from 0 0 xs)) l)
 ]
 
-pub zero_uncut : (mask : ℕ) (xs : List ℕ) → mask < 2 ^ 16 → 16 ≤ length xs → IsUncut (masked_from 0 mask xs) → mask ≡ 0
-zero_uncut mask xs small long h = same_from_bits_below 16 mask 0 small (lit< tt) (λ i l.
+pub zero_uncut : (n mask : ℕ) (xs : List ℕ) → mask < 2 ^ n → n ≤ length xs → IsUncut (masked_from 0 mask xs) → mask ≡ 0
+zero_uncut n mask xs small long h = same_from_bits_below n mask 0 small (pow_pos n) (λ i l.
     bit_is_zero (bit_at mask i) (bit_at-lt mask i) (λ e. none-some (get_or xs i 0) (sym (h i) ∙ masked_in mask xs i (omega arith) e)) ∙ sym (bit_at-zero i))
   where
     bit_is_zero : (b : ℕ) → b < 2 → (b ≡ 1 → ⊥) → b ≡ 0
@@ -97,11 +99,15 @@ read_out mask xs now i s v e l b =
     sym (masked_out mask xs i l (λ q. b (shr_and_one mask i ∙ q))) ∙ (ap (λ k. get_or (masked_from 0 mask xs) k None) e ∙ ap (λ ys. get_or ys s None) v)
 
 -- a slot written
-pub written_set : (mask : ℕ) (xs : List ℕ) (now : List (Option ℕ)) (i s v w : ℕ) → masked_from 0 mask xs ≡ now → i ≡ s → i < length xs → i < 16 → v ≡ w
-    → masked_from 0 (bit_or mask (1 * 2 ^ i % 65536)) (set xs i v) ≡ set now s (Some w)
+pub written_set : (mask : ℕ) (xs : List ℕ) (now : List (Option ℕ)) (i s v w : ℕ) → masked_from 0 mask xs ≡ now → i ≡ s → i < length xs → i < 64 → v ≡ w
+    → masked_from 0 (bit_or mask (1 * 2 ^ i % 2 ^ 64)) (set xs i v) ≡ set now s (Some w)
 written_set mask xs now i s v w is e l small same =
-    masked_set mask (bit_or mask (1 * 2 ^ i % 65536)) xs i v l (bit_at_set_other w16 mask i small) (bit_at_set_same w16 mask i small)
+    masked_set mask (bit_or mask (1 * 2 ^ i % 2 ^ 64)) xs i v l (bit_at_set_other w64 mask i small) (bit_at_set_same w64 mask i small)
     ∙ ((λ t. set (is t) (e t) (Some (same t))))
+
+-- a mask of n bits with one of them set has n bits
+pub set_fits : (n mask i : ℕ) → mask < 2 ^ n → i < n → n ≤ 64 → bit_or mask (1 * 2 ^ i % 2 ^ 64) < 2 ^ n
+set_fits n mask i small l most = or_lt n mask (1 * 2 ^ i % 2 ^ 64) small (subst (λ bit. bit < 2 ^ n) (sym (one_shl i 64 (omega (arith, l, most)))) (pow-lt l))
 
 -- masked numbers that were changed
 pub masked_from-map : (f : ℕ → ℕ) (n mask : ℕ) (xs : List ℕ) → masked_from n mask (map f xs) ≡ map (option_map f) (masked_from n mask xs)

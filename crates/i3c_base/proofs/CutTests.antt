@@ -41,14 +41,14 @@ alike cuts others long h =
     sym ((same_cuts cuts others).1 (ext_get_or None cuts others long (λ s l. (bits_decide (cut_of cuts s) (cut_of others s)).0 (h s l))))
 
 -- the same cuts are of one mask
-pub one_mask : (mask other : ℕ) (xs ys : List ℕ) → mask < 2 ^ 16 → other < 2 ^ 16 → length xs ≡ 16 → length ys ≡ 16 → masked_from 0 mask xs ≡ masked_from 0 other ys → mask ≡ other
-one_mask mask other xs ys small too_small long too_long e =
-    same_from_bits_below 16 mask other small too_small (λ i l. go i l (cases_eq (bit_at mask i) 1) (cases_eq (bit_at other i) 1))
+pub one_mask : (n mask other : ℕ) (xs ys : List ℕ) → mask < 2 ^ n → other < 2 ^ n → length xs ≡ n → length ys ≡ n → masked_from 0 mask xs ≡ masked_from 0 other ys → mask ≡ other
+one_mask n mask other xs ys small too_small long too_long e =
+    same_from_bits_below n mask other small too_small (λ i l. go i l (cases_eq (bit_at mask i) 1) (cases_eq (bit_at other i) 1))
   where
     there : (i : ℕ) → get_or (masked_from 0 mask xs) i None ≡ get_or (masked_from 0 other ys) i None
     there i = ap (λ all. get_or all i None) e
 
-    go : (i : ℕ) → i < 16 → (bit_at mask i ≡ 1) ⊎ (bit_at mask i ≡ 1 → ⊥) → (bit_at other i ≡ 1) ⊎ (bit_at other i ≡ 1 → ⊥) → bit_at mask i ≡ bit_at other i
+    go : (i : ℕ) → i < n → (bit_at mask i ≡ 1) ⊎ (bit_at mask i ≡ 1 → ⊥) → (bit_at other i ≡ 1) ⊎ (bit_at other i ≡ 1 → ⊥) → bit_at mask i ≡ bit_at other i
     go i l (inl a) (inl b) = a ∙ sym b
     go i l (inl a) (inr b) = absurd (none-some (get_or xs i 0) (sym (masked_out other ys i (omega arith) b) ∙ (sym (there i) ∙ masked_in mask xs i (omega arith) a)))
     go i l (inr a) (inl b) = absurd (none-some (get_or ys i 0) (sym (masked_out mask xs i (omega arith) a) ∙ (there i ∙ masked_in other ys i (omega arith) b)))

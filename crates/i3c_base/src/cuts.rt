@@ -7,7 +7,7 @@ use std::marker::Model;
 #[derive(Clone, Debug, Drop)]
 pub struct Cuts {
     // one bit for each slot: it is cut
-    cut: u16,
+    cut: u64,
     // the bit of the frame, 0 where the slot is not cut
     bits: [u16; SLOTS],
 }
@@ -15,12 +15,13 @@ pub struct Cuts {
 impl Model for Cuts {
     ghost use Rattle.std.specs.Prelude.{ℕ, ◌<◌, ◌^◌, List, Option};
     ghost use Rattle.i3c_base.specs.Places.{masked_from};
+    ghost use Rattle.i3c_base.specs.declared.range.TheConstants.{SLOTS};
 
     ghost Value = { List (Option ℕ) };
 
     ghost view = { λ c. masked_from 0 c.cut c.bits };
 
-    ghost invariant = { λ c. c.cut < 2 ^ 16 };
+    ghost invariant = { λ c. c.cut < 2 ^ SLOTS };
 }
 
 impl Cuts {

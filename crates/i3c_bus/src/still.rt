@@ -93,7 +93,7 @@ impl Bus {
 }
 
 impl Still {
-    ghost use Rattle.std.specs.Prelude.{◌≡◌, ◌≤◌, ◌↔◌, IfOk, IsTrue, OnOk};
+    ghost use Rattle.std.specs.Prelude.{◌≡◌, ◌≤◌, ◌↔◌, IfOk, IsTrue, OnErr, OnOk};
     ghost use Rattle.i3c_base.specs.Frames.{list_bits};
     ghost use Rattle.i3c_bus.specs.Hands.{HandFits};
 
@@ -128,7 +128,7 @@ impl Still {
     ///
     /// # Errors
     ///
-    /// There is no memory for its records.
+    /// There is no memory for its records. The bus stays in its state.
     #[inline(never)]
     pub fn wake_into(
         &self,
@@ -138,6 +138,7 @@ impl Still {
     ) -> (Hand, Result<(), OutOfMemory>)
         requires { HandFits hand bus.old.state }
         ensures same { OnOk result.1 (bus.new.state ≡ self.now) }
+        ensures kept { OnErr result.1 ((bus.new.state ≡ bus.old.state) × (result.0 ≡ hand)) }
         ensures fits { HandFits result.0 bus.new.state }
     {
         let Ok(()) = copy_records(alloc, &mut bus.records, &self.records) else {
@@ -186,10 +187,11 @@ impl Still {
     ///
     /// # Errors
     ///
-    /// There is no memory for its records.
+    /// There is no memory for its records. It stays in its state.
     #[inline(never)]
     pub fn copy_from(&mut self, alloc: Global, bus: &Bus) -> Result<(), OutOfMemory>
-        ensures { OnOk result (self.new ≡ bus.now.state) }
+        ensures copied { OnOk result (self.new ≡ bus.now.state) }
+        ensures kept { OnErr result (self.new ≡ self.old) }
     {
         let Ok(()) = copy_records(alloc, &mut self.records, &bus.records) else {
             return Err(OutOfMemory);

@@ -39,7 +39,7 @@ PullsLow active a lost k bit devices =
     (s : ℕ) × (d : Device) × (slice_index_or devices s None ≡ Some d) × (reaches_at active (Some a) s d ≡ true) × (lost s ≡ false) × (bit_at (slice_index d.registers k) bit ≡ 0)
 
 -- sixteen bytes as they are read from an address, the first bit of all at bit `first` of the frame: eight bits of each
--- register and a T, and a bit is 0 exactly where a device there pulls the line low
+-- register and a T. A bit is 0 exactly where a device there pulls the line low
 abbrev pub AreReadOf : ℕ → ℕ → CutList → ℕ → List (Option Device) → List ℕ → Type 0
 AreReadOf active a cuts first devices bytes =
     (k j : ℕ) → k < REGISTERS → j < 8 → (bit_at (slice_index bytes k) (7 - j) ≡ 0) ↔ PullsLow active a (lost_by cuts (first + 9 * k + j)) k (7 - j) devices

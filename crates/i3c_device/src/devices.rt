@@ -276,10 +276,10 @@ impl Devices {
         ensures slots { length self.now ≡ SLOT_COUNT }
     {
         let driving = self.driving(active);
-        let keys = self.occupants.marks().keys;
-        let requests = requests_in(driving, &keys);
+        let marks = self.occupants.marks();
+        let requests = requests_in(driving, &marks.keys);
         let winner = arbitrate(&requests)?;
-        let drivers = slots_with(driving, &keys, &winner);
+        let drivers = slots_with(driving, &marks.keys, &winner);
         Some((winner, drivers))
     }
 

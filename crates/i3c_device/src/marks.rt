@@ -3,8 +3,9 @@ ghost use Rattle.i3c_base.specs.declared.range.TheConstants.{SLOTS as SLOT_COUNT
 ghost use Rattle.i3c_base.specs.Frames.{unaddressed_device};
 ghost use Rattle.i3c_base.specs.Round.{hears, unhearing, winner};
 ghost use Rattle.i3c_base.specs.declared.device.Waiting.{Waiting as WaitingValue};
-ghost use Rattle.i3c_base.specs.State.{Device as DeviceState, no_devices};
+ghost use Rattle.i3c_base.specs.State.{Device as DeviceState, in_slot, no_devices};
 ghost use Rattle.i3c_device.specs.Marks.{AreMarks, requeued};
+ghost use Rattle.i3c_device.specs.Wishing.{wishes_interrupt};
 
 use crate::attached::Attached;
 use crate::places::{hears, key_in, wishes_interrupt, wishes_join, wishes_role};
@@ -52,10 +53,10 @@ impl Marks {
         }
     }
 
-    /// The marks where this stands in a slot from now on.
-    pub(crate) fn noted(self, index: usize, place: &Option<Attached>) -> Marks
+    /// This stands in a slot from now on.
+    pub(crate) fn noted(&mut self, index: usize, place: &Option<Attached>)
         requires { index < SLOT_COUNT }
-        ensures { (places : List (Option DeviceState)) → length places ≡ SLOT_COUNT → AreMarks self places → AreMarks result (slice_set places index place.now) }
+        ensures { (places : List (Option DeviceState)) → length places ≡ SLOT_COUNT → AreMarks self.old places → AreMarks self.new (slice_set places index place.now) }
     {
         match place {
             Some(device) => self.taken(index, device),
@@ -63,114 +64,83 @@ impl Marks {
         }
     }
 
-    /// The marks where a session was opened for whatever stands in a slot now.
-    pub(crate) fn opened(self, index: usize, place: &Option<Attached>) -> Marks
+    /// A session was opened for whatever stands in a slot now.
+    pub(crate) fn opened(&mut self, index: usize, place: &Option<Attached>)
         requires { index < SLOT_COUNT }
-        ensures { (places : List (Option DeviceState)) → length places ≡ SLOT_COUNT → AreMarks self places → place.now ≡ option_map hears (slice_index_or places index None) → AreMarks result (slice_set places index place.now) }
+        ensures { (places : List (Option DeviceState)) → length places ≡ SLOT_COUNT → AreMarks self.old places → place.now ≡ option_map hears (slice_index_or places index None) → AreMarks self.new (slice_set places index place.now) }
     {
-        Marks {
-            hearing: self.hearing.with(index, hears(place)),
-            ..self
-        }
+        self.hearing = self.hearing.with(index, hears(place));
     }
 
-    /// The marks where a session ended for whatever stands in a slot now.
-    pub(crate) fn ended(self, index: usize, place: &Option<Attached>) -> Marks
+    /// A session ended for whatever stands in a slot now.
+    pub(crate) fn ended(&mut self, index: usize, place: &Option<Attached>)
         requires { index < SLOT_COUNT }
-        ensures { (places : List (Option DeviceState)) → length places ≡ SLOT_COUNT → AreMarks self places → place.now ≡ option_map unhearing (slice_index_or places index None) → AreMarks result (slice_set places index place.now) }
+        ensures { (places : List (Option DeviceState)) → length places ≡ SLOT_COUNT → AreMarks self.old places → place.now ≡ option_map unhearing (slice_index_or places index None) → AreMarks self.new (slice_set places index place.now) }
     {
-        Marks {
-            hearing: self.hearing.with(index, hears(place)),
-            ..self
-        }
+        self.hearing = self.hearing.with(index, hears(place));
     }
 
-    /// The marks where whatever stands in a slot now took an address.
-    pub(crate) fn won(self, index: usize, place: &Option<Attached>) -> Marks
+    /// Whatever stands in a slot now took an address.
+    pub(crate) fn won(&mut self, index: usize, place: &Option<Attached>)
         requires { index < SLOT_COUNT }
-        ensures { (places : List (Option DeviceState)) (address : ℕ) → length places ≡ SLOT_COUNT → AreMarks self places → place.now ≡ option_map (winner address) (slice_index_or places index None) → AreMarks result (slice_set places index place.now) }
+        ensures { (places : List (Option DeviceState)) (address : ℕ) → length places ≡ SLOT_COUNT → AreMarks self.old places → place.now ≡ option_map (winner address) (slice_index_or places index None) → AreMarks self.new (slice_set places index place.now) }
     {
-        let mut keys = self.keys;
-        keys[index] = key_in(place);
-        Marks {
-            joining: self.joining.with(index, false),
-            asking: self.asking.with(index, wishes_role(place)),
-            interrupting: self.interrupting.with(index, wishes_interrupt(place)),
-            hearing: self.hearing.with(index, false),
-            unaddressed: self.unaddressed.with(index, false),
-            keys,
-            ..self
-        }
+        self.keys[index] = key_in(place);
+        self.joining = self.joining.with(index, false);
+        self.asking = self.asking.with(index, wishes_role(place));
+        self.interrupting = self.interrupting.with(index, wishes_interrupt(place));
+        self.hearing = self.hearing.with(index, false);
+        self.unaddressed = self.unaddressed.with(index, false);
     }
 
-    /// The marks where whatever stands in a slot now lost its address.
-    pub(crate) fn reset(self, index: usize, place: &Option<Attached>) -> Marks
+    /// Whatever stands in a slot now lost its address.
+    pub(crate) fn reset(&mut self, index: usize, place: &Option<Attached>)
         requires { index < SLOT_COUNT }
-        ensures { (places : List (Option DeviceState)) → length places ≡ SLOT_COUNT → AreMarks self places → place.now ≡ option_map unaddressed_device (slice_index_or places index None) → AreMarks result (slice_set places index place.now) }
+        ensures { (places : List (Option DeviceState)) → length places ≡ SLOT_COUNT → AreMarks self.old places → place.now ≡ option_map unaddressed_device (slice_index_or places index None) → AreMarks self.new (slice_set places index place.now) }
     {
-        let mut keys = self.keys;
-        keys[index] = key_in(place);
-        Marks {
-            joining: self.joining.with(index, wishes_join(place)),
-            asking: self.asking.with(index, false),
-            interrupting: self.interrupting.with(index, false),
-            unaddressed: self.unaddressed.with(index, place.is_some()),
-            keys,
-            ..self
-        }
+        self.keys[index] = key_in(place);
+        self.joining = self.joining.with(index, wishes_join(place));
+        self.asking = self.asking.with(index, false);
+        self.interrupting = self.interrupting.with(index, false);
+        self.unaddressed = self.unaddressed.with(index, place.is_some());
     }
 
-    /// The marks where other interrupts wait at whatever stands in a slot now.
-    pub(crate) fn queued(self, index: usize, place: &Option<Attached>) -> Marks
+    /// Other interrupts wait at whatever stands in a slot now, which wishes to interrupt or doesn't.
+    pub(crate) fn queued(&mut self, index: usize, interrupts: bool)
         requires { index < SLOT_COUNT }
-        ensures { (places : List (Option DeviceState)) (queue : DeviceState → List WaitingValue) → length places ≡ SLOT_COUNT → AreMarks self places → place.now ≡ option_map (requeued queue) (slice_index_or places index None)
-            → AreMarks result (slice_set places index place.now) }
+        ensures { (places : List (Option DeviceState)) (place : Option DeviceState) (queue : DeviceState → List WaitingValue) → length places ≡ SLOT_COUNT → AreMarks self.old places → place ≡ option_map (requeued queue) (slice_index_or places index None)
+            → interrupts ≡ in_slot wishes_interrupt place → AreMarks self.new (slice_set places index place) }
     {
-        Marks {
-            interrupting: self.interrupting.with(index, wishes_interrupt(place)),
-            ..self
-        }
+        self.interrupting = self.interrupting.with(index, interrupts);
     }
 
-    /// The marks where this device stands in a slot from now on.
-    fn taken(self, index: usize, device: &Attached) -> Marks
+    /// This device stands in a slot from now on.
+    fn taken(&mut self, index: usize, device: &Attached)
         requires { index < SLOT_COUNT }
-        ensures { (places : List (Option DeviceState)) → length places ≡ SLOT_COUNT → AreMarks self places → AreMarks result (slice_set places index (Some device.now)) }
+        ensures { (places : List (Option DeviceState)) → length places ≡ SLOT_COUNT → AreMarks self.old places → AreMarks self.new (slice_set places index (Some device.now)) }
     {
-        let mut keys = self.keys;
-        keys[index] = device.key();
-        let mut statics = self.statics;
-        statics[index] = device.static_mark();
-        Marks {
-            present: self.present.with(index, true),
-            joining: self.joining.with(index, device.wishes_join()),
-            asking: self.asking.with(index, device.wishes_role()),
-            interrupting: self.interrupting.with(index, device.wishes_interrupt()),
-            hearing: self.hearing.with(index, device.is_hearing()),
-            unaddressed: self.unaddressed.with(index, device.is_unaddressed()),
-            keys,
-            statics,
-        }
+        self.keys[index] = device.key();
+        self.statics[index] = device.static_mark();
+        self.present = self.present.with(index, true);
+        self.joining = self.joining.with(index, device.wishes_join());
+        self.asking = self.asking.with(index, device.wishes_role());
+        self.interrupting = self.interrupting.with(index, device.wishes_interrupt());
+        self.hearing = self.hearing.with(index, device.is_hearing());
+        self.unaddressed = self.unaddressed.with(index, device.is_unaddressed());
     }
 
-    /// The marks where nothing stands in a slot from now on.
-    fn vacated(self, index: usize) -> Marks
+    /// Nothing stands in a slot from now on.
+    fn vacated(&mut self, index: usize)
         requires { index < SLOT_COUNT }
-        ensures { (places : List (Option DeviceState)) → length places ≡ SLOT_COUNT → AreMarks self places → AreMarks result (slice_set places index None) }
+        ensures { (places : List (Option DeviceState)) → length places ≡ SLOT_COUNT → AreMarks self.old places → AreMarks self.new (slice_set places index None) }
     {
-        let mut keys = self.keys;
-        keys[index] = 0;
-        let mut statics = self.statics;
-        statics[index] = NO_STATIC;
-        Marks {
-            present: self.present.with(index, false),
-            joining: self.joining.with(index, false),
-            asking: self.asking.with(index, false),
-            interrupting: self.interrupting.with(index, false),
-            hearing: self.hearing.with(index, false),
-            unaddressed: self.unaddressed.with(index, false),
-            keys,
-            statics,
-        }
+        self.keys[index] = 0;
+        self.statics[index] = NO_STATIC;
+        self.present = self.present.with(index, false);
+        self.joining = self.joining.with(index, false);
+        self.asking = self.asking.with(index, false);
+        self.interrupting = self.interrupting.with(index, false);
+        self.hearing = self.hearing.with(index, false);
+        self.unaddressed = self.unaddressed.with(index, false);
     }
 }

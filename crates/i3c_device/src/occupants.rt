@@ -1,6 +1,6 @@
 use crate::attached::Attached;
 use crate::marks::Marks;
-use crate::places::{copied, copy_all, raise, register_from};
+use crate::places::{copied, copy_all, raise, register_from, wishes_interrupt};
 use crate::sets::SlotSet;
 use crate::walks::{SlotUpdate, Sought, happen_in};
 use i3c_base::{Addr7, Cuts, RaiseRefusal, SLOTS, Slot};
@@ -91,11 +91,11 @@ impl Occupants {
     }
 
     /// In which slots a walk may find something.
-    pub fn marks(&self) -> Marks
-        ensures marks { AreMarks result self.now }
+    pub fn marks(&self) -> &Marks
+        ensures marks { AreMarks result.now self.now }
         ensures slots { length self.now ≡ SLOT_COUNT }
     {
-        self.marks
+        &self.marks
     }
 
     /// This stands in a slot from now on.
@@ -104,8 +104,8 @@ impl Occupants {
         ensures slots { length self.old ≡ SLOT_COUNT }
     {
         let index = slot.index();
+        self.marks.noted(index, &place);
         self.places[index] = place;
-        self.marks = self.marks.noted(index, &self.places[index]);
     }
 
     /// The slot's device raises the interrupt after this many of its slot, and answers its number, if its interrupts are
@@ -125,7 +125,8 @@ impl Occupants {
     {
         let index = slot.index();
         let answer = raise(&mut self.places[index], raised, byte, enabled);
-        self.marks = self.marks.queued(index, &self.places[index]);
+        let interrupts = wishes_interrupt(&self.places[index]);
+        self.marks.queued(index, interrupts);
         answer
     }
 

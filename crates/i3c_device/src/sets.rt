@@ -6,10 +6,13 @@ ghost use Rattle.i3c_device.specs.Sets.{IsLowestOf, IsNone, SomeLeft, has};
 
 use i3c_base::{Cuts, SLOTS, Slot};
 
+// the bits that stand for slots
+const ALL: u64 = u64::MAX >> (u64::BITS as usize - SLOTS);
+
 /// A set of slots, one bit for each.
 #[derive(Clone, Copy)]
 pub struct SlotSet {
-    bits: u16,
+    bits: u64,
 }
 
 impl SlotSet {
@@ -140,10 +143,11 @@ impl SlotSet {
             × ((s : ℕ) → s < SLOT_COUNT → has self.new s ≡ (if s == i then false else has self.old s))) }
         ensures smaller { MatchOption result (self.new ≡ self.old) (λ i. self.new.bits < self.old.bits) }
     {
-        if self.bits == 0 {
+        if self.bits & ALL == 0 {
             return None;
         }
-        let index = self.bits.trailing_zeros() as usize;
+        // the remainder is the number itself, and tells the compiler that it is a slot's
+        let index = self.bits.trailing_zeros() as usize % SLOTS;
         self.bits &= !(1 << index);
         Some(index)
     }

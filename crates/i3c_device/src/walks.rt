@@ -13,7 +13,7 @@ use crate::attached::Attached;
 use crate::marks::Marks;
 use crate::places::{
     accept, is_willing, lose_front, lose_role_wish, open, reaches, readdress, reset, silence, win,
-    wish_join, wish_role, write,
+    wish_join, wish_role, wishes_interrupt, write,
 };
 use i3c_base::{Addr7, Request, Slot};
 
@@ -30,13 +30,13 @@ pub(crate) trait SlotUpdate {
     fn happen(&self, place: &mut Option<Attached>, index: usize)
         ensures { place.new ≡ after self.now index place.old };
 
-    /// The marks after it happened in this slot, in which this stands then: all that is marked of the slot is marked
-    /// anew, unless what happened changes less.
-    fn noted(&self, marks: Marks, index: usize, place: &Option<Attached>) -> Marks
+    /// Marks what happened in this slot, in which this stands now: all that is marked of the slot is marked anew, unless
+    /// what happened changes less.
+    fn noted(&self, marks: &mut Marks, index: usize, place: &Option<Attached>)
         requires { index < SLOT_COUNT }
-        ensures { (places : List (Option DeviceState)) → length places ≡ SLOT_COUNT → AreMarks marks places → place.now ≡ after self.now index (slice_index_or places index None) → AreMarks result (slice_set places index place.now) }
+        ensures { (places : List (Option DeviceState)) → length places ≡ SLOT_COUNT → AreMarks marks.old places → place.now ≡ after self.now index (slice_index_or places index None) → AreMarks marks.new (slice_set places index place.now) }
     {
-        marks.noted(index, place)
+        marks.noted(index, place);
     }
 }
 
@@ -54,7 +54,7 @@ pub(crate) fn happen_in<H: SlotUpdate>(
 {
     if happening.concerns(place, index) {
         happening.happen(place, index);
-        *marks = happening.noted(*marks, index, place);
+        happening.noted(marks, index, place);
     }
 }
 
@@ -91,8 +91,8 @@ impl SlotUpdate for FrontLost {
         lose_front(place);
     }
 
-    fn noted(&self, marks: Marks, index: usize, place: &Option<Attached>) -> Marks {
-        marks.queued(index, place)
+    fn noted(&self, marks: &mut Marks, index: usize, place: &Option<Attached>) {
+        marks.queued(index, wishes_interrupt(place));
     }
 }
 
@@ -159,8 +159,8 @@ impl SlotUpdate for Reset {
         reset(place);
     }
 
-    fn noted(&self, marks: Marks, index: usize, place: &Option<Attached>) -> Marks {
-        marks.reset(index, place)
+    fn noted(&self, marks: &mut Marks, index: usize, place: &Option<Attached>) {
+        marks.reset(index, place);
     }
 }
 
@@ -179,8 +179,8 @@ impl SlotUpdate for Opened {
         open(place);
     }
 
-    fn noted(&self, marks: Marks, index: usize, place: &Option<Attached>) -> Marks {
-        marks.opened(index, place)
+    fn noted(&self, marks: &mut Marks, index: usize, place: &Option<Attached>) {
+        marks.opened(index, place);
     }
 }
 
@@ -199,8 +199,8 @@ impl SlotUpdate for Ended {
         silence(place);
     }
 
-    fn noted(&self, marks: Marks, index: usize, place: &Option<Attached>) -> Marks {
-        marks.ended(index, place)
+    fn noted(&self, marks: &mut Marks, index: usize, place: &Option<Attached>) {
+        marks.ended(index, place);
     }
 }
 
@@ -222,8 +222,8 @@ impl SlotUpdate for Won {
         win(place, self.address);
     }
 
-    fn noted(&self, marks: Marks, index: usize, place: &Option<Attached>) -> Marks {
-        marks.won(index, place)
+    fn noted(&self, marks: &mut Marks, index: usize, place: &Option<Attached>) {
+        marks.won(index, place);
     }
 }
 

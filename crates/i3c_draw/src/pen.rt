@@ -1,6 +1,5 @@
 ghost use Rattle.std.specs.Prelude.{◌≡◌, ◌≤◌, ◌++◌, OnOk};
 ghost use Rattle.i3c_draw.specs.Rows.{box_text, boxes_text, class_of};
-ghost use Rattle.i3c_frame.specs.Texts.{text_of};
 
 use crate::driver::{Driver, Turn};
 use crate::traces::{Line, last_level, push_trace, symbol_width};
@@ -8,7 +7,6 @@ use i3c_frame::Symbol;
 use i3c_text::Text;
 use i3c_wave::Level;
 use std::alloc::AllocError;
-use std::fmt::Write;
 
 /// Where a wire begins on the left, and where it ends on the right.
 pub(crate) const LEFT: u64 = 232;
@@ -144,20 +142,10 @@ impl Pen {
         let answer = self.turn.answer_by(&symbol);
         push_boxes(bits, answer, symbol_width(&symbol), text)?;
         text.push(b"<text x='3' y='12'>")?;
-        push_name(symbol, text)?;
+        symbol.push(text)?;
         text.push(b"</text>")?;
         push_trace(Line::Scl, self.level, symbol, text)?;
         push_trace(Line::Sda, self.level, symbol, text)
-    }
-}
-
-/// Appends the text of a symbol.
-fn push_name(symbol: Symbol, text: &mut Text) -> Result<(), AllocError>
-    ensures { OnOk result (text.new ≡ text.old ++ text_of symbol) }
-{
-    match write!(text, "{symbol}") {
-        Ok(()) => Ok(()),
-        Err(_) => Err(AllocError),
     }
 }
 

@@ -1,12 +1,11 @@
-ghost use Rattle.std.specs.Prelude.{◌≡◌, ℕ, ◌+◌, List, [], ◌∷◌, ◌++◌, codes, drop, min, suc, OnOk};
+ghost use Rattle.std.specs.Prelude.{◌≡◌, ℕ, ◌+◌, List, [], ◌∷◌, ◌++◌, codes, drop, min, suc, IfOk, OnOk};
 ghost use Rattle.std.specs.Io.KnownBytes.{IsAtEnd};
 ghost use Rattle.i3c_drive.specs.Answers.{AnswersGoOut, AsksAt, last_line, log_of};
 ghost use Rattle.i3c_drive.specs.Inputs.{pending};
-ghost use Rattle.i3c_drive.specs.Steps.{Closes, IsAnswer, Knows, RunsAll, Tells, TellsNews, state};
+ghost use Rattle.i3c_drive.specs.Steps.{Closes, IsAnswer, Knows, Reads, RunsAll, Tells, TellsNews, state};
 ghost use Rattle.i3c_script.specs.Obeying.{IsBegun};
 ghost use Rattle.i3c_script.specs.Printed.{numbered_text};
 ghost use Rattle.i3c_scenario.specs.Scripts.{refusals_of};
-ghost use Rattle.i3c_scenario.specs.ScriptSteps.{Reads};
 
 use crate::input::{Input, Next};
 use i3c_base::Record;
@@ -23,7 +22,7 @@ use std::io::{Read, Write};
 /// prints it. Where those have changed whose requests the next frame would meet, `asking` and their names follow. The last
 /// line is `ok` and the line's number, or `refused`, the number and why.
 ///
-/// Each line has an answer, empty ones and comments too. The input may have any length. At its end an open session is
+/// Each line has an answer, empty ones and comments too. Expectations and other marks of a script have no form here. The input may have any length. At its end an open session is
 /// ended, and the bus retired. Before a fault all answers went out, but to a writer that fails only a part of them.
 pub fn run_driven<R: Read, W: Write>(
     alloc: Global,
@@ -35,6 +34,7 @@ pub fn run_driven<R: Read, W: Write>(
     // a script starts with no bus, no legacy target and no name; each line changes the state and is answered as its command
     // says; with `Ok` all answers went out, and before a fault as much as that fault says
     ensures answers { AnswersGoOut (R.remaining reader.old) (W.contents writer.old) (W.contents writer.new) result }
+    ensures unmet { IfOk result (λ tally. tally.unmet ≡ 0) }
 {
     let mut driver = Driver::new(alloc);
     let Ok(mut input) = Input::new(alloc) else {
@@ -44,7 +44,7 @@ pub fn run_driven<R: Read, W: Write>(
     let outcome = driver.run_all(&mut input, reader, writer);
     let refused = driver.retire();
     match outcome {
-        Ok(()) => Ok(Tally { refused }),
+        Ok(()) => Ok(Tally { refused, unmet: 0 }),
         Err(fault) => Err(fault),
     }
 }

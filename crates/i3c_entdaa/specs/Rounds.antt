@@ -13,7 +13,7 @@ use Rattle.i3c_entdaa.specs.declared.outcome.Round.TheVariants.{NoAddress, Done,
 use Rattle.i3c_entdaa.specs.Hearers.{contenders_from}
 
 -- the 64 bits that are read where all who hear drive their numbers at once: each is the AND of what those drive there
--- who have read their own bits so far and aren't cut; the contest's first bit is bit 1 of the round
+-- who have read their own bits so far and aren't cut. The contest's first bit is bit 1 of the round
 abbrev pub IsContested : CutList → List (Option Device) → ℕ → Type 0
 IsContested cuts devices bits = (bits < 2 ^ 64) × EachBit (counted_from 1 cuts) (contenders_from 0 devices) 64 bits
 

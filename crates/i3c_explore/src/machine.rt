@@ -25,7 +25,8 @@ pub trait Machine: Sized + Drop {
         ensures last { (way : ℕ) → result ≤ way → (new : Self) → steps self.now line.now result new → steps self.now line.now way new };
 
     /// A runner, in this state.
-    fn runner(&self, alloc: Global) -> Result<Self::Runner, AllocError>;
+    fn runner(&self, alloc: Global) -> Result<Self::Runner, AllocError>
+        ensures { IfOk result (λ runner. shown runner ≡ self.now) };
 
     /// Runs a line from this state on a runner, whatever state that is in. Answers whether all that is expected holds.
     fn run(

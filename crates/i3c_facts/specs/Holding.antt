@@ -82,6 +82,11 @@ address_about _ = None
 abbrev pub is_same_refusal : Refusal → Refusal → Bool
 is_same_refusal why other = pointwise nat_eq (refusal_word why) (refusal_word other) && same_number (address_about why) (address_about other)
 
+-- what a line came to, for the facts behind it
+abbrev pub came_to : Option Refusal → Before
+came_to None = Before.Done
+came_to (Some why) = Before.Refused why
+
 -- the line before was done
 abbrev pub is_done : Before → Bool
 is_done Before.Nothing = false

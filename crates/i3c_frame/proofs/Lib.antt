@@ -4,3 +4,4 @@ pub mod PartLaws
 pub mod TraceLaws
 pub mod PrintLaws
 pub mod FirstLaws
+pub mod PushLaws

@@ -5,6 +5,7 @@ mod firsts;
 mod frames;
 mod laws;
 mod parts;
+mod pushing;
 mod symbols;
 mod taps;
 mod traces;

@@ -131,21 +131,21 @@ fn write_legacy_word<W: fmt::Write>(f: &mut fmt::Formatter<W>, byte: u8, ack: bo
 }
 
 /// How a header's direction is written.
-fn direction(read: bool) -> &'static str
+pub(crate) fn direction(read: bool) -> &'static str
     ensures { result.now ≡ direction_text read }
 {
     if read { "/R" } else { "/W" }
 }
 
 /// How an answer is written: ACK or NACK.
-fn answer(ack: bool) -> &'static str
+pub(crate) fn answer(ack: bool) -> &'static str
     ensures { result.now ≡ answer_text ack }
 {
     if ack { "+" } else { "-" }
 }
 
 /// How a T bit is written.
-fn t_bit(t: bool) -> &'static str
+pub(crate) fn t_bit(t: bool) -> &'static str
     ensures { result.now ≡ t_text t }
 {
     if t { ".1" } else { ".0" }

@@ -27,8 +27,8 @@ fn torn_byte(devices: &Devices, active: Slot, to: Addr7, cuts: &Cuts, sent: u16)
 }
 
 /// The role is offered to an address, after so many bits of its frame in which these devices are cut (GETACCCR, I3C Basic
-/// 5.1.9.3.16): the code, the target's header, and where somebody who would take the role acknowledges it, that target's
-/// byte. The lowest slot takes the role whose device is willing and is left at the byte's T.
+/// 5.1.9.3.16). The frame has the code, the target's header, and where somebody who would take the role acknowledges it, that
+/// target's byte. The lowest slot takes the role whose device is willing and is left at the byte's T.
 pub fn offer(devices: &Devices, active: Slot, to: Addr7, cuts: &Cuts, begun: u16) -> Offer
     requires { begun ≤ 18 }
     ensures offered { (st : State) → HasDevices st devices.now active → IsOffered st to (lost_by cuts.now (begun + offer_bits result)) result }

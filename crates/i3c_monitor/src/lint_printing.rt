@@ -1,5 +1,4 @@
 ghost use Rattle.std.specs.Prelude.{◌≡◌, ◌++◌, ◌-◌, OnOk, codes, map, slice_get};
-ghost use Rattle.i3c_frame.specs.Texts.{text_of};
 ghost use Rattle.i3c_monitor.specs.Lint.LintLine.{Faulty};
 ghost use Rattle.i3c_monitor.specs.LintLines.{address_text, breach_text, lint_text, place_text, symbol_text};
 
@@ -10,7 +9,6 @@ use i3c_base::Addr7;
 use i3c_frame::Symbol;
 use i3c_text::Text;
 use std::alloc::AllocError;
-use std::fmt::Write;
 
 impl Report {
     ghost use Rattle.std.specs.Prelude.{◌≡◌, ◌++◌, OnOk};
@@ -83,19 +81,9 @@ fn push_quoted(symbol: Option<Symbol>, text: &mut Text) -> Result<(), AllocError
 {
     text.push(b" '")?;
     if let Some(symbol) = symbol {
-        push_symbol(&symbol, text)?;
+        symbol.push(text)?;
     }
     text.push(b"': ")
-}
-
-/// Appends the text of a symbol.
-fn push_symbol(symbol: &Symbol, text: &mut Text) -> Result<(), AllocError>
-    ensures { OnOk result (text.new ≡ text.old ++ text_of symbol.now) }
-{
-    match write!(text, "{symbol}") {
-        Ok(()) => Ok(()),
-        Err(_) => Err(AllocError),
-    }
 }
 
 /// Appends why a symbol is a fault.

@@ -41,6 +41,8 @@ impl<'a> Monitor<'a> {
 
     /// What comes next, or `None` at the end. After a fault it is the end. Symbols that don't follow one another as
     /// those of a trace do are passed over.
+    // in line with all that is taken, since whoever asks asks for each symbol
+    #[inline(always)]
     pub fn next(&mut self) -> Result<Option<Decoded>, AllocError>
         ensures told { IfOk result (λ decoded. to_come self.old ≡ option_to_list decoded ++ to_come self.new) }
         ensures ended { result ≡ Ok None → to_come self.old ≡ [] }
@@ -55,6 +57,7 @@ impl<'a> Monitor<'a> {
     }
 
     /// Takes the next symbol, with all behind it if it is a header, and tells what it is.
+    #[inline(always)]
     fn take(&mut self, symbol: &Symbol, rest: &'a [Symbol]) -> Result<Option<Decoded>, AllocError>
         requires { self.old.rest.now ≡ symbol.now ∷ rest.now }
         ensures told { IfOk result (λ decoded. to_come self.old ≡ option_to_list decoded ++ to_come self.new) }
@@ -74,6 +77,7 @@ impl<'a> Monitor<'a> {
     }
 
     /// Takes the symbols behind a header, and tells what they are.
+    #[inline(always)]
     fn take_behind(&mut self, header: &Header) -> Result<Option<Decoded>, AllocError>
         ensures told { IfOk result (λ decoded. header_told self.old header.now ≡ option_to_list decoded ++ to_come self.new) }
         ensures shorter { length self.new.rest.now ≤ length self.old.rest.now }

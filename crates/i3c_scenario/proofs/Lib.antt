@@ -6,6 +6,7 @@ pub mod LintWritten
 pub mod Explained
 pub mod Feeds
 pub mod Gathered
+mod Expected
 pub mod ScriptRuns
 pub mod ScriptRead
 pub mod AsciiLaws

@@ -6,7 +6,7 @@ use Rattle.std.specs.Io.KnownBytes.{Consumes, IsAtEnd, Keeps}
 use Rattle.i3c_scenario.specs.declared.faults.ScriptFault.{ScriptFault}
 use Rattle.i3c_scenario.specs.Reading.{Leaves}
 use Rattle.i3c_scenario.specs.Scripts.{IsPart, LineRun, LinesGoOut, OutBefore, lines_bytes, lines_out}
-use Rattle.i3c_script.specs.Obeying.{IsBegun, ScriptState}
+use Rattle.i3c_scenario.specs.Expecting.{HasBegun, Standing}
 use Rattle.i3c_scenario.specs.ScriptSteps.{OutOf, Progress, ReadPart, ReadSoFar, ReadsAll, ReadWhole, Runs, RunsTo, RunStops}
 use Rattle.i3c_scenario.specs.Outcomes.{written}
 use Rattle.i3c_scenario.proofs.Gathered.{nothing_out, puts_whole}
@@ -85,7 +85,7 @@ pub none_so_far : (known old : Option (List ℕ)) (held : List ℕ) (at : Progre
 none_so_far known old held at none =
     record { read = []; rest = []; consumed = none_read known [] refl; few = omega arith; runs = no_line [] (written old) at no_feed_in_none; begun = none }
 
-no_part : (known old : Option (List ℕ)) (start : ScriptState) → IsBegun start → IsPart known known old old ScriptFault.Memory
+no_part : (known old : Option (List ℕ)) (start : Standing) → HasBegun start → IsPart known known old old ScriptFault.Memory
 no_part known old start begun = record {
   lines = [];
   rest = unread known ++ 10 ∷ [];
@@ -109,11 +109,11 @@ leaves_more (Some xs) (Some ys) (Some zs) chunk most left count leaves consumed 
     omega (arith, leaves, all, length-append (take count chunk) zs, length-take count chunk, within, room)
 
 -- no memory for the chunk: no line was run
-pub none_run : (known old : Option (List ℕ)) (start : ScriptState) → IsBegun start → LinesGoOut known known old old (Err ScriptFault.Memory)
+pub none_run : (known old : Option (List ℕ)) (start : Standing) → HasBegun start → LinesGoOut known known old old (Err ScriptFault.Memory)
 none_run known old start begun = no_part known old start begun
 
 -- a script of which a part was run, from its start
-pub part_run : (known left old new : Option (List ℕ)) (from : Progress) (fault : ScriptFault) → IsBegun from.state → ReadPart known left old new from fault → LinesGoOut known left old new (Err fault)
+pub part_run : (known left old new : Option (List ℕ)) (from : Progress) (fault : ScriptFault) → HasBegun from.state → ReadPart known left old new from fault → LinesGoOut known left old new (Err fault)
 part_run known left old new from fault begun part = record {
   lines = part.lines;
   rest = part.rest;
@@ -191,12 +191,13 @@ all_so_far known now left old mid new held from c1 c2 room (Err fault) so_far co
     (runs_stop so_far.read so_far.rest (10 ∷ []) (written old) (written mid) (written new) from c1 fault so_far.runs stops)
 
 -- a script that was run to its end
-pub whole_run : (known left old new : Option (List ℕ)) (from to : Progress) → IsBegun from.state → from.refused ≡ 0 → ReadWhole known left old new from to → IsAtEnd left → to.refused ≤ 18446744073709551615
-    → LinesGoOut known left old new (Ok (record { refused = to.refused }))
+pub whole_run : (known left old new : Option (List ℕ)) (from to : Progress) → HasBegun from.state → from.refused ≡ 0 → ReadWhole known left old new from to → IsAtEnd left → to.refused ≤ 18446744073709551615
+    → LinesGoOut known left old new (Ok (record { refused = to.refused; unmet = to.state.unmet }))
 whole_run known left old new from to begun none whole end small = record {
   lines = whole.runs.lines;
   run = record { start = from.state; end = to.state; begun = begun; lead = whole.runs.run };
   all = ended_is known left whole.read (lines_bytes whole.runs.lines) whole.consumed end (whole.runs.same ∙ append-nil (lines_bytes whole.runs.lines));
   out = puts_whole old new (lines_out whole.runs.lines) whole.runs.out;
   counted = omega (arith, whole.runs.count, small, none);
+  unmet = refl;
 }

@@ -9,9 +9,11 @@ use Rattle.i3c_script.specs.declared.faults.Stop.{Stop}
 use Rattle.std.specs.Io.KnownBytes.{Appends}
 use Rattle.i3c_lines.specs.Forms.{HasNoForm, IsCommand, IsSkipped}
 use Rattle.i3c_script.specs.Obeying.{ScriptState}
+use Rattle.i3c_facts.specs.Forms.{IsMark}
+use Rattle.i3c_scenario.specs.Expecting.{IsBad, IsTaken, Standing}
 use Rattle.i3c_scenario.specs.Outcomes.{AppendsSome, GoesLast, HasNoFeed, Output, Puts, PutsOrFails, PutsSome, written}
 use Rattle.i3c_script.specs.Printed.{end_text}
-use Rattle.i3c_scenario.specs.Scripts.{Lead, LineDoes, LineRun, lines_bytes, lines_out, lines_refused, refusals_of, refused_text, run_text}
+use Rattle.i3c_scenario.specs.Scripts.{LineDoes, LineRun, LineRuns, LinesLead, lines_bytes, lines_out, lines_refused, refusals_of, refused_text, run_text}
 use Rattle.i3c_scenario.specs.ScriptSteps.{LineDone, LineEnds, LineLost, LineStops, OutOf, Progress, Reads, Runs, RunsTo, RunStops, Takes}
 use Rattle.i3c_script.specs.Stops.{refusals}
 use Rattle.i3c_scenario.proofs.Gathered.{flush_all, flush_some, puts_both, puts_none, some_puts}
@@ -39,11 +41,11 @@ pub passes : (result : Result (Unit {0}) ScriptFault) (done : Unit {0}) → resu
 passes result done one two = subst (λ r. MatchResult r (λ _. ⊥) (λ _. Unit {0})) (sym two ∙ one) tt
 
 -- what a line did that isn't short of memory
-pub does_in : (old : ScriptState) (line : List ℕ) (before after : List ℕ) (outcome : Result (Unit {0}) Stop) (new : ScriptState) → Reads old line before after outcome new → before ≡ [] → outcome ≢ Err Stop.Memory
-    → LineDoes old line after (refusal_in outcome) new
+pub does_in : (old : Standing) (line : List ℕ) (before after : List ℕ) (outcome : Result (Unit {0}) Stop) (new : Standing) → Reads old line before after outcome new → before ≡ [] → outcome ≢ Err Stop.Memory
+    → LineRuns old line after (refusal_in outcome) new
 unfolding refusal_in
-does_in old line before after (Ok done) new (said, told, does) none alive = subst (λ t. LineDoes old line t None new) (sym (told ∙ ap (λ t. t ++ said) none)) does
-does_in old line before after (Err (Stop.Refused why)) new (said, told, does) none alive = subst (λ t. LineDoes old line t (Some why) new) (sym (told ∙ ap (λ t. t ++ said) none)) does
+does_in old line before after (Ok done) new (said, told, does) none alive = subst (λ t. LineRuns old line t None new) (sym (told ∙ ap (λ t. t ++ said) none)) does
+does_in old line before after (Err (Stop.Refused why)) new (said, told, does) none alive = subst (λ t. LineRuns old line t (Some why) new) (sym (told ∙ ap (λ t. t ++ said) none)) does
 does_in old line before after (Err Stop.Memory) new reads none alive = absurd (alive refl)
 
 -- a line is read by the bytes that tell what it is
@@ -73,6 +75,21 @@ does_whole old line said refused new (inl (form, none, why, same)) = inl (no_for
 does_whole old line said refused new (inr (inl (skipped, none, why, same))) = inr (inl (subst IsSkipped (taken_whole line skipped.0) skipped, none, why, same))
 does_whole old line said refused new (inr (inr (command, is, does))) = inr (inr (command, subst (λ l. IsCommand l command) (taken_whole line (is.0)) is, does))
 
+-- a line is short that is a mark
+mark_short : (n : ℕ) (line : List ℕ) → length line ≤ n → take (suc n) line ≡ line
+mark_short n line short = take_all (suc n) line (omega (arith, short))
+
+-- whatever may not stand by its first bytes may not
+bad_whole : (line : List ℕ) → IsBad (take 257 line) → IsBad line
+bad_whole line (form, none) = (no_form_whole line form, λ taken. none (subst IsTaken (sym (mark_short 256 line taken.1.0)) taken))
+
+-- a line of a script does what it does by its first bytes
+pub runs_whole : (old : Standing) (line said : List ℕ) (refused : Option Refusal) (new : Standing) → LineRuns old (take 257 line) said refused new → LineRuns old line said refused new
+runs_whole old line said refused new (inl (bad, none, why, same)) = inl (bad_whole line bad, none, why, same)
+runs_whole old line said refused new (inr (inl (skipped, none, why, same))) = inr (inl (subst IsSkipped (taken_whole line skipped.0) skipped, none, why, same))
+runs_whole old line said refused new (inr (inr (inl (mark, is, takes, does)))) = inr (inr (inl (mark, subst (λ l. IsMark l mark) (taken_whole line is.0) is, takes, does)))
+runs_whole old line said refused new (inr (inr (inr (command, state, is, obeys, goes)))) = inr (inr (inr (command, state, subst (λ l. IsCommand l command) (taken_whole line is.0) is, obeys, goes)))
+
 -- what begins a line, in pieces
 pub take_both : (n : ℕ) (xs ys : List ℕ) → take n (take n xs ++ ys) ≡ take n (xs ++ ys)
 take_both zero xs ys = refl
@@ -92,8 +109,8 @@ pub refused_both : (a b : List LineRun) → lines_refused (a ++ b) ≡ lines_ref
 refused_both [] b = omega arith
 refused_both (run ∷ a) b = omega (arith, refused_both a b)
 
-pub run_both : (a b : List LineRun) (from mid to : ScriptState) → Lead from a mid → Lead mid b to → Lead from (a ++ b) to
-run_both [] b from mid to one two = subst (λ st. Lead st b to) one two
+pub run_both : (a b : List LineRun) (from mid to : Standing) → LinesLead from a mid → LinesLead mid b to → LinesLead from (a ++ b) to
+run_both [] b from mid to one two = subst (λ st. LinesLead st b to) one two
 run_both (run ∷ a) b from mid to (next, is, one) two = (next, is, run_both a b next mid to one two)
 
 pub no_feed_in_none : HasNoFeed []
@@ -209,12 +226,12 @@ stops_before a b old new from fault stops = record {
 
 done_whole : (line : List ℕ) (old new : Output) (from to : Progress) → LineDone (take 257 line) old new from to → LineDone line old new from to
 done_whole line old new from to done =
-    record { said = done.said; refused = done.refused; does = does_whole from.state line done.said done.refused to.state done.does; out = done.out; count = done.count }
+    record { said = done.said; refused = done.refused; does = runs_whole from.state line done.said done.refused to.state done.does; out = done.out; count = done.count }
 
 stops_whole : (fault : ScriptFault) (line : List ℕ) (old new : Output) (from : Progress) → LineStops fault (take 257 line) old new from → LineStops fault line old new from
 stops_whole ScriptFault.Memory line old new from stops = stops
 stops_whole ScriptFault.Write line old new from stops =
-    record { said = stops.said; refused = stops.refused; to = stops.to; does = does_whole from.state line stops.said stops.refused stops.to stops.does; out = stops.out }
+    record { said = stops.said; refused = stops.refused; to = stops.to; does = runs_whole from.state line stops.said stops.refused stops.to stops.does; out = stops.out }
 stops_whole ScriptFault.Read line old new from stops = stops
 stops_whole ScriptFault.TooLarge line old new from stops = stops
 
@@ -228,7 +245,7 @@ held_runs begun bytes old new from to (Err fault) one two ends =
 
 -- what a line did that was run
 pub line_ran : (line text : List ℕ) (outcome : Result (Unit {0}) Stop) (old new : Output) (from to : Progress)
-    → LineDoes from.state line text (refusal_in outcome) to.state → Puts old new (text ++ end_text outcome) → to.refused ≡ min (from.refused + refusals outcome) 18446744073709551615 → LineDone line old new from to
+    → LineRuns from.state line text (refusal_in outcome) to.state → Puts old new (text ++ end_text outcome) → to.refused ≡ min (from.refused + refusals outcome) 18446744073709551615 → LineDone line old new from to
 line_ran line text outcome old new from to does out count = record {
   said = text;
   refused = refusal_in outcome;
@@ -237,8 +254,8 @@ line_ran line text outcome old new from to does out count = record {
   count = count ∙ ap (λ n. min (from.refused + n) 18446744073709551615) (its_refusals outcome);
 }
 
-pub line_lost : (line text : List ℕ) (outcome : Result (Unit {0}) Stop) (old new : Output) (from : Progress) (to : ScriptState)
-    → LineDoes from.state line text (refusal_in outcome) to → PutsSome old new (text ++ end_text outcome) → LineLost line old new from
+pub line_lost : (line text : List ℕ) (outcome : Result (Unit {0}) Stop) (old new : Output) (from : Progress) (to : Standing)
+    → LineRuns from.state line text (refusal_in outcome) to → PutsSome old new (text ++ end_text outcome) → LineLost line old new from
 line_lost line text outcome old new from to does out = record {
   said = text;
   refused = refusal_in outcome;
@@ -312,7 +329,7 @@ runs_flushed_last bytes rest old mid new from to (Err fault) result stops last =
 
 -- a line whose text is put behind
 pub line_put : (line text : List ℕ) (outcome : Result (Unit {0}) Stop) (old new : Output) (from to : Progress) (result : Result (Unit {0}) ScriptFault)
-    → LineDoes from.state line text (refusal_in outcome) to.state → to.refused ≡ min (from.refused + refusals outcome) 18446744073709551615
+    → LineRuns from.state line text (refusal_in outcome) to.state → to.refused ≡ min (from.refused + refusals outcome) 18446744073709551615
     → PutsOrFails old new (text ++ end_text outcome) result → LineEnds line old new from to result
 line_put line text outcome old new from to (Ok done) does count put = line_ran line text outcome old new from to does put count
 line_put line text outcome old new from to (Err ScriptFault.Memory) does count put = put

@@ -9,7 +9,7 @@ use Rattle.i3c_scenario.specs.declared.faults.ScriptFault.{ScriptFault}
 use Rattle.i3c_scenario.specs.declared.script_lines.ScriptLines.{ScriptLines}
 use Rattle.i3c_scenario.specs.Lines.{GivesLine, IsGivenOut, IsReadFrom, given, line_in_hand}
 use Rattle.i3c_scenario.specs.Outcomes.{HasNoFeed}
-use Rattle.i3c_scenario.specs.Scripts.{LineDoes}
+use Rattle.i3c_scenario.specs.Scripts.{LineRuns}
 use Rattle.i3c_scenario.specs.ScriptSteps.{Progress}
 use Rattle.i3c_scenario.specs.Viewed.{AreRun, AreSeen, Fails, LineFailed, LineRan, LineViewed, Shown, ViewedEnds, ViewedPart, ViewedWhole, Views, bytes_of, kept}
 use Rattle.i3c_scenario.proofs.LinesRead.{all_given, first_given}
@@ -111,8 +111,8 @@ none_viewed gives known old from =
     record { lines = []; to = from; rest = unread known ++ 10 ∷ []; run = refl; seen = refl; first = script_is known known [] [] [] (none_read known [] refl) refl }
 
 -- a line that was run
-pub line_ran : (line said text : List ℕ) (wire : List Symbol) (outcome : Result (Unit {0}) Stop) (from to : Progress) → LineDoes from.state line said (refusal_in outcome) to.state
-    → text ≡ said ++ end_text outcome → wire_on to.state.stage ≡ kept (wire_on from.state.stage ++ wire)
+pub line_ran : (line said text : List ℕ) (wire : List Symbol) (outcome : Result (Unit {0}) Stop) (from to : Progress) → LineRuns from.state line said (refusal_in outcome) to.state
+    → text ≡ said ++ end_text outcome → wire_on to.state.script.stage ≡ kept (wire_on from.state.script.stage ++ wire)
     → to.refused ≡ min (from.refused + refusals outcome) 18446744073709551615 → LineRan line text wire from to
 line_ran line said text wire outcome from to does shows sent count = record {
   said = said;

@@ -10,7 +10,7 @@ use Rattle.i3c_scenario.specs.declared.watched.Watching.{Watching}
 use Rattle.i3c_scenario.specs.declared.watched.WatchFault.{WatchFault}
 use Rattle.i3c_scenario.specs.Lines.{GivesLine, IsGivenOut, IsReadFrom, given, line_in_hand}
 use Rattle.i3c_scenario.specs.Outcomes.{AppendsSome}
-use Rattle.i3c_scenario.specs.Scripts.{Lead, LineDoes, LineRun, lines_bytes, lines_out, lines_refused, run_text}
+use Rattle.i3c_scenario.specs.Scripts.{LinesLead, LineRuns, LineRun, lines_bytes, lines_out, lines_refused, run_text}
 use Rattle.i3c_scenario.specs.ScriptSteps.{Progress}
 use Rattle.i3c_scenario.specs.Watched.{AreFormed, EndsAt, IsFormed, LineCut, LineFails, LineRan, LineWatched, WatchedEnds, WatchedPart, WatchedWhole, echo_text, echoed, numbered, numbered_by, shown, shown_out}
 use Rattle.i3c_scenario.proofs.CheckRuns.{nothing_out, some_out}
@@ -38,7 +38,7 @@ length_more (one ∷ lines) run = omega (arith, length_more lines run)
 -- the lines that were run so far, of which the next has this number
 pub record WatchedSoFar (watching : Watching) (known now old new : Option (List ℕ)) (reader : ScriptLines) (from to : Progress) (at : ℕ) : Type 0 where
   pub lines : List LineRun
-  pub run : Lead from.state lines to.state
+  pub run : LinesLead from.state lines to.state
   pub formed : AreFormed watching lines
   pub number : at ≡ 1 + length lines
   pub bytes : given reader ≡ lines_bytes lines
@@ -148,7 +148,7 @@ none_ran watching known old from = record {
 }
 
 -- a line that was run, as it is shown
-pub line_ran : (watching : Watching) (number : ℕ) (line said text : List ℕ) (outcome : Result (Unit {0}) Stop) (from to : Progress) → LineDoes from.state line said (refusal_in outcome) to.state
+pub line_ran : (watching : Watching) (number : ℕ) (line said text : List ℕ) (outcome : Result (Unit {0}) Stop) (from to : Progress) → LineRuns from.state line said (refusal_in outcome) to.state
     → text ≡ numbered_by watching number (echoed watching line ++ (said ++ end_text outcome)) → to.refused ≡ min (from.refused + refusals outcome) 18446744073709551615 → LineRan watching number line text from to
 line_ran watching number line said text outcome from to does shows count = record {
   said = said;

@@ -5,11 +5,12 @@ use Rattle.std.specs.Io.KnownBytes.{Appends}
 use Rattle.i3c_lines.specs.declared.command.Command.{Command}
 use Rattle.i3c_lines.specs.declared.names.Name.{Name}
 use Rattle.i3c_lines.specs.declared.names.Names.{Names}
-use Rattle.i3c_lines.specs.Forms.{HasNoForm, IsCommand, IsSkipped}
+use Rattle.i3c_lines.specs.Forms.{IsCommand, IsSkipped}
 use Rattle.i3c_lines.specs.Naming.{is_same, place_named}
 use Rattle.i3c_lines.specs.Namings.{name_given, name_meant}
 use Rattle.i3c_scenario.specs.declared.faults.ScriptFault.{ScriptFault}
 use Rattle.i3c_scenario.specs.declared.script.Tally.{Tally}
+use Rattle.i3c_scenario.specs.Expecting.{IsBad, IsTaken}
 use Rattle.i3c_scenario.specs.Outcomes.{AppendsSome, HasNoFeed}
 
 -- a name is known: a line gave it
@@ -34,10 +35,11 @@ abbrev pub Gives : Names → Names → Option Name → Type 0
 Gives old new None = new ≡ old
 Gives old new (Some name) = (other : Name) → is_given new other ≡ (if is_same name other then true else is_given old other)
 
--- what is told of one line, and the names after it: a line without a form is told, and so is one that means a device by an unknown name
+-- what is told of one line, and the names after it: a line is told that a script may not have, and so is one that means a device by an unknown name
 abbrev pub LineChecked : Names → ℕ → List ℕ → List ℕ → Names → Type 0
-LineChecked old number line told new = (HasNoForm line × IsToldLine number told × (new ≡ old))
+LineChecked old number line told new = (IsBad line × IsToldLine number told × (new ≡ old))
     ⊎ (IsSkipped line × (told ≡ []) × (new ≡ old))
+    ⊎ (IsTaken line × (told ≡ []) × (new ≡ old))
     ⊎ ((command : Command) × IsCommand line command × NameTold old number (name_meant command) told × Gives old new (name_given command))
 
 -- a line that was checked: its bytes without the line feed, and what was told of it

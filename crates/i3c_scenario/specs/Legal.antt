@@ -7,7 +7,8 @@ use Rattle.i3c_script.specs.Leading.{AreLegal}
 use Rattle.i3c_script.specs.Making.{Made, command_made}
 use Rattle.i3c_script.specs.Obeying.{IsBegun, ScriptState}
 use Rattle.i3c_script.specs.Ran.{Ran}
-use Rattle.i3c_scenario.specs.Scripts.{Lead, LineDoes, LineRun}
+use Rattle.i3c_scenario.specs.Expecting.{HasBegun, Standing, counted}
+use Rattle.i3c_scenario.specs.Scripts.{CountedRuns, Lead, LineDoes, LineRun, LinesLead}
 
 -- the steps of the bus that a line is: those of its command, and none without one
 abbrev pub line_made : (old : ScriptState) (line said : List ℕ) (refused : Option Refusal) (new : ScriptState) → LineDoes old line said refused new → List Made
@@ -20,6 +21,22 @@ abbrev pub lines_made : (old : ScriptState) (lines : List LineRun) (new : Script
 lines_made old [] new same = []
 lines_made old (run ∷ rest) new (mid, is, lead) = line_made old run.line run.said run.refused mid is.does ++ lines_made mid rest new lead
 
--- Wherever lines lead from a script's start to a bus, their steps are a legal run to the state of that bus.
+-- the same of a line of a script: a mark is no step
+abbrev pub counted_made : (now : Standing) (line said : List ℕ) (refused : Option Refusal) (new : Standing) → CountedRuns now line said refused new → List Made
+counted_made now line said refused new (inl bad) = []
+counted_made now line said refused new (inr (inl skipped)) = []
+counted_made now line said refused new (inr (inr (inl mark))) = []
+counted_made now line said refused new (inr (inr (inr (command, state, asks, obeys, is)))) = command_made now.script.stage now.script.names command said refused state obeys
+
+-- the steps that lines of a script are, in order
+abbrev pub script_made : (old : Standing) (lines : List LineRun) (new : Standing) → LinesLead old lines new → List Made
+script_made old [] new same = []
+script_made old (run ∷ rest) new (mid, is, lead) = counted_made (counted old) run.line run.said run.refused mid is.does ++ script_made mid rest new lead
+
+-- Wherever lines of commands alone lead from a script's start to a bus, their steps are a legal run to the state of that bus.
+abbrev pub CommandsAreLegalRuns : Type 0
+CommandsAreLegalRuns = (old : ScriptState) (lines : List LineRun) (new : ScriptState) (ran : Ran) → IsBegun old → (lead : Lead old lines new) → new.stage ≡ Stage.Running ran → AreLegal (lines_made old lines new lead) ran.state
+
+-- Wherever lines of a script lead from its start to a bus, their steps are a legal run to the state of that bus.
 abbrev pub LinesAreLegalRuns : Type 0
-LinesAreLegalRuns = (old : ScriptState) (lines : List LineRun) (new : ScriptState) (ran : Ran) → IsBegun old → (lead : Lead old lines new) → new.stage ≡ Stage.Running ran → AreLegal (lines_made old lines new lead) ran.state
+LinesAreLegalRuns = (old : Standing) (lines : List LineRun) (new : Standing) (ran : Ran) → HasBegun old → (lead : LinesLead old lines new) → new.script.stage ≡ Stage.Running ran → AreLegal (script_made old lines new lead) ran.state

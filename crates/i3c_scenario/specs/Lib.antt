@@ -3,6 +3,7 @@ pub mod Outcomes
 pub mod Faults
 pub mod Traces
 pub mod Linted
+pub mod Expecting
 pub mod Scripts
 pub mod ScriptSteps
 pub mod Legal

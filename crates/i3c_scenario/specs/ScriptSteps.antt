@@ -1,35 +1,47 @@
 -- How a script is run, piece by piece of its bytes.
-use Rattle.std.specs.Prelude.{◌≡◌, ℕ, ◌+◌, List, [], ◌∷◌, ◌++◌, length, min, take, Option, IfSome, Result, MatchResult}
+use Rattle.std.specs.Prelude.{◌≡◌, ℕ, ◌+◌, List, [], ◌∷◌, ◌++◌, length, min, take, Option, IfSome, Result, Ok, Err, MatchResult}
 use Rattle.std.specs.Io.KnownBytes.{Consumes}
 use Rattle.i3c_lines.specs.declared.refusals.Refusal.{Refusal}
 use Rattle.i3c_scenario.specs.declared.faults.ScriptFault.{ScriptFault}
 use Rattle.i3c_script.specs.declared.faults.Stop.{Stop}
 use Rattle.i3c_scenario.specs.declared.script.Script.{Script}
-use Rattle.i3c_script.specs.Obeying.{ScriptState, script}
+use Rattle.i3c_script.specs.Obeying.{script}
 use Rattle.i3c_script.specs.Telling.{Prints}
+use Rattle.i3c_facts.specs.declared.holding.Before.{Before}
+use Rattle.i3c_scenario.specs.Expecting.{Standing}
 use Rattle.i3c_scenario.specs.Outcomes.{HasNoFeed, Output, Puts, PutsSome, written}
-use Rattle.i3c_scenario.specs.Scripts.{Lead, LineDoes, LineRun, OutBefore, lines_bytes, lines_out, lines_refused, refusals_of, refused_text}
+use Rattle.i3c_scenario.specs.Scripts.{CountedRuns, LineRun, LineRuns, LinesLead, OutBefore, lines_bytes, lines_out, lines_refused, refusals_of, refused_text}
 
--- where a running script is: its state, and how many of its lines were refused so far
+-- where a running script is, and how many of its lines were refused so far
 pub record Progress : Type 0 where
-  pub state : ScriptState
+  pub state : Standing
   pub refused : ℕ
 
-abbrev pub state : Script → ScriptState
-state running = script running.stage running.names
+abbrev pub state : Script → Standing
+state running = record { script = script running.stage running.names; lines = running.lines; before = running.before; unmet = running.unmet }
 
 abbrev pub progress : Script → Progress
 progress running = record { state = state running; refused = running.refused }
 
 -- what a line comes to, with what is printed before and after it; nothing is said of a line that memory is short for
-abbrev pub Reads : ScriptState → List ℕ → List ℕ → List ℕ → Result (Unit {0}) Stop → ScriptState → Type 0
-Reads old line before after result new = Prints (λ said refused. LineDoes old line said refused new) before after result
+abbrev pub Reads : Standing → List ℕ → List ℕ → List ℕ → Result (Unit {0}) Stop → Standing → Type 0
+Reads old line before after result new = Prints (λ said refused. LineRuns old line said refused new) before after result
+
+-- a refusal is noted for the facts behind it
+abbrev pub noted : Standing → Result (Unit {0}) Stop → Standing
+noted now (Ok done) = now
+noted now (Err (Stop.Refused why)) = record now { before = Before.Refused why }
+noted now (Err Stop.Memory) = now
+
+-- what a line comes to that was counted
+abbrev pub ReadsCounted : Standing → List ℕ → List ℕ → List ℕ → Result (Unit {0}) Stop → Standing → Type 0
+ReadsCounted now line before after result new = Prints (λ said refused. CountedRuns now line said refused new) before after result
 
 -- a line was run, and what it puts out was put behind and counted
 pub record LineDone (line : List ℕ) (old new : Output) (from to : Progress) : Type 0 where
   pub said : List ℕ
   pub refused : Option Refusal
-  pub does : LineDoes from.state line said refused to.state
+  pub does : LineRuns from.state line said refused to.state
   pub out : Puts old new (said ++ refused_text refused)
   pub count : to.refused ≡ min (from.refused + refusals_of refused) 18446744073709551615
 
@@ -37,8 +49,8 @@ pub record LineDone (line : List ℕ) (old new : Output) (from to : Progress) : 
 pub record LineLost (line : List ℕ) (old new : Output) (from : Progress) : Type 0 where
   pub said : List ℕ
   pub refused : Option Refusal
-  pub to : ScriptState
-  pub does : LineDoes from.state line said refused to
+  pub to : Standing
+  pub does : LineRuns from.state line said refused to
   pub out : PutsSome old new (said ++ refused_text refused)
 
 -- a fault ends the run at a line: for want of memory nothing of it is put behind
@@ -55,7 +67,7 @@ LineEnds line old new from to result = MatchResult result (λ _. LineDone line o
 -- the lines that these bytes end were run, and the rest of the bytes begins the next one
 pub record RunsTo (bytes rest : List ℕ) (old new : Output) (from to : Progress) : Type 0 where
   pub lines : List LineRun
-  pub run : Lead from.state lines to.state
+  pub run : LinesLead from.state lines to.state
   pub same : bytes ≡ lines_bytes lines ++ rest
   pub one : HasNoFeed rest
   pub out : Puts old new (lines_out lines)
@@ -72,8 +84,8 @@ OutOf ScriptFault.TooLarge lines old new = ⊥
 pub record RunStops (bytes : List ℕ) (old new : Output) (from : Progress) (fault : ScriptFault) : Type 0 where
   pub lines : List LineRun
   pub rest : List ℕ
-  pub to : ScriptState
-  pub run : Lead from.state lines to
+  pub to : Standing
+  pub run : LinesLead from.state lines to
   pub same : bytes ≡ lines_bytes lines ++ rest
   pub out : OutOf fault lines old new
 
@@ -104,8 +116,8 @@ pub record ReadWhole (known left old new : Option (List ℕ)) (from to : Progres
 pub record ReadPart (known left old new : Option (List ℕ)) (from : Progress) (fault : ScriptFault) : Type 0 where
   pub lines : List LineRun
   pub rest : List ℕ
-  pub to : ScriptState
-  pub run : Lead from.state lines to
+  pub to : Standing
+  pub run : LinesLead from.state lines to
   pub first : IfSome known (λ script. lines_bytes lines ++ rest ≡ script ++ 10 ∷ [])
   pub out : OutBefore fault known left old new lines
 

@@ -1,5 +1,5 @@
 -- What goes out of a script: its lines, and what each of them puts out.
-use Rattle.std.specs.Prelude.{◌≡◌, ◌⊎◌, ℕ, ◌+◌, List, [], ◌∷◌, ◌++◌, codes, min, take, Option, Some, None, IfSome, Result, MatchResult}
+use Rattle.std.specs.Prelude.{◌≡◌, ◌⊎◌, ℕ, ◌+◌, List, [], ◌∷◌, ◌++◌, codes, min, take, true, Option, Some, None, IfSome, Result, MatchResult}
 use Rattle.std.specs.Io.KnownBytes.{Appends, Consumes}
 use Rattle.i3c_lines.specs.declared.command.Command.{Command}
 use Rattle.i3c_lines.specs.declared.refusals.Refusal.{Refusal}
@@ -7,7 +7,10 @@ use Rattle.i3c_lines.specs.Forms.{HasNoForm, IsCommand, IsSkipped}
 use Rattle.i3c_lines.specs.Refusing.{refusal_text}
 use Rattle.i3c_scenario.specs.declared.faults.ScriptFault.{ScriptFault}
 use Rattle.i3c_scenario.specs.declared.script.Tally.{Tally}
-use Rattle.i3c_script.specs.Obeying.{IsBegun, Obeys, ScriptState}
+use Rattle.i3c_script.specs.Obeying.{Obeys, ScriptState}
+use Rattle.i3c_facts.specs.declared.marks.Mark.{Mark}
+use Rattle.i3c_facts.specs.Forms.{IsMark}
+use Rattle.i3c_scenario.specs.Expecting.{HasBegun, IsBad, MarkDoes, Standing, counted, takes, went}
 use Rattle.i3c_scenario.specs.Outcomes.{AppendsSome, HasNoFeed}
 
 -- a line that was run: its bytes without the line feed, what it printed, and why it was refused, if it was
@@ -25,8 +28,8 @@ refused_text (Some why) = codes "refused " ++ (refusal_text why ++ 10 ∷ [])
 abbrev pub run_text : LineRun → List ℕ
 run_text run = run.said ++ refused_text run.refused
 
--- what one line prints, why it is refused, if it is, and where the script is after it. A line without a form is refused; an
--- empty line and a comment do nothing; any other line does what its command does
+-- of a bus that takes commands alone: what one line prints, why it is refused, if it is, and where the script is after it. A
+-- line without a form is refused; an empty line and a comment do nothing; any other line does what its command does
 abbrev pub LineDoes : ScriptState → List ℕ → List ℕ → Option Refusal → ScriptState → Type 0
 LineDoes old line said refused new = (HasNoForm line × (said ≡ []) × (refused ≡ Some Refusal.BadLine) × (new ≡ old))
     ⊎ (IsSkipped line × (said ≡ []) × (refused ≡ None) × (new ≡ old))
@@ -42,12 +45,34 @@ abbrev pub Lead : ScriptState → List LineRun → ScriptState → Type 0
 Lead old [] new = new ≡ old
 Lead old (run ∷ rest) new = (mid : ScriptState) × IsRun old run mid × Lead mid rest new
 
+-- of a script: what a line that was counted prints, why it is refused, if it is, and where the script is after it. A mark that
+-- a run takes does what the mark does, and is none of the lines before that a later fact speaks of
+abbrev pub CountedRuns : Standing → List ℕ → List ℕ → Option Refusal → Standing → Type 0
+CountedRuns now line said refused new = (IsBad line × (said ≡ []) × (refused ≡ Some Refusal.BadLine) × (new ≡ went now now.script (Some Refusal.BadLine)))
+    ⊎ (IsSkipped line × (said ≡ []) × (refused ≡ None) × (new ≡ now))
+    ⊎ ((mark : Mark) × IsMark line mark × (takes mark ≡ true) × MarkDoes now mark said refused new)
+    ⊎ ((command : Command) × (state : ScriptState) × IsCommand line command × Obeys now.script command said refused state × (new ≡ went now state refused))
+
+-- the same of a line that comes next
+abbrev pub LineRuns : Standing → List ℕ → List ℕ → Option Refusal → Standing → Type 0
+LineRuns old line said refused new = CountedRuns (counted old) line said refused new
+
+-- one line of a script was run
+pub record IsLineRun (old : Standing) (run : LineRun) (new : Standing) : Type 0 where
+  pub one : HasNoFeed run.line
+  pub does : LineRuns old run.line run.said run.refused new
+
+-- lines of a script, run one after another, lead from one place to another
+abbrev pub LinesLead : Standing → List LineRun → Standing → Type 0
+LinesLead old [] new = new ≡ old
+LinesLead old (run ∷ rest) new = (mid : Standing) × IsLineRun old run mid × LinesLead mid rest new
+
 -- lines were run from a script's start
 pub record AreRun (lines : List LineRun) : Type 0 where
-  pub start : ScriptState
-  pub end : ScriptState
-  pub begun : IsBegun start
-  pub lead : Lead start lines end
+  pub start : Standing
+  pub end : Standing
+  pub begun : HasBegun start
+  pub lead : LinesLead start lines end
 
 -- the bytes of lines, each with its line feed
 abbrev pub lines_bytes : List LineRun → List ℕ
@@ -69,13 +94,14 @@ abbrev pub lines_refused : List LineRun → ℕ
 lines_refused [] = 0
 lines_refused (run ∷ rest) = refusals_of run.refused + lines_refused rest
 
--- each line of a script was run, its last one too, which needs no line feed: what they put out went out, and the tally counts the refused ones
+-- each line of a script was run, its last one too, which needs no line feed: what they put out went out, and the tally counts the refused ones, and the expectations that weren't met
 pub record IsWhole (known old new : Option (List ℕ)) (tally : Tally) : Type 0 where
   pub lines : List LineRun
   pub run : AreRun lines
   pub all : IfSome known (λ script. lines_bytes lines ≡ script ++ 10 ∷ [])
   pub out : Appends old new (lines_out lines)
   pub counted : tally.refused ≡ min (lines_refused lines) 18446744073709551615
+  pub unmet : tally.unmet ≡ run.end.unmet
 
 -- what these lines put out, as far as it went out before a fault. Where a line lacks memory, or the reader fails, or the script is too large, each line before that was written whole. A failed read, or the size limit, may fall inside a line; that line isn't run
 abbrev pub OutBefore : ScriptFault → Option (List ℕ) → Option (List ℕ) → Option (List ℕ) → Option (List ℕ) → List LineRun → Type 0

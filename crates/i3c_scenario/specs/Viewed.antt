@@ -5,9 +5,10 @@ use Rattle.i3c_lines.specs.declared.refusals.Refusal.{Refusal}
 use Rattle.i3c_scenario.specs.declared.faults.ScriptFault.{ScriptFault}
 use Rattle.i3c_scenario.specs.declared.script.Tally.{Tally}
 use Rattle.i3c_scenario.specs.Outcomes.{HasNoFeed}
-use Rattle.i3c_scenario.specs.Scripts.{LineDoes, refusals_of, refused_text}
+use Rattle.i3c_scenario.specs.Scripts.{LineRuns, refusals_of, refused_text}
 use Rattle.i3c_scenario.specs.ScriptSteps.{Progress}
-use Rattle.i3c_script.specs.Obeying.{IsBegun, wire_on}
+use Rattle.i3c_script.specs.Obeying.{wire_on}
+use Rattle.i3c_scenario.specs.Expecting.{HasBegun}
 
 -- what a viewer may be after it was shown a line, what the line printed, and the symbols that it sent
 abbrev pub Views : Type 0 → Type 1
@@ -31,9 +32,9 @@ kept wire = drop (length wire - 256) wire
 pub record LineRan (line printed : List ℕ) (wire : List Symbol) (from to : Progress) : Type 0 where
   pub said : List ℕ
   pub refused : Option Refusal
-  pub does : LineDoes from.state line said refused to.state
+  pub does : LineRuns from.state line said refused to.state
   pub text : printed ≡ said ++ refused_text refused
-  pub sent : wire_on to.state.stage ≡ kept (wire_on from.state.stage ++ wire)
+  pub sent : wire_on to.state.script.stage ≡ kept (wire_on from.state.script.stage ++ wire)
   pub count : to.refused ≡ min (from.refused + refusals_of refused) 18446744073709551615
 
 -- a line was run and shown
@@ -100,7 +101,7 @@ ViewedEnds gives fails known old new from fault = ViewedPart gives known old new
 abbrev pub RunsViewed : {V : Type 0} → Views V → Fails V → Option (List ℕ) → V → V → Progress → Progress → Result (Unit {0}) ScriptFault → Type 0
 RunsViewed gives fails known old new from to result = MatchResult result (λ _. ViewedWhole gives known old new from to) (ViewedEnds gives fails known old new from)
 
--- the same from a script's start, where the tally counts the refused lines
+-- the same from a script's start, where the tally counts the refused lines, and the expectations that weren't met
 abbrev pub ViewedGoes : {V : Type 0} → Views V → Fails V → Option (List ℕ) → V → V → Result Tally ScriptFault → Type 0
-ViewedGoes gives fails known old new result = (from : Progress) × IsBegun from.state × (from.refused ≡ 0)
-    × MatchResult result (λ tally. (to : Progress) × (to.refused ≡ tally.refused) × ViewedWhole gives known old new from to) (ViewedEnds gives fails known old new from)
+ViewedGoes gives fails known old new result = (from : Progress) × HasBegun from.state × (from.refused ≡ 0)
+    × MatchResult result (λ tally. (to : Progress) × (to.refused ≡ tally.refused) × (to.state.unmet ≡ tally.unmet) × ViewedWhole gives known old new from to) (ViewedEnds gives fails known old new from)

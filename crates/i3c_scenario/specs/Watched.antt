@@ -3,13 +3,12 @@ use Rattle.std.specs.Prelude.{◌≡◌, ◌⊎◌, ℕ, ◌+◌, ◌==◌, Bool
 use Rattle.std.specs.Fmt.{decimal}
 use Rattle.std.specs.Io.KnownBytes.{Appends}
 use Rattle.i3c_lines.specs.declared.refusals.Refusal.{Refusal}
-use Rattle.i3c_lines.specs.Forms.{HasNoForm}
 use Rattle.i3c_scenario.specs.declared.script.Tally.{Tally}
 use Rattle.i3c_scenario.specs.declared.watched.Watching.{Watching}
 use Rattle.i3c_scenario.specs.declared.watched.WatchFault.{WatchFault}
-use Rattle.i3c_script.specs.Obeying.{IsBegun, ScriptState}
+use Rattle.i3c_scenario.specs.Expecting.{HasBegun, IsBad, Standing}
 use Rattle.i3c_scenario.specs.Outcomes.{AppendsSome}
-use Rattle.i3c_scenario.specs.Scripts.{Lead, LineDoes, LineRun, lines_bytes, lines_out, lines_refused, refusals_of, run_text}
+use Rattle.i3c_scenario.specs.Scripts.{LineRun, LineRuns, LinesLead, lines_bytes, lines_out, lines_refused, refusals_of, run_text}
 use Rattle.i3c_scenario.specs.ScriptSteps.{Progress}
 
 -- nothing more is shown than of any script
@@ -44,14 +43,14 @@ abbrev pub shown_out : Watching → ℕ → List LineRun → List ℕ
 shown_out watching number [] = []
 shown_out watching number (run ∷ rest) = shown watching number run ++ shown_out watching (number + 1) rest
 
--- a strict run has no line without a form
+-- a strict run has no line that a script may not have
 abbrev pub IsFormed : Watching → List ℕ → Type 0
-IsFormed watching line = watching.strict ≡ true → HasNoForm line → ⊥
+IsFormed watching line = watching.strict ≡ true → IsBad line → ⊥
 
 -- what ends a strict run at a line: it has no form, or there is no memory to say so
 abbrev pub EndsAt : Watching → List ℕ → WatchFault → Type 0
 EndsAt watching line (WatchFault.Script fault) = Unit {0}
-EndsAt watching line (WatchFault.NoForm reason) = HasNoForm line × (watching.strict ≡ true)
+EndsAt watching line (WatchFault.NoForm reason) = IsBad line × (watching.strict ≡ true)
 
 -- the same of each of these lines
 abbrev pub AreFormed : Watching → List LineRun → Type 0
@@ -63,7 +62,7 @@ pub record LineWatched (watching : Watching) (number : ℕ) (line : List ℕ) (o
   pub said : List ℕ
   pub refused : Option Refusal
   pub formed : IsFormed watching line
-  pub does : LineDoes from.state line said refused to.state
+  pub does : LineRuns from.state line said refused to.state
   pub out : Appends old new (shown watching number (record { line = line; said = said; refused = refused }))
   pub count : to.refused ≡ min (from.refused + refusals_of refused) 18446744073709551615
 
@@ -71,7 +70,7 @@ pub record LineWatched (watching : Watching) (number : ℕ) (line : List ℕ) (o
 pub record LineRan (watching : Watching) (number : ℕ) (line shows : List ℕ) (from to : Progress) : Type 0 where
   pub said : List ℕ
   pub refused : Option Refusal
-  pub does : LineDoes from.state line said refused to.state
+  pub does : LineRuns from.state line said refused to.state
   pub text : shows ≡ shown watching number (record { line = line; said = said; refused = refused })
   pub count : to.refused ≡ min (from.refused + refusals_of refused) 18446744073709551615
 
@@ -79,15 +78,15 @@ pub record LineRan (watching : Watching) (number : ℕ) (line shows : List ℕ) 
 pub record LineCut (watching : Watching) (number : ℕ) (line : List ℕ) (old new : Option (List ℕ)) (from : Progress) : Type 0 where
   pub said : List ℕ
   pub refused : Option Refusal
-  pub to : ScriptState
+  pub to : Standing
   pub formed : IsFormed watching line
-  pub does : LineDoes from.state line said refused to
+  pub does : LineRuns from.state line said refused to
   pub out : AppendsSome old new (shown watching number (record { line = line; said = said; refused = refused }))
 
 -- what ends the run at a line: a fault, before which a beginning of what is shown of the line went out, or nothing; or that the line has no form
 abbrev pub LineFails : Watching → ℕ → List ℕ → Option (List ℕ) → Option (List ℕ) → Progress → WatchFault → Type 0
 LineFails watching number line old new from (WatchFault.Script fault) = (new ≡ old) ⊎ LineCut watching number line old new from
-LineFails watching number line old new from (WatchFault.NoForm reason) = HasNoForm line × (watching.strict ≡ true) × (new ≡ old)
+LineFails watching number line old new from (WatchFault.NoForm reason) = IsBad line × (watching.strict ≡ true) × (new ≡ old)
 
 -- what a line comes to
 abbrev pub LineEndsWatched : Watching → ℕ → List ℕ → Option (List ℕ) → Option (List ℕ) → Progress → Progress → Result (Unit {0}) WatchFault → Type 0
@@ -97,7 +96,7 @@ LineEndsWatched watching number line old new from to result =
 -- lines were run from one state on, and shown
 pub record WatchedWhole (watching : Watching) (known old new : Option (List ℕ)) (from to : Progress) : Type 0 where
   pub lines : List LineRun
-  pub run : Lead from.state lines to.state
+  pub run : LinesLead from.state lines to.state
   pub formed : AreFormed watching lines
   pub all : IfSome known (λ script. lines_bytes lines ≡ script ++ 10 ∷ [])
   pub out : Appends old new (shown_out watching 1 lines)
@@ -106,9 +105,9 @@ pub record WatchedWhole (watching : Watching) (known old new : Option (List ℕ)
 -- the first lines of a script were run, and then a fault ended the run: a beginning of what is shown of them went out
 pub record WatchedPart (watching : Watching) (known old new : Option (List ℕ)) (from : Progress) : Type 0 where
   pub lines : List LineRun
-  pub to : ScriptState
+  pub to : Standing
   pub rest : List ℕ
-  pub run : Lead from.state lines to
+  pub run : LinesLead from.state lines to
   pub formed : AreFormed watching lines
   pub first : IfSome known (λ script. lines_bytes lines ++ rest ≡ script ++ 10 ∷ [])
   pub out : AppendsSome old new (shown_out watching 1 lines)
@@ -116,12 +115,12 @@ pub record WatchedPart (watching : Watching) (known old new : Option (List ℕ))
 -- the lines before one without a form were run, and all that is shown of them went out
 pub record WatchedTo (watching : Watching) (known old new : Option (List ℕ)) (from : Progress) : Type 0 where
   pub lines : List LineRun
-  pub to : ScriptState
+  pub to : Standing
   pub line : List ℕ
   pub rest : List ℕ
   pub strict : watching.strict ≡ true
-  pub none : HasNoForm line
-  pub run : Lead from.state lines to
+  pub none : IsBad line
+  pub run : LinesLead from.state lines to
   pub formed : AreFormed watching lines
   pub first : IfSome known (λ script. lines_bytes lines ++ (line ++ 10 ∷ rest) ≡ script ++ 10 ∷ [])
   pub out : Appends old new (shown_out watching 1 lines)
@@ -135,10 +134,10 @@ WatchedEnds watching known old new from (WatchFault.NoForm reason) = WatchedTo w
 abbrev pub RunsWatched : Watching → Option (List ℕ) → Option (List ℕ) → Option (List ℕ) → Progress → Progress → Result (Unit {0}) WatchFault → Type 0
 RunsWatched watching known old new from to result = MatchResult result (λ _. WatchedWhole watching known old new from to) (WatchedEnds watching known old new from)
 
--- the same from a script's start, with no line refused
+-- the same from a script's start, with no line refused; the tally counts the refused ones, and the expectations that weren't met
 abbrev pub WatchedGoesOut : Watching → Option (List ℕ) → Option (List ℕ) → Option (List ℕ) → Result Tally WatchFault → Type 0
-WatchedGoesOut watching known old new result = (from : Progress) × IsBegun from.state × (from.refused ≡ 0)
-    × MatchResult result (λ tally. (to : Progress) × (to.refused ≡ tally.refused) × WatchedWhole watching known old new from to) (WatchedEnds watching known old new from)
+WatchedGoesOut watching known old new result = (from : Progress) × HasBegun from.state × (from.refused ≡ 0)
+    × MatchResult result (λ tally. (to : Progress) × (to.refused ≡ tally.refused) × (to.state.unmet ≡ tally.unmet) × WatchedWhole watching known old new from to) (WatchedEnds watching known old new from)
 
 -- Without numbers and without the lines themselves, what goes out of lines is what they put out
 abbrev pub WatchedLinesPrintTheSame : Type 0

@@ -1,20 +1,21 @@
-ghost use Rattle.std.specs.Prelude.{◌≡◌, ◌+◌, ◌<◌, ◌≤◌, ℕ, List, Option, Ok, Err, length, min, IfSome, OnOk, MatchResult};
+ghost use Rattle.std.specs.Prelude.{◌≡◌, ◌+◌, ◌<◌, ◌≤◌, ℕ, List, Option, Ok, Err, length, min, IfOk, IfSome, OnOk, MatchResult};
 ghost use Rattle.std.specs.Io.KnownBytes.{Appends, IsAtEnd};
 ghost use Rattle.i3c_scenario.specs.Checks.{ChecksGoOut};
 
+use crate::expecting::line_fault;
 use crate::faults::ScriptFault;
 use crate::output::write_out;
 use crate::reading::{CHUNK, MOST_BYTES};
 use crate::script::Tally;
 use crate::script_lines::ScriptLines;
 use i3c_base::Addr7;
-use i3c_lines::{FormFault, Name, Names, form_fault, push_quoted, read_line};
+use i3c_lines::{FormFault, Name, Names, push_quoted, read_line};
 use i3c_text::Text;
 use std::alloc::{AllocError, Global};
 use std::io::{Read, Write};
 
-/// Checks a script without running it: tells each line that has no form, with its number, and why; and each line that means
-/// a device by a name that no line before it gives. It counts the lines that are told.
+/// Checks a script without running it: tells each line that has no form and is no mark that a run takes, with its number, and
+/// why; and each line that means a device by a name that no line before it gives. It counts the lines that are told.
 ///
 /// Where a script is too large, or the reader fails, each line whose line feed came before that is checked.
 pub fn check_script<R: Read, W: Write>(
@@ -26,6 +27,7 @@ pub fn check_script<R: Read, W: Write>(
     ensures fits { OnOk result (IfSome (R.remaining reader.old) (λ bytes. length bytes ≤ MOST_BYTES)) }
     ensures large { result ≡ Err ScriptFault.TooLarge → IfSome (R.remaining reader.old) (λ bytes. MOST_BYTES < length bytes) }
     ensures lines { ChecksGoOut (R.remaining reader.old) (W.contents writer.old) (W.contents writer.new) result }
+    ensures unmet { IfOk result (λ tally. tally.unmet ≡ 0) }
 {
     let mut check = Check::new(alloc);
     let Ok(mut chunk) = vec![in alloc; 0u8; CHUNK] else {
@@ -34,6 +36,7 @@ pub fn check_script<R: Read, W: Write>(
     match check.check_all(reader, &mut chunk, writer) {
         Ok(()) => Ok(Tally {
             refused: check.told,
+            unmet: 0,
         }),
         Err(fault) => Err(fault),
     }
@@ -52,6 +55,7 @@ struct Check {
 impl Check {
     ghost use Rattle.std.specs.Prelude.{[]};
     ghost use Rattle.i3c_lines.specs.Forms.{HasNoForm};
+    ghost use Rattle.i3c_scenario.specs.Expecting.{IsTaken};
     ghost use Rattle.i3c_scenario.specs.Checks.{ChecksAll, Gives, IsStart, IsToldLine, LineChecked, NameTold, tells};
 
     /// Before the first line.
@@ -107,9 +111,9 @@ impl Check {
     {
         self.text.clear();
         self.reason.clear();
-        match form_fault(line) {
+        match line_fault(self.alloc, line)? {
             Some(fault) => self.tell_fault(number, &fault),
-            None => self.check_command(number, line),
+            None => self.check_formed(number, line),
         }
     }
 
@@ -122,10 +126,10 @@ impl Check {
         self.tell(number)
     }
 
-    /// Checks the names of a line that has a form.
-    fn check_command(&mut self, number: u64, line: &[u8]) -> Result<(), AllocError>
+    /// Checks the names of a line that has a form. A mark means no device: a name may be that of one that is gone.
+    fn check_formed(&mut self, number: u64, line: &[u8]) -> Result<(), AllocError>
         requires fresh { self.old.text ≡ [] }
-        requires formed { HasNoForm line.now → ⊥ }
+        requires formed { HasNoForm line.now → IsTaken line.now }
         ensures { OnOk result (LineChecked self.old.names number line.now self.new.text self.new.names × (min self.new.told u64.MAX ≡ min (self.old.told + tells self.new.text) u64.MAX)) }
     {
         match read_line(line) {
@@ -134,7 +138,8 @@ impl Check {
                 self.give(command.name_given())
             }
             Ok(None) => Ok(()),
-            Err(_) => unreachable!(),
+            // a mark
+            Err(_) => Ok(()),
         }
     }
 

@@ -1,4 +1,4 @@
-ghost use Rattle.std.specs.Prelude.{◌≡◌, ◌<◌, ◌≤◌, length, IfSome, OnOk};
+ghost use Rattle.std.specs.Prelude.{◌≡◌, ◌<◌, ◌≤◌, length, IfOk, IfSome, OnOk};
 ghost use Rattle.std.specs.Io.KnownBytes.{IsAtEnd};
 ghost use Rattle.i3c_scenario.specs.Linted.{GoesOutAs};
 
@@ -28,6 +28,7 @@ pub fn run_explained<R: Read, W: Write>(
     ensures fits { OnOk result (IfSome (R.remaining reader.old) (λ bytes. length bytes ≤ MOST_BYTES)) }
     ensures large { result ≡ Err ScriptFault.TooLarge → IfSome (R.remaining reader.old) (λ bytes. MOST_BYTES < length bytes) }
     ensures lines { GoesOutAs legacies (R.remaining reader.old) (W.contents writer.old) (W.contents writer.new) result }
+    ensures unmet { IfOk result (λ tally. tally.unmet ≡ 0) }
 {
     let text = read_text(alloc, reader)?;
     // what can't be told isn't missed
@@ -44,6 +45,7 @@ fn tell_as<W: Write>(
 ) -> Result<Tally, ScriptFault>
     ensures large { result ≡ Err ScriptFault.TooLarge → MOST_BYTES < length text.now }
     ensures lines { GoesOutAs legacies (Some text.now) (W.contents writer.old) (W.contents writer.new) result }
+    ensures unmet { IfOk result (λ tally. tally.unmet ≡ 0) }
 {
     let mut bytes = text;
     match legacies {

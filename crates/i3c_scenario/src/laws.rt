@@ -1,7 +1,12 @@
-ghost use Rattle.i3c_scenario.specs.Legal.{LinesAreLegalRuns};
+ghost use Rattle.i3c_scenario.specs.Legal.{CommandsAreLegalRuns, LinesAreLegalRuns};
 ghost use Rattle.i3c_scenario.specs.Watched.{WatchedLinesPrintTheSame};
 
-/// The steps of a script's lines are a legal run, whatever these lines are.
+/// The steps of lines that are commands alone are a legal run, whatever these lines are.
+pub fn commands_are_legal_runs()
+    ensures { CommandsAreLegalRuns }
+{}
+
+/// The steps of a script's lines are a legal run, whatever these lines are. Expectations and other marks are no steps.
 pub fn lines_are_legal_runs()
     ensures { LinesAreLegalRuns }
 {}

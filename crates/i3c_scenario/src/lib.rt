@@ -3,12 +3,13 @@
 //!
 //! `script` parts the bytes of a script into lines and counts the refusals, `check` tells its lines without a form by
 //! `script_lines`, which reads one line after another, and `watched` runs a script and shows more of it, with the `reasons` of
-//! refusals. `viewed` shows each line to a viewer, with what it printed and the symbols that it sent. `trace` tells what a trace says, `linting` its faults too, and `explaining` why its lines are refused. They read
+//! refusals. `expecting` reads the marks that a run takes, and prints whether expectations are met. `viewed` shows each line to a viewer, with what it printed and the symbols that it sent. `trace` tells what a trace says, `linting` its faults too, and `explaining` why its lines are refused. They read
 //! by `reading` and write by `output`. `stress_bus` sets a bus with its devices up and closes it, `stressing` lets them post,
 //! and `report` counts the closed bus's run. `laws` says that the lines of a script make a legal run.
 #![tactic(auto)]
 
 mod check;
+mod expecting;
 mod explaining;
 mod faults;
 mod laws;
@@ -28,7 +29,7 @@ mod watched;
 pub use check::check_script;
 pub use explaining::run_explained;
 pub use faults::ScriptFault;
-pub use laws::{lines_are_legal_runs, watched_lines_print_the_same};
+pub use laws::{commands_are_legal_runs, lines_are_legal_runs, watched_lines_print_the_same};
 pub use linting::run_lint;
 pub use output::{position_of_feed, write_out};
 pub use report::{StressFault, StressReport};

@@ -36,6 +36,7 @@ pub fn run_lint<R: Read, W: Write>(
     ensures fits { OnOk result (IfSome (R.remaining reader.old) (λ bytes. length bytes ≤ MOST_BYTES)) }
     ensures large { result ≡ Err ScriptFault.TooLarge → IfSome (R.remaining reader.old) (λ bytes. MOST_BYTES < length bytes) }
     ensures lines { GoesOutLinted legacies.0 (R.remaining reader.old) (W.contents writer.old) (W.contents writer.new) result }
+    ensures unmet { IfOk result (λ tally. tally.unmet ≡ 0) }
 {
     let bytes = read_text(alloc, reader)?;
     match read_frames(alloc, &bytes) {
@@ -51,7 +52,8 @@ fn tell_frames<W: Write>(
     frames: &Frames<'_>,
     out: &mut W,
 ) -> Result<Tally, ScriptFault>
-    ensures { MatchResult result
+    ensures unmet { IfOk result (λ tally. tally.unmet ≡ 0) }
+    ensures told { MatchResult result
         (λ tally. (tally.refused ≡ min (frames_faults legacies.0 frames.now) u64.MAX) × Appends (W.contents out.old) (W.contents out.new) (frames_text legacies.0 frames.now))
         (λ fault. IsLineFault fault × AppendsSome (W.contents out.old) (W.contents out.new) (frames_text legacies.0 frames.now)) }
 {
@@ -66,7 +68,7 @@ fn tell_frames<W: Write>(
     refused = refused.saturating_add(breaks_of(&frames.broken));
     push_end(&frames.broken, &mut text)?;
     write_out(text.as_bytes(), out)?;
-    Ok(Tally { refused })
+    Ok(Tally { refused, unmet: 0 })
 }
 
 /// What comes next for a linter.

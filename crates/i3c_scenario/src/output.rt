@@ -32,8 +32,8 @@ fn first_feed(bytes: &[u8]) -> Option<usize>
 }
 
 /// Prints that a line is refused, and why.
-pub(crate) fn show_refusal(refusal: Refusal, text: &mut Text) -> Result<(), AllocError>
-    ensures { OnOk result (text.new ≡ text.old ++ (codes "refused " ++ (refusal_text refusal ++ 10 ∷ []))) }
+pub(crate) fn show_refusal(refusal: &Refusal, text: &mut Text) -> Result<(), AllocError>
+    ensures { OnOk result (text.new ≡ text.old ++ (codes "refused " ++ (refusal_text refusal.now ++ 10 ∷ []))) }
 {
     text.push(b"refused ")?;
     refusal.push(text)?;

@@ -50,7 +50,7 @@ impl Known {
                 self.explain_bus(script, number, text)
             }
             Err(Stop::Memory) => Ok(()),
-            Ok(()) if is_passed_over(line) => Ok(()),
+            Ok(()) if form_fault(line).is_some() || is_passed_over(line) => Ok(()),
             Ok(()) => {
                 self.explain_bus(script, number, text)?;
                 self.note(script, number, text)

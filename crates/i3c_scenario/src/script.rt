@@ -1,17 +1,22 @@
-ghost use Rattle.std.specs.Prelude.{◌≡◌, ℕ, List, ◌+◌, ◌<◌, ◌≤◌, [], ◌∷◌, ◌++◌, length, min, take, IfErr, IfSome, MatchResult, OnOk};
+ghost use Rattle.std.specs.Prelude.{◌≡◌, ℕ, List, ◌+◌, ◌<◌, ◌≤◌, [], ◌∷◌, ◌++◌, length, min, take, IfErr, IfSome, MatchResult, OnOk, Some};
 ghost use Rattle.std.specs.Io.KnownBytes.{IsAtEnd};
 ghost use Rattle.i3c_lines.specs.Gathering.{gathered};
 ghost use Rattle.i3c_scenario.specs.Outcomes.{HasNoFeed, output, written};
 ghost use Rattle.i3c_script.specs.Printed.{end_text};
-ghost use Rattle.i3c_scenario.specs.Scripts.{LinesGoOut};
-ghost use Rattle.i3c_script.specs.Obeying.{IsBegun};
-ghost use Rattle.i3c_scenario.specs.ScriptSteps.{LineEnds, Reads, ReadsAll, Runs, Takes, progress, state};
+ghost use Rattle.i3c_facts.specs.declared.holding.Before.{Before as BeforeValue};
+ghost use Rattle.i3c_scenario.specs.Scripts.{LinesGoOut, refused_text};
+ghost use Rattle.i3c_lines.specs.Forms.{HasNoForm};
+ghost use Rattle.i3c_scenario.specs.Expecting.{HasBegun, MarkDoes, TestsAt};
+ghost use Rattle.i3c_script.specs.Telling.{Prints};
+ghost use Rattle.i3c_scenario.specs.ScriptSteps.{LineEnds, Reads, ReadsAll, ReadsCounted, Runs, Takes, noted, progress, state};
 ghost use Rattle.i3c_scenario.specs.Faults.{IsLineFault};
 ghost use Rattle.i3c_script.specs.Stops.{refusals};
 
+use crate::expecting::{push_met, push_unmet, read_taken};
 use crate::faults::ScriptFault;
 use crate::output::{gather, position_of_feed, show_refusal, write_last};
 use crate::reading::{CHUNK, MOST_BYTES, Piece, read_piece};
+use i3c_facts::{Before, Facts, Mark};
 use i3c_lines::{Command, Line, Names, Refusal, is_skipped};
 use i3c_script::{Stage, Stop};
 use i3c_text::Text;
@@ -24,6 +29,8 @@ use std::mem;
 pub struct Tally {
     /// How many lines were refused.
     pub refused: u64,
+    /// How many expectations weren't met.
+    pub unmet: u64,
 }
 
 /// Runs a script: its lines in order, as they are read, each of which prints its own. After a refused line the next
@@ -50,9 +57,9 @@ pub fn run_script<R: Read, W: Write>(
         return Err(ScriptFault::Memory);
     };
     let outcome = script.read_all(reader, &mut chunk, writer);
-    let refused = script.retire();
+    let tally = script.retire();
     match outcome {
-        Ok(()) => Ok(Tally { refused }),
+        Ok(()) => Ok(tally),
         Err(fault) => Err(fault),
     }
 }
@@ -60,8 +67,8 @@ pub fn run_script<R: Read, W: Write>(
 /// Names the run of a script that isn't watched.
 struct Plain;
 
-/// The state of a running script: its bus and names, the partial line, the current command, that command's output, and
-/// output not yet written.
+/// The state of a running script: its bus and names, the partial line, the current command, that command's output, output
+/// not yet written, and what expectations speak of: the number of the line, and what the last command came to.
 pub(crate) struct Script {
     pub(crate) alloc: Global,
     pub(crate) stage: Stage,
@@ -72,6 +79,9 @@ pub(crate) struct Script {
     pub(crate) text: Text,
     gathered: Text,
     refused: u64,
+    lines: u64,
+    before: Before,
+    unmet: u64,
 }
 
 impl Script {
@@ -79,7 +89,7 @@ impl Script {
     pub(crate) fn new(alloc: Global) -> Script
         ensures held { gathered result.line ≡ [] }
         ensures refused { result.refused ≡ 0 }
-        ensures begun { IsBegun (state result) }
+        ensures begun { HasBegun (state result) }
     {
         Script {
             alloc,
@@ -90,6 +100,9 @@ impl Script {
             text: Text::new(alloc),
             gathered: Text::new(alloc),
             refused: 0,
+            lines: 0,
+            before: Before::Nothing,
+            unmet: 0,
         }
     }
 
@@ -215,28 +228,91 @@ impl Script {
         gather(self.text.as_bytes(), &mut self.gathered, out)
     }
 
-    /// Obeys a line, if it has a command. Whoever calls it is named by `K`, so that each caller has it in line.
+    /// Obeys a line, if it has a command or is a mark. `settle` notes a refusal. Whoever calls it is named by `K`, so that each
+    /// caller has it in line.
     pub(crate) fn obey<K>(&mut self, line: &[u8]) -> Result<(), Stop>
         ensures held { self.new.line ≡ self.old.line }
         ensures gathered { self.new.gathered ≡ self.old.gathered }
         ensures refused { self.new.refused ≡ self.old.refused }
-        ensures reads { Reads (state self.old) line.now self.old.text self.new.text result (state self.new) }
+        ensures reads { Reads (state self.old) line.now self.old.text self.new.text result (noted (state self.new) result) }
     {
+        self.lines = self.lines.saturating_add(1);
         match is_skipped(line) {
             Ok(true) => return Ok(()),
             Ok(false) => {}
-            Err(refusal) => return Err(Stop::Refused(refusal)),
+            // it is too long
+            Err(_) => return self.obey_mark(line),
         }
         match self.command.read::<K>(line) {
             Some(()) => {
+                // unless it is refused, which `settle` notes
+                self.before = Before::Done;
                 self.stage
                     .obey::<K>(self.alloc, &mut self.names, &self.command, &mut self.text)
             }
-            None => Err(Stop::Refused(Refusal::BadLine)),
+            None => self.obey_mark(line),
         }
     }
 
-    /// What a line comes to: a refusal is printed and counted, and want of memory ends the run.
+    /// Obeys a line without a command, which may be a mark.
+    #[cold]
+    #[inline(never)]
+    fn obey_mark(&mut self, line: &[u8]) -> Result<(), Stop>
+        requires { HasNoForm line.now }
+        ensures held { self.new.line ≡ self.old.line }
+        ensures gathered { self.new.gathered ≡ self.old.gathered }
+        ensures refused { self.new.refused ≡ self.old.refused }
+        ensures reads { ReadsCounted (state self.old) line.now self.old.text self.new.text result (noted (state self.new) result) }
+    {
+        match read_taken(self.alloc, line) {
+            Ok(Some(mark)) => self.obey_taken(&mark),
+            Ok(None) => Err(Stop::Refused(Refusal::BadLine)),
+            Err(_) => Err(Stop::Memory),
+        }
+    }
+
+    /// Obeys a mark that a run takes.
+    fn obey_taken(&mut self, mark: &Mark) -> Result<(), Stop>
+        ensures held { self.new.line ≡ self.old.line }
+        ensures gathered { self.new.gathered ≡ self.old.gathered }
+        ensures refused { self.new.refused ≡ self.old.refused }
+        ensures does { Prints (λ said refused. MarkDoes (state self.old) mark.now said refused (noted (state self.new) result)) self.old.text self.new.text result }
+    {
+        match mark {
+            Mark::Expect(facts) => self.test(facts),
+            Mark::Any | Mark::Anywhere(_) | Mark::Track | Mark::Close | Mark::Always(_) => Ok(()),
+        }
+    }
+
+    /// Tests what is expected, and prints whether it is met.
+    fn test(&mut self, facts: &Facts) -> Result<(), Stop>
+        ensures held { self.new.line ≡ self.old.line }
+        ensures gathered { self.new.gathered ≡ self.old.gathered }
+        ensures refused { self.new.refused ≡ self.old.refused }
+        ensures tests { Prints (λ said refused. TestsAt (state self.old) self.old.stage facts.now said refused (noted (state self.new) result)) self.old.text self.new.text result }
+    {
+        let Stage::Running(running) = &self.stage else {
+            return Err(Stop::Refused(Refusal::NoBus));
+        };
+        let bus = running.bus();
+        if facts.hold(bus, &self.names, &self.before) {
+            push_met(&mut self.text)?;
+            return Ok(());
+        }
+        self.unmet = self.unmet.saturating_add(1);
+        let number = self.lines;
+        push_unmet(
+            bus,
+            &self.names,
+            &self.before,
+            number,
+            facts,
+            &mut self.text,
+        )?;
+        Ok(())
+    }
+
+    /// What a line comes to: a refusal is printed, counted and noted, and want of memory ends the run.
     pub(crate) fn settle<K>(&mut self, outcome: Result<(), Stop>) -> Result<(), ScriptFault>
         ensures fault { IfErr result (λ fault. fault ≡ ScriptFault.Memory) }
         ensures memory { outcome ≡ Err Stop.Memory → result ≡ Err ScriptFault.Memory }
@@ -244,25 +320,38 @@ impl Script {
         ensures counted { self.new.refused ≡ min (self.old.refused + refusals outcome) u64.MAX }
         ensures held { self.new.line ≡ self.old.line }
         ensures gathered { self.new.gathered ≡ self.old.gathered }
-        ensures state { state self.new ≡ state self.old }
+        ensures state { state self.new ≡ noted (state self.old) outcome }
     {
-        let refused = self.refused;
+        // a count has 64 bits
+        let _counted = self.refused;
         match outcome {
             Ok(()) => Ok(()),
             Err(Stop::Memory) => Err(ScriptFault::Memory),
-            Err(Stop::Refused(refusal)) => {
-                self.refused = refused.saturating_add(1);
-                match show_refusal(refusal, &mut self.text) {
-                    Ok(()) => Ok(()),
-                    Err(_) => Err(ScriptFault::Memory),
-                }
-            }
+            Err(Stop::Refused(refusal)) => self.refuse(&refusal),
         }
     }
 
-    /// Takes the script apart, with its bus, and tells how many lines were refused.
-    pub(crate) fn retire(self) -> u64
-        ensures { result ≡ self.refused }
+    /// Prints a refusal, counts it, and notes it for the facts behind it.
+    fn refuse(&mut self, refusal: &Refusal) -> Result<(), ScriptFault>
+        ensures fault { IfErr result (λ fault. fault ≡ ScriptFault.Memory) }
+        ensures told { OnOk result (self.new.text ≡ self.old.text ++ refused_text (Some refusal.now)) }
+        ensures counted { self.new.refused ≡ min (self.old.refused + 1) u64.MAX }
+        ensures held { self.new.line ≡ self.old.line }
+        ensures gathered { self.new.gathered ≡ self.old.gathered }
+        ensures state { state self.new ≡ record (state self.old) { before = BeforeValue.Refused refusal.now } }
+    {
+        self.refused = self.refused.saturating_add(1);
+        self.before = Before::Refused(*refusal);
+        match show_refusal(refusal, &mut self.text) {
+            Ok(()) => Ok(()),
+            Err(_) => Err(ScriptFault::Memory),
+        }
+    }
+
+    /// Takes the script apart, with its bus, and tells how many lines were refused, and how many expectations weren't met.
+    pub(crate) fn retire(self) -> Tally
+        ensures refused { result.refused ≡ self.refused }
+        ensures unmet { result.unmet ≡ self.unmet }
     {
         let Script {
             alloc: _,
@@ -273,8 +362,11 @@ impl Script {
             text: _,
             gathered: _,
             refused,
+            lines: _,
+            before: _,
+            unmet,
         } = self;
         stage.retire();
-        refused
+        Tally { refused, unmet }
     }
 }

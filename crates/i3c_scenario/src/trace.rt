@@ -31,6 +31,7 @@ pub fn run_trace<R: Read, W: Write>(
     ensures fits { OnOk result (IfSome (R.remaining reader.old) (λ bytes. length bytes ≤ MOST_BYTES)) }
     ensures large { result ≡ Err ScriptFault.TooLarge → IfSome (R.remaining reader.old) (λ bytes. MOST_BYTES < length bytes) }
     ensures lines { GoesOut (R.remaining reader.old) (W.contents writer.old) (W.contents writer.new) result }
+    ensures unmet { IfOk result (λ tally. tally.unmet ≡ 0) }
 {
     let text = read_text(alloc, reader)?;
     match read_trace_bytes(alloc, &text) {
@@ -104,7 +105,8 @@ fn ascii_byte(byte: u8) -> u8
 
 /// Writes the lines of a trace, one after another.
 fn tell_trace<W: Write>(alloc: Global, trace: &[Symbol], out: &mut W) -> Result<Tally, ScriptFault>
-    ensures { MatchResult result
+    ensures unmet { IfOk result (λ tally. tally.unmet ≡ 0) }
+    ensures told { MatchResult result
         (λ tally. (tally.refused ≡ min (refused_in (trace_told trace.now)) u64.MAX) × Appends (W.contents out.old) (W.contents out.new) (trace_text trace.now))
         (λ fault. IsLineFault fault × AppendsSome (W.contents out.old) (W.contents out.new) (trace_text trace.now)) }
 {
@@ -117,10 +119,11 @@ fn tell_trace<W: Write>(alloc: Global, trace: &[Symbol], out: &mut W) -> Result<
         write_gathered(&mut text, out)?;
     }
     write_out(text.as_bytes(), out)?;
-    Ok(Tally { refused })
+    Ok(Tally { refused, unmet: 0 })
 }
 
 /// What comes next in a trace.
+#[inline(always)]
 fn next_decoded(monitor: &mut Monitor<'_>) -> Result<Option<Decoded>, ScriptFault>
     ensures told { IfOk result (λ decoded. to_come monitor.old ≡ option_to_list decoded ++ to_come monitor.new) }
     ensures ended { result ≡ Ok None → to_come monitor.old ≡ [] }
@@ -143,6 +146,7 @@ fn refusals(decoded: &Decoded) -> u64
 }
 
 /// Appends the line of what was decoded.
+#[inline(always)]
 fn push_decoded(decoded: &Decoded, trace: &[Symbol], text: &mut Text) -> Result<(), ScriptFault>
     ensures { MatchResult result (λ _. text.new ≡ text.old ++ line_text trace.now decoded.now)
         (λ fault. fault ≡ ScriptFault.Memory) }
@@ -162,6 +166,7 @@ fn tell_fault<W: Write>(
     ensures lines { MatchResult result
         (λ tally. (tally.refused ≡ 1) × Appends (W.contents out.old) (W.contents out.new) (fault_line fault.now))
         (λ stop. IsLineFault stop × AppendsSome (W.contents out.old) (W.contents out.new) (fault_line fault.now)) }
+    ensures unmet { IfOk result (λ tally. tally.unmet ≡ 0) }
     ensures memory { fault.now ≡ TraceFault.OutOfMemory → (result ≡ Err ScriptFault.Memory) × Keeps (W.contents out.old) (W.contents out.new) }
 {
     let mut text = Text::new(alloc);
@@ -169,7 +174,10 @@ fn tell_fault<W: Write>(
         Ok(()) => write_out(text.as_bytes(), out)?,
         Err(_) => return Err(ScriptFault::Memory),
     }
-    Ok(Tally { refused: 1 })
+    Ok(Tally {
+        refused: 1,
+        unmet: 0,
+    })
 }
 
 /// Appends the line of a trace's fault. Want of memory has none, and stays what it is.

@@ -36,8 +36,9 @@ pub fn run_viewed<R: Read, V: Viewer>(
 ) -> Result<Tally, ScriptFault>
     ensures whole { OnOk result (IsAtEnd (R.remaining reader.new)) }
     ensures fits { OnOk result (IfSome (R.remaining reader.old) (λ bytes. length bytes ≤ MOST_BYTES)) }
-    // each line of the script was run, its last one too, and shown, in their order, and the tally counts the refused ones; a
-    // fault comes after the first lines, which were run and shown, or the viewer failed at the last one that was run
+    // each line of the script was run, its last one too, and shown, in their order. The tally counts the refused ones and the
+    // expectations that weren't met. A fault comes after the first lines, which were run and shown, or the viewer failed at the
+    // last one that was run
     ensures lines { ViewedGoes V.view_gives V.view_fails (R.remaining reader.old) viewer.old viewer.new result }
 {
     let mut run = ViewedRun::new(alloc);
@@ -46,9 +47,9 @@ pub fn run_viewed<R: Read, V: Viewer>(
         return Err(ScriptFault::Memory);
     };
     let outcome = run.run_all(reader, &mut chunk, viewer);
-    let refused = run.retire();
+    let tally = run.retire();
     match outcome {
-        Ok(()) => Ok(Tally { refused }),
+        Ok(()) => Ok(tally),
         Err(fault) => Err(fault),
     }
 }
@@ -68,11 +69,12 @@ impl ViewedRun {
     ghost use Rattle.i3c_scenario.specs.ScriptSteps.{progress, state};
     ghost use Rattle.i3c_scenario.specs.Viewed.{LineEnds, LineRan, RunsViewed, kept};
     ghost use Rattle.std.specs.Prelude.{◌++◌};
-    ghost use Rattle.i3c_script.specs.Obeying.{IsBegun, wire_on};
+    ghost use Rattle.i3c_scenario.specs.Expecting.{HasBegun};
+    ghost use Rattle.i3c_script.specs.Obeying.{wire_on};
 
     /// A run of which nothing was read.
     fn new(alloc: Global) -> ViewedRun
-        ensures begun { IsBegun (state result.script) }
+        ensures begun { HasBegun (state result.script) }
         ensures refused { result.script.refused ≡ 0 }
     {
         ViewedRun {
@@ -167,9 +169,10 @@ impl ViewedRun {
         }
     }
 
-    /// Takes the run apart, and tells how many lines were refused.
-    fn retire(self) -> u64
-        ensures { result ≡ self.script.refused }
+    /// Takes the run apart, and tells how many lines were refused, and how many expectations weren't met.
+    fn retire(self) -> Tally
+        ensures refused { result.refused ≡ self.script.refused }
+        ensures unmet { result.unmet ≡ self.script.unmet }
     {
         let ViewedRun {
             script,

@@ -3,13 +3,14 @@ ghost use Rattle.std.specs.Fmt.{decimal};
 ghost use Rattle.std.specs.Io.KnownBytes.{Appends, IsAtEnd};
 ghost use Rattle.i3c_scenario.specs.Watched.{WatchedGoesOut, numbered};
 
+use crate::expecting::line_fault;
 use crate::faults::ScriptFault;
 use crate::output::write_out;
 use crate::reading::{CHUNK, MOST_BYTES};
 use crate::reasons::Known;
 use crate::script::{Script, Tally};
 use crate::script_lines::ScriptLines;
-use i3c_lines::{FormFault, form_fault};
+use i3c_lines::FormFault;
 use i3c_script::Stop;
 use i3c_text::Text;
 use std::alloc::{AllocError, Global};
@@ -78,9 +79,9 @@ pub fn run_watched<R: Read, W: Write, T: Witness>(
         return Err(WatchFault::Script(ScriptFault::Memory));
     };
     let outcome = run.run_all(reader, &mut chunk, writer, witness);
-    let refused = run.retire();
+    let tally = run.retire();
     match outcome {
-        Ok(()) => Ok(Tally { refused }),
+        Ok(()) => Ok(tally),
         Err(fault) => Err(fault),
     }
 }
@@ -102,11 +103,11 @@ struct WatchedRun {
 impl WatchedRun {
     ghost use Rattle.i3c_scenario.specs.ScriptSteps.{progress, state};
     ghost use Rattle.i3c_scenario.specs.Watched.{EndsAt, IsFormed, LineEndsWatched, LineRan, RunsWatched, echoed, numbered_by};
-    ghost use Rattle.i3c_script.specs.Obeying.{IsBegun};
+    ghost use Rattle.i3c_scenario.specs.Expecting.{HasBegun};
 
     /// A run of which nothing was read.
     fn new(alloc: Global, watching: Watching) -> WatchedRun
-        ensures begun { IsBegun (state result.script) }
+        ensures begun { HasBegun (state result.script) }
         ensures refused { result.script.refused ≡ 0 }
         ensures watching { result.watching ≡ watching }
     {
@@ -185,7 +186,10 @@ impl WatchedRun {
         if !self.watching.strict {
             return None;
         }
-        let fault = form_fault(line)?;
+        let fault = match line_fault(self.script.alloc, line) {
+            Ok(fault) => fault?,
+            Err(_) => return Some(WatchFault::Script(ScriptFault::Memory)),
+        };
         let mut reason = Text::new(self.script.alloc);
         match push_formless(self.script.alloc, number, &fault, &mut reason) {
             Ok(()) => Some(WatchFault::NoForm(reason)),
@@ -276,9 +280,10 @@ impl WatchedRun {
         }
     }
 
-    /// Takes the run apart, and tells how many lines were refused.
-    fn retire(self) -> u64
-        ensures { result ≡ self.script.refused }
+    /// Takes the run apart, and tells how many lines were refused, and how many expectations weren't met.
+    fn retire(self) -> Tally
+        ensures refused { result.refused ≡ self.script.refused }
+        ensures unmet { result.unmet ≡ self.script.unmet }
     {
         let WatchedRun {
             script,

@@ -1,7 +1,7 @@
 -- Lines that are tried in each way, and what is expected behind them.
 use Rattle.std.specs.Prelude.{◌≡◌, ℕ, Bool, true, false, ◌&&◌, List, [], ◌∷◌, Option, None, Some}
 use Rattle.i3c_facts.specs.declared.holding.Before.{Before}
-use Rattle.i3c_facts.specs.Holding.{claims_hold}
+use Rattle.i3c_facts.specs.Holding.{came_to, claims_hold}
 use Rattle.i3c_lines.specs.declared.command.Command.{Command}
 use Rattle.i3c_lines.specs.declared.names.Name.{Name}
 use Rattle.i3c_lines.specs.declared.refusals.Refusal.{Refusal}
@@ -15,11 +15,6 @@ abbrev pub slot_at_risk : Seen → Bool → Option Name → Option ℕ
 slot_at_risk old sends None = None
 slot_at_risk old false (Some name) = None
 slot_at_risk old true (Some name) = risked old.state (place_in old.names name)
-
--- what the line before came to
-abbrev pub came_to : Option Refusal → Before
-came_to None = Before.Done
-came_to (Some why) = Before.Refused why
 
 -- a line runs in a way, and comes to this
 abbrev pub Runs : Seen → Option Command → Option Name → ℕ → Before → Seen → Type 0

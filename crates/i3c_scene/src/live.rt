@@ -307,7 +307,11 @@ impl Live {
         ensures taken { result ≡ self.old.cuts }
         ensures left { self.new ≡ record self.old { cuts = no_cuts } }
     {
-        mem::replace(&mut self.cuts, Cuts::new())
+        if self.cuts.is_empty() {
+            Cuts::new()
+        } else {
+            mem::replace(&mut self.cuts, Cuts::new())
+        }
     }
 
     /// The slot that a name stands for. Its device may be gone.

@@ -114,11 +114,10 @@ opened_on old opened new served before text next (Err (Stop.Refused why)) move t
     (request_text served ++ said, longer before text next (request_text served) said told printed, (opened, Reply.Opened served, move, (said, session, refl)))
 opened_on old opened new served before text next (Err Stop.Memory) move told h = tt
 
--- the cuts that wait are taken before a session
-pub taken_before : (old : Ran) (st new : State) (policy : Fixed) (taken left : CutList) (symbols later : List Symbol) (ended : List Tenure) (before after : List ℕ) (result : Result (Unit {0}) Stop) → taken ≡ old.cuts
-    → ran_of st policy left symbols ended ≡ record old { cuts = no_cuts } → Prints (λ said refused. Assigns (ran_of st policy taken symbols ended) said refused (ran_of new policy no_cuts later ended)) before after result
+-- a session uses up the cuts that waited
+pub used_up : (old : Ran) (st new : State) (policy : Fixed) (cuts left : CutList) (symbols later : List Symbol) (ended : List Tenure) (before after : List ℕ) (result : Result (Unit {0}) Stop) → ran_of st policy cuts symbols ended ≡ old
+    → left ≡ no_cuts → Prints (λ said refused. Assigns (ran_of st policy cuts symbols ended) said refused (ran_of new policy no_cuts later ended)) before after result
     → Prints (λ said refused. Assigns old said refused (ran_of new policy left later ended)) before after result
-taken_before old st new policy taken left symbols later ended before after result same rest assigns =
-    subst (λ ran. Prints (λ said refused. Assigns ran said refused (ran_of new policy left later ended)) before after result) (ap (λ (ran : Ran). record ran { cuts = old.cuts }) rest)
-    (subst (λ cuts. Prints (λ said refused. Assigns (ran_of st policy old.cuts symbols ended) said refused (ran_of new policy cuts later ended)) before after result) (sym (ap (λ (ran : Ran). ran.cuts) rest))
-    (subst (λ cuts. Prints (λ said refused. Assigns (ran_of st policy cuts symbols ended) said refused (ran_of new policy no_cuts later ended)) before after result) same assigns))
+used_up old st new policy cuts left symbols later ended before after result is none assigns =
+    subst (λ ran. Prints (λ said refused. Assigns ran said refused (ran_of new policy left later ended)) before after result) is
+    (subst (λ waiting. Prints (λ said refused. Assigns (ran_of st policy cuts symbols ended) said refused (ran_of new policy waiting later ended)) before after result) (sym none) assigns)

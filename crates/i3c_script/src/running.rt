@@ -1,4 +1,5 @@
 ghost use Rattle.std.specs.Prelude.{◌≡◌, Some, None};
+ghost use Rattle.i3c_base.specs.Cutting.{no_cuts};
 ghost use Rattle.i3c_bus.specs.declared.tokens.Hand.{Hand as HandValue};
 
 use crate::asking::{entrance, slot_of_device};
@@ -168,7 +169,7 @@ impl Running {
         let reply = self
             .bus
             .command(hand, frame, &mut policy, &mut self.wires, &self.cuts);
-        self.cuts = Cuts::new();
+        use_up(&mut self.cuts);
         tell(names, Subject::Nothing, &reply, text)
     }
 
@@ -305,7 +306,11 @@ impl Running {
         ensures taken { result ≡ self.old.cuts }
         ensures left { self.new ≡ record self.old { cuts = no_cuts } }
     {
-        mem::replace(&mut self.cuts, Cuts::new())
+        if self.cuts.is_empty() {
+            Cuts::new()
+        } else {
+            mem::replace(&mut self.cuts, Cuts::new())
+        }
     }
 
     /// `daa`: a whole session. The cuts that wait are its opening's.
@@ -313,9 +318,15 @@ impl Running {
     fn assign(&mut self, text: &mut Text) -> Result<(), Stop>
         ensures { Prints (λ said refused. Assigns self.old said refused self.new) text.old text.new result }
     {
-        let cuts = self.take_cuts();
         let hand = take(&mut self.hand);
-        let (hand, outcome) = assigning::assign(hand, &mut self.bus, &mut self.wires, &cuts, text);
+        let (hand, outcome) = assigning::assign(
+            hand,
+            &mut self.bus,
+            &mut self.wires,
+            &self.cuts,
+            text,
+        );
+        use_up(&mut self.cuts);
         give(&mut self.hand, hand);
         outcome
     }
@@ -436,5 +447,14 @@ fn give(place: &mut Option<Hand>, hand: Hand)
     match mem::replace(place, Some(hand)) {
         None => {}
         Some(_) => unreachable!(),
+    }
+}
+
+/// No cut waits from now on.
+fn use_up(cuts: &mut Cuts)
+    ensures none { cuts.new ≡ no_cuts }
+{
+    if !cuts.is_empty() {
+        *cuts = Cuts::new();
     }
 }

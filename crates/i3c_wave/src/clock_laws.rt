@@ -1,8 +1,8 @@
 ghost use Rattle.i3c_wave.specs.Clocks.{BitsHaveTheirNumbers, FramesHaveTheBitsInOrder, RisingEdgesAreInOrder};
 
 /// In the levels of any symbols, with SCL high before them, SDA is at the rising edges of SCL what the symbols have there, one
-/// after another: their bits, 1 for a repeated START and 0 for a STOP, which have a rising edge of their own, and nothing for
-/// a START.
+/// after another. That is their bits, 1 for a repeated START and 0 for a STOP. These two have a rising edge of their own, and
+/// a START has none.
 pub fn rising_edges_are_in_order()
     ensures { RisingEdgesAreInOrder }
 {}

@@ -16,6 +16,11 @@ const MOST_LED: u64 = 1_000_000_000_000_000_000;
 /// Numbers of so many digits fit.
 const FITTING: usize = 19;
 
+/// The codes of the first digit and the last.
+const ZERO: u64 = b'0' as u64;
+
+const NINE: u64 = b'9' as u64;
+
 /// What stands for no number: more than any of nineteen digits.
 const NO_NUMBER: u64 = u64::MAX;
 
@@ -157,10 +162,11 @@ fn short_number(digits: &[u8]) -> u64
 {
     let mut number = 0;
     for digit in digits {
-        if *digit < b'0' || *digit > b'9' {
+        let code = u64::from(*digit);
+        if code < ZERO || code > NINE {
             return NO_NUMBER;
         }
-        number = number * 10 + u64::from(*digit - b'0');
+        number = number * 10 + (code - ZERO);
     }
     number
 }

@@ -38,6 +38,8 @@ fn keep_start(stamped: Stamped, times: &mut Vec<u64>) -> Result<(), AllocError>
 }
 
 /// Keeps a symbol, if there is one.
+// in line, since most words of a dump complete none
+#[inline(always)]
 pub(crate) fn keep_symbol(
     symbol: Option<Stamped>,
     symbols: &mut Vec<Stamped>,

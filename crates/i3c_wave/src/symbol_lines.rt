@@ -4,7 +4,6 @@ ghost use Rattle.i3c_wave.specs.Dump.{line};
 ghost use Rattle.i3c_frame.specs.Texts.{text_of};
 
 use crate::stamped::Stamped;
-use crate::wave::push_name;
 use i3c_frame::Symbol;
 use i3c_text::Text;
 use std::alloc::{AllocError, Global};
@@ -24,6 +23,6 @@ pub fn symbols_text(alloc: Global, symbols: &[Stamped]) -> Result<Text, AllocErr
 fn push_line(symbol: Symbol, text: &mut Text) -> Result<(), AllocError>
     ensures { OnOk result (text.new ≡ text.old ++ line (text_of symbol)) }
 {
-    push_name(symbol, text)?;
+    symbol.push(text)?;
     text.push(b"\n")
 }

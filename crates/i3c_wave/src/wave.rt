@@ -1,5 +1,4 @@
 ghost use Rattle.std.specs.Prelude.{◌≡◌, ◌++◌, OnOk};
-ghost use Rattle.i3c_frame.specs.Texts.{text_of};
 ghost use Rattle.i3c_wave.specs.Dump.{change_text, delayed_text, stamp_text};
 
 use crate::levels::{Level, Levels};
@@ -8,7 +7,6 @@ use i3c_base::Addresses;
 use i3c_frame::Symbol;
 use i3c_text::Text;
 use std::alloc::AllocError;
-use std::fmt::Write;
 
 /// How long the bus is free before the first START, in ns (I3C Basic 5.1.3.2).
 const IDLE: u64 = 1000;
@@ -111,7 +109,7 @@ impl Wave {
             text.push(b" f\n")?;
         }
         text.push(b"s")?;
-        push_name(symbol, text)?;
+        symbol.push(text)?;
         text.push(b" s\n")
     }
 
@@ -165,15 +163,5 @@ fn push_delayed(time: u64, old: bool, new: bool, text: &mut Text) -> Result<(), 
             push_stamp(time.saturating_add(HOLD), text)?;
             push_change(SDA, old, new, text)
         }
-    }
-}
-
-/// Appends the text of a symbol.
-pub(crate) fn push_name(symbol: Symbol, text: &mut Text) -> Result<(), AllocError>
-    ensures { OnOk result (text.new ≡ text.old ++ text_of symbol) }
-{
-    match write!(text, "{symbol}") {
-        Ok(()) => Ok(()),
-        Err(_) => Err(AllocError),
     }
 }

@@ -2,7 +2,7 @@ ghost use Rattle.i3c_wire_laws.specs.Answering.{TargetsAnswerAtTheirBits};
 ghost use Rattle.i3c_wire_laws.specs.Numbers.{EventsSendTheBitsByNumber, EventsSendTheBitsInOrder, RunsSendTheBitsInOrder};
 
 /// At the rising edges of SCL that clock a bit, SDA has the bits of what an event of a sound bus sends, one after another,
-/// whatever is cut: the first edge has the first bit of its symbols, the next edge the next, and there are no other edges.
+/// whatever is cut. The first edge has the first bit of its symbols, the next edge the next, and there are no other edges.
 pub fn events_send_the_bits_in_order()
     ensures { EventsSendTheBitsInOrder }
 {}

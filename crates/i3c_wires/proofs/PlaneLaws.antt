@@ -5,7 +5,7 @@ use Rattle.std.proofs.lemmas.Nat.{and-not, and_comm, and_le_l, one_shl}
 use Rattle.std.proofs.lemmas.Nat.Bits.{and_pow, bit_at-lt, bit_at-zero, bit_at_above, shr_and_one, bit_at_and, bit_at-trailing_zeros, bit_at_clear_same, bit_at_clear_other, bit_at_set_other, bit_at_set_same, same_from_bits}
 use Rattle.std.proofs.lemmas.List.{append-nil, get_or-map, get_or_default, take_all, length-append, map-append}
 use Rattle.std.proofs.lemmas.List.Elements.{recursion_from_All, All-weaker, filter_more}
-use Rattle.std.specs.Int.{Width, w32, bit_at, bit_not, trailing_zeros}
+use Rattle.std.specs.Int.{Width, w64, bit_at, bit_not, trailing_zeros}
 use Rattle.std.specs.Int.RustNames.{bit_or}
 use Rattle.std.specs.List.{All, filter, list_all}
 use lib.Bits.{bit_and}
@@ -18,7 +18,7 @@ use mir.Val.{bits as bits_of}
 
 -- the width of a mask
 abbrev pub mask_width : Width
-mask_width = w32
+mask_width = w64
 
 -- ---- those of a set who drive 0, one place after another
 

@@ -8,7 +8,7 @@ use crate::turns::turns_of;
 use arrayvec::ArrayVec;
 use i3c_base::{Cuts, SLOTS, Slot};
 
-/// The contest of these slots, each with its key of `width` bits (1 to 64): all drive their keys at once, the most
+/// The contest of these slots, each with its key of `width` bits (1 to 64). All drive their keys at once, the most
 /// significant bit first, and one that drives 1 and reads 0 drives nothing more (I3C Basic 5.1.2.2.1, 5.1.4).
 ///
 /// The cuts count bits from the contest's first one, which is 0: a contender that is cut drives nothing from that bit on.

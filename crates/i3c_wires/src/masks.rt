@@ -1,5 +1,5 @@
 ghost use Rattle.std.specs.Prelude.{◌≡◌, ℕ, ◌-◌, ◌^◌, ◌<◌, ◌≤◌, Bool, length, map};
-ghost use Rattle.std.specs.Int.{bit_not, w32};
+ghost use Rattle.std.specs.Int.{bit_not, w64};
 ghost use Rattle.std.specs.Int.RustNames.{bit_and};
 ghost use Rattle.std.specs.List.{filter};
 ghost use Rattle.i3c_base.specs.Cutting.{cut_of};
@@ -11,7 +11,7 @@ use arrayvec::ArrayVec;
 use i3c_base::{Cuts, SLOTS, Slot};
 
 /// A set of contenders: a bit for each place in the list of keys.
-pub(crate) type Mask = u32;
+pub(crate) type Mask = u64;
 
 /// The first `count` places.
 pub(crate) fn first_places(count: usize) -> Mask
@@ -30,7 +30,7 @@ pub(crate) fn zeros_among(keys: &ArrayVec<(Slot, u64), SLOTS>, among: Mask, left
     requires bit { left < 64 }
     requires few { length keys.now.items ≤ SLOT_COUNT }
     requires places { (p : ℕ × ℕ → Bool) × (among ≡ mask_of p keys.now.items) }
-    ensures { result ≡ bit_and among (bit_not w32 (mask_of (drives_one left) keys.now.items)) }
+    ensures { result ≡ bit_and among (bit_not w64 (mask_of (drives_one left) keys.now.items)) }
 {
     let mut low = 0;
     let mut rest = among;

@@ -45,8 +45,8 @@ AnyAnswers st a lost = HasLegacy st a ⊎ SomeLeftAt st a lost
 abbrev pub PullsLow : State → ℕ → Lost → ℕ → ℕ → Type 0
 PullsLow st a lost k bit = (s : ℕ) × (d : Device) × IsTargetAt st a s d × (lost s ≡ false) × (bit_at (slice_index d.registers k) bit ≡ 0)
 
--- bytes as devices at the address drive them, the first bit of all at bit `first` of the frame: of each register eight
--- bits, the most significant first, and a T; a bit is read as 0 exactly where a device pulls the line low
+-- bytes as devices at the address drive them, the first bit of all at bit `first` of the frame. Each register has eight
+-- bits, the most significant first, and a T. A bit is read as 0 exactly where a device pulls the line low
 abbrev pub AreDriven : State → ℕ → CutList → ℕ → List ℕ → Type 0
 AreDriven st a cuts first bytes =
     (k j : ℕ) → k < REGISTERS → j < 8 → (bit_at (slice_index bytes k) (7 - j) ≡ 0) ↔ PullsLow st a (lost_by cuts (first + 9 * k + j)) k (7 - j)

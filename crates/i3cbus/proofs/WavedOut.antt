@@ -1,7 +1,7 @@
 -- What goes out of a script as a dump, line by line.
 use Rattle.std.proofs.Common.{◌≡◌, ◌∙◌, ℕ, List, [], ◌∷◌, ◌++◌, Option, IfSome, Result, Ok, Err, ap, append_assoc, append-nil, inl, inr, refl, subst, sym}
 use Rattle.std.specs.Io.KnownBytes.{Appends}
-use Rattle.i3c_script.specs.Obeying.{IsBegun}
+use Rattle.i3c_scenario.specs.Expecting.{HasBegun}
 use Rattle.i3c_wave.specs.declared.wave.Wave.{Wave}
 use Rattle.i3c_wave.specs.Dump.{free_bus}
 use Rattle.i3c_wave.specs.Scripts.{script_preamble}
@@ -67,7 +67,7 @@ seen_puts dumping (shown ∷ rest) old new (mid, (legacies, wave, puts), seen) =
     }
 
 -- the lines that were run, which were put behind, and what goes out last, where a fault ended the run
-part_out : (legacies : ℕ) (known a b c : Option (List ℕ)) (text : List ℕ) (fault : ScriptFault) (result : Result Tally ScriptFault) (from to : Progress) (lines : List Shown) (rest : List ℕ) → IsBegun from.state → AreRun from lines to
+part_out : (legacies : ℕ) (known a b c : Option (List ℕ)) (text : List ℕ) (fault : ScriptFault) (result : Result Tally ScriptFault) (from to : Progress) (lines : List Shown) (rest : List ℕ) → HasBegun from.state → AreRun from lines to
     → IfSome known (λ script. bytes_of lines ++ rest ≡ script ++ 10 ∷ []) → Puts (output a script_preamble) (output b text) (shown_dump legacies free_bus lines) → GoesLast b c text (Err fault) result → IsWaved legacies known a c result
 part_out legacies known a b c text fault result from to lines rest begun run first puts last = go fault last where
   part : (stop : ScriptFault) → WentOut stop a c (script_dump legacies lines) → IsWaved legacies known a c (Err stop)
@@ -114,13 +114,13 @@ cut_start legacies a b text old mid new lines last start end seen failed =
 pub waved_by : {V : Type 0} (old new : V) (dumping : V → Dumping) (legacies : ℕ) (known a b c : Option (List ℕ)) (text : List ℕ) (outcome result : Result Tally ScriptFault)
     → ViewedGoes (gives dumping) (fails dumping) known old new outcome → dumping old ≡ dump_at legacies free_bus a script_preamble → (dumping new).output ≡ output b text
     → GoesLast b c text outcome result → IsWaved legacies known a c result
-waved_by old new dumping legacies known a b c text (Ok tally) result (from, begun, none, (to, counted, whole)) start end (inl (is, out)) =
+waved_by old new dumping legacies known a b c text (Ok tally) result (from, begun, none, (to, counted, unmet, whole)) start end (inl (is, out)) =
     let lines = whole.lines in
     let puts = from_start legacies a b text (dumping old) (dumping new) lines start end (seen_puts dumping lines old new whole.seen).puts in
     let (front, one, e) = flush_all (output a script_preamble) (output b text) c (shown_dump legacies free_bus lines) puts out in
     subst (IsWaved legacies known a c) (sym is)
-    (record { from = from; to = to; lines = lines; begun = begun; none = none; counted = counted; run = whole.run; all = whole.all; out = subst (Appends a c) (sym (e ∙ append-nil front)) one })
-waved_by old new dumping legacies known a b c text (Ok tally) result (from, begun, none, (to, counted, whole)) start end (inr (is, out)) =
+    (record { from = from; to = to; lines = lines; begun = begun; none = none; counted = counted; unmet = unmet; run = whole.run; all = whole.all; out = subst (Appends a c) (sym (e ∙ append-nil front)) one })
+waved_by old new dumping legacies known a b c text (Ok tally) result (from, begun, none, (to, counted, unmet, whole)) start end (inr (is, out)) =
     let lines = whole.lines in
     let puts = from_start legacies a b text (dumping old) (dumping new) lines start end (seen_puts dumping lines old new whole.seen).puts in
     subst (IsWaved legacies known a c) (sym is)

@@ -57,8 +57,8 @@ ending (Ok tally) false = Err Fault.Write
 abbrev pub wave_ending : Result (Option TraceFault) WaveFault → Bool → Result Tally Fault
 wave_ending (Err fault) flushed = Err (wave_told_as fault)
 wave_ending (Ok fault) false = Err Fault.Write
-wave_ending (Ok None) true = Ok (record { refused = 0 })
-wave_ending (Ok (Some fault)) true = Ok (record { refused = 1 })
+wave_ending (Ok None) true = Ok (record { refused = 0; unmet = 0 })
+wave_ending (Ok (Some fault)) true = Ok (record { refused = 1; unmet = 0 })
 
 -- an exploration's own fault comes first; output that isn't taken to its end is lost
 abbrev pub explore_ending : Result Answer ScriptFault → Bool → Result Ending Fault
@@ -77,8 +77,12 @@ answer_status Answer.Holds = 0
 answer_status Answer.Refused = 1
 answer_status Answer.Breaks = 3
 
--- 0 where each line was done, 1 where one was refused, 2 where the script wasn't run to its end
+-- 0 where each line was done and each expectation met, 1 where a line was refused, 3 where an expectation wasn't met, refused lines or not
+abbrev pub tally_status : Tally → ℕ
+tally_status tally = if tally.unmet == 0 then (if tally.refused == 0 then 0 else 1) else 3
+
+-- the status of lines, or of an exploration; 2 where the script or the exploration didn't come to its end
 abbrev pub exit_status : Result Ending Fault → ℕ
-exit_status (Ok (Ending.Ran tally)) = if tally.refused == 0 then 0 else 1
+exit_status (Ok (Ending.Ran tally)) = tally_status tally
 exit_status (Ok (Ending.Explored answer)) = answer_status answer
 exit_status (Err fault) = 2

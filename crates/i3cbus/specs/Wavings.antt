@@ -2,13 +2,13 @@
 use Rattle.std.specs.Prelude.{◌≡◌, ◌⊎◌, ℕ, List, [], ◌∷◌, ◌++◌, Option, IfSome, Result, Err, MatchResult}
 use Rattle.std.specs.Io.KnownBytes.{Appends}
 use Rattle.i3c_frame.specs.declared.symbols.Symbol.{Symbol}
-use Rattle.i3c_script.specs.Obeying.{IsBegun}
 use Rattle.i3c_wave.specs.declared.wave.Wave.{Wave}
 use Rattle.i3c_wave.specs.Dump.{after_symbol, free_bus, symbols_dump}
 use Rattle.i3c_wave.specs.Scripts.{script_preamble, string_text}
 use Rattle.i3c_scenario.specs.declared.faults.ScriptFault.{ScriptFault}
 use Rattle.i3c_scenario.specs.declared.script.Tally.{Tally}
 use Rattle.i3c_scenario.specs.Outcomes.{AppendsSome, Output, Puts, PutsOrFails, output}
+use Rattle.i3c_scenario.specs.Expecting.{HasBegun}
 use Rattle.i3c_scenario.specs.ScriptSteps.{Progress}
 use Rattle.i3c_scenario.specs.Viewed.{AreRun, Shown, bytes_of}
 
@@ -68,9 +68,10 @@ pub record WavedWhole (legacies : ℕ) (known old new : Option (List ℕ)) (tall
   pub from : Progress
   pub to : Progress
   pub lines : List Shown
-  pub begun : IsBegun from.state
+  pub begun : HasBegun from.state
   pub none : from.refused ≡ 0
   pub counted : to.refused ≡ tally.refused
+  pub unmet : to.state.unmet ≡ tally.unmet
   pub run : AreRun from lines to
   pub all : IfSome known (λ script. bytes_of lines ≡ script ++ 10 ∷ [])
   pub out : Appends old new (script_dump legacies lines)
@@ -81,7 +82,7 @@ pub record WavedPart (legacies : ℕ) (known old new : Option (List ℕ)) (fault
   pub to : Progress
   pub lines : List Shown
   pub rest : List ℕ
-  pub begun : IsBegun from.state
+  pub begun : HasBegun from.state
   pub run : AreRun from lines to
   pub first : IfSome known (λ script. bytes_of lines ++ rest ≡ script ++ 10 ∷ [])
   pub out : WentOut fault old new (script_dump legacies lines)

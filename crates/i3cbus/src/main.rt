@@ -4,7 +4,7 @@
 //! `i3cbus stress` lets devices post from threads of their own.
 //!
 //! All end with 0, with 1 if a line was refused, or with 2 and a line on standard error if the file wasn't done with
-//! to its end. `explore` ends with 3 if an order breaks an expectation.
+//! to its end. A script ends with 3 if an expectation isn't met, and `explore` if an order breaks one.
 #![tactic(auto)]
 
 mod drawing;

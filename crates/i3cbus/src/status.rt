@@ -1,5 +1,5 @@
 ghost use Rattle.std.specs.Prelude.{◌≡◌};
-ghost use Rattle.i3cbus.specs.Endings.{ending, exit_status, explore_ending, ran, wave_ending};
+ghost use Rattle.i3cbus.specs.Endings.{ending, exit_status, explore_ending, ran, tally_status, wave_ending};
 
 use crate::fault::Fault;
 use i3c_frame::TraceFault;
@@ -10,22 +10,22 @@ use i3c_wave::WaveFault;
 /// What a run of the program came to.
 #[derive(Clone, Copy, Debug, PartialEq, Eq)]
 pub(crate) enum Ending {
-    /// Lines were run, checked or told, of which so many were refused.
+    /// Lines were run, checked or told, of which so many were refused, and so many expectations not met.
     Ran(Tally),
     /// Orders of lines were explored.
     Explored(Answer),
 }
 
-/// The script was run to its end, and no line was refused.
+/// The script was run to its end: no line was refused, and each expectation was met.
 const DONE: u8 = 0;
 
-/// It was run to its end, and a line was refused.
+/// It was run to its end: a line was refused, and each expectation was met.
 const REFUSED: u8 = 1;
 
 /// It wasn't run to its end.
 const FAULT: u8 = 2;
 
-/// An order of lines breaks an expectation.
+/// An expectation wasn't met, or an order of lines breaks one.
 const BREAKS: u8 = 3;
 
 /// What a run came to: how its script ended, and whether all that it printed was taken.
@@ -52,8 +52,14 @@ pub(crate) fn waved(
         return Err(Fault::Write);
     }
     match fault {
-        Some(_) => Ok(Tally { refused: 1 }),
-        None => Ok(Tally { refused: 0 }),
+        Some(_) => Ok(Tally {
+            refused: 1,
+            unmet: 0,
+        }),
+        None => Ok(Tally {
+            refused: 0,
+            unmet: 0,
+        }),
     }
 }
 
@@ -79,13 +85,25 @@ pub(crate) fn ran(outcome: Result<Tally, Fault>) -> Result<Ending, Fault>
     }
 }
 
+/// The exit status of lines that were run: an expectation that wasn't met goes before a refused line.
+fn tally_status(tally: &Tally) -> u8
+    ensures { result ≡ tally_status tally.now }
+{
+    if tally.unmet > 0 {
+        BREAKS
+    } else if tally.refused > 0 {
+        REFUSED
+    } else {
+        DONE
+    }
+}
+
 /// The exit status of what the program came to.
 pub(crate) fn status_of(outcome: &Result<Ending, Fault>) -> u8
     ensures { result ≡ exit_status outcome.now }
 {
     match outcome {
-        Ok(Ending::Ran(tally)) if tally.refused == 0 => DONE,
-        Ok(Ending::Ran(_)) => REFUSED,
+        Ok(Ending::Ran(tally)) => tally_status(tally),
         Ok(Ending::Explored(Answer::Holds)) => DONE,
         Ok(Ending::Explored(Answer::Refused)) => REFUSED,
         Ok(Ending::Explored(Answer::Breaks)) => BREAKS,

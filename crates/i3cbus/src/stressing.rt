@@ -55,7 +55,10 @@ pub(crate) fn run_stress<R: Threads + Wait + Sync + Print + Eprint + AllocGlobal
     };
     let report = stress(rt, rt.alloc(), devices, posts, &mut policy, &gate)?;
     match print_report(rt, devices, &report, totals) {
-        Ok(()) => Ok(Tally { refused: 0 }),
+        Ok(()) => Ok(Tally {
+            refused: 0,
+            unmet: 0,
+        }),
         Err(_) => Err(Fault::Write),
     }
 }

@@ -14,7 +14,10 @@ const KIT: &str = "rattle-kit-13f logic dac8208d650f15bf";
 /// Prints which program this is.
 pub(crate) fn print_version<R: Print>(rt: &R) -> Result<Tally, Fault> {
     match println!(rt; "i3cbus {VERSION}\ncommit {COMMIT} or later\nkit {KIT}") {
-        Ok(()) => Ok(Tally { refused: 0 }),
+        Ok(()) => Ok(Tally {
+            refused: 0,
+            unmet: 0,
+        }),
         Err(_) => Err(Fault::Write),
     }
 }

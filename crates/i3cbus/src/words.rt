@@ -114,6 +114,7 @@ A script says what happens on the bus, one line for each event, and each line pr
   show all                      the same, with PIDs, enabled kinds and wishes
   symbols                       the last symbols of the wire
   frames 2                      its last two whole frames, a line each
+  expect t waiting 0            whether this holds here: 'met', or 'unmet', the line's number and what is there
 
 'check' runs nothing, and tells each line of a script that has no form, and why.
 'draw' runs a script, and prints a picture of its wire, an SVG.
@@ -126,6 +127,7 @@ Exit status:
   0  each line was done
   1  a line was refused, and printed 'refused' and why; or 'check' told a line
   2  the script was not run, or the trace not read, to its end, and standard error says why
+  3  a line that expects something printed 'unmet', or 'explore' found an order in which something doesn't hold
 
 'i3cbus --version' prints which program this is.
 

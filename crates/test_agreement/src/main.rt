@@ -1,5 +1,5 @@
-//! `test_agreement FILE` runs the script of a file on the bus and on the plain machine, and says whether both come to the same:
-//! once as it stands, and once for each device, each frame and each bit of it, with the device cut there.
+//! `test_agreement FILE` runs the script of a file on the bus and on the plain machine, and says whether both come to the same.
+//! It runs once as it stands, and once for each device, each frame and each bit of it, with the device cut there.
 //!
 //! `test_agreement choices FILE` prints the plain machine's replies to the events whose choice a comment says.
 //!

@@ -27,12 +27,17 @@ fn run(alloc: Global, script: &[u8]) -> (Vec<u8>, Result<Tally, ScriptFault>) {
     (printed, outcome)
 }
 
+/// What a script comes to of which so many lines are refused, and that expects nothing.
+fn tally(refused: u64) -> Tally {
+    Tally { refused, unmet: 0 }
+}
+
 /// A script prints this, and so many of its lines are refused.
 fn prints(rt: &impl Abort, alloc: Global, script: &str, wanted: &str, refused: u64) {
     let (printed, outcome) = run(alloc, script.as_bytes());
     let printed = str::from_utf8(&printed).unwrap_or("no text");
     same_in(rt, script, printed, wanted);
-    same_in(rt, script, outcome, Ok(Tally { refused }));
+    same_in(rt, script, outcome, Ok(tally(refused)));
 }
 
 /// A script that follows the main controller's line prints this after its line.
@@ -69,7 +74,7 @@ fn skipped_lines(rt: HostRuntime) {
         printed.as_slice(),
         b"refused BadLine\nrefused BadLine\n".as_slice(),
     );
-    same(&rt, outcome, Ok(Tally { refused: 2 }));
+    same(&rt, outcome, Ok(tally(2)));
 }
 
 // A line has at most 256 bytes, a comment too.
@@ -125,7 +130,7 @@ fn long_script(rt: &impl Abort, alloc: Global, length: usize) -> Vec<u8> {
 fn large_scripts(rt: HostRuntime) {
     let mut script = long_script(&rt, rt.alloc(), SCRIPT_LENGTH);
     same(&rt, script.len(), SCRIPT_LENGTH);
-    has_no_bus(&rt, rt.alloc(), &script, Ok(Tally { refused: 1 }));
+    has_no_bus(&rt, rt.alloc(), &script, Ok(tally(1)));
     script.push(b'#').expect(&rt, "memory");
     has_no_bus(&rt, rt.alloc(), &script, Err(ScriptFault::TooLarge));
     script.remove(0);
@@ -291,7 +296,7 @@ const EACH_LINE: &[u8] = b"show\nlegacy eep 50 20\ndeclare 20 020400000030 06 44
 fn one_write_fails(rt: HostRuntime) {
     let alloc = rt.alloc();
     let (whole, outcome) = run(alloc, EACH_LINE);
-    same(&rt, outcome, Ok(Tally { refused: 7 }));
+    same(&rt, outcome, Ok(tally(7)));
     let mut failures = 0u64;
     for before in 0..10_000 {
         // it gives seven bytes at a time, and what they print is written before the next
@@ -299,7 +304,7 @@ fn one_write_fails(rt: HostRuntime) {
         let mut writer = Flaky::new(alloc, b"", before);
         let outcome = run_script(alloc, &mut reader, &mut writer);
         if !writer.has_failed {
-            same(&rt, outcome, Ok(Tally { refused: 7 }));
+            same(&rt, outcome, Ok(tally(7)));
             same(&rt, writer.printed.as_slice(), whole.as_slice());
             break;
         }
@@ -324,7 +329,7 @@ fn one_read_fails(rt: HostRuntime) {
         let mut writer = Vec::new(alloc);
         let outcome = run_script(alloc, &mut reader, &mut writer);
         if !reader.has_failed {
-            same(&rt, outcome, Ok(Tally { refused: 7 }));
+            same(&rt, outcome, Ok(tally(7)));
             same(&rt, writer.as_slice(), whole.as_slice());
             break;
         }
@@ -395,7 +400,7 @@ fn symbols_are_a_trace(rt: HostRuntime) {
     let alloc = rt.alloc();
     let script = sessions(&rt, alloc, 42);
     let (printed, outcome) = run(alloc, script.as_bytes());
-    same(&rt, outcome, Ok(Tally { refused: 0 }));
+    same(&rt, outcome, Ok(tally(0)));
     let symbols = read_trace(alloc, last_line(&rt, &printed)).expect(&rt, "a trace");
     same(&rt, symbols.len(), 252);
 }

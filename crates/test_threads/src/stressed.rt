@@ -17,7 +17,7 @@ const POSTS: u64 = 12;
 const FIRST: usize = 5;
 
 /// Watches one device that posts twelve times while each request is turned down. The first serve waits for eight answers,
-/// the ninth post for the second serve, and that one for the last answer: so the first serve takes up eight posts, which
+/// the ninth post for the second serve, and that one for the last answer. So the first serve takes up eight posts, which
 /// then wait, and the second one four, for which there is no room.
 #[derive(Drop)]
 struct Watched<'a, R> {

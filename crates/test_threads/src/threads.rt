@@ -80,8 +80,8 @@ fn devices_post_at_once(rt: HostRuntime) {
     }
 }
 
-/// What two threads have counted: how often the policy was asked as it should be, how many answers the poster had, how
-/// many of them were that its post is in, and how often one of them waited for too long.
+/// What two threads have counted: how often the policy was asked as it should be, and how many answers the poster had; how
+/// many of these say that its post is in, and how often one of the threads waited for too long.
 #[derive(Drop)]
 struct Counts {
     asked: AtomicU64,

@@ -1,6 +1,6 @@
 //! A reader or a writer that fails at one of its calls, under a script whose answers are known line by line.
 
-use super::{FailingReader, Flaky};
+use super::{FailingReader, Flaky, tally};
 use crate::checks::{holds, same, same_in};
 use i3c_scenario::{ScriptFault, Tally, run_script};
 use std::alloc::Global;
@@ -109,7 +109,7 @@ fn a_handover_script_meets_each_refused_write(rt: HostRuntime) {
 /// The whole handover was run: one of its lines is refused, and all answers went out.
 fn is_whole(rt: &impl Abort, alloc: Global, outcome: Result<Tally, ScriptFault>, printed: &[u8]) {
     let due = answers_within(rt, alloc, usize::MAX);
-    same(rt, outcome, Ok(Tally { refused: 1 }));
+    same(rt, outcome, Ok(tally(1)));
     same(rt, printed, due.as_bytes());
 }
 

@@ -1,6 +1,6 @@
-use super::{FailingReader, Flaky, FullWriter};
+use super::{FailingReader, Flaky, FullWriter, tally};
 use crate::checks::{holds, same, same_in};
-use i3c_scenario::{ScriptFault, Tally, run_trace};
+use i3c_scenario::{ScriptFault, run_trace};
 use std::alloc::Global;
 use std::io::ErrorKind;
 use std::process::Abort;
@@ -51,7 +51,7 @@ fn one_read_of_a_trace_fails(rt: HostRuntime) {
         let mut printed = Vec::new(rt.alloc());
         let outcome = run_trace(rt.alloc(), &mut reader, &mut printed);
         if !reader.has_failed {
-            same(&rt, outcome, Ok(Tally { refused: 0 }));
+            same(&rt, outcome, Ok(tally(0)));
             same(&rt, printed.as_slice(), TOLD);
             break;
         }
@@ -89,7 +89,7 @@ fn one_write_of_a_trace_fails(rt: HostRuntime) {
         let mut writer = Flaky::new(rt.alloc(), b"", before);
         let outcome = run_trace(rt.alloc(), &mut reader, &mut writer);
         if !writer.has_failed {
-            same(&rt, outcome, Ok(Tally { refused: 0 }));
+            same(&rt, outcome, Ok(tally(0)));
             same(&rt, writer.printed.as_slice(), told);
             break;
         }

@@ -8,8 +8,8 @@ use Rattle.i3c_scenario.proofs.TraceWritten.{front_out, some_out, written_on}
 use Rattle.i3c_scenario.proofs.Written.{appends_both}
 use Rattle.i3c_scenario.proofs.linting.tell_frames.Goals as goal
 
-pub returns-in_err-report : goal.returns-in_err-report
-returns-in_err-report g c =
+pub returns-in_err-report-clause-told : goal.returns-in_err-report-clause-told
+returns-in_err-report-clause-told g c =
     let old = g.W.Write.contents c.args.out.now in
     let new = g.W.Write.contents c.loop-text.out in
     let frames = c.args.frames.now in
@@ -18,8 +18,8 @@ returns-in_err-report g c =
     subst (AppendsSome old new) (sym inv.2) (front_out old new inv.0 (c.loop-text.text ++ (lint_text frames.symbols.items (to_come c.loop-text.linter) ++ break_text frames.broken)) inv.1) in
     search rules
 
-pub returns-in_err-push_report : goal.returns-in_err-push_report
-returns-in_err-push_report g c =
+pub returns-in_err-push_report-clause-told : goal.returns-in_err-push_report-clause-told
+returns-in_err-push_report-clause-told g c =
     let old = g.W.Write.contents c.args.out.now in
     let new = g.W.Write.contents c.loop-text.out in
     let frames = c.args.frames.now in
@@ -28,8 +28,8 @@ returns-in_err-push_report g c =
     subst (AppendsSome old new) (sym inv.2) (front_out old new inv.0 (c.loop-text.text ++ (lint_text frames.symbols.items (to_come c.loop-text.linter) ++ break_text frames.broken)) inv.1) in
     search rules
 
-pub returns-in_err-write_gathered : goal.returns-in_err-write_gathered
-returns-in_err-write_gathered g c =
+pub returns-in_err-write_gathered-clause-told : goal.returns-in_err-write_gathered-clause-told
+returns-in_err-write_gathered-clause-told g c =
     let old = g.W.Write.contents c.args.out.now in
     let mid = g.W.Write.contents c.loop-text.out in
     let new = g.W.Write.contents c.write_gathered.new.out in
@@ -102,8 +102,8 @@ loop-text-preserved g c =
       omega (arith, counted),
     )
 
-pub returns-in_err-push_end : goal.returns-in_err-push_end
-returns-in_err-push_end g c =
+pub returns-in_err-push_end-clause-told : goal.returns-in_err-push_end-clause-told
+returns-in_err-push_end-clause-told g c =
     let old = g.W.Write.contents c.args.out.now in
     let new = g.W.Write.contents c.loop-text.out in
     let frames = c.args.frames.now in
@@ -112,8 +112,8 @@ returns-in_err-push_end g c =
     subst (AppendsSome old new) (sym inv.2) (front_out old new inv.0 (c.loop-text.text ++ (lint_text frames.symbols.items (to_come c.loop-text.linter) ++ break_text frames.broken)) inv.1) in
     search rules
 
-pub returns-in_err-write_out : goal.returns-in_err-write_out
-returns-in_err-write_out g c =
+pub returns-in_err-write_out-clause-told : goal.returns-in_err-write_out-clause-told
+returns-in_err-write_out-clause-told g c =
     let old = g.W.Write.contents c.args.out.now in
     let mid = g.W.Write.contents c.loop-text.out in
     let new = g.W.Write.contents c.write_out.new.out in

@@ -18,7 +18,7 @@ returns-in-Ok-outcome-clause-lines g c =
     let to = progress c.read_all-outcome.new.self in
     let small : c.read_all-outcome.new.self.refused ≤ 18446744073709551615 = grind (arith, common_steps) in
     let read = c.in-Ok-outcome.ensures.runs c.new-script.ensures.held in
-    subst (λ n. LinesGoOut known left old new (Ok (record { refused = n }))) (sym c.retire-refused.ensures)
+    subst (λ t. LinesGoOut known left old new (Ok t)) (λ i. record { refused = sym c.retire-tally.ensures.refused i; unmet = sym c.retire-tally.ensures.unmet i })
     (whole_run known left old new from to c.new-script.ensures.begun c.new-script.ensures.refused read c.in-Ok-outcome.ensures.whole small)
 
 pub returns-clause-lines : goal.returns-clause-lines

@@ -11,7 +11,7 @@ use Rattle.i3c_scenario.specs.declared.reading.TheConstants.{MOST_BYTES}
 use Rattle.i3c_scenario.proofs.trace.run_trace.Goals as goal
 
 pub returns-in-Ok-clause-large : goal.returns-in-Ok-clause-large
-returns-in-Ok-clause-large g c = not_large c.tell_trace.result _ _ c.tell_trace.ensures
+returns-in-Ok-clause-large g c = not_large c.tell_trace.result _ _ c.tell_trace.ensures.told
 
 pub returns-in-Ok-clause-lines : goal.returns-in-Ok-clause-lines
 returns-in-Ok-clause-lines g c =
@@ -24,7 +24,7 @@ returns-in-Ok-clause-lines g c =
     trace_out known old new c.tell_trace.result text c.in-Ok.symbols.items read sound.0 c.in-Ok.ensures.range sound.1
     (subst (λ trace. MatchResult c.tell_trace.result
     (λ tally. (tally.refused ≡ min (refused_in (trace_told trace)) 18446744073709551615) × Appends old new (trace_text trace))
-    (λ fault. IsLineFault fault × AppendsSome old new (trace_text trace))) c.deref-in-Ok.ensures.value c.tell_trace.ensures)
+    (λ fault. IsLineFault fault × AppendsSome old new (trace_text trace))) c.deref-in-Ok.ensures.value c.tell_trace.ensures.told)
 
 pub returns-clause-large : goal.returns-clause-large
 returns-clause-large g c = not_large c.tell_fault.result _ _ c.tell_fault.ensures.lines

@@ -8,8 +8,8 @@ use Rattle.i3c_scenario.proofs.TraceWritten.{count_on, front_out, gathered_on, s
 use Rattle.i3c_scenario.proofs.Written.{appends_both}
 use Rattle.i3c_scenario.proofs.trace.tell_trace.Goals as goal
 
-pub returns-in_err-decoded : goal.returns-in_err-decoded
-returns-in_err-decoded g c =
+pub returns-in_err-decoded-clause-told : goal.returns-in_err-decoded-clause-told
+returns-in_err-decoded-clause-told g c =
     let old = g.W.Write.contents c.args.out.now in
     let new = g.W.Write.contents c.loop-text.out in
     let inv = c.loop-text.invariant in
@@ -17,8 +17,8 @@ returns-in_err-decoded g c =
     subst (AppendsSome old new) (sym inv.2) (front_out old new inv.0 (c.loop-text.text ++ lines_text c.args.trace.now (to_come c.loop-text.monitor)) inv.1) in
     search rules
 
-pub returns-in_err-push_decoded : goal.returns-in_err-push_decoded
-returns-in_err-push_decoded g c =
+pub returns-in_err-push_decoded-clause-told : goal.returns-in_err-push_decoded-clause-told
+returns-in_err-push_decoded-clause-told g c =
     let old = g.W.Write.contents c.args.out.now in
     let new = g.W.Write.contents c.loop-text.out in
     let inv = c.loop-text.invariant in
@@ -26,8 +26,8 @@ returns-in_err-push_decoded g c =
     subst (AppendsSome old new) (sym inv.2) (front_out old new inv.0 (c.loop-text.text ++ lines_text c.args.trace.now (to_come c.loop-text.monitor)) inv.1) in
     search rules
 
-pub returns-in_err-write_gathered : goal.returns-in_err-write_gathered
-returns-in_err-write_gathered g c =
+pub returns-in_err-write_gathered-clause-told : goal.returns-in_err-write_gathered-clause-told
+returns-in_err-write_gathered-clause-told g c =
     let old = g.W.Write.contents c.args.out.now in
     let mid = g.W.Write.contents c.loop-text.out in
     let new = g.W.Write.contents c.write_gathered.new.out in
@@ -71,8 +71,8 @@ loop-text-preserved g c =
       omega (arith, counted),
     )
 
-pub returns-in_err-write_out : goal.returns-in_err-write_out
-returns-in_err-write_out g c =
+pub returns-in_err-write_out-clause-told : goal.returns-in_err-write_out-clause-told
+returns-in_err-write_out-clause-told g c =
     let old = g.W.Write.contents c.args.out.now in
     let mid = g.W.Write.contents c.loop-text.out in
     let new = g.W.Write.contents c.write_out.new.out in
@@ -85,8 +85,8 @@ returns-in_err-write_out g c =
     let out : AppendsSome old new (trace_text trace) = subst (AppendsSome old new) (sym all) (some_out old mid new inv.0 c.loop-text.text [] inv.1 some) in
     search rules
 
-pub returns : goal.returns
-returns g c =
+pub returns-clause-told : goal.returns-clause-told
+returns-clause-told g c =
     let old = g.W.Write.contents c.args.out.now in
     let mid = g.W.Write.contents c.loop-text.out in
     let new = g.W.Write.contents c.write_out.new.out in

@@ -75,7 +75,7 @@ loop-turns-preserved c =
     let t = c.ilog2-left.result in
     let top : IsTop c.loop-turns.turns t = record { low = c.ilog2-left.ensures.power_le; high = c.ilog2-left.ensures.next_power_gt; fits = c.ilog2-left.ensures.bound } in
     let cut = cut_there cuts keys c.args.width t c.cut_at.result c.cut_at.ensures in
-    let few : length keys ≤ 32 = omega (arith, c.len.ensures.value, c.len.ensures.fits) in
+    let few : length keys ≤ 64 = omega (arith, c.len.ensures.value, c.len.ensures.fits) in
     elim c.if-low-eq0.branch [
       | then-low-eq0 w ↦ rw (w.bits-is, w.still-is)
           (turning_one cuts keys c.args.width c.loop-turns.turns c.loop-turns.bits c.loop-turns.still t c.cut_at.result _ few (omega arith) (omega arith) c.loop-turns.invariant top cut

@@ -21,6 +21,6 @@ loop-place-preserved c =
     (omega (arith, ap length c.deref-contender-items.ensures.0)) (found _ _ c.loop-place.place c.contender-item.result c.deref-contender-items.ensures.0 c.contender-item.is)
     c.loop-place.invariant
     (elim c.if-is_cut_at.branch [
-      | then-is_cut_at w ↦ w.places-is ∙ (ap (bit_or c.loop-place.places) (one_shl c.loop-place.place 32 (omega (arith, ap length c.deref-contender-items.ensures.0, c.deref-contender-items.ensures.1))) ∙ sym (cond-true _ _ _ (sym c.is_cut_at.ensures ∙ w.if-is_cut_at.true)))
+      | then-is_cut_at w ↦ w.places-is ∙ (ap (bit_or c.loop-place.places) (one_shl c.loop-place.place 64 (omega (arith, ap length c.deref-contender-items.ensures.0, c.deref-contender-items.ensures.1))) ∙ sym (cond-true _ _ _ (sym c.is_cut_at.ensures ∙ w.if-is_cut_at.true)))
       | else-is_cut_at w ↦ w.places-is ∙ sym (cond-false _ _ _ (sym c.is_cut_at.ensures ∙ w.if-is_cut_at.false))
     ])

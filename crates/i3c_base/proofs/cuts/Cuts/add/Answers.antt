@@ -1,7 +1,8 @@
 -- The mask's bit is set, and the earlier bit stands at the slot.
 use Rattle.std.proofs.Common.{◌≡◌, ◌∙◌, ap, arith}
+use Rattle.i3c_base.specs.declared.range.TheConstants.{SLOTS}
 use Rattle.i3c_base.specs.Cutting.{cut_of, earlier}
-use Rattle.i3c_base.proofs.CutLaws.{written_set}
+use Rattle.i3c_base.proofs.CutLaws.{set_fits, written_set}
 use Rattle.i3c_base.proofs.cuts.Cuts.add.Goals as goal
 use Rattle.i3c_base.proofs.cuts.Cuts.add.Goals.{in-Some, in-None}
 
@@ -13,3 +14,6 @@ returns c =
       | in-None w ↦ w.first-is ∙ ap (λ o. earlier o c.args.bit) w.in-None.ensures
     ] in
     written_set c.self.inside.cut c.self.inside.bits c.args.self.now c.index-index.result c.args.slot c.match-at.first _ c.self.view_is c.index-index.ensures.same (omega arith) (omega arith) first
+
+pub invariant_of-self : goal.invariant_of-self
+invariant_of-self c = set_fits SLOTS c.self.inside.cut c.index-index.result c.self.invariant (omega arith) (omega arith)

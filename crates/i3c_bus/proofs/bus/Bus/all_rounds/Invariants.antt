@@ -1,4 +1,5 @@
 use Rattle.std.proofs.Common.{◌≡◌, ◌+◌, ◌≤◌, true, length, map}
+use Rattle.i3c_base.specs.declared.range.TheConstants.{SLOTS}
 use Rattle.i3c_frame.specs.Taps.{Tells}
 use Rattle.i3c_step.specs.Sessions.{hearers}
 use Rattle.i3c_bus.specs.Assigning.{AreRounds, given_reply}
@@ -12,6 +13,6 @@ invariant-loop g l = record {
   told : Tells g.T.Tap.note_gives l.fn.tap l.tap (λ wire. AreRounds l.fn.self.state (map given_reply l.given.items) wire l.self.state);
   fits : HandFits (Hand.Session l.session) l.self.state;
   lasts : l.fn.self.room ≡ true → l.self.room ≡ true;
-  fewer : hearers l.self.state.devices + l.counter ≤ 16;
+  fewer : hearers l.self.state.devices + l.counter ≤ SLOTS;
   many : length l.given.items ≡ l.counter;
 }

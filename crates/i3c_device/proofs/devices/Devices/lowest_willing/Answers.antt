@@ -6,6 +6,6 @@ use Rattle.i3c_device.proofs.devices.Devices.lowest_willing.Goals as goal
 
 pub returns : goal.returns
 returns c =
-    willing_seen c.self.inside.enabled c.self.inside.occupants c.args.self.now c.args.active c.args.address c.marks.result.present c.without-left.result (lost_by c.args.cuts.now c.args.last) c.lowest.result
+    willing_seen c.self.inside.enabled c.self.inside.occupants c.args.self.now c.args.active c.args.address c.marks.result.now.present c.without-left.result (lost_by c.args.cuts.now c.args.last) c.lowest.result
     c.marks.ensures.slots c.self.view_is c.marks.ensures.marks.present
-    (λ s l. c.without-left.ensures s l ∙ ap (λ b. has c.marks.result.present s && not b) (c.lost_slots.ensures s l)) c.lowest.ensures
+    (λ s l. c.without-left.ensures s l ∙ ap (λ b. has c.marks.result.now.present s && not b) (c.lost_slots.ensures s l)) c.lowest.ensures

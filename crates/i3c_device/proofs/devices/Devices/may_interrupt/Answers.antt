@@ -7,5 +7,5 @@ pub returns : goal.returns
 returns c =
     c.has.ensures
     ∙ (ap (has c.and.result) c.index.ensures.same
-    ∙ kind_there c.self.inside.enabled c.self.inside.occupants c.args.self.now (λ kinds. kinds.interrupt) c.marks.result.present c.self.inside.enabled.interrupts c.and.result c.args.slot c.self.view_is c.marks.ensures.marks.present
+    ∙ kind_there c.self.inside.enabled c.self.inside.occupants c.args.self.now (λ kinds. kinds.interrupt) c.marks.result.now.present c.self.inside.enabled.interrupts c.and.result c.args.slot c.self.view_is c.marks.ensures.marks.present
     refl (c.and.ensures c.args.slot c.index.ensures.in_range) c.index.ensures.in_range)

@@ -6,7 +6,7 @@ use Rattle.i3c_device.proofs.devices.Devices.reached.Goals as goal
 pub returns-in-None-clause-reached : goal.returns-in-None-clause-reached
 returns-in-None-clause-reached c =
     subst (λ to. AreReached c.args.active to c.but.result c.args.self.now) (sym c.in-None.is)
-    (reached_all c.self.inside.enabled c.self.inside.occupants c.args.self.now c.args.active c.marks.result.present c.but.result c.self.view_is c.marks.ensures.marks.present c.but.ensures)
+    (reached_all c.self.inside.enabled c.self.inside.occupants c.args.self.now c.args.active c.marks.result.now.present c.but.result c.self.view_is c.marks.ensures.marks.present c.but.ensures)
 
 pub returns-in-Some-clause-reached : goal.returns-in-Some-clause-reached
 returns-in-Some-clause-reached c =

@@ -7,5 +7,5 @@ use Rattle.i3c_device.proofs.devices.Devices.write.Goals as goal
 
 pub returns : goal.returns
 returns c =
-    spared_seen c.self.inside.enabled (written_at c.args.active c.args.address c.args.bytes.now) (λ d. true) c.marks.result.present c.self.inside.occupants c.each.new.self c.args.self.now c.marks.ensures.slots
+    spared_seen c.self.inside.enabled (written_at c.args.active c.args.address c.args.bytes.now) (λ d. true) c.marks.result.now.present c.self.inside.occupants c.each.new.self c.args.self.now c.marks.ensures.slots
     (λ kinds d. refl) (blind_write c.args.active c.args.address c.args.bytes.now) c.marks.ensures.marks.present (write_spares c.args.active c.args.address c.args.bytes.now) c.self.view_is c.each.ensures.changed

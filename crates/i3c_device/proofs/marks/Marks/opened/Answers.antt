@@ -8,4 +8,4 @@ pub returns : goal.returns
 returns c places long are is =
     let before = get_or places c.args.index None in
     let alike : Alike c.args.place.now before = subst (λ o. Alike o before) (sym is) (alike_opened before) in
-    marks_heard c.args.self (record c.args.self { hearing = c.with.result }) places c.args.index c.args.place.now c.hears.result long c.requires are alike (ap (in_slot wishes_interrupt) is ∙ interrupts_opened before) c.hears.ensures refl c.with.ensures
+    marks_heard c.args.self.now (record c.args.self.now { hearing = c.with-self.result }) places c.args.index c.args.place.now c.hears.result long c.requires are alike (ap (in_slot wishes_interrupt) is ∙ interrupts_opened before) c.hears.ensures refl c.with-self.ensures

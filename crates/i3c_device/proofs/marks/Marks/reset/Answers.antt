@@ -22,18 +22,18 @@ lacks (Some d) = refl
 pub returns : goal.returns
 returns c places long are is =
     let low : c.args.index < length places = omega arith in
-    let set = c.args.self in
+    let set = c.args.self.now in
     let i = c.args.index in
     let place = c.args.place.now in
     let before = get_or places i None in
     let gone : (test : Device → Bool) → ((d : Device) → test (unaddressed_device d) ≡ false) → false ≡ in_slot test place = λ test h. sym (ap (in_slot test) is ∙ never test before h) in
     record {
       present = set_of_same (λ d. true) set.present places i place low are.present (ap (in_slot (λ d. true)) is ∙ same (in_slot (λ d. true)) before (λ d. refl));
-      joining = set_of_put wishes_join set.joining c.with.result places i place c.wishes_join.result low are.joining c.wishes_join.ensures c.with.ensures;
-      asking = set_of_put wishes_role set.asking c.with-2.result places i place false low are.asking (gone wishes_role (λ d. refl)) c.with-2.ensures;
-      interrupting = set_of_put wishes_interrupt set.interrupting c.with-3.result places i place false low are.interrupting (gone wishes_interrupt (λ d. refl)) c.with-3.ensures;
+      joining = set_of_put wishes_join set.joining c.with-self.result places i place c.wishes_join.result low are.joining c.wishes_join.ensures c.with-self.ensures;
+      asking = set_of_put wishes_role set.asking c.with-self-2.result places i place false low are.asking (gone wishes_role (λ d. refl)) c.with-self-2.ensures;
+      interrupting = set_of_put wishes_interrupt set.interrupting c.with-self-3.result places i place false low are.interrupting (gone wishes_interrupt (λ d. refl)) c.with-self-3.ensures;
       hearing = set_of_same (λ d. d.hearing) set.hearing places i place low are.hearing (ap (in_slot (λ d. d.hearing)) is ∙ same (in_slot (λ d. d.hearing)) before (λ d. refl));
-      unaddressed = set_of_put (λ d. is_none d.address) set.unaddressed c.with-4.result places i place c.is_some.result low are.unaddressed (c.is_some.ensures ∙ (ap is_some is ∙ (lacks before ∙ sym (ap (in_slot (λ d. is_none d.address)) is)))) c.with-4.ensures;
+      unaddressed = set_of_put (λ d. is_none d.address) set.unaddressed c.with-self-4.result places i place c.is_some.result low are.unaddressed (c.is_some.ensures ∙ (ap is_some is ∙ (lacks before ∙ sym (ap (in_slot (λ d. is_none d.address)) is)))) c.with-self-4.ensures;
       keys = keys_of_put set.keys places i place c.key_in.result low are.keys c.key_in.ensures.key c.key_in.ensures.dynamic c.requires;
       statics = statics_of_same set.statics places i place low are.statics (ap static_mark_in is ∙ same static_mark_in before (λ d. refl));
     }

@@ -7,16 +7,16 @@ use Rattle.i3c_device.proofs.marks.Marks.taken.Goals as goal
 pub returns : goal.returns
 returns c places long are =
     let low : c.args.index < length places = omega arith in
-    let set = c.args.self in
+    let set = c.args.self.now in
     let i = c.args.index in
     let place = Some c.args.device.now in
     record {
-      present = set_of_put (λ d. true) set.present c.with.result places i place true low are.present refl c.with.ensures;
-      joining = set_of_put wishes_join set.joining c.with-2.result places i place c.wishes_join.result low are.joining c.wishes_join.ensures c.with-2.ensures;
-      asking = set_of_put wishes_role set.asking c.with-3.result places i place c.wishes_role.result low are.asking c.wishes_role.ensures c.with-3.ensures;
-      interrupting = set_of_put wishes_interrupt set.interrupting c.with-4.result places i place c.wishes_interrupt.result low are.interrupting c.wishes_interrupt.ensures c.with-4.ensures;
-      hearing = set_of_put (λ d. d.hearing) set.hearing c.with-5.result places i place c.is_hearing.result low are.hearing c.is_hearing.ensures c.with-5.ensures;
-      unaddressed = set_of_put (λ d. is_none d.address) set.unaddressed c.with-6.result places i place c.is_unaddressed.result low are.unaddressed c.is_unaddressed.ensures c.with-6.ensures;
+      present = set_of_put (λ d. true) set.present c.with-self.result places i place true low are.present refl c.with-self.ensures;
+      joining = set_of_put wishes_join set.joining c.with-self-2.result places i place c.wishes_join.result low are.joining c.wishes_join.ensures c.with-self-2.ensures;
+      asking = set_of_put wishes_role set.asking c.with-self-3.result places i place c.wishes_role.result low are.asking c.wishes_role.ensures c.with-self-3.ensures;
+      interrupting = set_of_put wishes_interrupt set.interrupting c.with-self-4.result places i place c.wishes_interrupt.result low are.interrupting c.wishes_interrupt.ensures c.with-self-4.ensures;
+      hearing = set_of_put (λ d. d.hearing) set.hearing c.with-self-5.result places i place c.is_hearing.result low are.hearing c.is_hearing.ensures c.with-self-5.ensures;
+      unaddressed = set_of_put (λ d. is_none d.address) set.unaddressed c.with-self-6.result places i place c.is_unaddressed.result low are.unaddressed c.is_unaddressed.ensures c.with-self-6.ensures;
       keys = keys_of_put set.keys places i place c.key.result low are.keys c.key.ensures.key c.key.ensures.dynamic c.requires;
       statics = statics_of_put set.statics places i place c.static_mark.result low are.statics c.static_mark.ensures c.requires;
     }

@@ -7,15 +7,15 @@ use Rattle.i3c_device.proofs.marks.Marks.vacated.Goals as goal
 pub returns : goal.returns
 returns c places long are =
     let low : c.args.index < length places = omega arith in
-    let set = c.args.self in
+    let set = c.args.self.now in
     let i = c.args.index in
     record {
-      present = set_of_put (λ d. true) set.present c.with.result places i None false low are.present refl c.with.ensures;
-      joining = set_of_put wishes_join set.joining c.with-2.result places i None false low are.joining refl c.with-2.ensures;
-      asking = set_of_put wishes_role set.asking c.with-3.result places i None false low are.asking refl c.with-3.ensures;
-      interrupting = set_of_put wishes_interrupt set.interrupting c.with-4.result places i None false low are.interrupting refl c.with-4.ensures;
-      hearing = set_of_put (λ d. d.hearing) set.hearing c.with-5.result places i None false low are.hearing refl c.with-5.ensures;
-      unaddressed = set_of_put (λ d. is_none d.address) set.unaddressed c.with-6.result places i None false low are.unaddressed refl c.with-6.ensures;
+      present = set_of_put (λ d. true) set.present c.with-self.result places i None false low are.present refl c.with-self.ensures;
+      joining = set_of_put wishes_join set.joining c.with-self-2.result places i None false low are.joining refl c.with-self-2.ensures;
+      asking = set_of_put wishes_role set.asking c.with-self-3.result places i None false low are.asking refl c.with-self-3.ensures;
+      interrupting = set_of_put wishes_interrupt set.interrupting c.with-self-4.result places i None false low are.interrupting refl c.with-self-4.ensures;
+      hearing = set_of_put (λ d. d.hearing) set.hearing c.with-self-5.result places i None false low are.hearing refl c.with-self-5.ensures;
+      unaddressed = set_of_put (λ d. is_none d.address) set.unaddressed c.with-self-6.result places i None false low are.unaddressed refl c.with-self-6.ensures;
       keys = keys_of_put set.keys places i None 0 low are.keys refl tt c.requires;
       statics = statics_of_put set.statics places i None _ low are.statics refl c.requires;
     }

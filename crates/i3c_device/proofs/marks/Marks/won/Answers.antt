@@ -18,18 +18,18 @@ never test address (Some d) h = h d
 pub returns : goal.returns
 returns c places address long are is =
     let low : c.args.index < length places = omega arith in
-    let set = c.args.self in
+    let set = c.args.self.now in
     let i = c.args.index in
     let place = c.args.place.now in
     let before = get_or places i None in
     let gone : (test : Device → Bool) → ((d : Device) → test (winner address d) ≡ false) → false ≡ in_slot test place = λ test h. sym (ap (in_slot test) is ∙ never test address before h) in
     record {
       present = set_of_same (λ d. true) set.present places i place low are.present (ap (in_slot (λ d. true)) is ∙ same (in_slot (λ d. true)) address before (λ d. refl));
-      joining = set_of_put wishes_join set.joining c.with.result places i place false low are.joining (gone wishes_join (λ d. refl)) c.with.ensures;
-      asking = set_of_put wishes_role set.asking c.with-2.result places i place c.wishes_role.result low are.asking c.wishes_role.ensures c.with-2.ensures;
-      interrupting = set_of_put wishes_interrupt set.interrupting c.with-3.result places i place c.wishes_interrupt.result low are.interrupting c.wishes_interrupt.ensures c.with-3.ensures;
-      hearing = set_of_put (λ d. d.hearing) set.hearing c.with-4.result places i place false low are.hearing (gone (λ d. d.hearing) (λ d. refl)) c.with-4.ensures;
-      unaddressed = set_of_put (λ d. is_none d.address) set.unaddressed c.with-5.result places i place false low are.unaddressed (gone (λ d. is_none d.address) (λ d. refl)) c.with-5.ensures;
+      joining = set_of_put wishes_join set.joining c.with-self.result places i place false low are.joining (gone wishes_join (λ d. refl)) c.with-self.ensures;
+      asking = set_of_put wishes_role set.asking c.with-self-2.result places i place c.wishes_role.result low are.asking c.wishes_role.ensures c.with-self-2.ensures;
+      interrupting = set_of_put wishes_interrupt set.interrupting c.with-self-3.result places i place c.wishes_interrupt.result low are.interrupting c.wishes_interrupt.ensures c.with-self-3.ensures;
+      hearing = set_of_put (λ d. d.hearing) set.hearing c.with-self-4.result places i place false low are.hearing (gone (λ d. d.hearing) (λ d. refl)) c.with-self-4.ensures;
+      unaddressed = set_of_put (λ d. is_none d.address) set.unaddressed c.with-self-5.result places i place false low are.unaddressed (gone (λ d. is_none d.address) (λ d. refl)) c.with-self-5.ensures;
       keys = keys_of_put set.keys places i place c.key_in.result low are.keys c.key_in.ensures.key c.key_in.ensures.dynamic c.requires;
       statics = statics_of_same set.statics places i place low are.statics (ap static_mark_in is ∙ same static_mark_in address before (λ d. refl));
     }

@@ -1,11 +1,12 @@
 -- A raise changes what waits, and nothing else; one that is refused changes nothing.
-use Rattle.std.proofs.Common.{◌≡◌, ℕ, ◌<◌, ◌++◌, ◌∷◌, ◌∙◌, [], ap, arith, get_or, is_some, length, length-set, Err, None, Ok, OnErr, OnOk, option_map, refl, Result, set, List, Option, Some, subst, suc}
+use Rattle.std.proofs.Common.{◌≡◌, ℕ, ◌<◌, ◌++◌, ◌∷◌, ◌∙◌, [], ap, arith, get_or, is_some, length, length-set, Err, None, Ok, OnErr, OnOk, option_map, refl, Result, set, List, Option, Some, suc}
 use Rattle.std.proofs.lemmas.List.{get_or_default, get_or-set_same, set-get_or}
 use Rattle.i3c_base.specs.declared.device.Waiting.{Waiting}
 use Rattle.i3c_base.specs.declared.refusals.RaiseRefusal.{RaiseRefusal}
-use Rattle.i3c_base.specs.State.{Device}
-use Rattle.i3c_device.specs.Marks.{AreMarks, requeued}
+use Rattle.i3c_base.specs.State.{Device, in_slot}
+use Rattle.i3c_device.specs.Marks.{requeued}
 use Rattle.i3c_device.specs.Raising.{with_raise}
+use Rattle.i3c_device.specs.Wishing.{wishes_interrupt}
 use Rattle.i3c_device.proofs.SeenWalks.{on_err, on_ok}
 use Rattle.i3c_device.proofs.occupants.Occupants.raise.Goals as goal
 
@@ -36,9 +37,8 @@ invariant_of-self c =
     let low : i < length places = omega (arith, c.self.invariant.0, c.index-index.ensures.in_range) in
     let queue = waits c.raise-answer.result (suc c.args.raised) c.args.byte place (get_or places i c.index-self-index.result) c.raise-answer.ensures.raised c.raise-answer.ensures.unchanged in (
       length-set places i place ∙ c.self.invariant.0,
-      subst (λ seen. AreMarks c.queued-self-inside.result (set places i seen)) (get_or-set_same places i place c.index-self-index-2.result low)
-          (c.queued-self-inside.ensures places queue.0 c.self.invariant.0 c.self.invariant.1
-          (get_or-set_same places i place c.index-self-index-2.result low ∙ (queue.1 ∙ ap (option_map (requeued queue.0)) (get_or_default places i c.index-self-index.result None low)))),
+      c.queued.ensures places place queue.0 c.self.invariant.0 c.self.invariant.1 (queue.1 ∙ ap (option_map (requeued queue.0)) (get_or_default places i c.index-self-index.result None low))
+          (c.wishes_interrupt-interrupts.ensures ∙ ap (in_slot wishes_interrupt) (get_or-set_same places i place c.index-self-index-2.result low)),
     )
 
 pub returns-clause-fault : goal.returns-clause-fault

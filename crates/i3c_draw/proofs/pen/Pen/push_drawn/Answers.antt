@@ -25,7 +25,7 @@ returns c =
     let whole = old ++ rest-0 in
     let part-1 = one_part whole old c.push_boxes.new.text (boxes_text (bits_by c.args.self.turn c.args.symbol) (answer_by c.args.self.turn c.args.symbol) (symbol_width c.args.symbol)) rest-1 refl boxes in
     let part-2 = one_part whole c.push_boxes.new.text c.push.new.self (codes "<text x='3' y='12'>") rest-2 part-1 c.in_ok-push.ensures.appended in
-    let part-3 = one_part whole c.push.new.self c.push_name.new.text (text_of c.args.symbol) rest-3 part-2 c.in_ok-push_name.ensures in
-    let part-4 = one_part whole c.push_name.new.text c.push-2.new.self (codes "</text>") rest-4 part-3 c.in_ok-push-2.ensures.appended in
-    let part-5 = one_part whole c.push-2.new.self c.push_trace.new.text (trace_text Line.Scl c.args.self.level c.args.symbol) rest-5 part-4 c.in_ok-push_trace.ensures in
+    let part-3 = one_part whole c.push.new.self c.push-2.new.text (text_of c.args.symbol) rest-3 part-2 c.in_ok-push-2.ensures in
+    let part-4 = one_part whole c.push-2.new.text c.push-3.new.self (codes "</text>") rest-4 part-3 c.in_ok-push-3.ensures.appended in
+    let part-5 = one_part whole c.push-3.new.self c.push_trace.new.text (trace_text Line.Scl c.args.self.level c.args.symbol) rest-5 part-4 c.in_ok-push_trace.ensures in
     last_part c.push_trace-2.result whole c.push_trace.new.text c.push_trace-2.new.text rest-5 part-5 c.push_trace-2.ensures

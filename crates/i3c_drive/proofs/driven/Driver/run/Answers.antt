@@ -1,7 +1,6 @@
 use Rattle.std.proofs.Common.{◌∙◌, ◌+◌, Err, None, Some, ap, length, min, subst}
-use Rattle.i3c_drive.specs.Steps.{Closes, state}
+use Rattle.i3c_drive.specs.Steps.{Closes, Reads, state}
 use Rattle.i3c_drive.proofs.Runs.{line_answered, said_whole}
-use Rattle.i3c_scenario.specs.ScriptSteps.{Reads}
 use Rattle.i3c_script.proofs.Texts.{on_ok}
 use Rattle.i3c_drive.proofs.driven.Driver.run.Goals as goal
 

@@ -2,8 +2,8 @@ use Rattle.std.proofs.Common.{◌≡◌, ◌≢◌, ◌∙◌, ◌+◌, ◌++◌
 use Rattle.i3c_script.specs.declared.faults.Stop.{Stop}
 use Rattle.i3c_scenario.specs.Outcomes.{PutsOrFails, output}
 use Rattle.i3c_script.specs.Printed.{end_text}
-use Rattle.i3c_scenario.specs.Scripts.{LineDoes}
-use Rattle.i3c_scenario.specs.ScriptSteps.{progress, state}
+use Rattle.i3c_scenario.specs.Scripts.{LineRuns}
+use Rattle.i3c_scenario.specs.ScriptSteps.{noted, progress, state}
 use Rattle.i3c_script.specs.Stops.{refusals}
 use Rattle.i3c_scenario.proofs.ScriptRuns.{does_in, line_put, passes, refusal_in}
 use Rattle.i3c_scenario.proofs.script.Script.run_line.Goals as goal
@@ -17,8 +17,8 @@ returns-clause-ends g c =
     let from = progress c.args.self.now in
     let to = progress c.settle.new.self in
     let alive : outcome ≢ Err Stop.Memory = λ short. passes c.settle.result _ c.in_ok-settle.was (c.settle.ensures.memory short) in
-    let obeyed = does_in (state c.args.self.now) c.args.line.now c.clear.new.self text outcome (state c.obey-outcome.new.self) c.obey-outcome.ensures.reads c.clear.ensures alive in
-    let does = subst (LineDoes (state c.args.self.now) c.args.line.now text (refusal_in outcome)) (sym c.settle.ensures.state) obeyed in
+    let obeyed = does_in (state c.args.self.now) c.args.line.now c.clear.new.self text outcome (noted (state c.obey-outcome.new.self) outcome) c.obey-outcome.ensures.reads c.clear.ensures alive in
+    let does = subst (LineRuns (state c.args.self.now) c.args.line.now text (refusal_in outcome)) (sym c.settle.ensures.state) obeyed in
     let same : c.as_bytes.result.now ≡ text ++ end_text outcome = c.as_bytes.ensures ∙ c.in_ok-settle.ensures.told in
     let waits : c.settle.new.self.gathered ≡ c.args.self.now.gathered = c.settle.ensures.gathered ∙ c.obey-outcome.ensures.gathered in
     line_put c.args.line.now text outcome old new from to c.gather.result does

@@ -1,0 +1,291 @@
+"""Whole orders, each as a plain script that `i3cbus run` runs from its start, and what they come to."""
+import subprocess
+from dataclasses import dataclass, field
+
+from brute import facts, plans
+
+MOST_REPLAYS = 6000
+READ_AT = [f'{address:02X}' for address in range(0x08, 0x12)]
+# the number of the last bit that a frame can have, by docs/BUS.md: a request in its first header takes 18 bits at most, and
+# `serve` and a round have nothing behind theirs. A list has eight entries at most here, and a write four bytes
+LAST_BITS = {'serve': 9, 'enec': 45, 'disec': 45, 'reset': 27, 'list': 9 * (2 + 4 * 8) + 18, 'read': 171, 'write': 63,
+             'setdasa': 45, 'setnewda': 45, 'handover': 45, 'open': 27, 'daa': 27, 'round': 73}
+
+
+class Failed(Exception):
+    """The program ended in a way that no script should end it."""
+
+
+def is_refused(output):
+    return bool(output) and output[-1].startswith('refused ')
+
+
+def bits_of(line):
+    """How many bits are tried in this line's frame: each that it can have, and one behind."""
+    return LAST_BITS[plans.word_of(line)] + 2
+
+
+@dataclass
+class Replay:
+    """A whole order, as it ran."""
+
+    turns: tuple  # of each line its track and its way: 0 uncut, and bit + 1
+    lines: list
+    views: list  # the bus behind each line, where it was looked at
+    before: facts.View  # the bus in front of all blocks
+    printed: list  # what each line printed
+    end: str  # all that can be seen of the bus at its end
+    shown: tuple  # what `show` prints there
+    breaks: int  # the first line behind which something that is expected doesn't hold, or the number of lines
+
+    def unmet(self, plan):
+        """The numbers of the expectations that don't hold behind the line that breaks."""
+        view = self.views[self.breaks]
+        return [number for number in self.lines[self.breaks].expects if not facts.is_met(plan.text(number), view)]
+
+    def is_broken(self):
+        return self.breaks < len(self.lines)
+
+    def refused(self):
+        return sum(1 for output in self.printed if is_refused(output))
+
+    def view_before(self, index):
+        return self.views[index - 1] if index else self.before
+
+
+def numbered(program, path):
+    """What `run --numbers` prints for each line of a script."""
+    done = subprocess.run([program, 'run', '--numbers', path], stdin=subprocess.DEVNULL, capture_output=True, check=False)
+    if done.returncode not in (0, 1) or done.stderr:
+        raise Failed(f'status {done.returncode}: {done.stderr.decode()}')
+    printed = {}
+    for line in done.stdout.decode().splitlines():
+        number, _, text = line.partition(': ')
+        printed.setdefault(int(number), []).append(text)
+    return printed
+
+
+def names_of(plan):
+    """Each name of the file with a line that attaches its device."""
+    attaching = {}
+    for line in plan.lines:
+        words = line.split(' ')
+        if words[0] in ('main', 'attach'):
+            attaching.setdefault(words[1], 'attach ' + ' '.join(words[1:]))
+    return attaching
+
+
+def addresses_of(plan):
+    """The addresses at which registers are looked at."""
+    named = [line.split(' ')[2] for line in plan.lines if plans.word_of(line) in ('setnewda', 'legacy')]
+    return READ_AT + sorted(set(named) - set(READ_AT))
+
+
+def questions(plan):
+    """Lines behind an order's end, whose answers tell what `show all` doesn't: the table, which identity each address is kept
+    for, and registers. Those of the active controller are read once another one is active."""
+    names = names_of(plan)
+    reads = [f'read {address}' for address in addresses_of(plan)]
+    back = [f'drop {name}' for name in names] + list(names.values())
+    offers = [f'handover {address}' for address in addresses_of(plan)]
+    return ['end', 'policy all', 'serve', 'list', 'frames 1', 'daa', *reads, *back, 'daa', 'list', *offers, *reads]
+
+
+def rounds(plan):
+    """Lines whose answers tell who hears an open session. They change the table, so they aren't asked with the others."""
+    return ['round'] * len(names_of(plan))
+
+
+class Followed:
+    """What lines leave behind that nothing prints later: names, accepted raises, the policy, and cuts that wait."""
+
+    def __init__(self):
+        self.places = {}
+        self.raised = {}
+        self.policy = 'all'
+        self.cuts = {}
+
+    def follow(self, line, printed):
+        words = line.split(' ')
+        if plans.sends_frame(line):
+            self.cuts = {}
+        if words[0] == 'policy':
+            self.policy = words[1]
+        elif is_refused(printed):
+            return
+        elif words[0] in ('main', 'attach'):
+            self.give(words[1], int(printed[0].split(' ')[2]))
+        elif words[0] == 'raise':
+            number = int(printed[0].split(' ')[1])
+            self.raised.setdefault(self.places[words[1]], []).append((number, words[2:]))
+        elif words[0] == 'cut':
+            slot = self.places[words[1]]
+            self.cuts[slot] = min(int(words[2]), self.cuts.get(slot, 65535))
+
+    def give(self, name, slot):
+        """A name stands for a slot; who stood there stands there no more."""
+        for other, place in self.places.items():
+            if place == slot:
+                self.places[other] = None
+        self.places[name] = slot
+
+    def end(self, shown):
+        """What waits in each slot, and the rest. Which interrupts wait: the last ones, since the oldest go first."""
+        queues = {}
+        for name, count in shown.waiting.items():
+            slot = self.places[name]
+            queues[slot] = self.raised.get(slot, [])[-count:] if count else []
+        counts = {slot: raises[-1][0] for slot, raises in sorted(self.raised.items())}
+        return f'{self.policy} {sorted(self.cuts.items())} {list(self.places.items())} {sorted(queues.items())} {counts}'
+
+
+@dataclass
+class Written:
+    """The script of an order, with the numbers of its lines."""
+
+    lines: list = field(default_factory=list)
+    begun: int = 0  # the `show all` in front of the blocks
+    ran: list = field(default_factory=list)  # each line of the order
+    looks: list = field(default_factory=list)  # the `show all` behind each, where there is one
+    asked: list = field(default_factory=list)  # the questions behind the order's end
+
+    def add(self, line):
+        self.lines.append(line)
+        return len(self.lines)
+
+
+class Player:
+    """Runs orders of a plan."""
+
+    def __init__(self, program, plan, path):
+        self.program = program
+        self.plan = plan
+        self.path = path
+        self.questions = questions(plan)
+        self.count = 0
+
+    def written(self, lines, cuts, asked):
+        """The script of an order with a device cut in these lines, at these bits, and with questions behind it."""
+        script = Written()
+        for line in self.plan.front:
+            script.add(line)
+        script.begun = script.add('show all')
+        for index, line in enumerate(lines):
+            if index in cuts:
+                script.add(f'cut {line.risk} {cuts[index]}')
+            script.ran.append(script.add(line.text) if line.text else None)
+            script.looks.append(script.add('show all') if is_looked_at(lines, index) else None)
+        script.asked = [script.add(line) for line in asked]
+        return script
+
+    def run(self, script):
+        """What each line of a script printed, by its number."""
+        self.count += 1
+        if self.count > MOST_REPLAYS:
+            raise Failed(f'more than {MOST_REPLAYS} replays')
+        with open(self.path, 'w', encoding='ascii') as file:
+            file.write('\n'.join(script.lines) + '\n')
+        return numbered(self.program, self.path)
+
+    def answers(self, lines, cuts, asked):
+        """What other questions behind the order's end are answered, in a replay of their own."""
+        script = self.written(lines, cuts, asked)
+        return answered(asked, script, self.run(script))
+
+    def play(self, turns, cuts):
+        """Runs an order whole, with a device cut in these lines, at these bits."""
+        lines = [line for _, line in turns]
+        script = self.written(lines, cuts, self.questions)
+        printed = self.run(script)
+        followed = Followed()
+        for number in range(1, script.begun):
+            followed.follow(script.lines[number - 1], printed.get(number, []))
+        before = facts.View(facts.read_shown(tuple(printed[script.begun])), dict(followed.places), '')
+        views = views_of(lines, script, printed, followed, cuts)
+        last = printed[script.looks[-1]] if script.looks else printed[script.begun]
+        shown = facts.read_shown(tuple(last))
+        seen = [line for line in last if not line.startswith('under slot ')]
+        told = answered(self.questions, script, printed)
+        if shown.is_open:
+            told += self.answers(lines, cuts, rounds(self.plan))
+        ways = tuple((track, cuts[index] + 1 if index in cuts else 0) for index, (track, _) in enumerate(turns))
+        bus = next(index for index, line in enumerate(last) if line.startswith('device '))
+        return Replay(
+            turns=ways,
+            lines=lines,
+            views=views,
+            before=before,
+            printed=[printed.get(number, []) for number in script.ran],
+            end='\n'.join([*seen, followed.end(shown), *told]),
+            shown=tuple(last[:bus]),
+            breaks=self.first_break(lines, views),
+        )
+
+    def first_break(self, lines, views):
+        for index, line in enumerate(lines):
+            if not all(facts.is_met(self.plan.text(number), views[index]) for number in line.expects):
+                return index
+        return len(lines)
+
+    def replays(self, turns):
+        """An order in each of its ways: uncut, and with the device at risk cut at each bit of each frame in which it can be
+        cut. Where it comes back and is cut again, these too."""
+        waiting = [({}, None)]
+        while waiting:
+            cuts, uncut = waiting.pop()
+            replay = self.play(turns, cuts)
+            first = max(cuts) + 1 if cuts else 0
+            if cuts and replay.views[first - 1].is_there(replay.lines[first - 1].risk):
+                # the bit is behind the frame's last one
+                if replay.end != uncut.end or replay.printed != uncut.printed:
+                    raise Failed(f'a cut behind the last bit did something: {cuts}')
+                continue
+            yield replay
+            for index in range(first, min(replay.breaks + 1, len(turns))):
+                if is_at_risk(replay, index):
+                    bits = range(bits_of(replay.lines[index].text))
+                    waiting.extend(({**cuts, index: bit}, replay) for bit in bits)
+
+
+def is_looked_at(lines, index):
+    """Whether something is expected behind a line, or whether a device is at risk there is asked."""
+    is_risky = lines[index].risk or index + 1 < len(lines) and lines[index + 1].risk
+    return bool(lines[index].expects or is_risky or index + 1 == len(lines))
+
+
+def views_of(lines, script, printed, followed, cuts):
+    """The bus behind each line that is looked at."""
+    views = []
+    for index, line in enumerate(lines):
+        output = printed.get(script.ran[index], [])
+        if index in cuts:
+            followed.follow(f'cut {line.risk} {cuts[index]}', [])
+        if line.text:
+            followed.follow(line.text, output)
+        came_to = '' if not line.text else output[-1] if is_refused(output) else 'done'
+        look = script.looks[index]
+        shown = facts.read_shown(tuple(printed[look])) if look else None
+        views.append(facts.View(shown, dict(followed.places), came_to) if look else None)
+    return views
+
+
+def is_at_risk(replay, index):
+    """Whether a line sends a frame in which its block's device is there, and isn't the active controller."""
+    name = replay.lines[index].risk
+    if not name:
+        return False
+    view = replay.view_before(index)
+    return view.is_there(name) and view.active() != name
+
+
+def answered(asked, script, printed):
+    """What questions were answered. The frame that is told is the list's, and no older one."""
+    told = []
+    is_sent = False
+    for line, number in zip(asked, script.asked):
+        output = printed.get(number, [])
+        if line == 'list':
+            is_sent = output[-1] == 'done'
+        if line != 'frames 1' or is_sent:
+            told.append(f'{line}: ' + ' / '.join(output))
+    return told
