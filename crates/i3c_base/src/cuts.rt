@@ -1,5 +1,6 @@
 use crate::range::{SLOTS, Slot};
 use std::marker::Model;
+use std::mem;
 
 /// The devices that lose power during one frame: for each cut slot, the bit from which it drives nothing.
 ///
@@ -85,6 +86,27 @@ impl Cuts {
         Cuts {
             cut: self.cut,
             bits,
+        }
+    }
+
+    /// These cuts, of which none is left.
+    pub fn take(&mut self) -> Cuts
+        ensures taken { result ≡ self.old }
+        ensures left { self.new ≡ no_cuts }
+    {
+        if self.is_empty() {
+            Cuts::new()
+        } else {
+            mem::replace(self, Cuts::new())
+        }
+    }
+
+    /// No slot is cut from now on.
+    pub fn clear(&mut self)
+        ensures none { self.new ≡ no_cuts }
+    {
+        if !self.is_empty() {
+            *self = Cuts::new();
         }
     }
 

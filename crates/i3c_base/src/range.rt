@@ -4,7 +4,7 @@ use std::marker::Model;
 use thiserror::Error;
 
 /// How many slots a bus has (this project's choice).
-pub const SLOTS: usize = 16;
+pub const SLOTS: usize = 64;
 
 /// How many 7-bit addresses there are.
 pub const ADDRESSES: usize = 128;
@@ -52,7 +52,7 @@ impl Addr7 {
     }
 }
 
-/// A place on the bus, 0 to 15. The main controller sits in slot 0 (this project's choice).
+/// A place on the bus, 0 to 63. The main controller sits in slot 0 (this project's choice).
 #[derive(Clone, Copy, Debug, PartialEq, Eq, PartialOrd, Ord, Default)]
 pub struct Slot {
     value: u8,

@@ -10,3 +10,4 @@ pub mod Marks
 pub mod Finding
 pub mod Holding
 pub mod Reading
+pub mod Least
