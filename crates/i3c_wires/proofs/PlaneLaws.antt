@@ -85,18 +85,16 @@ lowest_place p keys among left rest low named some fits h =
     ]
 
 -- what a key that is found has at a bit
-key_found : (shown keys : List (ℕ × ℕ)) (i left : ℕ) (x : ℕ × ℕ) → shown ≡ keys → i < length keys → bit_at (key_at keys i) left ≡ bit_and ((get_or shown i x).1 / 2 ^ left) 1
-key_found shown keys i left x e l =
-    let same : get_or keys i (0, 0) ≡ get_or shown i x = get_or_default keys i (0, 0) x l ∙ ap (λ ys. get_or ys i x) (sym e) in
-    ap (λ (k : ℕ × ℕ). bit_at k.1 left) same ∙ sym (shr_and_one (get_or shown i x).1 left)
+key_found : (keys : List (ℕ × ℕ)) (i left : ℕ) (x : ℕ × ℕ) → i < length keys → bit_at (key_at keys i) left ≡ bit_and ((get_or keys i x).1 / 2 ^ left) 1
+key_found keys i left x l = ap (λ (k : ℕ × ℕ). bit_at k.1 left) (get_or_default keys i (0, 0) x l) ∙ sym (shr_and_one (get_or keys i x).1 left)
 
-pub key_zero : (shown keys : List (ℕ × ℕ)) (i left : ℕ) (x : ℕ × ℕ) → shown ≡ keys → i < length keys → bit_and ((get_or shown i x).1 / 2 ^ left) 1 ≡ 0 → is_one left (key_at keys i) ≡ false
-key_zero shown keys i left x e l none = ne_eqb _ _ (λ one. absurd (omega (arith, key_found shown keys i left x e l, none, one)))
+pub key_zero : (keys : List (ℕ × ℕ)) (i left : ℕ) (x : ℕ × ℕ) → i < length keys → bit_and ((get_or keys i x).1 / 2 ^ left) 1 ≡ 0 → is_one left (key_at keys i) ≡ false
+key_zero keys i left x l none = ne_eqb _ _ (λ one. absurd (omega (arith, key_found keys i left x l, none, one)))
 
-pub key_one : (shown keys : List (ℕ × ℕ)) (i left : ℕ) (x : ℕ × ℕ) → shown ≡ keys → i < length keys → bit_and ((get_or shown i x).1 / 2 ^ left) 1 ≢ 0 → is_one left (key_at keys i) ≡ true
-key_one shown keys i left x e l some =
-    let other : bit_and ((get_or shown i x).1 / 2 ^ left) 1 ≡ 0 → ⊥ = some in
-    eq-eqb _ _ (omega (arith, key_found shown keys i left x e l, other, bit_at-lt (key_at keys i) left))
+pub key_one : (keys : List (ℕ × ℕ)) (i left : ℕ) (x : ℕ × ℕ) → i < length keys → bit_and ((get_or keys i x).1 / 2 ^ left) 1 ≢ 0 → is_one left (key_at keys i) ≡ true
+key_one keys i left x l some =
+    let other : bit_and ((get_or keys i x).1 / 2 ^ left) 1 ≡ 0 → ⊥ = some in
+    eq-eqb _ _ (omega (arith, key_found keys i left x l, other, bit_at-lt (key_at keys i) left))
 
 -- what is the same at the other places
 zeros_still : (rest i : ℕ) → bit_at (without_lowest rest) i ≡ 1 → bit_at rest i ≡ 1
@@ -178,12 +176,6 @@ zeros_all p keys among left low few fits named h =
         | inr high ↦ bit_at_above low (bits_of mask_width) i fits high ∙ ap (λ b. cond b 1 0) (sym (passes_past (λ e. p e && not (drives_one left e)) keys i past))
       ]
     ]
-
--- ---- the sets of each bit
-
--- a contender put at its place, and a contender found at the place where it is
-pub found : {X : Type 0} (shown xs : List X) (i : ℕ) (x : X) → shown ≡ xs → x ≡ get_or shown i x → x ≡ get_or xs i x
-found shown xs i x e at = at ∙ ap (λ ys. get_or ys i x) e
 
 -- ---- the slots at the places of a set
 

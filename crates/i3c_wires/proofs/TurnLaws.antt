@@ -301,13 +301,13 @@ turn_less turns t top =
     omega (arith, apart, and_le_l turns (bit_not w64 (1 * 2 ^ t % 2 ^ 64)))
 
 -- the first contender
-pub first_of : (shown keys : List (ℕ × ℕ)) (x : ℕ × ℕ) → shown ≡ keys → Some x ≡ slice_get shown 0 → (0 < length keys) × (x ≡ get_or keys 0 x)
-first_of shown [] x e at = let none = at ∙ ap (λ ys. slice_get ys 0) e in cc
-first_of shown (y ∷ keys) x e at = let some : Some x ≡ Some y = at ∙ ap (λ ys. slice_get ys 0) e in (omega arith, cc)
+pub first_of : (keys : List (ℕ × ℕ)) (x : ℕ × ℕ) → Some x ≡ slice_get keys 0 → (0 < length keys) × (x ≡ get_or keys 0 x)
+first_of [] x at = cc
+first_of (y ∷ keys) x at = let some : Some x ≡ Some y = at in (omega arith, cc)
 
-pub none_of : (shown keys : List (ℕ × ℕ)) → shown ≡ keys → ◌≡◌ {A = Option (ℕ × ℕ)} None (slice_get shown 0) → keys ≡ []
-none_of shown [] e at = refl
-none_of shown (y ∷ keys) e at = let some = at ∙ ap (λ ys. slice_get ys 0) e in cc
+pub none_of : (keys : List (ℕ × ℕ)) → ◌≡◌ {A = Option (ℕ × ℕ)} None (slice_get keys 0) → keys ≡ []
+none_of [] at = refl
+none_of (y ∷ keys) at = cc
 
 module _ (cuts : CutList) (keys : List (ℕ × ℕ)) (width : ℕ) where
   pub turning_first : (first turns still : ℕ) → 0 < length keys → All (λ e. e.1 < 2 ^ width) keys → first < 2 ^ width → still ≡ 2 ^ length keys - 1

@@ -1,8 +1,12 @@
 -- Arbitration: what contenders drive, who is still in at each bit, and whose key was read. A contender is a slot and its key.
 -- The first bit, 0, is the most significant one of the width. A cut contender drives nothing from the bit of its cut on.
-use Rattle.std.specs.Prelude.{ℕ, suc, ◌≡◌, ◌-◌, ◌/◌, ◌%◌, ◌^◌, ◌<◌, ◌==◌, Bool, false, not, ◌&&◌, IsTrue, List, map}
+use Rattle.std.specs.Prelude.{ℕ, suc, ◌≡◌, ◌-◌, ◌/◌, ◌%◌, ◌^◌, ◌<◌, ◌==◌, Bool, false, not, ◌&&◌, IsTrue, List, Option, map, unwrap_or}
 use Rattle.std.specs.List.{All, Contains, filter, list_all}
-use Rattle.i3c_base.specs.Cutting.{CutList, lost_by}
+use Rattle.i3c_base.specs.Cutting.{CutList, lost_by, no_cuts}
+
+-- the cuts of a contest: none where none are given
+abbrev pub cuts_in : Option CutList → CutList
+cuts_in cuts = unwrap_or cuts no_cuts
 
 -- the bit of the number after which `left` bits follow is 1
 abbrev pub is_one : ℕ → ℕ → Bool

@@ -1,6 +1,8 @@
-ghost use Rattle.std.specs.Prelude.{◌≡◌, ◌⊎◌, ◌-◌, ◌/◌, ◌^◌, ◌<◌, ◌≤◌, ℕ, suc, false, true, []};
+ghost use Rattle.std.specs.Prelude.{◌≡◌, ◌⊎◌, ◌-◌, ◌/◌, ◌^◌, ◌<◌, ◌≤◌, ℕ, suc, false, true, [], length, option_copied};
 ghost use Rattle.std.specs.List.{All};
-ghost use Rattle.i3c_wires.specs.Contest.{AllLost, EachBit, LostIsBelow, holders, is_lost, is_one};
+ghost use Rattle.i3c_base.specs.Cutting.{no_cuts};
+ghost use Rattle.i3c_base.specs.declared.range.TheConstants.{SLOTS as SLOT_COUNT};
+ghost use Rattle.i3c_wires.specs.Contest.{AllLost, EachBit, LostIsBelow, cuts_in, holders, is_lost, is_one};
 
 use crate::masks::{cut_at, first_places, slots_at, zeros_among};
 use crate::outcome::Contest;
@@ -33,6 +35,39 @@ pub fn contest(keys: &ArrayVec<(Slot, u64), SLOTS>, width: u32, cuts: &Cuts) -> 
 
     // nobody drives: every bit reads 1
     ensures idle { keys.now.items ≡ [] → result.bits ≡ 2 ^ width - 1 }
+    ensures in_width { result.bits < 2 ^ width }
+{
+    contested(keys, width, Some(cuts))
+}
+
+/// The contest of these slots where nobody is cut (I3C Basic 5.1.2.2.1, 5.1.4): all win whose key is the least one.
+pub fn contest_uncut(keys: &[(Slot, u64)], width: u32) -> Contest
+    requires some_bits { 0 < width }
+    requires few_bits { width ≤ 64 }
+    requires few { length keys.now ≤ SLOT_COUNT }
+    requires fit { All (λ e. e.1 < 2 ^ width) keys.now }
+    ensures winners { result.winners.items ≡ holders no_cuts keys.now width result.bits }
+    ensures least { All (λ e. is_lost no_cuts width e ≡ false → result.bits ≤ e.1) keys.now }
+    ensures none { result.winners.items ≡ [] → AllLost no_cuts keys.now width ⊎ LostIsBelow no_cuts keys.now width }
+    ensures each_bit { EachBit no_cuts keys.now width result.bits }
+    ensures idle { keys.now ≡ [] → result.bits ≡ 2 ^ width - 1 }
+    ensures in_width { result.bits < 2 ^ width }
+{
+    contested(keys, width, None)
+}
+
+/// The contest of these slots, with or without cuts.
+#[inline(always)]
+fn contested(keys: &[(Slot, u64)], width: u32, cuts: Option<&Cuts>) -> Contest
+    requires some_bits { 0 < width }
+    requires few_bits { width ≤ 64 }
+    requires few { length keys.now ≤ SLOT_COUNT }
+    requires fit { All (λ e. e.1 < 2 ^ width) keys.now }
+    ensures winners { result.winners.items ≡ holders (cuts_in (option_copied cuts.entry)) keys.now width result.bits }
+    ensures least { All (λ e. is_lost (cuts_in (option_copied cuts.entry)) width e ≡ false → result.bits ≤ e.1) keys.now }
+    ensures none { result.winners.items ≡ [] → AllLost (cuts_in (option_copied cuts.entry)) keys.now width ⊎ LostIsBelow (cuts_in (option_copied cuts.entry)) keys.now width }
+    ensures each_bit { EachBit (cuts_in (option_copied cuts.entry)) keys.now width result.bits }
+    ensures idle { keys.now ≡ [] → result.bits ≡ 2 ^ width - 1 }
     ensures in_width { result.bits < 2 ^ width }
 {
     let Some(first) = keys.first() else {

@@ -9,8 +9,10 @@ mod arbitration;
 mod lines;
 mod masks;
 mod outcome;
+mod planes;
 mod turns;
 
-pub use arbitration::contest;
+pub use arbitration::{contest, contest_uncut};
 pub use lines::Lines;
 pub use outcome::Contest;
+pub use planes::{Planes, Won};

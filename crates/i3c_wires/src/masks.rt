@@ -1,10 +1,10 @@
-ghost use Rattle.std.specs.Prelude.{◌≡◌, ℕ, ◌-◌, ◌^◌, ◌<◌, ◌≤◌, Bool, length, map};
+ghost use Rattle.std.specs.Prelude.{◌≡◌, ℕ, ◌-◌, ◌^◌, ◌<◌, ◌≤◌, Bool, length, map, option_copied};
 ghost use Rattle.std.specs.Int.{bit_not, w64};
 ghost use Rattle.std.specs.Int.RustNames.{bit_and};
 ghost use Rattle.std.specs.List.{filter};
 ghost use Rattle.i3c_base.specs.Cutting.{cut_of};
 ghost use Rattle.i3c_base.specs.declared.range.TheConstants.{SLOTS as SLOT_COUNT};
-ghost use Rattle.i3c_wires.specs.Contest.{drives_one};
+ghost use Rattle.i3c_wires.specs.Contest.{cuts_in, drives_one};
 ghost use Rattle.i3c_wires.specs.Masks.{is_at, mask_of};
 
 use arrayvec::ArrayVec;
@@ -26,11 +26,11 @@ pub(crate) fn first_places(count: usize) -> Mask
 }
 
 /// Those of these places who drive 0 at the bit after which this many follow.
-pub(crate) fn zeros_among(keys: &ArrayVec<(Slot, u64), SLOTS>, among: Mask, left: u32) -> Mask
+pub(crate) fn zeros_among(keys: &[(Slot, u64)], among: Mask, left: u32) -> Mask
     requires bit { left < 64 }
-    requires few { length keys.now.items ≤ SLOT_COUNT }
-    requires places { (p : ℕ × ℕ → Bool) × (among ≡ mask_of p keys.now.items) }
-    ensures { result ≡ bit_and among (bit_not w64 (mask_of (drives_one left) keys.now.items)) }
+    requires few { length keys.now ≤ SLOT_COUNT }
+    requires places { (p : ℕ × ℕ → Bool) × (among ≡ mask_of p keys.now) }
+    ensures { result ≡ bit_and among (bit_not w64 (mask_of (drives_one left) keys.now)) }
 {
     let mut low = 0;
     let mut rest = among;
@@ -55,9 +55,21 @@ fn is_cut_at(cuts: &Cuts, slot: Slot, bit: u32) -> bool
     }
 }
 
-/// Those who are cut at this bit, counted from the first one.
-pub(crate) fn cut_at(keys: &ArrayVec<(Slot, u64), SLOTS>, cuts: &Cuts, bit: u32) -> Mask
-    ensures { result ≡ mask_of (λ e. is_at bit (cut_of cuts.now e.0)) keys.now.items }
+/// Those who are cut at this bit, counted from the first one: nobody where there are no cuts.
+pub(crate) fn cut_at(keys: &[(Slot, u64)], cuts: Option<&Cuts>, bit: u32) -> Mask
+    requires few { length keys.now ≤ SLOT_COUNT }
+    ensures { result ≡ mask_of (λ e. is_at bit (cut_of (cuts_in (option_copied cuts.entry)) e.0)) keys.now }
+{
+    match cuts {
+        Some(cuts) => cut_among(keys, cuts, bit),
+        None => 0,
+    }
+}
+
+/// Those whom these cuts cut at this bit, counted from the first one.
+fn cut_among(keys: &[(Slot, u64)], cuts: &Cuts, bit: u32) -> Mask
+    requires few { length keys.now ≤ SLOT_COUNT }
+    ensures { result ≡ mask_of (λ e. is_at bit (cut_of cuts.now e.0)) keys.now }
 {
     if cuts.is_empty() {
         return 0;
@@ -72,10 +84,10 @@ pub(crate) fn cut_at(keys: &ArrayVec<(Slot, u64), SLOTS>, cuts: &Cuts, bit: u32)
 }
 
 /// The slots at the places of a set, in their order.
-pub(crate) fn slots_at(keys: &ArrayVec<(Slot, u64), SLOTS>, places: Mask) -> ArrayVec<Slot, SLOTS>
-    requires few { length keys.now.items ≤ SLOT_COUNT }
-    requires places { (p : ℕ × ℕ → Bool) × (places ≡ mask_of p keys.now.items) }
-    ensures { (p : ℕ × ℕ → Bool) → places ≡ mask_of p keys.now.items → result.items ≡ map (λ e. e.0) (filter p keys.now.items) }
+pub(crate) fn slots_at(keys: &[(Slot, u64)], places: Mask) -> ArrayVec<Slot, SLOTS>
+    requires few { length keys.now ≤ SLOT_COUNT }
+    requires places { (p : ℕ × ℕ → Bool) × (places ≡ mask_of p keys.now) }
+    ensures { (p : ℕ × ℕ → Bool) → places ≡ mask_of p keys.now → result.items ≡ map (λ e. e.0) (filter p keys.now) }
 {
     let mut slots = ArrayVec::new();
     let mut first = 0;

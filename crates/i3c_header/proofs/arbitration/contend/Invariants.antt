@@ -3,4 +3,4 @@ use Rattle.i3c_header.proofs.arbitration.contend.Given as goal
 
 -- the contenders of the requests so far
 abbrev pub invariant-loop-index : goal.invariant-loop-index
-invariant-loop-index l = KeyedSoFar l.requests l.index l.keys.items
+invariant-loop-index g l = KeyedSoFar l.requests l.index l.keys.items

@@ -1,26 +1,13 @@
--- Each contender is put in who is cut there.
-use Rattle.std.proofs.Common.{ℕ, ap, arith, length, refl, sym, ◌∙◌}
-use Rattle.std.proofs.lemmas.Bool.{cond-false, cond-true}
-use Rattle.std.proofs.lemmas.Nat.{one_shl}
-use Rattle.std.specs.Int.RustNames.{bit_or}
-use Rattle.i3c_base.specs.Cutting.{cut_of}
-use Rattle.i3c_wires.specs.Masks.{is_at}
-use Rattle.i3c_wires.proofs.MaskLaws.{mask_next, mask_none}
-use Rattle.i3c_wires.proofs.PlaneLaws.{found}
+-- Without cuts nobody is put in.
+use Rattle.std.proofs.Common.{◌≡◌, ℕ, ap, option_copied, subst, sym}
+use Rattle.i3c_base.specs.Cutting.{CutList, cut_of, no_cuts}
+use Rattle.i3c_base.proofs.CutLaws.{none_uncut}
+use Rattle.i3c_wires.specs.Contest.{cuts_in}
+use Rattle.i3c_wires.specs.Masks.{is_at, mask_of}
+use Rattle.i3c_wires.proofs.MaskLaws.{mask_none}
 use Rattle.i3c_wires.proofs.masks.cut_at.Goals as goal
-use Rattle.i3c_wires.proofs.masks.cut_at.Goals.{then-is_cut_at, else-is_cut_at}
 
-pub returns-then-is_empty : goal.returns-then-is_empty
-returns-then-is_empty c =
-    let uncut = c.if-is_empty.ensures.uncut.0 refl in
-    sym (mask_none (λ (e : ℕ × ℕ). is_at c.args.bit (cut_of c.args.cuts.now e.0)) c.args.keys.now.items (λ e. ap (is_at c.args.bit) (uncut e.0)))
-
-pub loop-place-preserved : goal.loop-place-preserved
-loop-place-preserved c =
-    mask_next (λ (e : ℕ × ℕ). is_at c.args.bit (cut_of c.args.cuts.now e.0)) c.args.keys.now.items c.loop-place.place c.contender-item.result c.loop-place.places c.if-is_cut_at.places
-    (omega (arith, ap length c.deref-contender-items.ensures.0)) (found _ _ c.loop-place.place c.contender-item.result c.deref-contender-items.ensures.0 c.contender-item.is)
-    c.loop-place.invariant
-    (elim c.if-is_cut_at.branch [
-      | then-is_cut_at w ↦ w.places-is ∙ (ap (bit_or c.loop-place.places) (one_shl c.loop-place.place 64 (omega (arith, ap length c.deref-contender-items.ensures.0, c.deref-contender-items.ensures.1))) ∙ sym (cond-true _ _ _ (sym c.is_cut_at.ensures ∙ w.if-is_cut_at.true)))
-      | else-is_cut_at w ↦ w.places-is ∙ sym (cond-false _ _ _ (sym c.is_cut_at.ensures ∙ w.if-is_cut_at.false))
-    ])
+pub returns-in-None : goal.returns-in-None
+returns-in-None c =
+    let Is : CutList → Type 0 = λ cuts. 0 ≡ mask_of (λ (e : ℕ × ℕ). is_at c.args.bit (cut_of cuts e.0)) c.args.keys.now in
+    subst Is (sym (ap (λ o. cuts_in (option_copied o)) c.in-None.is)) (sym (mask_none (λ (e : ℕ × ℕ). is_at c.args.bit (cut_of no_cuts e.0)) c.args.keys.now (λ e. ap (is_at c.args.bit) (none_uncut e.0))))
