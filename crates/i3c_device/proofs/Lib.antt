@@ -12,3 +12,5 @@ pub mod FindLaws
 pub mod FirstLaws
 pub mod ReadLaws
 pub mod SameLaws
+pub mod AnsweringLaws
+pub mod LeastLaws

@@ -1,23 +1,40 @@
 -- What marks say of the places that they are of.
-use Rattle.std.proofs.Common.{◌≡◌, ℕ, zero, suc, ◌+◌, ◌/◌, ◌<◌, ◌≤◌, Bool, true, false, not, ◌&&◌, ◌==◌, if◌then◌else◌, List, [], ◌∷◌, length, length-set, get_or, set, replicate, Option, Some, None, is_none, option_map, slice_index, subst, inl, inr, refl, sym, ap, ◌∙◌, arith}
+use Rattle.std.proofs.Common.{◌≡◌, ℕ, zero, suc, ◌<◌, Bool, true, false, not, ◌&&◌, ◌==◌, if◌then◌else◌, List, [], ◌∷◌, length, length-set, get_or, set, replicate, Option, Some, None, is_none, option_map, slice_index, subst, inl, inr, refl, sym, ap, ◌∙◌, arith}
 use Rattle.std.proofs.lemmas.Bool.{and_parts, both_ways, cases_eq, cond-true, cond-false, eq-eqb, ne_eqb}
 use Rattle.std.proofs.lemmas.List.{get_or-replicate, get_or-set_other, length-replicate, get_or-set_same}
+use Rattle.std.proofs.lemmas.Option.{none-some, same_Some}
 use Rattle.i3c_base.specs.declared.range.TheConstants.{SLOTS}
+use Rattle.i3c_base.specs.declared.identity.Identity.{Identity}
 use Rattle.i3c_base.specs.declared.requests.Request.{Request}
 use Rattle.i3c_base.specs.declared.device.Waiting.{Waiting}
+use Rattle.i3c_base.specs.Numbers.{IsInRange, number_of}
 use Rattle.i3c_base.specs.Round.{hears, unhearing}
 use Rattle.i3c_base.specs.Serve.{asks}
 use Rattle.i3c_base.specs.State.{Device, in_slot, is_the, no_devices}
 use Rattle.i3c_base.proofs.Lookups.{no_devices_at}
+use Rattle.i3c_wires.specs.declared.planes.Planes.{Planes}
+use Rattle.i3c_wires.specs.Planes.{AreTurned}
 use Rattle.i3c_device.specs.declared.marks.Marks.{Marks}
-use Rattle.i3c_device.specs.declared.marks.TheConstants.{NO_STATIC}
+use Rattle.i3c_device.specs.declared.answering.Answering.{Answering}
+use Rattle.i3c_device.specs.declared.answering.TheConstants.{NOWHERE}
 use Rattle.i3c_device.specs.declared.sets.SlotSet.{SlotSet}
 use Rattle.i3c_device.specs.Addressing.{IsDynamicIn}
-use Rattle.i3c_device.specs.Marks.{AreKeys, AreMarks, AreStaticMarks, IsSetOf, key_in, requeued, static_mark, static_mark_in}
+use Rattle.i3c_device.specs.Answering.{AreFound}
+use Rattle.i3c_device.specs.Holding.{identity_in}
+use Rattle.i3c_device.specs.Marks.{AreMarks, DoAnswer, HavePlanes, IsSetOf, answer_in, answer_of, key_in, requeued}
 use Rattle.i3c_device.specs.Sets.{has}
 use Rattle.i3c_device.specs.Walks.{AreTakers, drives_at}
 use Rattle.i3c_device.specs.Reading.{AreAt}
-use Rattle.i3c_device.specs.Wishing.{key_of, wishes_interrupt, wishes_join, wishes_role}
+use Rattle.i3c_device.specs.Wishing.{wishes_interrupt, wishes_join, wishes_role}
+
+-- of two truth values the second is known
+and_true : (x : Bool) → (x && true) ≡ x
+and_true true = refl
+and_true false = refl
+
+and_false : (x : Bool) → (x && false) ≡ false
+and_false true = refl
+and_false false = refl
 
 -- places that are all empty
 pub all_none : {A : Type 0} (xs : List (Option A)) (n : ℕ) → length xs ≡ n → ((k : ℕ) → k < n → get_or xs k None ≡ None) → xs ≡ replicate n None
@@ -42,110 +59,80 @@ set_of_put test old new places i place b low h is put s l = put s l ∙ elim (ca
 pub undriven_past : (active s : ℕ) (o : Option Device) (q : Request) → o ≡ None → drives_at active s o q ≡ true → ⊥
 undriven_past active s o q e h = both_ways _ refl (and_parts (not (s == active)) false (ap (λ p. not (s == active) && in_slot (λ d. asks d q) p) (sym e) ∙ h)).1
 
--- the keys of empty slots
-pub keys_none : AreKeys (replicate SLOTS 0) no_devices
-keys_none = (length-replicate {A = ℕ} SLOTS 0, λ s l. (slice_index_replicate s l ∙ sym (ap key_in (no_devices_at s)), subst IsDynamicIn (sym (no_devices_at s)) tt))
-  where
-    slice_index_replicate : (s : ℕ) → s < SLOTS → slice_index (replicate SLOTS 0) s ≡ 0
-    slice_index_replicate s l = get_or-replicate SLOTS s 0 0 l
+-- an entry for each slot: what f gives of whatever stands there, of which P holds
+abbrev pub AreEntries : (Option Device → ℕ) → (Option Device → Type 0) → List ℕ → List (Option Device) → Type 0
+AreEntries f P entries places = (length entries ≡ SLOTS) × ((s : ℕ) → s < SLOTS → (slice_index entries s ≡ f (get_or places s None)) × P (get_or places s None))
 
--- one key anew
-pub keys_of_put : (keys : List ℕ) (places : List (Option Device)) (i : ℕ) (place : Option Device) (key : ℕ) → i < length places → AreKeys keys places → key ≡ key_in place → IsDynamicIn place → i < SLOTS
-    → AreKeys (set keys i key) (set places i place)
-keys_of_put keys places i place key low are is dynamic here = (
-  length-set keys i key ∙ are.0,
+-- the entries of empty slots
+pub entries_none : (f : Option Device → ℕ) (P : Option Device → Type 0) → 0 ≡ f None → P None → AreEntries f P (replicate SLOTS 0) no_devices
+entries_none f P is holds = (
+  length-replicate {A = ℕ} SLOTS 0,
+  λ s l. (get_or-replicate SLOTS s 0 0 l ∙ (is ∙ sym (ap f (no_devices_at s))), subst P (sym (no_devices_at s)) holds),
+)
+
+-- one entry anew
+pub entries_of_put : (f : Option Device → ℕ) (P : Option Device → Type 0) (entries : List ℕ) (places : List (Option Device)) (i : ℕ) (place : Option Device) (entry : ℕ) → i < length places → AreEntries f P entries places → entry ≡ f place → P place
+    → i < SLOTS → AreEntries f P (set entries i entry) (set places i place)
+entries_of_put f P entries places i place entry low are is holds here = (
+  length-set entries i entry ∙ are.0,
   λ s l. elim (cases_eq s i) [
     | inl e ↦
         let there : get_or (set places i place) s None ≡ place = ap (λ k. get_or (set places i place) k None) e ∙ get_or-set_same places i place None low in
-        (ap (λ k. slice_index (set keys i key) k) e ∙ (get_or-set_same keys i key 0 (omega (arith, are.0, here)) ∙ (is ∙ sym (ap key_in there))), subst IsDynamicIn (sym there) dynamic)
+        (ap (λ k. slice_index (set entries i entry) k) e ∙ (get_or-set_same entries i entry 0 (omega (arith, are.0, here)) ∙ (is ∙ sym (ap f there))), subst P (sym there) holds)
     | inr ne ↦
         let there : get_or (set places i place) s None ≡ get_or places s None = get_or-set_other places i s place None ne in
-        (get_or-set_other keys i s key 0 ne ∙ ((are.1 s l).0 ∙ sym (ap key_in there)), subst IsDynamicIn (sym there) (are.1 s l).1)
+        (get_or-set_other entries i s entry 0 ne ∙ ((are.1 s l).0 ∙ sym (ap f there)), subst P (sym there) (are.1 s l).1)
   ],
 )
 
--- the slots so far whose mark passes a test
-abbrev pub AreSuch : (ℕ → Bool) → ℕ → List ℕ → SlotSet → Type 0
-AreSuch test n marks slots = (s : ℕ) → s < SLOTS → s < n → has slots s ≡ test (slice_index marks s)
-
-pub such_none : (test : ℕ → Bool) (marks : List ℕ) (slots : SlotSet) → AreSuch test 0 marks slots
-such_none test marks slots s l m = absurd (omega (arith, m))
-
-pub such_more : (test : ℕ → Bool) (n : ℕ) (marks : List ℕ) (slots more : SlotSet) (b : Bool) → AreSuch test n marks slots → b ≡ test (slice_index marks n) → ((s : ℕ) → s < SLOTS → has more s ≡ (if s == n then b else has slots s))
-    → AreSuch test (n + 1) marks more
-such_more test n marks slots more b h is put s l m = put s l ∙ elim (cases_eq s n) [
-  | inl e ↦ cond-true (s == n) b (has slots s) (eq-eqb s n e) ∙ (is ∙ ap (λ k. test (slice_index marks k)) (sym e))
-  | inr ne ↦ cond-false (s == n) b (has slots s) (ne_eqb s n ne) ∙ h s l (omega (arith, m, ne))
-]
-
 -- the slots of the devices at an address, but the active controller's
-pub keyed_at : (active a n : ℕ) (keys : List ℕ) (places : List (Option Device)) (present unaddressed addressed keyed both slots : SlotSet) → SLOTS ≤ n → AreSuch (λ k. k / 2 == a) n keys keyed → AreKeys keys places → IsSetOf (λ d. true) present places
-    → IsSetOf (λ d. is_none d.address) unaddressed places → ((s : ℕ) → s < SLOTS → has addressed s ≡ (has present s && not (has unaddressed s))) → ((s : ℕ) → s < SLOTS → has both s ≡ (has keyed s && has addressed s))
-    → ((s : ℕ) → s < SLOTS → has slots s ≡ (if s == active then false else has both s)) → AreAt active a slots places
-keyed_at active a n keys places present unaddressed addressed keyed both slots past h are there lacks addresses joined but s l =
-    but s l ∙ (ap (λ b. if s == active then false else b) (joined s l ∙ (λ t. (h s l (omega (arith, l, past)) ∙ ap (λ k. k / 2 == a) (are.1 s l).0) t && (addresses s l ∙ (λ u. there s l u && not (lacks s l u))) t)) ∙ go (s == active) (get_or places s None))
+pub there_at : (active a : ℕ) (kept : Answering) (places : List (Option Device)) (unaddressed there addressed slots : SlotSet) → a < 128 → DoAnswer kept places → IsSetOf (λ d. is_none d.address) unaddressed places
+    → ((s : ℕ) → s < SLOTS → has there s ≡ (slice_index kept.addresses s == a)) → ((s : ℕ) → s < SLOTS → has addressed s ≡ (has there s && not (has unaddressed s)))
+    → ((s : ℕ) → s < SLOTS → has slots s ≡ (if s == active then false else has addressed s)) → AreAt active a slots places
+there_at active a kept places unaddressed there addressed slots small are lacks found left but s l =
+    but s l ∙ (ap (λ b. if s == active then false else b) (left s l ∙ (λ t. (found s l ∙ ap (λ k. k == a) (are.1 s l)) t && not (lacks s l t))) ∙ go (s == active) (get_or places s None))
   where
-    -- a key is twice an address, or one more
-    half : (b : ℕ) (role : Bool) → key_of (Some b) role / 2 ≡ b
-    half b true = omega arith
-    half b false = omega arith
+    device : (o fixed : Option ℕ) → ((answer_of o fixed == a) && not (is_none o)) ≡ is_the a o
+    device (Some b) fixed = and_true (b == a)
+    device None (Some f) = and_false (f == a)
+    device None None = and_false (NOWHERE == a)
 
-    at : (b : ℕ) (role : Bool) → ((key_of (Some b) role / 2 == a) && true) ≡ (b == a)
-    at b role = ap (λ k. (k == a) && true) (half b role) ∙ last (b == a)
-      where
-        last : (x : Bool) → (x && true) ≡ x
-        last true = refl
-        last false = refl
-
-    nobody : (x : Bool) → (x && false) ≡ false
-    nobody true = refl
-    nobody false = refl
-
-    device : (o : Option ℕ) (role : Bool) → ((key_of o role / 2 == a) && not (is_none o)) ≡ is_the a o
-    device None role = nobody (key_of None role / 2 == a)
-    device (Some b) role = at b role
-
-    go : (b : Bool) (o : Option Device) → (if b then false else (key_in o / 2 == a) && (in_slot (λ d. true) o && not (in_slot (λ d. is_none d.address) o))) ≡ in_slot (λ d. not b && is_the a d.address) o
+    go : (b : Bool) (o : Option Device) → (if b then false else (answer_in o == a) && not (in_slot (λ d. is_none d.address) o)) ≡ in_slot (λ d. not b && is_the a d.address) o
     go true None = refl
     go true (Some d) = refl
-    go false None = nobody (0 == a)
-    go false (Some d) = device d.address d.role_wish
+    go false None = ap (λ x. x && true) (ne_eqb NOWHERE a (λ e. omega (arith, e, small)))
+    go false (Some d) = device d.address d.fixed
 
--- the slots of the devices that take SETDASA at a static address: those with its mark and without a dynamic address
-pub takers_at : (active f n : ℕ) (statics : List ℕ) (places : List (Option Device)) (unaddressed marked both slots : SlotSet) → SLOTS ≤ n → f < 128 → AreSuch (λ m. m == f) n statics marked → AreStaticMarks statics places
-    → IsSetOf (λ d. is_none d.address) unaddressed places → ((s : ℕ) → s < SLOTS → has both s ≡ (has marked s && has unaddressed s)) → ((s : ℕ) → s < SLOTS → has slots s ≡ (if s == active then false else has both s))
-    → AreTakers active f slots places
-takers_at active f n statics places unaddressed marked both slots past small h are lacks joined but s l =
-    but s l ∙ (ap (λ b. if s == active then false else b) (joined s l ∙ (λ t. (h s l (omega (arith, l, past)) ∙ ap (λ m. m == f) (are.1 s l)) t && lacks s l t)) ∙ go (s == active) (get_or places s None))
+-- the slots of the devices that take SETDASA at a static address: those that answer there without a dynamic address
+pub takers_at : (active f : ℕ) (kept : Answering) (places : List (Option Device)) (unaddressed there both slots : SlotSet) → f < 128 → DoAnswer kept places → IsSetOf (λ d. is_none d.address) unaddressed places
+    → ((s : ℕ) → s < SLOTS → has there s ≡ (slice_index kept.addresses s == f)) → ((s : ℕ) → s < SLOTS → has both s ≡ (has there s && has unaddressed s))
+    → ((s : ℕ) → s < SLOTS → has slots s ≡ (if s == active then false else has both s)) → AreTakers active f slots places
+takers_at active f kept places unaddressed there both slots small are lacks found joined but s l =
+    but s l ∙ (ap (λ b. if s == active then false else b) (joined s l ∙ (λ t. (found s l ∙ ap (λ k. k == f) (are.1 s l)) t && lacks s l t)) ∙ go (s == active) (get_or places s None))
   where
-    swapped : (x y : Bool) → (x && y) ≡ (y && x)
-    swapped true true = refl
-    swapped true false = refl
-    swapped false true = refl
-    swapped false false = refl
+    device : (o fixed : Option ℕ) → ((answer_of o fixed == f) && is_none o) ≡ (is_none o && is_the f fixed)
+    device (Some b) fixed = and_false (b == f)
+    device None (Some g) = and_true (g == f)
+    device None None = ap (λ x. x && true) (ne_eqb NOWHERE f (λ e. omega (arith, e, small)))
 
-    marks : (o : Option ℕ) → (static_mark o == f) ≡ is_the f o
-    marks None = ne_eqb NO_STATIC f (λ e. omega (arith, e, small))
-    marks (Some a) = refl
-
-    go : (b : Bool) (o : Option Device) → (if b then false else (static_mark_in o == f) && in_slot (λ d. is_none d.address) o) ≡ in_slot (λ d. not b && (is_none d.address && is_the f d.fixed)) o
+    go : (b : Bool) (o : Option Device) → (if b then false else (answer_in o == f) && in_slot (λ d. is_none d.address) o) ≡ in_slot (λ d. not b && (is_none d.address && is_the f d.fixed)) o
     go true None = refl
     go true (Some d) = refl
-    go false None = swapped (NO_STATIC == f) false
-    go false (Some d) = ap (λ b. b && is_none d.address) (marks d.fixed) ∙ swapped (is_the f d.fixed) (is_none d.address)
+    go false None = and_false (NOWHERE == f)
+    go false (Some d) = device d.address d.fixed
 
--- the marks of empty slots
-pub statics_none : AreStaticMarks (replicate SLOTS NO_STATIC) no_devices
-statics_none = (length-replicate {A = ℕ} SLOTS NO_STATIC, λ s l. get_or-replicate SLOTS s NO_STATIC 0 l ∙ sym (ap static_mark_in (no_devices_at s)))
+-- where nobody answers
+pub answers_none : (kept : Answering) → kept.addresses ≡ replicate SLOTS NOWHERE → AreFound kept → DoAnswer kept no_devices
+answers_none kept none found = (found, λ s l. ap (λ xs. slice_index xs s) none ∙ (get_or-replicate SLOTS s NOWHERE 0 l ∙ sym (ap answer_in (no_devices_at s))))
 
--- one mark anew
-pub statics_of_put : (statics : List ℕ) (places : List (Option Device)) (i : ℕ) (place : Option Device) (mark : ℕ) → i < length places → AreStaticMarks statics places → mark ≡ static_mark_in place → i < SLOTS
-    → AreStaticMarks (set statics i mark) (set places i place)
-statics_of_put statics places i place mark low are is here = (
-  length-set statics i mark ∙ are.0,
-  λ s l. elim (cases_eq s i) [
-    | inl e ↦ ap (λ k. slice_index (set statics i mark) k) e ∙ (get_or-set_same statics i mark 0 (omega (arith, are.0, here)) ∙ (is ∙ sym (ap static_mark_in (ap (λ k. get_or (set places i place) k None) e ∙ get_or-set_same places i place None low))))
-    | inr ne ↦ get_or-set_other statics i s mark 0 ne ∙ (are.1 s l ∙ sym (ap static_mark_in (get_or-set_other places i s place None ne)))
+-- one answer anew
+pub answers_of_put : (old new : Answering) (places : List (Option Device)) (i : ℕ) (place : Option Device) (answer : ℕ) → i < length places → DoAnswer old places → answer ≡ answer_in place → i < SLOTS
+    → new.addresses ≡ set old.addresses i answer → (AreFound old → AreFound new) → DoAnswer new (set places i place)
+answers_of_put old new places i place answer low are is here put found = (
+  found are.0,
+  λ s l. ap (λ xs. slice_index xs s) put ∙ elim (cases_eq s i) [
+    | inl e ↦ ap (λ k. slice_index (set old.addresses i answer) k) e ∙ (get_or-set_same old.addresses i answer 0 (omega (arith, are.0.every, here)) ∙ (is ∙ sym (ap answer_in (ap (λ k. get_or (set places i place) k None) e ∙ get_or-set_same places i place None low))))
+    | inr ne ↦ get_or-set_other old.addresses i s answer 0 ne ∙ (are.1 s l ∙ sym (ap answer_in (get_or-set_other places i s place None ne)))
   ],
 )
 
@@ -157,32 +144,77 @@ set_of_same test slots places i place low h same s l = elim (cases_eq s i) [
   | inr ne ↦ h s l ∙ sym (ap (in_slot test) (get_or-set_other places i s place None ne))
 ]
 
--- and the same key
-pub keys_of_same : (keys : List ℕ) (places : List (Option Device)) (i : ℕ) (place : Option Device) → i < length places → AreKeys keys places → key_in place ≡ key_in (get_or places i None)
-    → (IsDynamicIn (get_or places i None) → IsDynamicIn place) → AreKeys keys (set places i place)
-keys_of_same keys places i place low are same dynamic = (
+-- and has the same entry
+pub entries_of_same : (f : Option Device → ℕ) (P : Option Device → Type 0) (entries : List ℕ) (places : List (Option Device)) (i : ℕ) (place : Option Device) → i < length places → AreEntries f P entries places → f place ≡ f (get_or places i None)
+    → (P (get_or places i None) → P place) → AreEntries f P entries (set places i place)
+entries_of_same f P entries places i place low are same holds = (
   are.0,
   λ s l. elim (cases_eq s i) [
     | inl e ↦
         let there : get_or (set places i place) s None ≡ place = ap (λ k. get_or (set places i place) k None) e ∙ get_or-set_same places i place None low in
         let before : get_or places s None ≡ get_or places i None = ap (λ k. get_or places k None) e in
-        ((are.1 s l).0 ∙ (ap key_in before ∙ (sym same ∙ sym (ap key_in there))), subst IsDynamicIn (sym there) (dynamic (subst IsDynamicIn before (are.1 s l).1)))
+        ((are.1 s l).0 ∙ (ap f before ∙ (sym same ∙ sym (ap f there))), subst P (sym there) (holds (subst P before (are.1 s l).1)))
     | inr ne ↦
         let there : get_or (set places i place) s None ≡ get_or places s None = get_or-set_other places i s place None ne in
-        ((are.1 s l).0 ∙ sym (ap key_in there), subst IsDynamicIn (sym there) (are.1 s l).1)
+        ((are.1 s l).0 ∙ sym (ap f there), subst P (sym there) (are.1 s l).1)
   ],
 )
 
--- and the same static address
-pub statics_of_same : (statics : List ℕ) (places : List (Option Device)) (i : ℕ) (place : Option Device) → i < length places → AreStaticMarks statics places → static_mark_in place ≡ static_mark_in (get_or places i None)
-    → AreStaticMarks statics (set places i place)
-statics_of_same statics places i place low are same = (
+-- and answers where it did
+pub answers_of_same : (kept : Answering) (places : List (Option Device)) (i : ℕ) (place : Option Device) → i < length places → DoAnswer kept places → answer_in place ≡ answer_in (get_or places i None) → DoAnswer kept (set places i place)
+answers_of_same kept places i place low are same = (
   are.0,
   λ s l. elim (cases_eq s i) [
-    | inl e ↦ are.1 s l ∙ (ap (λ k. static_mark_in (get_or places k None)) e ∙ (sym same ∙ sym (ap static_mark_in (ap (λ k. get_or (set places i place) k None) e ∙ get_or-set_same places i place None low))))
-    | inr ne ↦ are.1 s l ∙ sym (ap static_mark_in (get_or-set_other places i s place None ne))
+    | inl e ↦ are.1 s l ∙ (ap (λ k. answer_in (get_or places k None)) e ∙ (sym same ∙ sym (ap answer_in (ap (λ k. get_or (set places i place) k None) e ∙ get_or-set_same places i place None low))))
+    | inr ne ↦ are.1 s l ∙ sym (ap answer_in (get_or-set_other places i s place None ne))
   ],
 )
+
+-- the planes of empty slots
+pub planes_none : (kept : Planes) → AreTurned kept → HavePlanes kept no_devices
+planes_none kept turned = (turned, λ s d there. absurd (none-some d (sym (no_devices_at s) ∙ there)))
+
+-- a device anew, whose number is set
+pub planes_of_put : (old new : Planes) (places : List (Option Device)) (i : ℕ) (d : Device) (number : ℕ) → i < length places → HavePlanes old places → number ≡ number_of d.identity → IsInRange d.identity → i < SLOTS
+    → new.numbers ≡ set old.numbers i number → (AreTurned old → AreTurned new) → HavePlanes new (set places i (Some d))
+planes_of_put old new places i d number low are is ranged here put turned = (
+  turned are.0,
+  λ s e there. elim (cases_eq s i) [
+    | inl at ↦
+        let own : d ≡ e = same_Some d e (sym (ap (λ k. get_or (set places i (Some d)) k None) at ∙ get_or-set_same places i (Some d) None low) ∙ there) in
+        let set_here : slice_index new.numbers s ≡ number = ap (λ xs. slice_index xs s) put ∙ (ap (λ k. slice_index (set old.numbers i number) k) at ∙ get_or-set_same old.numbers i number 0 (omega (arith, are.0.every, here))) in
+        subst (λ x. (slice_index new.numbers s ≡ number_of x.identity) × IsInRange x.identity) own (set_here ∙ is, ranged)
+    | inr ne ↦
+        let before = are.1 s e (sym (get_or-set_other places i s (Some d) None ne) ∙ there) in
+        (ap (λ xs. slice_index xs s) put ∙ (get_or-set_other old.numbers i s number 0 ne ∙ before.0), before.1)
+  ],
+)
+
+-- no device any more
+pub planes_of_gone : (kept : Planes) (places : List (Option Device)) (i : ℕ) → i < length places → HavePlanes kept places → HavePlanes kept (set places i None)
+planes_of_gone kept places i low are = (
+  are.0,
+  λ s d there. elim (cases_eq s i) [
+    | inl e ↦ absurd (none-some d (sym (ap (λ k. get_or (set places i None) k None) e ∙ get_or-set_same places i None None low) ∙ there))
+    | inr ne ↦ are.1 s d (sym (get_or-set_other places i s None None ne) ∙ there)
+  ],
+)
+
+-- the same device or one with the same identity
+pub planes_of_same : (kept : Planes) (places : List (Option Device)) (i : ℕ) (place : Option Device) → i < length places → HavePlanes kept places → identity_in place ≡ identity_in (get_or places i None) → HavePlanes kept (set places i place)
+planes_of_same kept places i place low are same = (
+  are.0,
+  λ s d there. elim (cases_eq s i) [
+    | inl e ↦
+        let own : place ≡ Some d = sym (ap (λ k. get_or (set places i place) k None) e ∙ get_or-set_same places i place None low) ∙ there in
+        go s d (get_or places i None) (ap (λ k. get_or places k None) e) (sym same ∙ ap identity_in own)
+    | inr ne ↦ are.1 s d (sym (get_or-set_other places i s place None ne) ∙ there)
+  ],
+)
+  where
+    go : (s : ℕ) (d : Device) (before : Option Device) → get_or places s None ≡ before → identity_in before ≡ Some d.identity → (slice_index kept.numbers s ≡ number_of d.identity) × IsInRange d.identity
+    go s d None there is = absurd (none-some d.identity is)
+    go s d (Some e) there is = subst (λ (j : Identity). (slice_index kept.numbers s ≡ number_of j) × IsInRange j) (same_Some e.identity d.identity is) (are.1 s e there)
 
 -- whatever stands in a slot is as it was, but for what a change leaves out
 pub record Alike (place before : Option Device) : Type 0 where
@@ -192,12 +224,13 @@ pub record Alike (place before : Option Device) : Type 0 where
   pub unaddressed : in_slot (λ d. is_none d.address) place ≡ in_slot (λ d. is_none d.address) before
   pub key : key_in place ≡ key_in before
   pub dynamic : IsDynamicIn before → IsDynamicIn place
-  pub static_mark : static_mark_in place ≡ static_mark_in before
+  pub answer : answer_in place ≡ answer_in before
+  pub identity : identity_in place ≡ identity_in before
 
 -- where it hears or hears no more
 pub alike_opened : (o : Option Device) → Alike (option_map hears o) o
-alike_opened None = record { present = refl; joining = refl; asking = refl; unaddressed = refl; key = refl; dynamic = λ x. x; static_mark = refl }
-alike_opened (Some d) = subst (λ (e : Device). Alike (Some e) (Some d)) (sym (rehearing d)) (record { present = refl; joining = refl; asking = refl; unaddressed = refl; key = refl; dynamic = λ x. x; static_mark = refl })
+alike_opened None = record { present = refl; joining = refl; asking = refl; unaddressed = refl; key = refl; dynamic = λ x. x; answer = refl; identity = refl }
+alike_opened (Some d) = subst (λ (e : Device). Alike (Some e) (Some d)) (sym (rehearing d)) (record { present = refl; joining = refl; asking = refl; unaddressed = refl; key = refl; dynamic = λ x. x; answer = refl; identity = refl })
   where
     rehearing : (d : Device) → hears d ≡ record d { hearing = if is_none d.address then true else d.hearing }
     rehearing d = go (is_none d.address)
@@ -207,8 +240,8 @@ alike_opened (Some d) = subst (λ (e : Device). Alike (Some e) (Some d)) (sym (r
         go false = refl
 
 pub alike_ended : (o : Option Device) → Alike (option_map unhearing o) o
-alike_ended None = record { present = refl; joining = refl; asking = refl; unaddressed = refl; key = refl; dynamic = λ x. x; static_mark = refl }
-alike_ended (Some d) = record { present = refl; joining = refl; asking = refl; unaddressed = refl; key = refl; dynamic = λ x. x; static_mark = refl }
+alike_ended None = record { present = refl; joining = refl; asking = refl; unaddressed = refl; key = refl; dynamic = λ x. x; answer = refl; identity = refl }
+alike_ended (Some d) = record { present = refl; joining = refl; asking = refl; unaddressed = refl; key = refl; dynamic = λ x. x; answer = refl; identity = refl }
 
 pub interrupts_opened : (o : Option Device) → in_slot wishes_interrupt (option_map hears o) ≡ in_slot wishes_interrupt o
 interrupts_opened None = refl
@@ -224,8 +257,8 @@ interrupts_ended (Some d) = refl
 
 -- where other interrupts wait
 pub alike_queued : (queue : Device → List Waiting) (o : Option Device) → Alike (option_map (requeued queue) o) o
-alike_queued queue None = record { present = refl; joining = refl; asking = refl; unaddressed = refl; key = refl; dynamic = λ x. x; static_mark = refl }
-alike_queued queue (Some d) = record { present = refl; joining = refl; asking = refl; unaddressed = refl; key = refl; dynamic = λ x. x; static_mark = refl }
+alike_queued queue None = record { present = refl; joining = refl; asking = refl; unaddressed = refl; key = refl; dynamic = λ x. x; answer = refl; identity = refl }
+alike_queued queue (Some d) = record { present = refl; joining = refl; asking = refl; unaddressed = refl; key = refl; dynamic = λ x. x; answer = refl; identity = refl }
 
 pub hearing_queued : (queue : Device → List Waiting) (o : Option Device) → in_slot (λ d. d.hearing) (option_map (requeued queue) o) ≡ in_slot (λ d. d.hearing) o
 hearing_queued queue None = refl
@@ -244,8 +277,9 @@ marks_heard marks more places i place b long here are alike interrupts is rest p
       interrupting = set_of_same wishes_interrupt marks.interrupting places i place low are.interrupting interrupts;
       hearing = set_of_put (λ d. d.hearing) marks.hearing more.hearing places i place b low are.hearing is put;
       unaddressed = set_of_same (λ d. is_none d.address) marks.unaddressed places i place low are.unaddressed alike.unaddressed;
-      keys = keys_of_same marks.keys places i place low are.keys alike.key alike.dynamic;
-      statics = statics_of_same marks.statics places i place low are.statics alike.static_mark;
+      keys = entries_of_same key_in IsDynamicIn marks.keys places i place low are.keys alike.key alike.dynamic;
+      answering = answers_of_same marks.answering places i place low are.answering alike.answer;
+      planes = planes_of_same marks.planes places i place low are.planes alike.identity;
     })
 
 -- the marks where other interrupts wait
@@ -261,6 +295,7 @@ marks_queued marks more places i place b long here are alike hearing is rest put
       interrupting = set_of_put wishes_interrupt marks.interrupting more.interrupting places i place b low are.interrupting is put;
       hearing = set_of_same (λ d. d.hearing) marks.hearing places i place low are.hearing hearing;
       unaddressed = set_of_same (λ d. is_none d.address) marks.unaddressed places i place low are.unaddressed alike.unaddressed;
-      keys = keys_of_same marks.keys places i place low are.keys alike.key alike.dynamic;
-      statics = statics_of_same marks.statics places i place low are.statics alike.static_mark;
+      keys = entries_of_same key_in IsDynamicIn marks.keys places i place low are.keys alike.key alike.dynamic;
+      answering = answers_of_same marks.answering places i place low are.answering alike.answer;
+      planes = planes_of_same marks.planes places i place low are.planes alike.identity;
     })

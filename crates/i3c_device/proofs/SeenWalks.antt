@@ -82,7 +82,7 @@ byte_alike kinds None = refl
 byte_alike kinds (Some d) = refl
 
 -- a device that is seen stands there
-unseen : (e : Enabled) (s : ℕ) (o : Option Device) (d : Device) → seen_in e s o ≡ Some d → (x : Device) × (o ≡ Some x) × (d ≡ under (kinds_in e s) x)
+pub unseen : (e : Enabled) (s : ℕ) (o : Option Device) (d : Device) → seen_in e s o ≡ Some d → (x : Device) × (o ≡ Some x) × (d ≡ under (kinds_in e s) x)
 unseen e s None d h = absurd (none-some d h)
 unseen e s (Some x) d h = (x, refl, sym (same_Some (under (kinds_in e s) x) d h))
 

@@ -10,4 +10,5 @@ pub mod Marks
 pub mod Finding
 pub mod Holding
 pub mod Reading
+pub mod Answering
 pub mod Least

@@ -2,11 +2,16 @@
 use Rattle.std.specs.Prelude.{◌≡◌, ℕ, Some, length, ◌<◌, Bool, true, List, Option, None, is_none, slice_index, slice_index_or}
 use Rattle.i3c_base.specs.declared.range.TheConstants.{SLOTS}
 use Rattle.i3c_base.specs.declared.device.Waiting.{Waiting}
+use Rattle.i3c_base.specs.Numbers.{IsInRange, number_of}
 use Rattle.i3c_base.specs.State.{Device, in_slot}
+use Rattle.i3c_wires.specs.declared.planes.Planes.{Planes}
+use Rattle.i3c_wires.specs.Planes.{AreTurned}
 use Rattle.i3c_device.specs.declared.sets.SlotSet.{SlotSet}
 use Rattle.i3c_device.specs.declared.marks.Marks.{Marks}
-use Rattle.i3c_device.specs.declared.marks.TheConstants.{NO_STATIC}
+use Rattle.i3c_device.specs.declared.answering.Answering.{Answering}
+use Rattle.i3c_device.specs.declared.answering.TheConstants.{NOWHERE}
 use Rattle.i3c_device.specs.Addressing.{IsDynamicIn}
+use Rattle.i3c_device.specs.Answering.{AreFound}
 use Rattle.i3c_device.specs.Sets.{has}
 use Rattle.i3c_device.specs.Wishing.{key_of, wishes_interrupt, wishes_join, wishes_role}
 
@@ -19,23 +24,28 @@ abbrev pub key_in : Option Device → ℕ
 key_in None = 0
 key_in (Some d) = key_of d.address d.role_wish
 
--- the mark of a static address, or of none
-abbrev pub static_mark : Option ℕ → ℕ
-static_mark None = NO_STATIC
-static_mark (Some a) = a
+-- the address at which a device with these two answers: its dynamic one, else its static one
+abbrev pub answer_of : Option ℕ → Option ℕ → ℕ
+answer_of (Some a) fixed = a
+answer_of None (Some f) = f
+answer_of None None = NOWHERE
 
--- the mark of the static address of whatever stands in a slot
-abbrev pub static_mark_in : Option Device → ℕ
-static_mark_in None = NO_STATIC
-static_mark_in (Some d) = static_mark d.fixed
+-- the address at which whatever stands in a slot answers
+abbrev pub answer_in : Option Device → ℕ
+answer_in None = NOWHERE
+answer_in (Some d) = answer_of d.address d.fixed
 
--- the marks of the static addresses in these places
-abbrev pub AreStaticMarks : List ℕ → List (Option Device) → Type 0
-AreStaticMarks statics places = (length statics ≡ SLOTS) × ((s : ℕ) → s < SLOTS → slice_index statics s ≡ static_mark_in (slice_index_or places s None))
+-- where the devices in these places answer, by slot and by address
+abbrev pub DoAnswer : Answering → List (Option Device) → Type 0
+DoAnswer kept places = AreFound kept × ((s : ℕ) → s < SLOTS → slice_index kept.addresses s ≡ answer_in (slice_index_or places s None))
 
 -- the keys of these places, whose addresses are dynamic ones
 abbrev pub AreKeys : List ℕ → List (Option Device) → Type 0
 AreKeys keys places = (length keys ≡ SLOTS) × ((s : ℕ) → s < SLOTS → (slice_index keys s ≡ key_in (slice_index_or places s None)) × IsDynamicIn (slice_index_or places s None))
+
+-- planes with the number of each device's identity, which has 64 bits; they may have any number for an empty slot
+abbrev pub HavePlanes : Planes → List (Option Device) → Type 0
+HavePlanes kept places = AreTurned kept × ((s : ℕ) (d : Device) → slice_index_or places s None ≡ Some d → (slice_index kept.numbers s ≡ number_of d.identity) × IsInRange d.identity)
 
 -- a device whose waiting interrupts are others
 abbrev pub requeued : (Device → List Waiting) → Device → Device
@@ -50,4 +60,5 @@ pub record AreMarks (marks : Marks) (places : List (Option Device)) : Type 0 whe
   pub hearing : IsSetOf (λ d. d.hearing) marks.hearing places
   pub unaddressed : IsSetOf (λ d. is_none d.address) marks.unaddressed places
   pub keys : AreKeys marks.keys places
-  pub statics : AreStaticMarks marks.statics places
+  pub answering : DoAnswer marks.answering places
+  pub planes : HavePlanes marks.planes places

@@ -1,4 +1,4 @@
-use crate::marks::NO_STATIC;
+use crate::answering::NOWHERE;
 use crate::queues::{are_same, copied, copy_from};
 use arrayvec::ArrayVec;
 use i3c_base::{Addr7, Identity, REGISTERS, RaiseRefusal, Request, Setup, WAITING, Waiting};
@@ -49,7 +49,7 @@ impl Attached {
     ghost use Rattle.i3c_base.specs.Serve.{without_front, without_join, without_role};
     ghost use Rattle.i3c_base.specs.Round.{hears, unhearing, winner};
     ghost use Rattle.i3c_device.specs.Addressing.{IsDynamic};
-    ghost use Rattle.i3c_device.specs.Marks.{static_mark};
+    ghost use Rattle.i3c_device.specs.Marks.{answer_of};
     ghost use Rattle.i3c_device.specs.Wishing.{choice_of, key_of, wishes_interrupt, wishes_join, wishes_role};
     ghost use Rattle.i3c_device.specs.Raising.{front_byte, interrupting_if, next_fault, raise_fault, with_raise};
 
@@ -247,13 +247,13 @@ impl Attached {
         }
     }
 
-    /// The mark of its static address, or of none.
-    pub(crate) fn static_mark(&self) -> u8
-        ensures { result ≡ static_mark self.now.fixed }
+    /// The address at which it answers: its dynamic one, else its static one; `NOWHERE` if it has neither.
+    pub(crate) fn answer(&self) -> u8
+        ensures { result ≡ answer_of self.now.address self.now.fixed }
     {
-        match self.fixed {
+        match self.address.or(self.fixed) {
             Some(address) => address.get(),
-            None => NO_STATIC,
+            None => NOWHERE,
         }
     }
 

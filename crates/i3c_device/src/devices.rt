@@ -1,5 +1,5 @@
 use crate::device::Device;
-use crate::driven::{requests_in, slots_with};
+use crate::driven::{enter_requests, slots_with};
 use crate::enabled::Enabled;
 use crate::kinds::named;
 use crate::occupants::Occupants;
@@ -9,8 +9,9 @@ use crate::walks::{
     Accepted, Ended, FrontLost, JoinWished, Lost, Opened, Readdressed, Reset, RoleLost, RoleWished,
     SlotUpdate, Willing, Won, Written,
 };
+use arrayvec::ArrayVec;
 use i3c_base::{
-    Addr7, Change, Cuts, Identity, Kinds, REGISTERS, RaiseRefusal, Request, Slot, Waiting,
+    Addr7, Change, Cuts, Identity, Kinds, REGISTERS, RaiseRefusal, Request, SLOTS, Slot, Waiting,
 };
 use i3c_ccc::Code;
 use i3c_header::arbitrate;
@@ -45,6 +46,7 @@ impl Devices {
     ghost use Rattle.i3c_base.specs.Places.{changed};
     ghost use Rattle.i3c_device.specs.Holding.{address_in, byte_in, front_in, identity_in, waiting_in};
     ghost use Rattle.i3c_device.specs.Walks.{accepted_at, heard_at, left_at, readdressed_at, taken_at, AreDrivers, AreHearers, AreReached, AreTakers, AreWillingLost, IsFirstDriven, IsLowestWilling, NobodyDrives, SomeReached, rekinded_at, written_at};
+    ghost use Rattle.i3c_device.specs.Least.{IsLeastHeard, NobodyHears};
     ghost use Rattle.i3c_device.specs.Reading.{AreReadOf, IsRegisterOf};
     ghost use Rattle.i3c_device.specs.Sets.{has};
     ghost use Rattle.i3c_device.specs.Wishing.{asks_some};
@@ -277,7 +279,8 @@ impl Devices {
     {
         let driving = self.driving(active);
         let marks = self.occupants.marks();
-        let requests = requests_in(driving, &marks.keys);
+        let mut requests: ArrayVec<Request, SLOTS> = ArrayVec::new();
+        enter_requests(&mut requests, driving, &marks.keys);
         let winner = arbitrate(&requests)?;
         let drivers = slots_with(driving, &marks.keys, &winner);
         Some((winner, drivers))
@@ -438,6 +441,15 @@ impl Devices {
         ensures slots { length self.now ≡ SLOT_COUNT }
     {
         self.occupants.marks().hearing
+    }
+
+    /// The contest of those who hear the open session, on the lines, where nobody is cut (I3C Basic 5.1.4.2): the identity
+    /// that is read, as a number, and the slots of those who have it; `None` where nobody hears.
+    pub fn least_heard(&self) -> Option<(u64, SlotSet)>
+        ensures least { MatchOption result (NobodyHears self.now) (IsLeastHeard self.now) }
+        ensures slots { length self.now ≡ SLOT_COUNT }
+    {
+        self.occupants.least_heard()
     }
 
     /// The devices in these slots take the address, which they won in a round (I3C Basic 5.1.4.2) or were set by SETDASA:

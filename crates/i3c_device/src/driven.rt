@@ -1,4 +1,4 @@
-ghost use Rattle.std.specs.Prelude.{◌≡◌, ◌<◌, ◌≤◌, ◌&&◌, ◌==◌, ◌+◌, ◌*◌, ℕ, true, length, slice_index};
+ghost use Rattle.std.specs.Prelude.{◌≡◌, ◌<◌, ◌≤◌, ◌&&◌, ◌==◌, ◌+◌, ◌*◌, ℕ, true, [], length, slice_index};
 ghost use Rattle.std.specs.List.{All, Contains};
 ghost use Rattle.i3c_base.specs.declared.range.TheConstants.{SLOTS as SLOT_COUNT};
 ghost use Rattle.i3c_header.specs.Keys.{address_of, rnw_of};
@@ -11,20 +11,24 @@ use arrayvec::ArrayVec;
 use i3c_base::{Addr7, Request, SLOTS};
 use i3c_header::key;
 
-/// The requests of these slots' keys, in the order of the slots.
-pub(crate) fn requests_in(among: SlotSet, keys: &[u8; SLOTS]) -> ArrayVec<Request, SLOTS>
-    ensures sound { All (IsDrivenIn among keys.now) result.items }
-    ensures complete { (s : ℕ) → s < SLOT_COUNT → has among s ≡ true → Contains result.items (request_of (slice_index keys.now s)) }
-    ensures short { length result.items ≤ SLOT_COUNT }
+/// Enters the requests of these slots' keys into an empty list, in the order of the slots.
+// the list is the caller's, since it is large to hand back
+pub(crate) fn enter_requests(
+    requests: &mut ArrayVec<Request, SLOTS>,
+    among: SlotSet,
+    keys: &[u8; SLOTS],
+)
+    requires none { requests.old.items ≡ [] }
+    ensures sound { All (IsDrivenIn among keys.now) requests.new.items }
+    ensures complete { (s : ℕ) → s < SLOT_COUNT → has among s ≡ true → Contains requests.new.items (request_of (slice_index keys.now s)) }
+    ensures short { length requests.new.items ≤ SLOT_COUNT }
 {
-    let mut requests: ArrayVec<Request, SLOTS> = ArrayVec::new();
     let mut first = 0;
     let mut left = among;
     while let Some(index) = left.take_lowest() {
         requests.push(request_of(keys[index]));
         first = index + 1;
     }
-    requests
 }
 
 /// Those of these slots whose key is this request's.

@@ -2,6 +2,7 @@
 //! devices of a bus in their slots.
 #![tactic(auto)]
 
+mod answering;
 mod attached;
 mod device;
 mod devices;

@@ -7,13 +7,12 @@ ghost use Rattle.i3c_base.specs.State.{Device as DeviceState, in_slot, no_device
 ghost use Rattle.i3c_device.specs.Marks.{AreMarks, requeued};
 ghost use Rattle.i3c_device.specs.Wishing.{wishes_interrupt};
 
+use crate::answering::{Answering, NOWHERE};
 use crate::attached::Attached;
-use crate::places::{hears, key_in, wishes_interrupt, wishes_join, wishes_role};
+use crate::places::{answer_in, hears, key_in, wishes_interrupt, wishes_join, wishes_role};
 use crate::sets::SlotSet;
-use i3c_base::SLOTS;
-
-/// The mark of a device without a static address.
-pub(crate) const NO_STATIC: u8 = 0xFF;
+use i3c_base::{SLOTS, Slot};
+use i3c_wires::Planes;
 
 /// In which slots a walk may find something.
 #[derive(Clone, Copy)]
@@ -32,8 +31,10 @@ pub(crate) struct Marks {
     pub unaddressed: SlotSet,
     /// By slot, the key of the request that its device drives when it drives one.
     pub keys: [u8; SLOTS],
-    /// By slot, the static address of its device, or `NO_STATIC`.
-    pub statics: [u8; SLOTS],
+    /// By slot and by address, where its device answers: at its dynamic address, else at its static one.
+    pub answering: Answering,
+    /// By slot and by bit, the numbers of the identities.
+    pub planes: Planes,
 }
 
 impl Marks {
@@ -49,7 +50,8 @@ impl Marks {
             hearing: SlotSet::none(),
             unaddressed: SlotSet::none(),
             keys: [0; SLOTS],
-            statics: [NO_STATIC; SLOTS],
+            answering: Answering::new(),
+            planes: Planes::new(),
         }
     }
 
@@ -86,6 +88,7 @@ impl Marks {
         ensures { (places : List (Option DeviceState)) (address : ℕ) → length places ≡ SLOT_COUNT → AreMarks self.old places → place.now ≡ option_map (winner address) (slice_index_or places index None) → AreMarks self.new (slice_set places index place.now) }
     {
         self.keys[index] = key_in(place);
+        self.answering.set(index, answer_in(place));
         self.joining = self.joining.with(index, false);
         self.asking = self.asking.with(index, wishes_role(place));
         self.interrupting = self.interrupting.with(index, wishes_interrupt(place));
@@ -99,6 +102,7 @@ impl Marks {
         ensures { (places : List (Option DeviceState)) → length places ≡ SLOT_COUNT → AreMarks self.old places → place.now ≡ option_map unaddressed_device (slice_index_or places index None) → AreMarks self.new (slice_set places index place.now) }
     {
         self.keys[index] = key_in(place);
+        self.answering.set(index, answer_in(place));
         self.joining = self.joining.with(index, wishes_join(place));
         self.asking = self.asking.with(index, false);
         self.interrupting = self.interrupting.with(index, false);
@@ -120,7 +124,9 @@ impl Marks {
         ensures { (places : List (Option DeviceState)) → length places ≡ SLOT_COUNT → AreMarks self.old places → AreMarks self.new (slice_set places index (Some device.now)) }
     {
         self.keys[index] = device.key();
-        self.statics[index] = device.static_mark();
+        self.answering.set(index, device.answer());
+        self.planes
+            .set(Slot::from_index(index), device.identity().number());
         self.present = self.present.with(index, true);
         self.joining = self.joining.with(index, device.wishes_join());
         self.asking = self.asking.with(index, device.wishes_role());
@@ -135,7 +141,7 @@ impl Marks {
         ensures { (places : List (Option DeviceState)) → length places ≡ SLOT_COUNT → AreMarks self.old places → AreMarks self.new (slice_set places index None) }
     {
         self.keys[index] = 0;
-        self.statics[index] = NO_STATIC;
+        self.answering.set(index, NOWHERE);
         self.present = self.present.with(index, false);
         self.joining = self.joining.with(index, false);
         self.asking = self.asking.with(index, false);

@@ -33,6 +33,7 @@ impl Occupants {
     ghost use Rattle.i3c_base.specs.Places.{changed};
     ghost use Rattle.i3c_base.specs.State.{Device as DeviceState, no_devices};
     ghost use Rattle.i3c_device.specs.Finding.{within, IsLowestFound, IsNowhere};
+    ghost use Rattle.i3c_device.specs.Least.{IsLeastHeard, NobodyHears};
     ghost use Rattle.i3c_device.specs.Marks.{AreMarks};
     ghost use Rattle.i3c_device.specs.Raising.{interrupting_if, next_fault, with_raise};
     ghost use Rattle.i3c_device.specs.Reading.{AreAt, IsRegisterOf};
@@ -135,12 +136,8 @@ impl Occupants {
         ensures there { AreAt active address result self.now }
         ensures slots { length self.now ≡ SLOT_COUNT }
     {
-        let mut targets = SlotSet::none();
-        for (index, key) in self.marks.keys.iter().enumerate() {
-            targets = targets.with(index, key / 2 == address.get());
-        }
-        let addressed = self.marks.present.without(self.marks.unaddressed);
-        targets.and(addressed).but(active)
+        let there = self.marks.answering.at(address);
+        there.without(self.marks.unaddressed).but(active)
     }
 
     /// The slots of the devices that take SETDASA at this static address. The active controller is none of them.
@@ -148,11 +145,20 @@ impl Occupants {
         ensures takers { AreTakers active fixed result self.now }
         ensures slots { length self.now ≡ SLOT_COUNT }
     {
-        let mut takers = SlotSet::none();
-        for (index, mark) in self.marks.statics.iter().enumerate() {
-            takers = takers.with(index, *mark == fixed.get());
+        let there = self.marks.answering.at(fixed);
+        there.and(self.marks.unaddressed).but(active)
+    }
+
+    /// The contest of those who hear the open session, on the lines, where nobody is cut (I3C Basic 5.1.4.2): the identity
+    /// that is read, as a number, and the slots of those who have it; `None` where nobody hears.
+    pub fn least_heard(&self) -> Option<(u64, SlotSet)>
+        ensures least { MatchOption result (NobodyHears self.now) (IsLeastHeard self.now) }
+        ensures slots { length self.now ≡ SLOT_COUNT }
+    {
+        match self.marks.planes.contest(self.marks.hearing.bits()) {
+            Some(won) => Some((won.bits, SlotSet::of_bits(won.winners))),
+            None => None,
         }
-        takers.and(self.marks.unaddressed).but(active)
     }
 
     /// A register of these slots' devices, as the lines give it from this bit of a frame on.

@@ -7,12 +7,13 @@ ghost use Rattle.i3c_base.specs.Serve.{without_front, without_role};
 ghost use Rattle.i3c_base.specs.State.{Device as DeviceState, in_slot};
 ghost use Rattle.i3c_device.specs.Addressing.{IsDynamicIn};
 ghost use Rattle.i3c_device.specs.Holding.{address_in, byte_in, front_in, identity_in, waiting_in};
-ghost use Rattle.i3c_device.specs.Marks.{key_in};
+ghost use Rattle.i3c_device.specs.Marks.{answer_in, key_in};
 ghost use Rattle.i3c_device.specs.Raising.{interrupting_if, next_fault, wishing_join, wishing_role, with_raise};
 ghost use Rattle.i3c_device.specs.Reading.{IsDrivenFrom, IsRegisterFrom};
 ghost use Rattle.i3c_device.specs.Walks.{reaches_at, taken_from, willing_at, written_at};
 ghost use Rattle.i3c_device.specs.Wishing.{wishes_interrupt, wishes_join, wishes_role};
 
+use crate::answering::NOWHERE;
 use crate::attached::Attached;
 use i3c_base::{Addr7, Identity, RaiseRefusal, Request, Slot, Waiting};
 
@@ -353,6 +354,16 @@ pub(crate) fn key_in(place: &Option<Attached>) -> u8
     match place {
         Some(device) => device.key(),
         None => 0,
+    }
+}
+
+/// The address at which the device here answers, if there is one and it answers anywhere.
+pub(crate) fn answer_in(place: &Option<Attached>) -> u8
+    ensures { result ≡ answer_in place.now }
+{
+    match place {
+        Some(device) => device.answer(),
+        None => NOWHERE,
     }
 }
 

@@ -23,6 +23,20 @@ impl SlotSet {
         SlotSet { bits: 0 }
     }
 
+    /// The slots of these bits, of which bit `s` stands for slot `s`.
+    pub(crate) fn of_bits(bits: u64) -> SlotSet
+        ensures { result.bits ≡ bits }
+    {
+        SlotSet { bits }
+    }
+
+    /// A bit for each slot: bit `s` is set where slot `s` is in it.
+    pub(crate) fn bits(self) -> u64
+        ensures { result ≡ self.bits }
+    {
+        self.bits
+    }
+
     /// Whether the slot with this index is in it.
     pub(crate) fn has(self, index: usize) -> bool
         requires { index < SLOT_COUNT }

@@ -14,16 +14,16 @@ driving_of c =
 pub arbitrate-requires-clause-lawful : goal.arbitrate-requires-clause-lawful
 arbitrate-requires-clause-lawful c =
     subst (All IsLawful) (sym c.deref.ensures.0)
-    (all_lawful c.args.active c.driving-driving.result c.marks-marks.result.now.keys c.args.self.now c.requests_in-requests.result.items (driving_of c) c.requests_in-requests.ensures.complete c.requests_in-requests.ensures.sound)
+    (all_lawful c.args.active c.driving-driving.result c.marks-marks.result.now.keys c.args.self.now c.enter_requests.new.requests.items (driving_of c) c.enter_requests.ensures.complete c.enter_requests.ensures.sound)
 
 pub returns-clause-first : goal.returns-clause-first
 returns-clause-first c =
-    first_driven c.args.active c.driving-driving.result c.marks-marks.result.now.keys c.args.self.now c.requests_in-requests.result.items (driving_of (goal.at.returns-clause-first c).After-deref) c.requests_in-requests.ensures.complete
-    c.requests_in-requests.ensures.sound c.in_ok-winner.winner _ c.slots_with-drivers.result (subst (λ rs. IsFirstOf rs c.in_ok-winner.winner) c.deref.ensures.0 c.in_ok-winner.ensures) refl c.slots_with-drivers.ensures
+    first_driven c.args.active c.driving-driving.result c.marks-marks.result.now.keys c.args.self.now c.enter_requests.new.requests.items (driving_of (goal.at.returns-clause-first c).After-deref) c.enter_requests.ensures.complete
+    c.enter_requests.ensures.sound c.in_ok-winner.winner _ c.slots_with-drivers.result (subst (λ rs. IsFirstOf rs c.in_ok-winner.winner) c.deref.ensures.0 c.in_ok-winner.ensures) refl c.slots_with-drivers.ensures
 
 pub returns-in_err-winner-clause-first : goal.returns-in_err-winner-clause-first
 returns-in_err-winner-clause-first c =
     let now = c.args.self.now in
     subst (λ first. MatchOption first (NobodyDrives c.args.active now) (IsFirstDriven c.args.active now)) (sym c.from_residual.ensures)
-    (nobody_drives c.args.active c.driving-driving.result c.marks-marks.result.now.keys now c.requests_in-requests.result.items (driving_of (goal.at.returns-in_err-winner-clause-first c).After-deref) c.requests_in-requests.ensures.complete
+    (nobody_drives c.args.active c.driving-driving.result c.marks-marks.result.now.keys now c.enter_requests.new.requests.items (driving_of (goal.at.returns-in_err-winner-clause-first c).After-deref) c.enter_requests.ensures.complete
     (sym c.deref.ensures.0 ∙ c.in_err-winner.ensures))

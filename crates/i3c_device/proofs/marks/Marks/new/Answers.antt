@@ -1,6 +1,8 @@
-use Rattle.std.proofs.Common.{true, is_none}
+use Rattle.std.proofs.Common.{true, is_none, refl}
+use Rattle.i3c_device.specs.Addressing.{IsDynamicIn}
+use Rattle.i3c_device.specs.Marks.{key_in}
 use Rattle.i3c_device.specs.Wishing.{wishes_interrupt, wishes_join, wishes_role}
-use Rattle.i3c_device.proofs.MarkLaws.{keys_none, set_of_none, statics_none}
+use Rattle.i3c_device.proofs.MarkLaws.{answers_none, entries_none, planes_none, set_of_none}
 use Rattle.i3c_device.proofs.marks.Marks.new.Goals as goal
 
 pub returns : goal.returns
@@ -11,6 +13,7 @@ returns c = record {
   interrupting = set_of_none wishes_interrupt c.none-4.result c.none-4.ensures;
   hearing = set_of_none (λ d. d.hearing) c.none-5.result c.none-5.ensures;
   unaddressed = set_of_none (λ d. is_none d.address) c.none-6.result c.none-6.ensures;
-  keys = keys_none;
-  statics = statics_none;
+  keys = entries_none key_in IsDynamicIn refl tt;
+  answering = answers_none c.new.result c.new.ensures.none c.new.ensures.found;
+  planes = planes_none c.new-2.result c.new-2.ensures.turned;
 }

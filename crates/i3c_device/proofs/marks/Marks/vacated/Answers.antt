@@ -1,7 +1,9 @@
 -- Each set, of the places with the one anew.
 use Rattle.std.proofs.Common.{◌<◌, true, false, length, arith, is_none, refl, None}
+use Rattle.i3c_device.specs.Addressing.{IsDynamicIn}
+use Rattle.i3c_device.specs.Marks.{key_in}
 use Rattle.i3c_device.specs.Wishing.{wishes_interrupt, wishes_join, wishes_role}
-use Rattle.i3c_device.proofs.MarkLaws.{keys_of_put, set_of_put, statics_of_put}
+use Rattle.i3c_device.proofs.MarkLaws.{answers_of_put, entries_of_put, planes_of_gone, set_of_put}
 use Rattle.i3c_device.proofs.marks.Marks.vacated.Goals as goal
 
 pub returns : goal.returns
@@ -16,6 +18,7 @@ returns c places long are =
       interrupting = set_of_put wishes_interrupt set.interrupting c.with-self-4.result places i None false low are.interrupting refl c.with-self-4.ensures;
       hearing = set_of_put (λ d. d.hearing) set.hearing c.with-self-5.result places i None false low are.hearing refl c.with-self-5.ensures;
       unaddressed = set_of_put (λ d. is_none d.address) set.unaddressed c.with-self-6.result places i None false low are.unaddressed refl c.with-self-6.ensures;
-      keys = keys_of_put set.keys places i None 0 low are.keys refl tt c.requires;
-      statics = statics_of_put set.statics places i None _ low are.statics refl c.requires;
+      keys = entries_of_put key_in IsDynamicIn set.keys places i None 0 low are.keys refl tt c.requires;
+      answering = answers_of_put set.answering c.set.new.self places i None _ low are.answering refl c.requires c.set.ensures.set c.set.ensures.found;
+      planes = planes_of_gone set.planes places i low are.planes;
     }

@@ -2,9 +2,11 @@
 use Rattle.std.proofs.Common.{◌≡◌, ◌∙◌, ◌<◌, ℕ, Bool, true, false, length, arith, ap, get_or, is_none, refl, sym, Option, Some, None, option_map}
 use Rattle.i3c_base.specs.Round.{winner}
 use Rattle.i3c_base.specs.State.{Device, in_slot}
-use Rattle.i3c_device.specs.Marks.{static_mark_in}
+use Rattle.i3c_device.specs.Addressing.{IsDynamicIn}
+use Rattle.i3c_device.specs.Holding.{identity_in}
+use Rattle.i3c_device.specs.Marks.{key_in}
 use Rattle.i3c_device.specs.Wishing.{wishes_interrupt, wishes_join, wishes_role}
-use Rattle.i3c_device.proofs.MarkLaws.{keys_of_put, set_of_put, set_of_same, statics_of_same}
+use Rattle.i3c_device.proofs.MarkLaws.{answers_of_put, entries_of_put, planes_of_same, set_of_put, set_of_same}
 use Rattle.i3c_device.proofs.marks.Marks.won.Goals as goal
 
 same : {A : Type 0} (f : Option Device → A) (address : ℕ) (before : Option Device) → ((d : Device) → f (Some (winner address d)) ≡ f (Some d)) → f (option_map (winner address) before) ≡ f before
@@ -30,6 +32,7 @@ returns c places address long are is =
       interrupting = set_of_put wishes_interrupt set.interrupting c.with-self-3.result places i place c.wishes_interrupt.result low are.interrupting c.wishes_interrupt.ensures c.with-self-3.ensures;
       hearing = set_of_put (λ d. d.hearing) set.hearing c.with-self-4.result places i place false low are.hearing (gone (λ d. d.hearing) (λ d. refl)) c.with-self-4.ensures;
       unaddressed = set_of_put (λ d. is_none d.address) set.unaddressed c.with-self-5.result places i place false low are.unaddressed (gone (λ d. is_none d.address) (λ d. refl)) c.with-self-5.ensures;
-      keys = keys_of_put set.keys places i place c.key_in.result low are.keys c.key_in.ensures.key c.key_in.ensures.dynamic c.requires;
-      statics = statics_of_same set.statics places i place low are.statics (ap static_mark_in is ∙ same static_mark_in address before (λ d. refl));
+      keys = entries_of_put key_in IsDynamicIn set.keys places i place c.key_in.result low are.keys c.key_in.ensures.key c.key_in.ensures.dynamic c.requires;
+      answering = answers_of_put set.answering c.set.new.self places i place c.answer_in.result low are.answering c.answer_in.ensures c.requires c.set.ensures.set c.set.ensures.found;
+      planes = planes_of_same set.planes places i place low are.planes (ap identity_in is ∙ same identity_in address before (λ d. refl));
     }

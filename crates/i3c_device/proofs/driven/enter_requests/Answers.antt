@@ -1,10 +1,10 @@
 -- One slot more, until none is left.
 use Rattle.std.proofs.Common.{arith}
 use Rattle.i3c_device.proofs.FirstLaws.{requests_all, requests_more, requests_none}
-use Rattle.i3c_device.proofs.driven.requests_in.Goals as goal
+use Rattle.i3c_device.proofs.driven.enter_requests.Goals as goal
 
 pub loop-index-init : goal.loop-index-init
-loop-index-init c = requests_none c.args.among c.args.keys.now c.new-requests.result.items c.new-requests.ensures
+loop-index-init c = requests_none c.args.among c.args.keys.now c.args.requests.now.items c.requires.none
 
 pub push-requires : goal.push-requires
 push-requires c = let start = c.loop-index.invariant.after c.in-Some.index c.in-Some.ensures.taken.0 c.in-Some.ensures.taken.1 in omega (arith, start, c.loop-index.invariant.short, c.in-Some.ensures.taken.0)

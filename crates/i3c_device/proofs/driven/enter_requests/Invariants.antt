@@ -1,5 +1,5 @@
 use Rattle.i3c_device.proofs.FirstLaws.{RequestsSoFar}
-use Rattle.i3c_device.proofs.driven.requests_in.Given as goal
+use Rattle.i3c_device.proofs.driven.enter_requests.Given as goal
 
 -- the requests of the slots so far
 abbrev pub invariant-loop-index : goal.invariant-loop-index
