@@ -1,4 +1,5 @@
 pub mod HearersLaws
 pub mod Picks
 pub mod ContestLaws
+pub mod LeastLaws
 pub mod RoundLaws

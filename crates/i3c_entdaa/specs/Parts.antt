@@ -27,10 +27,6 @@ pub record IsContest (st : State) (cuts : CutList) (bits : ℕ) (acknowledged : 
 abbrev pub AreTakers : CutList → List (Option Device) → ℕ → SlotSet → Type 0
 AreTakers cuts devices bits takers = (s : ℕ) → s < SLOTS → has takers s ≡ (hears_as bits (slice_index_or devices s None) && not (lost_by cuts 73 s))
 
--- no device hears the session
-abbrev pub NobodyHears : List (Option Device) → Type 0
-NobodyHears devices = (s : ℕ) (d : Device) → slice_index_or devices s None ≡ Some d → d.hearing ≡ false
-
 -- the parts of the identity of each hearer are in their ranges
 abbrev pub HearersAreRanged : List (Option Device) → Type 0
 HearersAreRanged devices = (s : ℕ) (d : Device) → slice_index_or devices s None ≡ Some d → d.hearing ≡ true → IsInRange d.identity

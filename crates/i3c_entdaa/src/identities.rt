@@ -4,7 +4,8 @@ ghost use Rattle.i3c_base.specs.declared.range.TheConstants.{SLOTS as SLOT_COUNT
 ghost use Rattle.i3c_base.specs.Cutting.{lost_by};
 ghost use Rattle.i3c_base.specs.Round.{AllHearersLost};
 ghost use Rattle.i3c_base.specs.State.{State};
-ghost use Rattle.i3c_entdaa.specs.Parts.{AreTakers, HearersAreRanged, IsContest, NobodyHears};
+ghost use Rattle.i3c_device.specs.Least.{NobodyHears};
+ghost use Rattle.i3c_entdaa.specs.Parts.{AreTakers, HearersAreRanged, IsContest};
 
 use crate::hearers::contend;
 use arrayvec::ArrayVec;
@@ -55,8 +56,32 @@ fn nobody_hears(devices: &Devices) -> bool
 }
 
 /// The contest of a round: all who hear drive their identities at once. `None` where nobody acknowledges the header.
-// a round that nobody hears, as each session's last, makes no room for keys
+///
+/// Where nobody is cut, they contend by the words that the devices keep of each bit, and those who have the identity that was
+/// read acknowledge the address.
 pub(crate) fn read_identity(devices: &Devices, cuts: &Cuts) -> Option<Contested>
+    ensures contest { (st : State) → st.devices ≡ devices.now → MatchOption result (AllHearersLost st (lost_by cuts.now 0)) (λ read. IsContest st cuts.now read.bits read.acknowledged) }
+    ensures takers { IfSome result (λ read. AreTakers cuts.now devices.now read.bits read.takers) }
+    ensures ranged { IfSome result (λ _. HearersAreRanged devices.now) }
+    ensures slots { length devices.now ≡ SLOT_COUNT }
+{
+    if !cuts.is_empty() {
+        return read_cut(devices, cuts);
+    }
+    let Some((bits, takers)) = devices.least_heard() else {
+        return None;
+    };
+    Some(Contested {
+        bits,
+        acknowledged: true,
+        takers,
+    })
+}
+
+/// The same, where somebody may be cut: the keys of those who hear contend bit by bit.
+// out of line, since most rounds have no cuts; one that nobody hears, as each session's last, makes no room for keys
+#[inline(never)]
+fn read_cut(devices: &Devices, cuts: &Cuts) -> Option<Contested>
     ensures contest { (st : State) → st.devices ≡ devices.now → MatchOption result (AllHearersLost st (lost_by cuts.now 0)) (λ read. IsContest st cuts.now read.bits read.acknowledged) }
     ensures takers { IfSome result (λ read. AreTakers cuts.now devices.now read.bits read.takers) }
     ensures ranged { IfSome result (λ _. HearersAreRanged devices.now) }
