@@ -62,7 +62,11 @@ pub fn read_mark(alloc: Global, line: &[u8]) -> Result<Option<Mark>, AllocError>
 fn split_words(alloc: Global, line: &[u8]) -> Result<Vec<&[u8]>, AllocError>
     ensures { IfOk result (λ words. texts words.items ≡ tokens line.now) }
 {
-    line.split(|byte| *byte == SPACE).collect(alloc)
+    let mut words = Vec::new(alloc);
+    // room for all of them at once, so that a refusal is told, where `collect` would do with less
+    words.reserve(line.len() + 1)?;
+    words.extend(line.split(|byte| *byte == SPACE))?;
+    Ok(words)
 }
 
 /// The mark that some words are, if they have its form.

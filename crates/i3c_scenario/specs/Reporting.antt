@@ -10,7 +10,7 @@ use Rattle.i3c_shared.specs.Closing.{AreWaiting}
 use Rattle.i3c_scenario.specs.declared.report.StressReport.{StressReport}
 use Rattle.i3c_scenario.specs.Counting.{accepted_in, refused_in}
 
--- the frames of one session: its opening, one to sixteen rounds, and its end
+-- the frames of one session: its opening, one to sixty-four rounds, and its end
 abbrev pub IsOneSession : ℕ → Type 0
 IsOneSession frames = (3 ≤ frames) × (frames ≤ SLOTS + 2)
 

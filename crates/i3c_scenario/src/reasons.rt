@@ -224,7 +224,7 @@ fn bus_reason(command: &Command, why: &BusRefusal) -> &'static str {
         BusRefusal::SessionOpen => "an assignment is open; send 'end' first",
         BusRefusal::NoSession => "no assignment is open; send 'open' first",
         BusRefusal::ActiveStays => active_stays_reason(command),
-        BusRefusal::SlotTaken => "all 16 slots are full",
+        BusRefusal::SlotTaken => "all 64 slots are full",
         BusRefusal::NoDevice => "the device is gone, or is a legacy target",
         BusRefusal::IsActive => is_active_reason(command),
         BusRefusal::NoAddress => no_address_reason(command),

@@ -17,7 +17,7 @@ use std::thread;
 use std::thread::{JoinHandle, Threads};
 
 /// How many devices there may be: one for each slot but the main controller's.
-pub const MOST_DEVICES: u8 = 15;
+pub const MOST_DEVICES: u8 = 63;
 
 /// How often each of them may try to post (this project's choice).
 pub const MOST_POSTS: u32 = 100_000;

@@ -307,11 +307,7 @@ impl Live {
         ensures taken { result ≡ self.old.cuts }
         ensures left { self.new ≡ record self.old { cuts = no_cuts } }
     {
-        if self.cuts.is_empty() {
-            Cuts::new()
-        } else {
-            mem::replace(&mut self.cuts, Cuts::new())
-        }
+        self.cuts.take()
     }
 
     /// The slot that a name stands for. Its device may be gone.

@@ -169,7 +169,7 @@ impl Running {
         let reply = self
             .bus
             .command(hand, frame, &mut policy, &mut self.wires, &self.cuts);
-        use_up(&mut self.cuts);
+        self.cuts.clear();
         tell(names, Subject::Nothing, &reply, text)
     }
 
@@ -306,11 +306,7 @@ impl Running {
         ensures taken { result ≡ self.old.cuts }
         ensures left { self.new ≡ record self.old { cuts = no_cuts } }
     {
-        if self.cuts.is_empty() {
-            Cuts::new()
-        } else {
-            mem::replace(&mut self.cuts, Cuts::new())
-        }
+        self.cuts.take()
     }
 
     /// `daa`: a whole session. The cuts that wait are its opening's.
@@ -326,7 +322,7 @@ impl Running {
             &self.cuts,
             text,
         );
-        use_up(&mut self.cuts);
+        self.cuts.clear();
         give(&mut self.hand, hand);
         outcome
     }
@@ -447,14 +443,5 @@ fn give(place: &mut Option<Hand>, hand: Hand)
     match mem::replace(place, Some(hand)) {
         None => {}
         Some(_) => unreachable!(),
-    }
-}
-
-/// No cut waits from now on.
-fn use_up(cuts: &mut Cuts)
-    ensures none { cuts.new ≡ no_cuts }
-{
-    if !cuts.is_empty() {
-        *cuts = Cuts::new();
     }
 }

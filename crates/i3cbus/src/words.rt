@@ -621,7 +621,7 @@ fn devices_argument<'a>(alloc: Global) -> Arg<'a> {
         .long(DEVICES)
         .required(true)
         .value_name("N")
-        .help("How many devices post, 1 to 15")
+        .help("How many devices post, 1 to 63")
         .value_parser(value_parser!(u8).range(1..=i64::from(MOST_DEVICES)))
 }
 

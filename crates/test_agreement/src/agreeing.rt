@@ -1,5 +1,5 @@
 use crate::course::{Plainly, Ran, on_bus, on_plain, slots};
-use crate::cutting::{Place, cuts_of};
+use crate::cutting::{Bits, Place, cuts_of};
 use crate::faults::Fault;
 use crate::script::{KNOWN, Script};
 use i3c_base::{Answer, Cuts, Record, RoundReply, Served};
@@ -160,8 +160,8 @@ fn has_cuts(event: &mut Event) -> bool {
     }
 }
 
-/// Runs the script as it stands, and then each of its frames with each device cut at each bit.
-pub(crate) fn judge(alloc: Global, mut script: Script) -> Result<Verdict, Fault> {
+/// Runs the script as it stands, and then each of its frames with each device cut at these bits.
+pub(crate) fn judge(alloc: Global, mut script: Script, bits: Bits) -> Result<Verdict, Fault> {
     let mut verdict = Verdict {
         events: script.own,
         cuts: 0,
@@ -173,7 +173,7 @@ pub(crate) fn judge(alloc: Global, mut script: Script) -> Result<Verdict, Fault>
         verdict.disagreements.push(Disagreement::Event(at))?;
     }
     clear(&mut script);
-    each_frame(alloc, &mut script, &mut verdict)?;
+    each_frame(alloc, &mut script, bits, &mut verdict)?;
     Ok(verdict)
 }
 
@@ -217,11 +217,16 @@ fn clear(script: &mut Script) {
     }
 }
 
-fn each_frame(alloc: Global, script: &mut Script, verdict: &mut Verdict) -> Result<(), Fault> {
+fn each_frame(
+    alloc: Global,
+    script: &mut Script,
+    bits: Bits,
+    verdict: &mut Verdict,
+) -> Result<(), Fault> {
     let _ = KNOWN;
     let heard = all_heard(alloc, script.events.len())?;
     for at in 0..script.own {
-        one_frame(alloc, script, &heard, at, verdict)?;
+        one_frame(alloc, script, &heard, at, bits, verdict)?;
     }
     Ok(())
 }
@@ -231,11 +236,12 @@ fn one_frame(
     script: &mut Script,
     heard: &[Choice],
     at: usize,
+    bits: Bits,
     verdict: &mut Verdict,
 ) -> Result<(), Fault> {
     let before = on_plain(alloc, script, heard, at)?;
     match past(script, at, known(script, &before)) {
-        Some(last) => each_slot(alloc, script, &before, at, last, verdict),
+        Some(last) => each_slot(alloc, script, &before, at, last, bits, verdict),
         None => Ok(()),
     }
 }
@@ -246,6 +252,7 @@ fn each_slot(
     before: &Plainly,
     at: usize,
     last: u16,
+    bits: Bits,
     verdict: &mut Verdict,
 ) -> Result<(), Fault> {
     for slot in slots() {
@@ -257,7 +264,7 @@ fn each_slot(
                 bit: 0,
                 shared,
             };
-            each_bit(alloc, script, place, last, verdict)?;
+            each_bit(alloc, script, place, last, bits, verdict)?;
         }
     }
     Ok(())
@@ -268,10 +275,13 @@ fn each_bit(
     script: &mut Script,
     place: Place,
     last: u16,
+    bits: Bits,
     verdict: &mut Verdict,
 ) -> Result<(), Fault> {
     for bit in 0..=last {
-        one_cut(alloc, script, Place { bit, ..place }, verdict)?;
+        if bits.has(place.slot, bit) {
+            one_cut(alloc, script, Place { bit, ..place }, verdict)?;
+        }
     }
     Ok(())
 }

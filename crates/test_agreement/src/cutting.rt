@@ -3,6 +3,31 @@ use crate::script::Script;
 use i3c_base::{Cuts, Slot};
 use i3c_bus::{Event, Reply};
 
+/// Every how many bits `Bits::Sevenths` has one.
+const SEVEN: usize = 7;
+
+/// At which bits of a frame a device is cut.
+#[derive(Clone, Copy)]
+pub(crate) enum Bits {
+    /// At each of them.
+    Each,
+    /// At every seventh, from the remainder of the slot's number on. So seven neighbours are cut at each bit together.
+    Sevenths,
+    /// At none.
+    Own,
+}
+
+impl Bits {
+    /// Whether the device in a slot is cut at this bit.
+    pub fn has(self, slot: Slot, bit: u16) -> bool {
+        match self {
+            Bits::Each => true,
+            Bits::Sevenths => bit as usize % SEVEN == slot.index() % SEVEN,
+            Bits::Own => false,
+        }
+    }
+}
+
 /// A slot that is cut at a bit of the event of an index.
 #[derive(Clone, Copy, Debug)]
 pub(crate) struct Place {

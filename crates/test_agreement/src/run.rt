@@ -1,4 +1,5 @@
 use crate::agreeing::{Verdict, judge};
+use crate::cutting::Bits;
 use crate::faults::Fault;
 use crate::reader::read_script;
 use crate::script::Script;
@@ -16,6 +17,12 @@ const FAULT: u8 = 2;
 
 /// Prints the plain machine's replies in place of comparing it with the bus.
 const CHOICES: &str = "choices";
+
+/// Cuts at every seventh bit in place of each.
+const SEVENTHS: &str = "sevenths";
+
+/// Has the script's own cuts alone.
+const ALONE: &str = "alone";
 
 /// Runs the program, prints what it found, and gives its exit status.
 pub(crate) fn run<R: Env + Files + Print + Eprint + AllocGlobal>(rt: &R) -> u8 {
@@ -48,18 +55,20 @@ fn asked<R: Files + Print + AllocGlobal>(
     second: &Option<String>,
 ) -> Result<u8, Fault> {
     match second {
-        None => compared(rt, first),
+        None => compared(rt, first, Bits::Each),
         Some(file) if first == CHOICES => chosen(rt, file),
+        Some(file) if first == SEVENTHS => compared(rt, file, Bits::Sevenths),
+        Some(file) if first == ALONE => compared(rt, file, Bits::Own),
         Some(_) => Err(Fault::Usage),
     }
 }
 
-/// Compares both machines on the script of a file, if it has a bus.
-fn compared<R: Files + Print + AllocGlobal>(rt: &R, file: &str) -> Result<u8, Fault> {
+/// Compares both machines on the script of a file, if it has a bus, with cuts at these bits.
+fn compared<R: Files + Print + AllocGlobal>(rt: &R, file: &str, bits: Bits) -> Result<u8, Fault> {
     let Some(script) = script_of(rt, file)? else {
         return Ok(AGREE);
     };
-    let verdict = judge(rt.alloc(), script)?;
+    let verdict = judge(rt.alloc(), script, bits)?;
     tell(rt, &verdict)?;
     Ok(if verdict.disagreements.is_empty() {
         AGREE

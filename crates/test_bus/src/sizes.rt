@@ -6,15 +6,15 @@ use std::mem::size_of;
 // Runs are kept by the million. Cuts have two bytes for each slot, the bit at which it is cut, and a word that tells which
 // slots are cut.
 #[test]
-fn cuts_are_40_bytes(rt: HostRuntime) {
-    same(&rt, size_of::<Cuts>(), 40);
+fn cuts_are_136_bytes(rt: HostRuntime) {
+    same(&rt, size_of::<Cuts>(), 136);
 }
 
 // The largest event is a write: its address and policy, seventeen bytes with their number, which takes eight, and cuts,
 // which are aligned to eight.
 #[test]
-fn an_event_is_88_bytes(rt: HostRuntime) {
-    same(&rt, size_of::<Event>(), 88);
+fn an_event_is_184_bytes(rt: HostRuntime) {
+    same(&rt, size_of::<Event>(), 184);
 }
 
 // The largest reply is that of a read: what was served, with a record's number of eight bytes, and sixteen bytes.
@@ -23,13 +23,13 @@ fn a_reply_is_48_bytes(rt: HostRuntime) {
     same(&rt, size_of::<Reply>(), 48);
 }
 
-// A bus has sixteen devices with eight waiting interrupts each, nine marks, each a word with a bit for each slot, and a key
-// and a static address for each slot.
+// A bus has 64 devices with eight waiting interrupts each, nine marks, each a word with a bit for each slot, a key and the
+// address of an answer for each slot, and for each address a word of the slots that answer there.
 // Its table has thirteen bytes for each address, two of them for a static address and one for the order of known
 // identities, and three sets of addresses. It has a list of all addresses, sixteen declared identities of 24 bytes with a byte
 // for each address that tells where its identity may stand, and legacy targets with sixteen registers. All is inline, so
 // that a frame wants no memory but for a record.
 #[test]
-fn a_bus_is_6704_bytes(rt: HostRuntime) {
-    same(&rt, size_of::<Bus>(), 6704);
+fn a_bus_is_17424_bytes(rt: HostRuntime) {
+    same(&rt, size_of::<Bus>(), 17424);
 }

@@ -8,4 +8,4 @@ returns g c =
     let at = c.self.inside in
     let reply = c.command-reply.result in
     let carried = carried_asked c.args.frame.now at.bus c.command-reply.new.self at.policy c.command-reply.new.policy at.cuts reply c.in-Some.hand _ c.command-reply.ensures.asks c.command-reply.ensures.carried in
-    rw (← c.self.view_is) (sent at.bus.state c.command-reply.new.self.state at.policy at.cuts c.use_up.new.cuts at.wires c.command-reply.new.tap at.ended.items c.args.names.now c.args.frame.now reply c.args.text.now c.tell.new.text c.tell.result c.use_up.ensures.none carried.step carried.told c.tell.ensures)
+    rw (← c.self.view_is) (sent at.bus.state c.command-reply.new.self.state at.policy at.cuts c.clear.new.self at.wires c.command-reply.new.tap at.ended.items c.args.names.now c.args.frame.now reply c.args.text.now c.tell.new.text c.tell.result c.clear.ensures.none carried.step carried.told c.tell.ensures)
