@@ -13,7 +13,7 @@
 #include <stdint.h>
 
 enum {
-    DASKREYF_SLOTS = 16,         /* places for devices, the main controller's counted */
+    DASKREYF_SLOTS = 64,         /* places for devices, the main controller's counted */
     DASKREYF_LEGACIES = 16,      /* legacy I2C targets at most */
     DASKREYF_REGISTERS = 16,     /* registers of a device, and bytes of one transfer at most */
     DASKREYF_NAME = 16,          /* letters of a name at most */

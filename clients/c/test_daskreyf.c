@@ -182,6 +182,34 @@ static void test_static_addresses(const char *program)
     CHECK(daskreyf_close(bus) == 1);
 }
 
+static void test_all_slots(const char *program)
+{
+    enum { DEVICES = DASKREYF_SLOTS - 1 };
+    struct daskreyf *bus = daskreyf_start(program);
+    struct daskreyf_identity identity = target;
+    struct daskreyf_assigned assigned[DEVICES];
+    struct daskreyf_state state;
+    char name[DASKREYF_NAME + 1];
+    unsigned slot = 0;
+    size_t count = 0;
+
+    CHECK(bus && daskreyf_main(bus, "hub", &hub) == DASKREYF_OK);
+    if (!bus)
+        return;
+    for (unsigned number = 1; number <= DEVICES; number++) {
+        snprintf(name, sizeof name, "d%u", number);
+        identity.pid = target.pid + number;
+        CHECK(daskreyf_attach(bus, name, &identity, &slot) == DASKREYF_OK && slot == number);
+    }
+    CHECK(daskreyf_attach(bus, "more", &target, NULL) == DASKREYF_SLOT_TAKEN);
+    CHECK(daskreyf_daa(bus, assigned, DEVICES, &count) == DASKREYF_OK && count == DEVICES);
+    CHECK(assigned[DEVICES - 1].address == 0x48 && assigned[DEVICES - 1].pid == target.pid + DEVICES);
+    CHECK(daskreyf_show(bus, &state) == DASKREYF_OK && state.device_count == DASKREYF_SLOTS);
+    CHECK(!strcmp(state.devices[DEVICES].name, "d63") && state.devices[DEVICES].address == 0x48);
+    CHECK(state.legacy_count == 0 && state.record_count == 0);
+    CHECK(daskreyf_close(bus) == 1);
+}
+
 static void test_the_end(const char *program)
 {
     struct daskreyf *bus = daskreyf_start(program);
@@ -210,6 +238,7 @@ int main(int count, char **words)
     test_lines(bus);
     CHECK(daskreyf_close(bus) == 1);
     test_static_addresses(program);
+    test_all_slots(program);
     test_the_end(program);
     puts(failures ? "test_daskreyf: FAILED" : "test_daskreyf: ok");
     return failures > 0;

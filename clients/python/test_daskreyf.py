@@ -117,6 +117,18 @@ class LinesTest(unittest.TestCase):
         with self.assertRaises(daskreyf.TooManyDeclared):
             self.bus.declare(0x30, 16, 0x06, 0x44)
 
+    def test_all_slots_have_a_device(self) -> None:
+        with_hub(self.bus)
+        devices = [self.bus.attach(f"d{number}", number, 0x06, 0x44) for number in range(1, 64)]
+        with self.assertRaises(daskreyf.SlotTaken):
+            self.bus.attach("more", 64, 0x06, 0x44)
+        self.bus.daa()
+        self.assertEqual(devices[52].address, 0x3D)
+        self.assertEqual(devices[62].address, 0x48)
+        self.assertEqual(len(self.bus.show().devices), 64)
+        devices[62].raise_interrupt(0x3F)
+        self.assertEqual(self.bus.serve(), Record(1, 63, 1, 0x48, 0x3F))
+
     def test_kinds_resets_and_lists(self) -> None:
         with_hub(self.bus)
         target = with_target(self.bus)
