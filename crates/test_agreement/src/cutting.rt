@@ -13,8 +13,6 @@ pub(crate) enum Bits {
     Each,
     /// At every seventh, from the remainder of the slot's number on. So seven neighbours are cut at each bit together.
     Sevenths,
-    /// At none.
-    Own,
 }
 
 impl Bits {
@@ -23,7 +21,6 @@ impl Bits {
         match self {
             Bits::Each => true,
             Bits::Sevenths => bit as usize % SEVEN == slot.index() % SEVEN,
-            Bits::Own => false,
         }
     }
 }

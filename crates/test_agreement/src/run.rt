@@ -21,9 +21,6 @@ const CHOICES: &str = "choices";
 /// Cuts at every seventh bit in place of each.
 const SEVENTHS: &str = "sevenths";
 
-/// Has the script's own cuts alone.
-const ALONE: &str = "alone";
-
 /// Runs the program, prints what it found, and gives its exit status.
 pub(crate) fn run<R: Env + Files + Print + Eprint + AllocGlobal>(rt: &R) -> u8 {
     match done(rt) {
@@ -58,7 +55,6 @@ fn asked<R: Files + Print + AllocGlobal>(
         None => compared(rt, first, Bits::Each),
         Some(file) if first == CHOICES => chosen(rt, file),
         Some(file) if first == SEVENTHS => compared(rt, file, Bits::Sevenths),
-        Some(file) if first == ALONE => compared(rt, file, Bits::Own),
         Some(_) => Err(Fault::Usage),
     }
 }
