@@ -5,3 +5,4 @@ pub mod ClaimLaws
 pub mod MarkLaws
 pub mod Meaning
 pub mod PrintedMarks
+pub mod CountLaws
