@@ -1,7 +1,7 @@
 -- The books after a call: they are the active slot, whether a session is open, and the number of frames.
-use Rattle.std.proofs.Common.{◌≡◌, ◌≢◌, Result, Ok, Err, MatchResult, Option, Some, None, MatchOption, ℕ, ◌+◌, ◌≤◌, Bool, true, false, cond, List, [], ◌∷◌, ◌++◌, length, refl, sym, ap, ◌∙◌, subst, arith}
+use Rattle.std.proofs.Common.{◌≡◌, ◌≢◌, Result, Ok, Err, MatchResult, Option, Some, None, MatchOption, ℕ, ◌+◌, Bool, true, false, cond, List, [], ◌∷◌, ◌++◌, length, refl, sym, ap, ◌∙◌, subst, arith}
 use Rattle.std.specs.Prelude.{⊤}
-use Rattle.std.proofs.lemmas.List.Sums.{count_by-le-length, sum_by-append, sum_by_push}
+use Rattle.std.proofs.lemmas.List.Sums.{sum_by-append, sum_by_push}
 use Rattle.i3c_base.specs.declared.device.Setup.{Setup}
 use Rattle.i3c_base.specs.declared.requests.Fixed.{Fixed}
 use Rattle.i3c_base.specs.declared.requests.Served.{Served}
@@ -18,7 +18,7 @@ use Rattle.i3c_step.proofs.SlotLaws.{slots_kept}
 use Rattle.i3c_step.proofs.Slots.{Stands, Stands-same, Stands-then}
 use Rattle.i3c_recorder.specs.declared.entry.Entry.{Entry}
 use Rattle.i3c_recorder.specs.KeptRuns.{Leads, events_of}
-use Rattle.i3c_shared.specs.Books.{IsHeld, book_frame, books_of, frames_in, is_frame, sessions_in, shares_of}
+use Rattle.i3c_shared.specs.Books.{book_frame, books_of, frames_in, is_frame, sessions_in, shares_of}
 use Rattle.i3c_shared.specs.declared.faults.HandOverFault.{HandOverFault}
 use Rattle.i3c_shared.specs.Closing.{IsCounted}
 use Rattle.i3c_shared.specs.Replying.{IsUnhanded}

@@ -13,7 +13,7 @@ use Rattle.i3c_recorder.specs.declared.entry.Entry.{Entry}
 use Rattle.i3c_shared.specs.declared.port.TheConstants.{POSTS}
 use Rattle.i3c_recorder.specs.KeptRuns.{events_of}
 use Rattle.i3c_shared.specs.Raises.{next_raises, raised_at, raises_from, raises_of}
-use Rattle.i3c_shared.specs.Rings.{AllDrained, AllLooked, Fits, HasDrained, HasLooked, known_of, put_out, raises_at, raises_below, raises_in, ring_at, taken_in}
+use Rattle.i3c_shared.specs.Rings.{AllDrained, Fits, HasDrained, known_of, put_out, raises_at, raises_below, raises_in, ring_at, taken_in}
 use Rattle.i3c_shared.specs.Taking.{IsOther}
 use Rattle.i3c_shared.specs.Values.{Reading, Rings}
 

@@ -1,9 +1,8 @@
 -- A call that looks, takes up, and makes its event.
-use Rattle.std.proofs.Common.{◌≡◌, ℕ, ◌++◌, List, true, false, ap, refl, ◌∙◌, subst, sym}
+use Rattle.std.proofs.Common.{◌≡◌, ℕ, ◌++◌, List, true, false, ap, refl, ◌∙◌, subst}
 use Rattle.rtrb.specs.Ring.{sent}
 use Rattle.i3c_base.specs.State.{State}
 use Rattle.i3c_step.specs.declared.events.Event.{Event}
-use Rattle.i3c_step.specs.declared.replies.Refusal.{Refusal}
 use Rattle.i3c_step.specs.declared.replies.Reply.{Reply}
 use Rattle.i3c_recorder.specs.declared.entry.Entry.{Entry}
 use Rattle.i3c_recorder.specs.KeptRuns.{Leads}

@@ -1,9 +1,10 @@
-use Rattle.std.proofs.Common.{◌≡◌, ◌<◌, ◌≤◌, rules, arith, sym, ◌∙◌, length, get_or}
+use Rattle.std.proofs.Common.{◌≡◌, ◌<◌, ◌≤◌, rules, arith, subst, sym, ◌∙◌, length, get_or}
 use Rattle.std.specs.Prelude.{None}
 use Rattle.std.proofs.lemmas.List.{get_or_default}
 use Rattle.std.proofs.lemmas.Grind.{common_steps}
 use Rattle.i3c_shared.specs.declared.port.TheConstants.{POSTS}
-use Rattle.i3c_shared.specs.Rings.{known_of, ring_at}
+use Rattle.i3c_shared.specs.Rings.{known_of, raises_below, raises_in, ring_at}
+use Rattle.i3c_shared.specs.Taking.{Adds}
 use Rattle.i3c_shared.proofs.Taken.{adds_at}
 use Rattle.i3c_shared.proofs.intake.drain.Goals as goal
 
@@ -22,3 +23,9 @@ loop-ring-preserved c =
       adds = adds_at i c.from_index.result c.deref_mut-ring-items.result.now (get_or c.loop-ring.ring-items i c.ring-item.result) _ _ _ (c.from_index.ensures ∙ c.loop-ring.invariant.at) here c.loop-ring.invariant.adds c.drain_one.ensures.added;
       spare = omega (arith, c.drain_one.ensures.spare, few, c.loop-ring.invariant.spare);
     }
+
+pub returns-clause-added : goal.returns-clause-added
+returns-clause-added c =
+    let all : c.loop-ring.ring-index ≡ length c.deref_mut-ring-items.result.now = omega (arith, c.loop-ring.auto.ring-index-end, c.loop-ring-test.false) in
+    subst (λ rings. Adds c.args.recorder.now (raises_in rings) c.loop-ring.recorder) c.deref_mut-ring-items.ensures.value
+    (subst (λ n. Adds c.args.recorder.now (raises_below n c.deref_mut-ring-items.result.now) c.loop-ring.recorder) all c.loop-ring.invariant.adds)
