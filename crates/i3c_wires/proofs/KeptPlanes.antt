@@ -251,8 +251,8 @@ contest_last numbers among bits still fits h = record {
     lost : (s : ℕ) → s < 64 → bit_at among s ≡ 1 → bit_at still s ≢ 1 → bits < slice_index numbers s
     lost s l one out = omega (arith, held.lost s l one (omega (arith, out, bit_at-lt still s)), div-one (slice_index numbers s), div-one bits)
 
-pub nobody_among : (among : ℕ) → among ≡ 0 → IsNobody among
-nobody_among among e s l = ne_eqb _ _ (λ one. absurd (omega (arith, one, ap (λ m. bit_at m s) e ∙ bit_at-zero s)))
+pub IsNobody-empty : (among : ℕ) → among ≡ 0 → IsNobody among
+IsNobody-empty among e s l = ne_eqb _ _ (λ one. absurd (omega (arith, one, ap (λ m. bit_at m s) e ∙ bit_at-zero s)))
 
 -- ---- no numbers yet
 
@@ -280,8 +280,8 @@ pub record Flipping (old now : List ℕ) (diff rest index : ℕ) : Type 0 where
   pub due : (b : ℕ) → b < 64 → bit_at rest b ≡ 1 → (bit_at (slice_index now b) index ≡ bit_at (slice_index old b) index) × (bit_at diff b ≡ 1)
   pub done : (b : ℕ) → b < 64 → bit_at rest b ≡ 0 → bit_at (slice_index now b) index ≡ (bit_at (slice_index old b) index + bit_at diff b) % 2
 
-pub flipping_none : (old : List ℕ) (diff index : ℕ) → Flipping old old diff diff index
-flipping_none old diff index = record {
+pub Flipping-none : (old : List ℕ) (diff index : ℕ) → Flipping old old diff diff index
+Flipping-none old diff index = record {
   long = refl;
   other = λ b s l ne. refl;
   due = λ b l e. (refl, e);
