@@ -91,6 +91,7 @@ impl Bus {
     /// A bus with its main controller, in slot 0 at the least pickable address, beside these legacy targets and with these
     /// declared static addresses.
     /// It answers `NotCapable` where the main device's BCR isn't a controller's.
+    #[inline(always)]
     pub fn new(alloc: Global, main: Setup, legacies: Legacies) -> Result<(Bus, Role), StartFault>
         ensures capable { IsOk result ↔ (is_capable main.identity.bcr ≡ true) }
         ensures start { IfOk result (λ made. IsStart main legacies made.0.state) }

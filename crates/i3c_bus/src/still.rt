@@ -1,10 +1,10 @@
-ghost use Rattle.std.specs.Prelude.{◌≡◌, ◌↔◌, IfOk, IsTrue, OnErr, OnOk};
+ghost use Rattle.std.specs.Prelude.{◌≡◌, ◌↔◌, IfOk, IsTrue, MatchOption, OnErr, OnOk};
 
 use crate::bus::Bus;
 use crate::tokens::Hand;
 use i3c_base::{Record, SLOTS, Slot};
 use i3c_deftgts::List;
-use i3c_device::Devices;
+use i3c_device::{Devices, Resting};
 use i3c_handoff::{Active, retire};
 use i3c_legacy::LegacyTargets;
 use i3c_step::OutOfMemory;
@@ -19,7 +19,7 @@ use std::mem;
 /// Clauses see the state of the bus.
 #[derive(Drop)]
 pub struct Still {
-    devices: Devices,
+    devices: Resting,
     raised: [u64; SLOTS],
     active: Slot,
     table: Table,
@@ -46,39 +46,25 @@ impl Bus {
     ghost use Rattle.i3c_bus.specs.Hands.{HandFits};
 
     /// The bus at rest. It takes the role or session that is of it.
-    pub fn rest(self, hand: Hand) -> Still
+    ///
+    /// # Errors
+    ///
+    /// There is no memory for it.
+    pub fn rest(self, alloc: Global, hand: Hand) -> Result<Still, OutOfMemory>
         requires { HandFits hand self.state }
-        ensures { result ≡ self.state }
+        ensures { IfOk result (λ still. still ≡ self.state) }
     {
-        let Bus {
-            devices,
-            raised,
-            active,
-            table,
-            list,
-            legacy,
-            in_session,
-            records,
-        } = self;
-        let slot = active.slot();
-        retire(active, hand.into_role());
-        Still {
-            devices,
-            raised,
-            active: slot,
-            table,
-            list,
-            legacy,
-            in_session,
-            records,
-        }
+        let still = Still::seen(alloc, &self);
+        let _records = self.retire(hand);
+        still
     }
 
     /// A number that equal states have in common. Others can have it too: it is no more than a hint where to look first.
     #[inline(never)]
     pub fn key(&self) -> u64 {
         let mut key = mixed(self.records.len() as u64, self.active.slot().index() as u64);
-        for index in 0..SLOTS {
+        let mut left = self.devices.present();
+        while let Some(index) = left.take_lowest() {
             let slot = Slot::from_index(index);
             let address = match self.devices.address(slot) {
                 Some(address) => address.get(),
@@ -109,9 +95,11 @@ impl Still {
         let Ok(records) = records_again(alloc, &self.records) else {
             return Err(OutOfMemory);
         };
+        let mut devices = Devices::new();
+        devices.wake(&self.devices);
         let (active, role) = Active::new(self.active);
         let bus = Bus {
-            devices: self.devices.copied(),
+            devices,
             raised: self.raised,
             active,
             table: self.table.copied(),
@@ -146,7 +134,7 @@ impl Still {
         };
         let (holder, role) = Active::new(self.active);
         retire(mem::replace(&mut bus.active, holder), hand.into_role());
-        bus.devices.copy_from(&self.devices);
+        bus.devices.wake(&self.devices);
         bus.raised = self.raised;
         bus.table.copy_from(&self.table);
         copy_list(&mut bus.list, &self.list);
@@ -164,11 +152,28 @@ impl Still {
     pub fn of(alloc: Global, bus: &Bus) -> Result<Box<Still>, OutOfMemory>
         ensures { IfOk result (λ still. still.value ≡ bus.now.state) }
     {
+        let Ok(still) = Still::seen(alloc, bus) else {
+            return Err(OutOfMemory);
+        };
+        match Box::new(alloc, still) {
+            Ok(still) => Ok(still),
+            Err(_) => Err(OutOfMemory),
+        }
+    }
+
+    // The same, wherever it is to stand.
+    #[inline(always)]
+    fn seen(alloc: Global, bus: &Bus) -> Result<Still, OutOfMemory>
+        ensures { IfOk result (λ still. still ≡ bus.now.state) }
+    {
         let Ok(records) = records_again(alloc, &bus.records) else {
             return Err(OutOfMemory);
         };
-        let still = Still {
-            devices: bus.devices.copied(),
+        let Ok(devices) = Resting::of(alloc, &bus.devices) else {
+            return Err(OutOfMemory);
+        };
+        Ok(Still {
+            devices,
             raised: bus.raised,
             active: bus.active.slot(),
             table: bus.table.copied(),
@@ -176,11 +181,7 @@ impl Still {
             legacy: bus.legacy.copied(),
             in_session: bus.in_session,
             records,
-        };
-        match Box::new(alloc, still) {
-            Ok(still) => Ok(still),
-            Err(_) => Err(OutOfMemory),
-        }
+        })
     }
 
     /// It comes to the state of a bus.
@@ -193,11 +194,16 @@ impl Still {
         ensures copied { OnOk result (self.new ≡ bus.now.state) }
         ensures kept { OnErr result (self.new ≡ self.old) }
     {
-        let Ok(()) = copy_records(alloc, &mut self.records, &bus.records) else {
+        let Ok(records) = other_records(alloc, &self.records, &bus.records) else {
             return Err(OutOfMemory);
         };
+        let Ok(()) = self.devices.copy_from(&bus.devices) else {
+            return Err(OutOfMemory);
+        };
+        if let Some(records) = records {
+            self.records = records;
+        }
         self.active = bus.active.slot();
-        self.devices.copy_from(&bus.devices);
         self.raised = bus.raised;
         self.table.copy_from(&bus.table);
         copy_list(&mut self.list, &bus.list);
@@ -261,7 +267,7 @@ impl Still {
             && self.in_session == bus.in_session
             && self.raised == bus.raised
             && are_same(&self.records, &bus.records)
-            && self.devices.is_same(&bus.devices)
+            && self.devices.is_of(&bus.devices)
     }
 
     // The same of its controller, and of the legacy targets.
@@ -295,11 +301,24 @@ fn copy_records(
     ensures copied { OnOk result (records.new.items ≡ others.now.items) }
     ensures kept { OnErr result (records.new ≡ records.old) }
 {
-    if are_same(records, others) {
-        return Ok(());
+    if let Some(copy) = other_records(alloc, records, others)? {
+        *records = copy;
     }
-    *records = records_again(alloc, others)?;
     Ok(())
+}
+
+/// Others once more, unless these are the same.
+fn other_records(
+    alloc: Global,
+    records: &Vec<Record>,
+    others: &Vec<Record>,
+) -> Result<Option<Vec<Record>>, AllocError>
+    ensures { IfOk result (λ copy. MatchOption copy (records.now.items ≡ others.now.items) (λ copy. copy.items ≡ others.now.items)) }
+{
+    if are_same(records, others) {
+        return Ok(None);
+    }
+    Ok(Some(records_again(alloc, others)?))
 }
 
 /// A list becomes the same as another one.

@@ -14,3 +14,4 @@ pub mod ReadLaws
 pub mod SameLaws
 pub mod AnsweringLaws
 pub mod LeastLaws
+pub mod KeepLaws

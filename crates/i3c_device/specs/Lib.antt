@@ -12,3 +12,4 @@ pub mod Holding
 pub mod Reading
 pub mod Answering
 pub mod Least
+pub mod Keeping

@@ -21,6 +21,7 @@ impl Answering {
     ghost use Rattle.i3c_device.specs.declared.answering.TheConstants.{NOWHERE as NO_ADDRESS};
 
     /// No slot has an address.
+    #[inline(always)]
     pub(crate) fn new() -> Answering
         ensures none { result.addresses ≡ replicate SLOT_COUNT NO_ADDRESS }
         ensures found { AreFound result }

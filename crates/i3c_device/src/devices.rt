@@ -4,6 +4,7 @@ use crate::enabled::Enabled;
 use crate::kinds::named;
 use crate::occupants::Occupants;
 use crate::places::{address_in, byte_in, front_in, identity_in, waiting_in};
+use crate::resting::Resting;
 use crate::sets::{SlotSet, lost_slots};
 use crate::walks::{
     Accepted, Ended, FrontLost, JoinWished, Lost, Opened, Readdressed, Reset, RoleLost, RoleWished,
@@ -23,9 +24,9 @@ use std::marker::Model;
 /// Clauses see a place for each slot. Which slot is the active controller's is told to the calls that depend on it.
 #[derive(Drop)]
 pub struct Devices {
-    occupants: Occupants,
+    pub(crate) occupants: Occupants,
     // a word for each kind, so that a command to all changes three words
-    enabled: Enabled,
+    pub(crate) enabled: Enabled,
 }
 
 impl Model for Devices {
@@ -57,6 +58,7 @@ impl Devices {
     ghost use Rattle.i3c_device.specs.Raising.{next_fault, with_raise, wishing_join, wishing_role};
 
     /// Empty slots.
+    #[inline(always)]
     pub fn new() -> Devices
         ensures { result ≡ no_devices }
     {
@@ -66,54 +68,16 @@ impl Devices {
         }
     }
 
-    /// The same devices once more.
-    pub fn copied(&self) -> Devices
-        ensures { result ≡ self.now }
+    /// They become these devices that rest.
+    pub fn wake(&mut self, resting: &Resting)
+        ensures { self.new ≡ resting.now }
     {
-        Devices {
-            occupants: self.occupants.copied(),
-            enabled: self.enabled,
-        }
-    }
-
-    /// They become the same devices as others, in place.
-    pub fn copy_from(&mut self, others: &Devices)
-        ensures { self.new ≡ others.now }
-    {
-        self.occupants.copy_from(&others.occupants);
-        self.enabled = others.enabled;
-    }
-
-    /// Whether the other devices are the same: each slot holds the same device in both, or no device in either.
-    pub fn is_same(&self, other: &Devices) -> bool
-        ensures { IsTrue result ↔ (self.now ≡ other.now) }
-    {
-        let mut left = self.present().or(other.present());
-        while let Some(index) = left.take_lowest() {
-            if !self.is_same_in(other, Slot::from_index(index)) {
-                return false;
-            }
-        }
-        true
-    }
-
-    /// Whether a slot holds the same device in both, with the same kinds of events enabled, or no device in either.
-    fn is_same_in(&self, other: &Devices, slot: Slot) -> bool
-        ensures { IsTrue result ↔ (slice_index_or self.now slot None ≡ slice_index_or other.now slot None) }
-    {
-        match (self.occupants.at(slot), other.occupants.at(slot)) {
-            (None, None) => true,
-            (Some(device), Some(twin)) => {
-                let index = slot.index();
-                device.is_same(twin) && self.enabled.at(index).are_same(other.enabled.at(index))
-            }
-            (None, Some(_)) => false,
-            (Some(_), None) => false,
-        }
+        self.occupants.wake(&resting.kept);
+        self.enabled = resting.enabled;
     }
 
     /// The slots that hold a device.
-    fn present(&self) -> SlotSet
+    pub fn present(&self) -> SlotSet
         ensures present { (s : ℕ) → s < SLOT_COUNT → has result s ≡ is_some (slice_index_or self.now s None) }
         ensures slots { length self.now ≡ SLOT_COUNT }
     {

@@ -8,15 +8,18 @@ mod device;
 mod devices;
 mod driven;
 mod enabled;
+mod kept;
 mod kinds;
 mod marks;
 mod occupants;
 mod own_kinds;
 mod places;
 mod queues;
+mod resting;
 mod sets;
 mod walks;
 
 pub use device::Device;
 pub use devices::Devices;
+pub use resting::Resting;
 pub use sets::SlotSet;

@@ -39,6 +39,7 @@ pub(crate) struct Marks {
 
 impl Marks {
     /// The marks of empty slots.
+    #[inline(always)]
     pub(crate) fn new() -> Marks
         ensures { AreMarks result no_devices }
     {

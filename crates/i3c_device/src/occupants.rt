@@ -1,6 +1,7 @@
 use crate::attached::Attached;
+use crate::kept::Kept;
 use crate::marks::Marks;
-use crate::places::{copied, copy_all, raise, register_from, wishes_interrupt};
+use crate::places::{raise, register_from, stands, wishes_interrupt};
 use crate::sets::SlotSet;
 use crate::walks::{SlotUpdate, Sought, happen_in};
 use i3c_base::{Addr7, Cuts, RaiseRefusal, SLOTS, Slot};
@@ -39,9 +40,10 @@ impl Occupants {
     ghost use Rattle.i3c_device.specs.Reading.{AreAt, IsRegisterOf};
     ghost use Rattle.i3c_device.specs.Sets.{has};
     ghost use Rattle.i3c_device.specs.Walks.{AreTakers};
-    ghost use Rattle.std.specs.Prelude.{◌≡◌, ◌<◌, ◌&&◌, ℕ, is_some, length, suc, true, Some, None, option_map, slice_index_or, slice_set, MatchOption, MatchResult, OnOk, OnErr};
+    ghost use Rattle.std.specs.Prelude.{◌≡◌, ◌<◌, ◌&&◌, ℕ, is_some, length, suc, true, Some, None, option_copied, option_map, slice_index_or, slice_set, MatchOption, MatchResult, OnOk, OnErr};
 
     /// Empty slots.
+    #[inline(always)]
     pub fn new() -> Occupants
         ensures { result ≡ no_devices }
     {
@@ -51,27 +53,29 @@ impl Occupants {
         }
     }
 
-    /// The same devices once more.
-    pub fn copied(&self) -> Occupants
-        ensures { result ≡ self.now }
+    /// They become the occupants that were kept.
+    pub fn wake(&mut self, kept: &Kept)
+        ensures { self.new ≡ kept.now }
     {
-        Occupants {
-            places: std::array::from_fn(
-                |index|
-                    requires { index < SLOT_COUNT }
-                    ensures { result ≡ slice_index_or self.entry.now index None }
-                { copied(&self.places[index]) },
-            ),
-            marks: self.marks,
+        let mut left = self.marks.present.or(kept.present());
+        while let Some(index) = left.take_lowest() {
+            let slot = Slot::from_index(index);
+            self.wake_at(slot, kept.at(slot));
         }
     }
 
-    /// They become the same devices as others.
-    pub fn copy_from(&mut self, others: &Occupants)
-        ensures { self.new ≡ others.now }
+    /// This device stands in a slot from now on, or nobody.
+    fn wake_at(&mut self, slot: Slot, device: Option<&Attached>)
+        ensures put { self.new ≡ slice_set self.old slot (option_copied device.entry) }
+        ensures slots { length self.old ≡ SLOT_COUNT }
     {
-        copy_all(&mut self.places, &others.places);
-        self.marks = others.marks;
+        let Some(device) = device else {
+            self.put(slot, None);
+            return;
+        };
+        if !stands(device, self.at(slot)) {
+            self.put(slot, Some(device.copied()));
+        }
     }
 
     /// How many slots there are.
@@ -81,6 +85,14 @@ impl Occupants {
     {
         let places = &self.places;
         places.len()
+    }
+
+    /// What stands in each slot.
+    pub fn places(&self) -> &[Option<Attached>]
+        ensures places { result.now ≡ self.now }
+        ensures slots { length self.now ≡ SLOT_COUNT }
+    {
+        &self.places
     }
 
     /// Whatever stands in a slot.

@@ -1,4 +1,4 @@
-ghost use Rattle.std.specs.Prelude.{◌≡◌, ◌≤◌, ◌<◌, ◌+◌, ◌^◌, ◌&&◌, ℕ, suc, true, false, Some, None, option_map, length, is_none, is_some, MatchResult, OnErr, OnOk};
+ghost use Rattle.std.specs.Prelude.{◌≡◌, ◌↔◌, IsTrue, ◌≤◌, ◌<◌, ◌+◌, ◌^◌, ◌&&◌, ℕ, suc, true, false, Some, None, option_map, length, is_none, is_some, MatchResult, OnErr, OnOk};
 ghost use Rattle.i3c_base.specs.declared.device.TheConstants.{REGISTERS as REGISTER_COUNT};
 ghost use Rattle.i3c_base.specs.declared.range.TheConstants.{SLOTS as SLOT_COUNT};
 ghost use Rattle.i3c_base.specs.Frames.{readdressed, unaddressed_device};
@@ -17,13 +17,13 @@ use crate::answering::NOWHERE;
 use crate::attached::Attached;
 use i3c_base::{Addr7, Identity, RaiseRefusal, Request, Slot, Waiting};
 
-/// The same place once more.
-pub(crate) fn copied(place: &Option<Attached>) -> Option<Attached>
-    ensures { result ≡ place.now }
+/// Whether this device stands here.
+pub(crate) fn stands(device: &Attached, place: &Option<Attached>) -> bool
+    ensures { IsTrue result ↔ (place.now ≡ Some device.now) }
 {
     match place {
-        Some(device) => Some(device.copied()),
-        None => None,
+        Some(held) => held.is_same(device),
+        None => false,
     }
 }
 

@@ -1,4 +1,4 @@
-ghost use Rattle.std.specs.Prelude.{◌≡◌, ◌<◌, ◌↔◌, ℕ, false, true, not, ◌&&◌, ◌||◌, ◌==◌, nat_le, if◌then◌else◌, IsTrue, MatchOption};
+ghost use Rattle.std.specs.Prelude.{◌≡◌, ◌<◌, ◌≤◌, ◌↔◌, ℕ, false, true, not, ◌&&◌, ◌||◌, ◌==◌, nat_le, if◌then◌else◌, IsTrue, MatchOption};
 ghost use Rattle.std.specs.List.{list_any};
 ghost use Rattle.i3c_base.specs.declared.range.TheConstants.{SLOTS as SLOT_COUNT};
 ghost use Rattle.i3c_base.specs.Cutting.{lost_by};
@@ -148,6 +148,19 @@ impl SlotSet {
         ensures { (s : ℕ) → has result s ≡ (is_so && has self s) }
     {
         if is_so { self } else { SlotSet::none() }
+    }
+
+    /// How many of the lowest slots there are up to its highest one.
+    pub(crate) fn span(self) -> usize
+        ensures most { result ≤ SLOT_COUNT }
+        ensures all { (s : ℕ) → s < SLOT_COUNT → result ≤ s → has self s ≡ false }
+    {
+        let mut span = 0;
+        let mut left = self;
+        while let Some(index) = left.take_lowest() {
+            span = index + 1;
+        }
+        span
     }
 
     /// Takes its lowest slot out of it, if there is one.

@@ -24,6 +24,7 @@ use std::io::{Read, Write};
 ///
 /// Each line has an answer, empty ones and comments too. Expectations and other marks of a script have no form here. The input may have any length. At its end an open session is
 /// ended, and the bus retired. Before a fault all answers went out, but to a writer that fails only a part of them.
+#[inline(never)]
 pub fn run_driven<R: Read, W: Write>(
     alloc: Global,
     reader: &mut R,

@@ -1,4 +1,4 @@
-ghost use Rattle.std.specs.Prelude.{ℕ, List, MatchOption, Option, IsNone, option_copied, ◌≡◌, ◌<◌, ◌^◌, ◌≤◌, ◌↔◌, ◌++◌, ◌∷◌, [], ◌-◌, All, IsTrue, IsSome, IfSome, ◌==◌, bit_and, length, position, take};
+ghost use Rattle.std.specs.Prelude.{ℕ, List, MatchOption, Option, IsNone, option_copied, ◌≡◌, ◌<◌, ◌^◌, ◌≤◌, ◌↔◌, ◌++◌, ◌∷◌, [], ◌-◌, All, IsTrue, IsSome, IfSome, ◌==◌, bit_and, drop, false, length, position, take};
 ghost use Rattle.std.specs.Str.Parse.{digits_value};
 ghost use Rattle.i3c_lines.specs.Words.{AreBytes, IsDecimal, IsDecimalDigit, IsHex, pair_values};
 ghost use Rattle.i3c_lines.specs.Parsing.{joined};
@@ -71,12 +71,30 @@ impl<'a> Tokens<'a> {
     }
 }
 
+/// Whether a text begins with these letters.
+// `starts_with` isn't put in line, and takes ten times as long for a word of four to eight letters
+#[inline(always)]
+fn begins(text: &[u8], start: &[u8]) -> bool
+    ensures begins { IsTrue result → text.now ≡ start.now ++ drop (length start.now) text.now }
+    ensures differs { result ≡ false → (rest : List ℕ) → text.now ≡ start.now ++ rest → ⊥ }
+{
+    if text.len() < start.len() {
+        return false;
+    }
+    for index in 0..start.len() {
+        if text[index] != start[index] {
+            return false;
+        }
+    }
+    true
+}
+
 /// What stands behind these letters, if a text begins with them.
 #[inline(always)]
 pub(crate) fn after<'a>(text: &'a [u8], start: &[u8]) -> Option<&'a [u8]>
     ensures { MatchOption result ((rest : List ℕ) → text.now ≡ start.now ++ rest → ⊥) (λ rest. text.now ≡ start.now ++ rest.now) }
 {
-    if text.starts_with(start) {
+    if begins(text, start) {
         Some(&text[start.len()..])
     } else {
         None
@@ -88,7 +106,7 @@ pub(crate) fn after<'a>(text: &'a [u8], start: &[u8]) -> Option<&'a [u8]>
 pub fn is_word(text: &[u8], word: &[u8]) -> bool
     ensures { IsTrue result ↔ (text.now ≡ word.now) }
 {
-    text.len() == word.len() && text.starts_with(word)
+    text.len() == word.len() && begins(text, word)
 }
 
 /// A first word of two bytes, and the line behind its space if there is one.

@@ -66,7 +66,7 @@ impl Drop for Live {
         let Some(hand) = hand else { unreachable!() };
         drop(cuts);
         drop(known);
-        drop(bus.rest(hand));
+        let _records = bus.retire(hand);
     }
 }
 

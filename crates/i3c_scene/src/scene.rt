@@ -66,18 +66,21 @@ impl Scene {
         ensures cuts { IfOk result (λ scene. scene.cuts ≡ no_cuts) }
         ensures names { IfOk result (λ scene. scene.names ≡ names.items) }
     {
-        match Bus::new(alloc, main, legacies) {
-            Ok((bus, role)) => match Box::new(alloc, bus.rest(Hand::Role(role))) {
-                Ok(still) => Ok(Scene {
-                    still,
-                    policy: ACCEPT_ALL,
-                    cuts: Cuts::new(),
-                    known: Known::new(names),
-                }),
-                Err(_) => Err(BeginFault::Memory),
-            },
-            Err(_) => Err(BeginFault::NotCapable),
-        }
+        let Ok((bus, role)) = Bus::new(alloc, main, legacies) else {
+            return Err(BeginFault::NotCapable);
+        };
+        let Ok(still) = bus.rest(alloc, Hand::Role(role)) else {
+            return Err(BeginFault::Memory);
+        };
+        let Ok(still) = Box::new(alloc, still) else {
+            return Err(BeginFault::Memory);
+        };
+        Ok(Scene {
+            still,
+            policy: ACCEPT_ALL,
+            cuts: Cuts::new(),
+            known: Known::new(names),
+        })
     }
 
     /// The same scene once more.

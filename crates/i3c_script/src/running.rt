@@ -67,6 +67,7 @@ impl Running {
     ghost use Rattle.i3c_lines.specs.Policies.{each_kind};
 
     /// A bus with this main controller, whose frames accept each request.
+    #[inline(always)]
     pub(crate) fn new(alloc: Global, main: Setup, legacies: Legacies, wires: Wires) -> Running
         requires capable { is_capable main.identity.bcr ≡ true }
         requires unused { wires ≡ [] }
@@ -405,6 +406,7 @@ impl Running {
     }
 
     /// Takes the bus apart. A session that is open ends so.
+    #[inline(always)]
     pub(crate) fn retire(self) {
         let Running {
             bus,

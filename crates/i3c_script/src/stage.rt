@@ -123,6 +123,7 @@ impl Stage {
     }
 
     /// Takes the bus apart, if there is one. A session that is open ends so.
+    #[inline(always)]
     pub fn retire(self) {
         match self {
             Stage::Before(_) => {}

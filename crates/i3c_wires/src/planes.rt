@@ -26,6 +26,7 @@ pub struct Won {
 
 impl Planes {
     /// Each slot's number is 0.
+    #[inline(always)]
     pub fn new() -> Planes
         ensures none { result.numbers ≡ replicate SLOT_COUNT 0 }
         ensures turned { AreTurned result }

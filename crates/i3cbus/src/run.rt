@@ -57,7 +57,7 @@ where
     R: Files + Input + Print + Eprint + AllocGlobal,
 {
     if file == STANDARD_INPUT {
-        return run_from(rt, work, &mut rt.reader());
+        return run_standard(rt, work);
     }
     match fs::open(rt, file) {
         Ok(mut input) => run_from(rt, work, &mut input),
@@ -65,7 +65,17 @@ where
     }
 }
 
+/// Does this with standard input.
+#[inline(never)]
+fn run_standard<R>(rt: &R, work: Work) -> Result<Tally, Fault>
+where
+    R: Files + Input + Print + Eprint + AllocGlobal,
+{
+    run_from(rt, work, &mut rt.reader())
+}
+
 /// Tells the symbols of a capture, of a file or of standard input.
+#[inline(never)]
 fn run_capture<R>(
     rt: &R,
     capturing: Capturing<'_>,
@@ -85,6 +95,7 @@ where
 }
 
 /// Explores a file, or standard input.
+#[inline(never)]
 fn run_exploration<R>(rt: &R, limits: Limits, file: &str) -> Result<Ending, Fault>
 where
     R: Files + Input + Print + AllocGlobal,
@@ -151,6 +162,7 @@ fn tell_from<R: Eprint + AllocGlobal, S: Read, W: Write>(
 }
 
 /// Tells the trace of a reader, and standard error why its lines are refused that are.
+#[inline(never)]
 fn explain_from<R: Eprint + AllocGlobal, S: Read, W: Write>(
     rt: &R,
     legacies: Option<Addresses>,
@@ -209,6 +221,7 @@ fn gathered(outcome: Result<Tally, ScriptFault>) -> Result<Tally, ScriptFault> {
 }
 
 /// Prints the waveform of a reader's trace.
+#[inline(never)]
 fn wave_from<R: Print + AllocGlobal, S: Read>(
     rt: &R,
     legacies: Addresses,
@@ -221,6 +234,7 @@ fn wave_from<R: Print + AllocGlobal, S: Read>(
 }
 
 /// Prints the waveform of a reader's script. What was printed is written out on a fault too.
+#[inline(never)]
 fn wave_script_from<R: Print + AllocGlobal, S: Read>(
     rt: &R,
     legacies: Addresses,
@@ -232,6 +246,7 @@ fn wave_script_from<R: Print + AllocGlobal, S: Read>(
 }
 
 /// Prints the picture of a reader's script.
+#[inline(never)]
 fn draw_from<R: Print + AllocGlobal, S: Read>(rt: &R, input: &mut S) -> Result<Tally, Fault> {
     let mut printed = io::writer(rt);
     let outcome = draw_script(rt.alloc(), input, &mut printed);
@@ -252,6 +267,7 @@ fn explore_from<R: Print + AllocGlobal, S: Read>(
 }
 
 /// Runs the script of a reader, and shows more of it.
+#[inline(never)]
 fn watch_from<R: Print + Eprint + AllocGlobal, S: Read>(
     rt: &R,
     watching: Watching,

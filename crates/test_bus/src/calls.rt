@@ -180,7 +180,7 @@ fn addresses_are_set(rt: HostRuntime) -> Result<(), Fail> {
 fn a_bus_at_rest_is_woken_twice(rt: HostRuntime) -> Result<(), Fail> {
     let (slot, mut accept) = (Slot::new(1)?, all(Verdict::Accept));
     let (bus, role) = interrupted(&rt, rt.alloc())?;
-    let still = bus.rest(Hand::Role(role));
+    let still = bus.rest(rt.alloc(), Hand::Role(role))?;
     let (mut one, hand) = still.wake(rt.alloc())?;
     let served = one.command(
         &hand,
@@ -190,14 +190,14 @@ fn a_bus_at_rest_is_woken_twice(rt: HostRuntime) -> Result<(), Fail> {
         &Cuts::new(),
     );
     let left = one.waiting(slot);
-    let later = one.rest(hand);
+    let later = one.rest(rt.alloc(), hand)?;
     let (mut other, hand) = still.wake(rt.alloc())?;
     let waiting = other.waiting(slot);
     let (hand, opened) = other.step(hand, &Event::OpenDaa(Cuts::new()), &mut Silent);
-    let open = other.rest(hand);
+    let open = other.rest(rt.alloc(), hand)?;
     let (again, hand) = open.wake(rt.alloc())?;
     let is_session = matches!(&hand, Hand::Session(_));
-    let once_more = again.rest(hand);
+    let once_more = again.rest(rt.alloc(), hand)?;
     same(&rt, served, Reply::Served(Served::Recorded(1)));
     same(&rt, opened, Reply::Opened(Served::Refused));
     same(&rt, (left, waiting), (0, 1));

@@ -1,0 +1,131 @@
+-- Places that are kept in short: each slot holds what is kept for it.
+use Rattle.std.proofs.Common.{◌≡◌, ℕ, zero, suc, ◌+◌, ◌<◌, ◌≤◌, ◌==◌, true, false, List, [], ◌∷◌, ◌++◌, get_or, set, length, length-set, take, Option, Some, None, is_some, option_map, Bool, Decides, inl, inr, refl, sym, ap, ◌∙◌, arith}
+use Rattle.std.proofs.lemmas.Bool.{both_ways, cases_eq, cases_lt, cond-true, eq-eqb}
+use Rattle.std.proofs.lemmas.List.{ext_get_or, get_or_default, get_or-set_other, get_or-set_same, get_or-take, length-take-le}
+use Rattle.i3c_base.specs.declared.range.TheConstants.{SLOTS}
+use Rattle.i3c_base.specs.Numbers.{KindSet}
+use Rattle.i3c_base.specs.State.{Device, in_slot, no_devices}
+use Rattle.i3c_base.proofs.Lookups.{length-changed, length-no_devices, no_devices_at}
+use Rattle.i3c_device.specs.declared.sets.SlotSet.{SlotSet}
+use Rattle.i3c_device.specs.declared.enabled.Enabled.{Enabled}
+use Rattle.i3c_device.specs.Enabling.{kinds_in, seen, seen_in, under}
+use Rattle.i3c_device.specs.Keeping.{unpacked}
+use Rattle.i3c_device.specs.Marks.{IsSetOf}
+use Rattle.i3c_device.specs.Sets.{has}
+use Rattle.i3c_device.proofs.EachLaws.{changed_in}
+use Rattle.i3c_device.proofs.FindLaws.{TakesOut, still_in}
+use Rattle.i3c_device.proofs.SameLaws.{AreSameBut, both_seen}
+use Rattle.i3c_device.proofs.SeenLaws.{length_seen}
+use Rattle.i3c_device.proofs.SeenWalks.{now_at}
+
+pub length-unpacked : (kept : List (Option Device)) → length (unpacked kept) ≡ SLOTS
+length-unpacked kept = length-changed (λ slot empty. get_or kept slot None) no_devices ∙ length-no_devices
+
+pub unpacked_at : (kept : List (Option Device)) (s : ℕ) → s < SLOTS → get_or (unpacked kept) s None ≡ get_or kept s None
+unpacked_at kept s l = changed_in (λ slot empty. get_or kept slot None) no_devices s (omega (arith, l, length-no_devices))
+
+-- places of which each holds what is kept for it
+pub unpacks : (kept places : List (Option Device)) → length places ≡ SLOTS → ((s : ℕ) → s < SLOTS → get_or kept s None ≡ get_or places s None) → unpacked kept ≡ places
+unpacks kept places long each =
+    ext_get_or None (unpacked kept) places (length-unpacked kept ∙ sym long)
+    (λ s l. let low : s < SLOTS = omega (arith, l, length-unpacked kept) in unpacked_at kept s low ∙ each s low)
+
+pub unpacks_nobody : (kept : List (Option Device)) → kept ≡ [] → unpacked kept ≡ no_devices
+unpacks_nobody kept none = unpacks kept no_devices length-no_devices (λ s l. ap (λ xs. get_or xs s None) none ∙ sym (no_devices_at s))
+
+-- two that keep the same
+pub unpack_alike : (kept more : List (Option Device)) → ((s : ℕ) → s < SLOTS → get_or kept s None ≡ get_or more s None) → unpacked kept ≡ unpacked more
+unpack_alike kept more each = unpacks kept (unpacked more) (length-unpacked more) (λ s l. each s l ∙ sym (unpacked_at more s l))
+
+-- what is read at an index
+pub read_at : (places : List (Option Device)) (i : ℕ) (place : Option Device) → i < length places → place ≡ get_or places i place → place ≡ get_or places i None
+read_at places i place l e = e ∙ get_or_default places i place None l
+
+-- nobody is kept beyond what is kept
+pub beyond : (places : List (Option Device)) (i : ℕ) → length places ≤ i → get_or places i None ≡ None
+beyond [] i l = refl
+beyond (x ∷ xs) zero l = absurd (omega (arith, l))
+beyond (x ∷ xs) (suc i) l = beyond xs i (omega (arith, l))
+
+-- an empty place more
+pub lengthened : (places more : List (Option Device)) → more ≡ places ++ None ∷ [] → (s : ℕ) → get_or more s None ≡ get_or places s None
+lengthened places more is s = ap (λ xs. get_or xs s None) is ∙ go places s
+  where
+    go : (xs : List (Option Device)) (s : ℕ) → get_or (xs ++ None ∷ []) s None ≡ get_or xs s None
+    go [] zero = refl
+    go [] (suc s) = refl
+    go (x ∷ xs) zero = refl
+    go (x ∷ xs) (suc s) = go xs s
+
+-- a slot more that holds what it is to hold
+pub woken_more : (left next : SlotSet) (i j : ℕ) (now others after : List (Option Device)) (place : Option Device) → length now ≡ SLOTS → AreSameBut left now others → TakesOut i left next → j ≡ i → i < SLOTS
+    → place ≡ get_or others j None → after ≡ set now j place → (length after ≡ SLOTS) × AreSameBut next after others
+woken_more left next i j now others after place long h out at low is put = (
+  ap length put ∙ (length-set now j place ∙ long),
+  λ s l gone. ap (λ xs. get_or xs s None) put ∙ elim (cases_eq s j) [
+    | inl e ↦ ap (λ k. get_or (set now j place) k None) e ∙ (get_or-set_same now j place None (omega (arith, at, low, long)) ∙ (is ∙ ap (λ k. get_or others k None) (sym e)))
+    | inr ne ↦ get_or-set_other now j s place None ne ∙ h s l (sym (still_in i left next out s l (λ e. ne (e ∙ sym at))) ∙ gone)
+  ],
+)
+
+-- a set that ends where another one does
+pub spanned : (i span : ℕ) (left next all : SlotSet) → i < SLOTS → has left i ≡ true → ((s : ℕ) → s < i → has left s ≡ false) → TakesOut i left next
+    → ((s : ℕ) → s < SLOTS → s < span → has left s ≡ false) → ((s : ℕ) → s < SLOTS → span ≤ s → has left s ≡ has all s)
+    → ((s : ℕ) → s < SLOTS → s < i + 1 → has next s ≡ false) × ((s : ℕ) → s < SLOTS → i + 1 ≤ s → has next s ≡ has all s)
+spanned i span left next all low there lowest out below above = (
+  λ s l before. elim (cases_eq s i) [
+    | inl e ↦ out s l ∙ cond-true (s == i) false (has left s) (eq-eqb s i e)
+    | inr ne ↦ still_in i left next out s l ne ∙ lowest s (omega (arith, before, ne))
+  ],
+  λ s l after. still_in i left next out s l (λ e. absurd (omega (arith, after, e))) ∙ above s l (elim (cases_lt i span) [ | inl l ↦ absurd (both_ways _ (below i low l) there) | inr h ↦ omega (arith, after, h) ]),
+)
+
+-- the front of some places, beyond which there is nobody
+front_at : (n : ℕ) (now : List (Option Device)) (present : SlotSet) → length now ≡ SLOTS → n ≤ SLOTS → IsSetOf (λ d. true) present now → ((s : ℕ) → s < SLOTS → n ≤ s → has present s ≡ false)
+    → (s : ℕ) → s < SLOTS → get_or (take n now) s None ≡ get_or now s None
+front_at n now present long few is none s l = elim (cases_lt s n) [
+  | inl before ↦ get_or-take n now s None before
+  | inr after ↦ beyond (take n now) s (omega (arith, after, length-take-le n now (omega (arith, few, long)))) ∙ sym (nobody (get_or now s None) (sym (is s l) ∙ none s l after))
+]
+  where
+    nobody : (o : Option Device) → in_slot (λ d. true) o ≡ false → o ≡ None
+    nobody None h = refl
+    nobody (Some d) h = absurd (both_ways _ h refl)
+
+pub fronted : (n : ℕ) (now front : List (Option Device)) (present : SlotSet) → length now ≡ SLOTS → n ≤ SLOTS → IsSetOf (λ d. true) present now → ((s : ℕ) → s < SLOTS → n ≤ s → has present s ≡ false) → front ≡ take n now
+    → (length front ≤ SLOTS) × ((s : ℕ) → s < SLOTS → has present s ≡ is_some (get_or front s None)) × (unpacked front ≡ now)
+fronted n now front present long few is none cut = (
+  omega (arith, ap length cut, length-take-le n now (omega (arith, few, long)), few),
+  λ s l. is s l ∙ (somebody (get_or now s None) ∙ ap is_some (sym (at s l))),
+  unpacks front now long at,
+)
+  where
+    at : (s : ℕ) → s < SLOTS → get_or front s None ≡ get_or now s None
+    at s l = ap (λ xs. get_or xs s None) cut ∙ front_at n now present long few is none s l
+
+    somebody : (o : Option Device) → in_slot (λ d. true) o ≡ is_some o
+    somebody None = refl
+    somebody (Some d) = refl
+
+-- whether anybody is there doesn't depend on the kinds with which devices are seen
+pub some_seen : (e : Enabled) (xs now : List (Option Device)) (s : ℕ) → seen e xs ≡ now → is_some (get_or xs s None) ≡ is_some (get_or now s None)
+some_seen e xs now s is = go (get_or xs s None) ∙ ap is_some (sym (now_at e xs now s is))
+  where
+    go : (o : Option Device) → is_some o ≡ is_some (seen_in e s o)
+    go None = refl
+    go (Some d) = refl
+
+pub length-seen_kept : (e : Enabled) (xs now : List (Option Device)) → seen e xs ≡ now → length xs ≡ SLOTS → length now ≡ SLOTS
+length-seen_kept e xs now is long = ap length (sym is) ∙ (length_seen e xs ∙ long)
+
+-- a test of what stands in a slot of both, with the kinds of the slot
+pub decided : (e more : Enabled) (xs ys now others : List (Option Device)) (s i : ℕ) (kinds twins : KindSet) (o p : Option Device) (b : Bool) → seen e xs ≡ now → seen more ys ≡ others → s ≡ i
+    → kinds ≡ kinds_in e i → twins ≡ kinds_in more i → o ≡ get_or xs s None → p ≡ get_or ys s None → Decides b (option_map (under kinds) o ≡ option_map (under twins) p) → Decides b (get_or now s None ≡ get_or others s None)
+decided e more xs ys now others s i kinds twins o p b is are at own its here there h =
+    both_seen e more xs ys now others s b is are (λ t. sym one ∙ (h.0 t ∙ two), λ same. h.1 (one ∙ (same ∙ sym two)))
+  where
+    one : option_map (under kinds) o ≡ seen_in e s (get_or xs s None)
+    one j = option_map (under ((own ∙ ap (kinds_in e) (sym at)) j)) (here j)
+
+    two : option_map (under twins) p ≡ seen_in more s (get_or ys s None)
+    two j = option_map (under ((its ∙ ap (kinds_in more) (sym at)) j)) (there j)

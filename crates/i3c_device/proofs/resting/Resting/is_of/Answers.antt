@@ -1,0 +1,39 @@
+-- The slots that aren't left hold the same in both.
+use Rattle.std.proofs.Common.{◌≡◌, ◌∙◌, Decides, ap, get_or, None, refl, sym}
+use Rattle.std.proofs.lemmas.Bool.{false≢true}
+use Rattle.std.specs.Option.{option_copied}
+use Rattle.i3c_device.specs.Enabling.{kinds_of}
+use Rattle.i3c_device.proofs.KeepLaws.{decided, length-seen_kept, some_seen}
+use Rattle.i3c_device.proofs.SameLaws.{same_all, same_empty, same_more}
+use Rattle.i3c_device.proofs.resting.Resting.is_of.Goals as goal
+use Rattle.i3c_device.proofs.resting.Resting.is_of.Goals.{After-are_same}
+
+is_decided : (c : After-are_same) → Decides c.are_same.result (get_or c.args.self.now c.from_index-slot.result None ≡ get_or c.args.devices.now c.from_index-slot.result None)
+is_decided c =
+    decided c.self.inside.enabled c.devices.inside.enabled c.self.inside.kept c.devices.inside.occupants c.args.self.now c.args.devices.now c.from_index-slot.result c.in-Some.index
+    (kinds_of c.at.result) (kinds_of c.at-in-Some.result) (option_copied c.at-in-Some-2.result) (option_copied c.as_ref.result) c.are_same.result c.self.view_is c.devices.view_is c.from_index-slot.ensures
+    c.at.ensures c.at-in-Some.ensures c.at-in-Some-2.ensures.place (c.as_ref.ensures.value ∙ c.at-in-Some-3.ensures.place) c.are_same.ensures
+
+pub loop-index-init : goal.loop-index-init
+loop-index-init c =
+    same_empty c.present.result c.present-2.result c.or-left.result c.args.self.now c.args.devices.now
+    (λ s l. c.present.ensures.present s l ∙ some_seen c.self.inside.enabled c.self.inside.kept c.args.self.now s c.self.view_is)
+    c.present-2.ensures.present c.or-left.ensures
+
+pub loop-index-preserved : goal.loop-index-preserved
+loop-index-preserved c =
+    same_more c.loop-index.left c.take_lowest.new.self c.in-Some.index c.from_index-slot.result c.args.self.now c.args.devices.now c.loop-index.invariant c.in-Some.ensures.taken.3 c.from_index-slot.ensures
+    ((is_decided (goal.at.loop-index-preserved c).After-are_same).0 c.if-not-are_same.false)
+
+pub returns-then-not-are_same : goal.returns-then-not-are_same
+returns-then-not-are_same c = (
+  λ t. absurd (false≢true t),
+  λ same. sym c.if-not-are_same.true ∙ (is_decided (goal.at.returns-then-not-are_same c).After-are_same).1 (ap (λ places. get_or places c.from_index-slot.result None) same),
+)
+
+pub returns : goal.returns
+returns c = (
+  λ t. same_all c.loop-index.left c.args.self.now c.args.devices.now c.loop-index.invariant c.in_default.ensures.taken
+    (length-seen_kept c.self.inside.enabled c.self.inside.kept c.args.self.now c.self.view_is c.present.ensures.slots) c.present-2.ensures.slots,
+  λ same. refl,
+)
