@@ -34,8 +34,8 @@ pub unpacks_nobody : (kept : List (Option Device)) → kept ≡ [] → unpacked 
 unpacks_nobody kept none = unpacks kept no_devices length-no_devices (λ s l. ap (λ xs. get_or xs s None) none ∙ sym (no_devices_at s))
 
 -- two that keep the same
-pub unpack_alike : (kept more : List (Option Device)) → ((s : ℕ) → s < SLOTS → get_or kept s None ≡ get_or more s None) → unpacked kept ≡ unpacked more
-unpack_alike kept more each = unpacks kept (unpacked more) (length-unpacked more) (λ s l. each s l ∙ sym (unpacked_at more s l))
+pub unpacked-alike : (kept more : List (Option Device)) → ((s : ℕ) → s < SLOTS → get_or kept s None ≡ get_or more s None) → unpacked kept ≡ unpacked more
+unpacked-alike kept more each = unpacks kept (unpacked more) (length-unpacked more) (λ s l. each s l ∙ sym (unpacked_at more s l))
 
 -- what is read at an index
 pub read_at : (places : List (Option Device)) (i : ℕ) (place : Option Device) → i < length places → place ≡ get_or places i place → place ≡ get_or places i None
@@ -48,8 +48,8 @@ beyond (x ∷ xs) zero l = absurd (omega (arith, l))
 beyond (x ∷ xs) (suc i) l = beyond xs i (omega (arith, l))
 
 -- an empty place more
-pub lengthened : (places more : List (Option Device)) → more ≡ places ++ None ∷ [] → (s : ℕ) → get_or more s None ≡ get_or places s None
-lengthened places more is s = ap (λ xs. get_or xs s None) is ∙ go places s
+pub longer-at : (places more : List (Option Device)) → more ≡ places ++ None ∷ [] → (s : ℕ) → get_or more s None ≡ get_or places s None
+longer-at places more is s = ap (λ xs. get_or xs s None) is ∙ go places s
   where
     go : (xs : List (Option Device)) (s : ℕ) → get_or (xs ++ None ∷ []) s None ≡ get_or xs s None
     go [] zero = refl
@@ -69,15 +69,15 @@ woken_more left next i j now others after place long h out at low is put = (
 )
 
 -- a set that ends where another one does
-pub spanned : (i span : ℕ) (left next all : SlotSet) → i < SLOTS → has left i ≡ true → ((s : ℕ) → s < i → has left s ≡ false) → TakesOut i left next
+pub spanned-less : (i span : ℕ) (left next all : SlotSet) → i < SLOTS → has left i ≡ true → ((s : ℕ) → s < i → has left s ≡ false) → TakesOut i left next
     → ((s : ℕ) → s < SLOTS → s < span → has left s ≡ false) → ((s : ℕ) → s < SLOTS → span ≤ s → has left s ≡ has all s)
     → ((s : ℕ) → s < SLOTS → s < i + 1 → has next s ≡ false) × ((s : ℕ) → s < SLOTS → i + 1 ≤ s → has next s ≡ has all s)
-spanned i span left next all low there lowest out below above = (
+spanned-less i span left next all low there lowest out below above = (
   λ s l before. elim (cases_eq s i) [
     | inl e ↦ out s l ∙ cond-true (s == i) false (has left s) (eq-eqb s i e)
     | inr ne ↦ still_in i left next out s l ne ∙ lowest s (omega (arith, before, ne))
   ],
-  λ s l after. still_in i left next out s l (λ e. absurd (omega (arith, after, e))) ∙ above s l (elim (cases_lt i span) [ | inl l ↦ absurd (both_ways _ (below i low l) there) | inr h ↦ omega (arith, after, h) ]),
+  λ s l after. still_in i left next out s l (λ e. absurd (omega (arith, after, e))) ∙ above s l (elim (cases_lt i span) [ inl l ↦ absurd (both_ways _ (below i low l) there) | inr h ↦ omega (arith, after, h) ]),
 )
 
 -- the front of some places, beyond which there is nobody

@@ -84,7 +84,11 @@ impl Resting {
         while let Some(index) = left.take_lowest() {
             let slot = Slot::from_index(index);
             let kinds = (self.enabled.at(index), devices.enabled.at(index));
-            if !are_same(self.kept.at(slot), devices.occupants.at(slot).as_ref(), kinds) {
+            if !are_same(
+                self.kept.at(slot),
+                devices.occupants.at(slot).as_ref(),
+                kinds,
+            ) {
                 return false;
             }
         }

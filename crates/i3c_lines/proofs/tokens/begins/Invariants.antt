@@ -1,4 +1,4 @@
-use Rattle.std.proofs.Common.{◌≡◌, ◌<◌, ◌≤◌, ℕ, get_or, length}
+use Rattle.std.proofs.Common.{◌≡◌, ◌<◌, ℕ, get_or}
 use Rattle.i3c_lines.proofs.tokens.begins.Given as goal
 
 abbrev pub invariant-loop-index : goal.invariant-loop-index

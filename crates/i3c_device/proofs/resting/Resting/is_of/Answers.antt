@@ -34,6 +34,6 @@ returns-then-not-are_same c = (
 pub returns : goal.returns
 returns c = (
   λ t. same_all c.loop-index.left c.args.self.now c.args.devices.now c.loop-index.invariant c.in_default.ensures.taken
-    (length-seen_kept c.self.inside.enabled c.self.inside.kept c.args.self.now c.self.view_is c.present.ensures.slots) c.present-2.ensures.slots,
+      (length-seen_kept c.self.inside.enabled c.self.inside.kept c.args.self.now c.self.view_is c.present.ensures.slots) c.present-2.ensures.slots,
   λ same. refl,
 )
