@@ -16,11 +16,13 @@
 
 mod block;
 mod expand;
+mod fork;
 mod index;
 mod layer;
 mod limits;
 mod machine;
 mod node;
+mod part;
 mod splits;
 mod stop;
 mod turn;
@@ -29,7 +31,8 @@ mod walk;
 pub use limits::Limits;
 pub use machine::Machine;
 pub use node::Node;
+pub use part::Part;
 pub use splits::first_turns_split;
 pub use stop::Stop;
 pub use turn::Turn;
-pub use walk::{Explored, explore};
+pub use walk::{Explored, explore, explore_part};
