@@ -14,3 +14,4 @@ pub mod Ends
 pub mod Courses
 pub mod Totals
 pub mod Parting
+pub mod Adding

@@ -67,7 +67,7 @@ busy_line (track ∷ rest) some = elim (leb_tells 1 (length track.items)) [
   | inr (_, none) ↦ (let (t, lt) = busy_line rest (omega arith) in (suc t, lt))
 ]
 
-fork_line : {L : Type 0} (blocks : List (Vec (Vec L))) → fork blocks < length blocks → HasLine (block blocks (fork blocks))
+pub fork_line : {L : Type 0} (blocks : List (Vec (Vec L))) → fork blocks < length blocks → HasLine (block blocks (fork blocks))
 fork_line [] lt = absurd (omega arith)
 fork_line {L} (tracks ∷ rest) lt = elim (leb_tells 2 (busy tracks.items)) [
   | inl (is, two) ↦ (

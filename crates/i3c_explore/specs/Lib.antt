@@ -7,3 +7,4 @@ pub mod Shares
 pub mod Layers
 pub mod Blocks
 pub mod Stops
+pub mod Sums
