@@ -38,7 +38,7 @@ led_alike {S} steps tracks starts past n m order state places led = record {
 
 -- and one more turn leads on
 led_longer : {S L : Type 0} (steps : S → L → ℕ → S → Type 0) (tracks : List (Vec L)) (starts : List (Node S)) (past : ℕ → List (List (List ℕ))) (node new : Node S) (t : ℕ) (line : L) (order : List ℕ × List (List ℕ))
-    → t < length node.places.items → IsNextAt tracks node.places.items t line → steps node.state line 0 new.state → new.places.items ≡ advanced t node.places.items
+    → t < length node.places.items → IsNextAt (track tracks) node.places.items t line → steps node.state line 0 new.state → new.places.items ≡ advanced t node.places.items
     → IsLed steps tracks starts past node order → IsLed steps tracks starts past new (longer t order)
 led_longer {S} {L} steps tracks starts past node new t line order inside next step places led =
     let turn : Turn = record { track = t; way = 0 } in
@@ -59,7 +59,7 @@ by_turn_other turn own other = ap (λ (b : Bool). if b then map (longer turn.tra
 
 -- a node that one more turn leads to brings the orders of that turn
 pub turn_added : {S L : Type 0} (steps : S → L → ℕ → S → Type 0) (tracks : List (Vec L)) (old new : List (Node S)) (node made : Node S) (turn : Turn) (line : L)
-    → turn.track < length node.places.items → IsNextAt tracks node.places.items turn.track line → steps node.state line turn.way made.state → made.places.items ≡ advanced turn.track node.places.items
+    → turn.track < length node.places.items → IsNextAt (track tracks) node.places.items turn.track line → steps node.state line turn.way made.state → made.places.items ≡ advanced turn.track node.places.items
     → made.orders ≡ (if turn.way == 0 then node.orders else Some 0) → IsPut old made new
     → (starts : List (Node S)) (past : ℕ → List (List (List ℕ))) (own : List (List ℕ × List (List ℕ))) → IsOwn (IsLed steps tracks starts past) node own
     → IsAdded (IsLed steps tracks starts past) old new (by_turn turn own)
@@ -106,33 +106,33 @@ by_line_from : {L : Type 0} (next : Option L) (t : ℕ) (own : List (List ℕ ×
 by_line_from None t own o (k, lt, is) = absurd (omega arith)
 by_line_from (Some line) t own o c = (line, refl, contains_map_from (longer t) own o c)
 
-pub by_tracks_from : {L : Type 0} (tracks : List (Vec L)) (places : List ℕ) (count : ℕ) (own : List (List ℕ × List (List ℕ))) (o : List ℕ × List (List ℕ)) → Contains (by_tracks tracks places count own) o
-    → (t : ℕ) × (t < count) × ((line : L) × IsNextAt tracks places t line) × ((before : List ℕ × List (List ℕ)) × Contains own before × (o ≡ longer t before))
-by_tracks_from tracks places zero own o (k, lt, is) = absurd (omega arith)
-by_tracks_from tracks places (suc t) own o c = elim (Contains-append_cases (by_tracks tracks places t own) (by_track tracks places t own) o c) [
-  | inl old ↦ (let (u, lt, next, before) = by_tracks_from tracks places t own o old in (u, omega arith, next, before))
-  | inr new ↦ (let (line, next, before) = by_line_from (slice_get (track tracks t) (get_or places t 0)) t own o new in (t, omega arith, (line, next), before))
+pub by_tracks_from : {L : Type 0} (lines : ℕ → List L) (places : List ℕ) (count : ℕ) (own : List (List ℕ × List (List ℕ))) (o : List ℕ × List (List ℕ)) → Contains (by_tracks lines places count own) o
+    → (t : ℕ) × (t < count) × ((line : L) × IsNextAt lines places t line) × ((before : List ℕ × List (List ℕ)) × Contains own before × (o ≡ longer t before))
+by_tracks_from lines places zero own o (k, lt, is) = absurd (omega arith)
+by_tracks_from lines places (suc t) own o c = elim (Contains-append_cases (by_tracks lines places t own) (by_track lines places t own) o c) [
+  | inl old ↦ (let (u, lt, next, before) = by_tracks_from lines places t own o old in (u, omega arith, next, before))
+  | inr new ↦ (let (line, next, before) = by_line_from (slice_get (lines t) (get_or places t 0)) t own o new in (t, omega arith, (line, next), before))
 ]
 
-pub in_by_tracks : {L : Type 0} (tracks : List (Vec L)) (places : List ℕ) (count : ℕ) (own : List (List ℕ × List (List ℕ))) (t : ℕ) (line : L) (before : List ℕ × List (List ℕ))
-    → t < count → IsNextAt tracks places t line → Contains own before → Contains (by_tracks tracks places count own) (longer t before)
-in_by_tracks tracks places zero own t line before lt next c = absurd (omega arith)
-in_by_tracks {L} tracks places (suc count) own t line before lt next c = elim (eqb_tells t count) [
-  | inl (_, same) ↦ Contains-append_right (by_tracks tracks places count own) (by_line (slice_get (track tracks count) (get_or places count 0)) count own) (longer t before)
-      (subst (λ (u : ℕ). Contains (by_line (slice_get (track tracks u) (get_or places u 0)) u own) (longer t before)) same
+pub in_by_tracks : {L : Type 0} (lines : ℕ → List L) (places : List ℕ) (count : ℕ) (own : List (List ℕ × List (List ℕ))) (t : ℕ) (line : L) (before : List ℕ × List (List ℕ))
+    → t < count → IsNextAt lines places t line → Contains own before → Contains (by_tracks lines places count own) (longer t before)
+in_by_tracks lines places zero own t line before lt next c = absurd (omega arith)
+in_by_tracks {L} lines places (suc count) own t line before lt next c = elim (eqb_tells t count) [
+  | inl (_, same) ↦ Contains-append_right (by_tracks lines places count own) (by_line (slice_get (lines count) (get_or places count 0)) count own) (longer t before)
+      (subst (λ (u : ℕ). Contains (by_line (slice_get (lines u) (get_or places u 0)) u own) (longer t before)) same
       (subst (λ (next_ : Option L). Contains (by_line next_ t own) (longer t before)) (sym next) (contains_map (longer t) own before c)))
-  | inr (_, other) ↦ Contains-append_left (by_tracks tracks places count own) (by_line (slice_get (track tracks count) (get_or places count 0)) count own) (longer t before)
-      (in_by_tracks tracks places count own t line before (omega arith) next c)
+  | inr (_, other) ↦ Contains-append_left (by_tracks lines places count own) (by_line (slice_get (lines count) (get_or places count 0)) count own) (longer t before)
+      (in_by_tracks lines places count own t line before (omega arith) next c)
 ]
 
 -- one more track
-pub track_added : {S L : Type 0} (tracks : List (Vec L)) (Fits : Node S → List ℕ × List (List ℕ) → Type 0) (old mid new : List (Node S)) (places : List ℕ) (t : ℕ) (own : List (List ℕ × List (List ℕ)))
-    → IsAdded Fits old mid (by_tracks tracks places t own) → IsAdded Fits mid new (by_track tracks places t own) → IsAdded Fits old new (by_tracks tracks places (suc t) own)
-track_added tracks Fits old mid new places t own first second =
-    added_both Fits old mid new (by_tracks tracks places t own) (by_track tracks places t own) first second
+pub track_added : {S L : Type 0} (lines : ℕ → List L) (Fits : Node S → List ℕ × List (List ℕ) → Type 0) (old mid new : List (Node S)) (places : List ℕ) (t : ℕ) (own : List (List ℕ × List (List ℕ)))
+    → IsAdded Fits old mid (by_tracks lines places t own) → IsAdded Fits mid new (by_track lines places t own) → IsAdded Fits old new (by_tracks lines places (suc t) own)
+track_added lines Fits old mid new places t own first second =
+    added_both Fits old mid new (by_tracks lines places t own) (by_track lines places t own) first second
     (λ o c d.
-    let (u, lt, _, (a, _, one)) = by_tracks_from tracks places t own o c in
-    let (_, _, (b, _, other)) = by_line_from (slice_get (track tracks t) (get_or places t 0)) t own o d in
+    let (u, lt, _, (a, _, one)) = by_tracks_from lines places t own o c in
+    let (_, _, (b, _, other)) = by_line_from (slice_get (lines t) (get_or places t 0)) t own o d in
     let same = longer_track u t a b (sym one ∙ other) in omega arith)
 
 -- a node's gains, one way or track on
@@ -144,24 +144,24 @@ gains_way {S} steps tracks node old mid new t way first second starts past own m
     let same : suc way ≡ way + 1 = omega arith in
     subst (λ (k : ℕ). IsAdded Fits old new (by_ways k t own)) same both
 
-pub gains_line : {S L : Type 0} (steps : S → L → ℕ → S → Type 0) (tracks : List (Vec L)) (node : Node S) (old new : List (Node S)) (t ways : ℕ) (line : L)
-    → IsNextAt tracks node.places.items t line → 0 < ways → Gains steps tracks node old new (by_ways ways t) → Gains steps tracks node old new (by_track tracks node.places.items t)
-gains_line steps tracks node old new t zero line next some gains starts past own mine = absurd (omega arith)
-gains_line {S} {L} steps tracks node old new t (suc ways) line next some gains starts past own mine =
+pub gains_line : {S L : Type 0} (steps : S → L → ℕ → S → Type 0) (tracks : List (Vec L)) (lines : ℕ → List L) (node : Node S) (old new : List (Node S)) (t ways : ℕ) (line : L)
+    → IsNextAt lines node.places.items t line → 0 < ways → Gains steps tracks node old new (by_ways ways t) → Gains steps tracks node old new (by_track lines node.places.items t)
+gains_line steps tracks lines node old new t zero line next some gains starts past own mine = absurd (omega arith)
+gains_line {S} {L} steps tracks lines node old new t (suc ways) line next some gains starts past own mine =
     let Fits : Node S → List ℕ × List (List ℕ) → Type 0 = IsLed steps tracks starts past in
     subst (λ (o : Option L). IsAdded Fits old new (by_line o t own)) (sym next) (gains starts past own mine)
 
-pub gains_no_line : {S L : Type 0} (steps : S → L → ℕ → S → Type 0) (tracks : List (Vec L)) (node : Node S) (layer : List (Node S)) (t : ℕ)
-    → slice_get (track tracks t) (get_or node.places.items t 0) ≡ None → Gains steps tracks node layer layer (by_track tracks node.places.items t)
-gains_no_line {S} {L} steps tracks node layer t none starts past own mine =
+pub gains_no_line : {S L : Type 0} (steps : S → L → ℕ → S → Type 0) (tracks : List (Vec L)) (lines : ℕ → List L) (node : Node S) (layer : List (Node S)) (t : ℕ)
+    → slice_get (lines t) (get_or node.places.items t 0) ≡ None → Gains steps tracks node layer layer (by_track lines node.places.items t)
+gains_no_line {S} {L} steps tracks lines node layer t none starts past own mine =
     let Fits : Node S → List ℕ × List (List ℕ) → Type 0 = IsLed steps tracks starts past in
     subst (λ (o : Option L). IsAdded Fits layer layer (by_line o t own)) (sym none) (added_none Fits layer)
 
-pub gains_track : {S L : Type 0} (steps : S → L → ℕ → S → Type 0) (tracks : List (Vec L)) (node : Node S) (old mid new : List (Node S)) (t : ℕ)
-    → Gains steps tracks node old mid (by_tracks tracks node.places.items t) → Gains steps tracks node mid new (by_track tracks node.places.items t)
-    → Gains steps tracks node old new (by_tracks tracks node.places.items (t + 1))
-gains_track {S} steps tracks node old mid new t first second starts past own mine =
+pub gains_track : {S L : Type 0} (steps : S → L → ℕ → S → Type 0) (tracks : List (Vec L)) (lines : ℕ → List L) (node : Node S) (old mid new : List (Node S)) (t : ℕ)
+    → Gains steps tracks node old mid (by_tracks lines node.places.items t) → Gains steps tracks node mid new (by_track lines node.places.items t)
+    → Gains steps tracks node old new (by_tracks lines node.places.items (t + 1))
+gains_track {S} steps tracks lines node old mid new t first second starts past own mine =
     let Fits : Node S → List ℕ × List (List ℕ) → Type 0 = IsLed steps tracks starts past in
-    let both = track_added tracks Fits old mid new node.places.items t own (first starts past own mine) (second starts past own mine) in
+    let both = track_added lines Fits old mid new node.places.items t own (first starts past own mine) (second starts past own mine) in
     let same : suc t ≡ t + 1 = omega arith in
-    subst (λ (k : ℕ). IsAdded Fits old new (by_tracks tracks node.places.items k own)) same both
+    subst (λ (k : ℕ). IsAdded Fits old new (by_tracks lines node.places.items k own)) same both

@@ -10,6 +10,8 @@ use Rattle.i3c_explore.specs.declared.turn.Turn.{Turn}
 use Rattle.i3c_explore.specs.Layers.{Holds, IsExpanded, IsNextAt, IsReached, IsSuccessor}
 use Rattle.i3c_explore.specs.Orders.{IsDetermined, IsNext, IsPrefix, Leads, lines_in, track, turns_of}
 use Rattle.i3c_explore.proofs.Lists.{get_below}
+use Rattle.i3c_explore.specs.Parts.{Part}
+use Rattle.i3c_explore.proofs.Opening.{InPart, in_part_before}
 use Rattle.i3c_explore.proofs.Turns.{placed_more, prefix_before, room_for}
 
 -- a track that has a line is one of the tracks
@@ -20,16 +22,16 @@ is_track tracks t k lt = elim (slice_get_cases tracks t).1 [
 ]
 
 -- an order with one more line leads to the next layer
-pub held_more : {S L : Type 0} (steps : S → L → ℕ → S → Type 0) (tracks : List (Vec L)) (start : S) (layer next : List (Node S)) (turn : Turn) (before : List Turn)
+pub held_more : {S L : Type 0} (steps : S → L → ℕ → S → Type 0) (tracks : List (Vec L)) (start : S) (lines : ℕ → List L) (layer next : List (Node S)) (turn : Turn) (before : List Turn)
     → ((n : Node S) → Contains layer n → length n.places.items ≡ length tracks)
-    → ((n : Node S) → Contains layer n → IsExpanded steps tracks (length tracks) n next)
+    → ((n : Node S) → Contains layer n → IsExpanded steps lines (length tracks) n next) → lines turn.track ≡ track tracks turn.track
     → IsPrefix tracks (turn ∷ before) → Holds steps tracks start layer before → Holds steps tracks start next (turn ∷ before)
-held_more {S} {L} steps tracks start layer next turn before sized expanded prefix (n, c, placed, led) =
+held_more {S} {L} steps tracks start lines layer next turn before sized expanded same_lines prefix (n, c, placed, led) =
     let t = turn.track in
     let room = room_for tracks turn before prefix in
     let within = is_track tracks t (turns_of t before) room in
     let (line, is) = get_below (track tracks t) (turns_of t before) room in
-    let here : IsNextAt tracks n.places.items t line = subst (λ (k : ℕ). slice_get (track tracks t) k ≡ Some line) (placed t) is in
+    let here : IsNextAt lines n.places.items t line = subst (λ (l : List L). slice_get l (get_or n.places.items t 0) ≡ Some line) (sym same_lines) (subst (λ (k : ℕ). slice_get (track tracks t) k ≡ Some line) (placed t) is) in
     let (state, step, (m, found, places, same)) = expanded n c t within line here turn.way in
     let inside : t < length n.places.items = (let e = sized n c in omega arith) in (
       m,
@@ -45,7 +47,7 @@ order_more start old new turn turns is more =
 
 -- a successor is reached, by one more turn
 pub reached_more : {S L : Type 0} (steps : S → L → ℕ → S → Type 0) (tracks : List (Vec L)) (start old new : Node S)
-    → (reached : IsReached steps tracks start old) → IsSuccessor steps tracks old new → (r : IsReached steps tracks start new) × (length r.turns ≡ suc (length reached.turns))
+    → (reached : IsReached steps tracks start old) → (made : IsSuccessor steps (track tracks) old new) → (r : IsReached steps tracks start new) × (r.turns ≡ made.turn ∷ reached.turns)
 reached_more {S} {L} steps tracks start old new reached made =
     let t = made.turn.track in
     let room = slice_get_within (track tracks t) (get_or old.places.items t 0) made.line made.next in
@@ -62,14 +64,14 @@ reached_more {S} {L} steps tracks start old new reached made =
       refl,
     )
 
--- where no order is one line longer, none is longer
-pub none_longer : {L : Type 0} (tracks : List (Vec L)) (count : ℕ) → ((order : List Turn) → length order ≡ suc count → IsPrefix tracks order → ⊥)
-    → (order : List Turn) → IsPrefix tracks order → length order ≤ count
-none_longer tracks count none [] prefix = omega arith
-none_longer tracks count none (turn ∷ before) prefix =
-    let shorter = none_longer tracks count none before (prefix_before tracks turn before prefix) in
+-- where no order of a part is one line longer, none is longer
+pub none_longer : {L : Type 0} (tracks : List (Vec L)) (part : Part) (count : ℕ) → ((order : List Turn) → length order ≡ suc count → IsPrefix tracks order → InPart part order → ⊥)
+    → (order : List Turn) → IsPrefix tracks order → InPart part order → length order ≤ count
+none_longer tracks part count none [] prefix fits = omega arith
+none_longer tracks part count none (turn ∷ before) prefix fits =
+    let shorter = none_longer tracks part count none before (prefix_before tracks turn before prefix) (in_part_before part turn before fits) in
     elim (eqb_tells (length before) count) [
-      | inl (_, same) ↦ absurd (none (turn ∷ before) (ap suc same) prefix)
+      | inl (_, same) ↦ absurd (none (turn ∷ before) (ap suc same) prefix fits)
       | inr (_, other) ↦ omega arith
     ]
 

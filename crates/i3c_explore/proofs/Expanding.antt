@@ -1,20 +1,19 @@
 -- What a layer has of the nodes before it, as nodes are added.
 use Rattle.std.proofs.Common.{◌≡◌, ◌∙◌, ◌<◌, ℕ, List, Some, get_or, inl, inr, length, refl, subst, sym}
-use Rattle.std.specs.Global.{Vec}
 use Rattle.std.specs.List.{Contains, slice_get}
 use Rattle.std.proofs.lemmas.Option.{get_or_from_slice_get, slice_get_read}
 use Rattle.i3c_explore.specs.declared.node.Node.{Node}
 use Rattle.i3c_explore.specs.Layers.{AreFrom, IsExpanded, IsLike, IsSuccessor, Keeps}
 
-pub expanded_kept : {S L : Type 0} (steps : S → L → ℕ → S → Type 0) (tracks : List (Vec L)) (count : ℕ) (node : Node S) (old new : List (Node S))
-    → Keeps old new → IsExpanded steps tracks count node old → IsExpanded steps tracks count node new
-expanded_kept steps tracks count node old new keeps expanded t lt line next way = let (state, step, has) = expanded t lt line next way in (state, step, keeps _ state has)
+pub expanded_kept : {S L : Type 0} (steps : S → L → ℕ → S → Type 0) (lines : ℕ → List L) (count : ℕ) (node : Node S) (old new : List (Node S))
+    → Keeps old new → IsExpanded steps lines count node old → IsExpanded steps lines count node new
+expanded_kept steps lines count node old new keeps expanded t lt line next way = let (state, step, has) = expanded t lt line next way in (state, step, keeps _ state has)
 
 pub keeps_both : {S : Type 0} (old mid new : List (Node S)) → Keeps old mid → Keeps mid new → Keeps old new
 keeps_both old mid new first second places state has = second places state (first places state has)
 
-pub like_successor : {S L : Type 0} (steps : S → L → ℕ → S → Type 0) (tracks : List (Vec L)) (node n m : Node S) → IsLike n m → IsSuccessor steps tracks node m → IsSuccessor steps tracks node n
-like_successor {S} steps tracks node n m (state, places, order) made = record {
+pub like_successor : {S L : Type 0} (steps : S → L → ℕ → S → Type 0) (lines : ℕ → List L) (node n m : Node S) → IsLike n m → IsSuccessor steps lines node m → IsSuccessor steps lines node n
+like_successor {S} steps lines node n m (state, places, order) made = record {
   turn = made.turn;
   line = made.line;
   next = made.next;
@@ -23,33 +22,33 @@ like_successor {S} steps tracks node n m (state, places, order) made = record {
   order = order ∙ made.order;
 }
 
-pub from_same : {S L : Type 0} (steps : S → L → ℕ → S → Type 0) (tracks : List (Vec L)) (node : Node S) (layer : List (Node S)) → AreFrom steps tracks node layer layer
-from_same steps tracks node layer n c = inl (n, c, (refl, refl, refl))
+pub from_same : {S L : Type 0} (steps : S → L → ℕ → S → Type 0) (lines : ℕ → List L) (node : Node S) (layer : List (Node S)) → AreFrom steps lines node layer layer
+from_same steps lines node layer n c = inl (n, c, (refl, refl, refl))
 
-pub from_more : {S L : Type 0} (steps : S → L → ℕ → S → Type 0) (tracks : List (Vec L)) (node : Node S) (old mid new : List (Node S))
-    → AreFrom steps tracks node old mid → AreFrom steps tracks node mid new → AreFrom steps tracks node old new
-from_more steps tracks node old mid new first second n is = elim (second n is) [
+pub from_more : {S L : Type 0} (steps : S → L → ℕ → S → Type 0) (lines : ℕ → List L) (node : Node S) (old mid new : List (Node S))
+    → AreFrom steps lines node old mid → AreFrom steps lines node mid new → AreFrom steps lines node old new
+from_more steps lines node old mid new first second n is = elim (second n is) [
   | inl (m, c, (state, places, order)) ↦ elim (first m c) [
     | inl (o, d, (state', places', order')) ↦ inl (o, d, (state ∙ state', places ∙ places', order ∙ order'))
-    | inr made ↦ inr (like_successor steps tracks node n m (state, places, order) made)
+    | inr made ↦ inr (like_successor steps lines node n m (state, places, order) made)
   ]
   | inr made ↦ inr made
 ]
 
 -- the nodes that were passed are expanded
-abbrev pub ArePassed : {S L : Type 0} → (S → L → ℕ → S → Type 0) → List (Vec L) → List (Node S) → ℕ → List (Node S) → Type 0
-ArePassed {S} steps tracks layer index next = (k : ℕ) → k < index → (n : Node S) → slice_get layer k ≡ Some n → IsExpanded steps tracks (length tracks) n next
+abbrev pub ArePassed : {S L : Type 0} → (S → L → ℕ → S → Type 0) → (ℕ → List L) → ℕ → List (Node S) → ℕ → List (Node S) → Type 0
+ArePassed {S} steps lines count layer index next = (k : ℕ) → k < index → (n : Node S) → slice_get layer k ≡ Some n → IsExpanded steps lines count n next
 
-pub passed_kept : {S L : Type 0} (steps : S → L → ℕ → S → Type 0) (tracks : List (Vec L)) (layer : List (Node S)) (index : ℕ) (old new : List (Node S))
-    → Keeps old new → ArePassed steps tracks layer index old → ArePassed steps tracks layer index new
-passed_kept steps tracks layer index old new keeps passed k lt n is = expanded_kept steps tracks (length tracks) n old new keeps (passed k lt n is)
+pub passed_kept : {S L : Type 0} (steps : S → L → ℕ → S → Type 0) (lines : ℕ → List L) (count : ℕ) (layer : List (Node S)) (index : ℕ) (old new : List (Node S))
+    → Keeps old new → ArePassed steps lines count layer index old → ArePassed steps lines count layer index new
+passed_kept steps lines count layer index old new keeps passed k lt n is = expanded_kept steps lines count n old new keeps (passed k lt n is)
 
-pub passed_here : {S L : Type 0} (steps : S → L → ℕ → S → Type 0) (tracks : List (Vec L)) (layer : List (Node S)) (index : ℕ) (node : Node S) (next : List (Node S))
-    → node ≡ get_or layer index node → IsExpanded steps tracks (length tracks) node next
-    → (n : Node S) → slice_get layer index ≡ Some n → IsExpanded steps tracks (length tracks) n next
-passed_here {S} steps tracks layer index node next is expanded n found =
-    subst (λ (m : Node S). IsExpanded steps tracks (length tracks) m next) (is ∙ get_or_from_slice_get layer index n node found) expanded
+pub passed_here : {S L : Type 0} (steps : S → L → ℕ → S → Type 0) (lines : ℕ → List L) (count : ℕ) (layer : List (Node S)) (index : ℕ) (node : Node S) (next : List (Node S))
+    → node ≡ get_or layer index node → IsExpanded steps lines count node next
+    → (n : Node S) → slice_get layer index ≡ Some n → IsExpanded steps lines count n next
+passed_here {S} steps lines count layer index node next is expanded n found =
+    subst (λ (m : Node S). IsExpanded steps lines count m next) (is ∙ get_or_from_slice_get layer index n node found) expanded
 
-pub all_passed : {S L : Type 0} (steps : S → L → ℕ → S → Type 0) (tracks : List (Vec L)) (layer : List (Node S)) (next : List (Node S))
-    → ArePassed steps tracks layer (length layer) next → (n : Node S) → Contains layer n → IsExpanded steps tracks (length tracks) n next
-all_passed steps tracks layer next passed n (k, lt, is) = passed k lt n (slice_get_read layer (length layer) k n refl lt (sym is))
+pub all_passed : {S L : Type 0} (steps : S → L → ℕ → S → Type 0) (lines : ℕ → List L) (count : ℕ) (layer : List (Node S)) (next : List (Node S))
+    → ArePassed steps lines count layer (length layer) next → (n : Node S) → Contains layer n → IsExpanded steps lines count n next
+all_passed steps lines count layer next passed n (k, lt, is) = passed k lt n (slice_get_read layer (length layer) k n refl lt (sym is))

@@ -6,9 +6,12 @@ pub mod Shares
 pub mod NextLines
 pub mod Expanding
 pub mod Turns
+pub mod Splitting
+pub mod Opening
 pub mod Covering
 pub mod Blocks
 pub mod Ends
 pub mod Courses
 pub mod Totals
-pub mod Splitting
+pub mod Parting
+pub mod Adding

@@ -10,19 +10,19 @@ use Rattle.i3c_explore.specs.Shares.{Gains, IsLed, IsMeant, IsSharedNext, by_tra
 use Rattle.i3c_explore.proofs.Counting.{by_tracks_from, longer_once, longer_track}
 
 -- the orders of the nodes below an index are shared out
-pub record IsSharedBelow {S L : Type 0} (Fits : Node S → List ℕ × List (List ℕ) → Type 0) (tracks : List (Vec L)) (layer : List (Node S)) (index : ℕ) (next : List (Node S)) (share : ℕ → List (List ℕ × List (List ℕ))) : Type 0 where
+pub record IsSharedBelow {S L : Type 0} (Fits : Node S → List ℕ × List (List ℕ) → Type 0) (lines : ℕ → List L) (count : ℕ) (layer : List (Node S)) (index : ℕ) (next : List (Node S)) (share : ℕ → List (List ℕ × List (List ℕ))) : Type 0 where
   pub now : ℕ → List (List ℕ × List (List ℕ))
   pub shared : IsShared next now
   pub meant : IsMeant Fits next now
-  pub each : (k : ℕ) → k < index → (n : Node S) (o : List ℕ × List (List ℕ)) → slice_get layer k ≡ Some n → Contains (by_tracks tracks n.places.items (length tracks) (share k)) o → (j : ℕ) × Contains (now j) o
-  pub from : (j : ℕ) (o : List ℕ × List (List ℕ)) → Contains (now j) o → (k : ℕ) × (k < index) × ((n : Node S) × (slice_get layer k ≡ Some n) × Contains (by_tracks tracks n.places.items (length tracks) (share k)) o)
+  pub each : (k : ℕ) → k < index → (n : Node S) (o : List ℕ × List (List ℕ)) → slice_get layer k ≡ Some n → Contains (by_tracks lines n.places.items count (share k)) o → (j : ℕ) × Contains (now j) o
+  pub from : (j : ℕ) (o : List ℕ × List (List ℕ)) → Contains (now j) o → (k : ℕ) × (k < index) × ((n : Node S) × (slice_get layer k ≡ Some n) × Contains (by_tracks lines n.places.items count (share k)) o)
 
-abbrev pub SharesBelow : {S L : Type 0} → (S → L → ℕ → S → Type 0) → List (Vec L) → List (Node S) → ℕ → List (Node S) → Type 0
-SharesBelow {S} steps tracks layer index next = (starts : List (Node S)) (past : ℕ → List (List (List ℕ))) (share : ℕ → List (List ℕ × List (List ℕ))) → IsShared layer share
-    → IsMeant (IsLed steps tracks starts past) layer share → IsSharedBelow (IsLed steps tracks starts past) tracks layer index next share
+abbrev pub SharesBelow : {S L : Type 0} → (S → L → ℕ → S → Type 0) → List (Vec L) → (ℕ → List L) → ℕ → List (Node S) → ℕ → List (Node S) → Type 0
+SharesBelow {S} steps tracks lines count layer index next = (starts : List (Node S)) (past : ℕ → List (List (List ℕ))) (share : ℕ → List (List ℕ × List (List ℕ))) → IsShared layer share
+    → IsMeant (IsLed steps tracks starts past) layer share → IsSharedBelow (IsLed steps tracks starts past) lines count layer index next share
 
-pub shares_first : {S L : Type 0} (steps : S → L → ℕ → S → Type 0) (tracks : List (Vec L)) (layer next : List (Node S)) → length next ≡ 0 → SharesBelow steps tracks layer 0 next
-shares_first {S} steps tracks layer next none starts past share was meant = record {
+pub shares_first : {S L : Type 0} (steps : S → L → ℕ → S → Type 0) (tracks : List (Vec L)) (lines : ℕ → List L) (count : ℕ) (layer next : List (Node S)) → length next ≡ 0 → SharesBelow steps tracks lines count layer 0 next
+shares_first {S} steps tracks lines count layer next none starts past share was meant = record {
   now = λ k. [];
   shared = record {
     number = λ k n found. absurd (let lt = slice_get_within next k n found in omega arith);
@@ -36,39 +36,39 @@ shares_first {S} steps tracks layer next none starts past share was meant = reco
 }
 
 -- the orders of two nodes lead on to different ones
-apart_next : {L : Type 0} (tracks : List (Vec L)) (one other : List ℕ) (share : ℕ → List (List ℕ × List (List ℕ))) (i j count : ℕ) (o : List ℕ × List (List ℕ))
+apart_next : {L : Type 0} (lines : ℕ → List L) (one other : List ℕ) (share : ℕ → List (List ℕ × List (List ℕ))) (i j count : ℕ) (o : List ℕ × List (List ℕ))
     → ((o : List ℕ × List (List ℕ)) → Contains (share i) o → Contains (share j) o → i ≡ j)
-    → Contains (by_tracks tracks one count (share i)) o → Contains (by_tracks tracks other count (share j)) o → i ≡ j
-apart_next tracks one other share i j count o apart c d =
-    let (t, _, _, (a, at, is)) = by_tracks_from tracks one count (share i) o c in
-    let (u, _, _, (b, there, is')) = by_tracks_from tracks other count (share j) o d in
+    → Contains (by_tracks lines one count (share i)) o → Contains (by_tracks lines other count (share j)) o → i ≡ j
+apart_next lines one other share i j count o apart c d =
+    let (t, _, _, (a, at, is)) = by_tracks_from lines one count (share i) o c in
+    let (u, _, _, (b, there, is')) = by_tracks_from lines other count (share j) o d in
     let both : longer t a ≡ longer u b = sym is ∙ is' in
     let track : u ≡ t = sym (longer_track t u a b both) in
     let same : b ≡ a = sym (longer_once t a b (both ∙ ap (λ (v : ℕ). longer v b) track)) in
     apart a at (subst (λ (x : List ℕ × List (List ℕ)). Contains (share j) x) same there)
 
-pub shares_more : {S L : Type 0} (steps : S → L → ℕ → S → Type 0) (tracks : List (Vec L)) (layer : List (Node S)) (index : ℕ) (node : Node S) (old new : List (Node S))
-    → index < length layer → node ≡ get_or layer index node → SharesBelow steps tracks layer index old → Gains steps tracks node old new (by_tracks tracks node.places.items (length tracks))
-    → SharesBelow steps tracks layer (index + 1) new
-shares_more {S} {L} steps tracks layer index node old new lt is below gains starts past share was meant =
+pub shares_more : {S L : Type 0} (steps : S → L → ℕ → S → Type 0) (tracks : List (Vec L)) (lines : ℕ → List L) (count : ℕ) (layer : List (Node S)) (index : ℕ) (node : Node S) (old new : List (Node S))
+    → index < length layer → node ≡ get_or layer index node → SharesBelow steps tracks lines count layer index old → Gains steps tracks node old new (by_tracks lines node.places.items count)
+    → SharesBelow steps tracks lines count layer (index + 1) new
+shares_more {S} {L} steps tracks lines count layer index node old new lt is below gains starts past share was meant =
     let here : slice_get layer index ≡ Some node = slice_get_read layer (length layer) index node refl lt is in
     let Fits : Node S → List ℕ × List (List ℕ) → Type 0 = IsLed steps tracks starts past in
-    let more = by_tracks tracks node.places.items (length tracks) (share index) in
+    let more = by_tracks lines node.places.items count (share index) in
     let before = below starts past share was meant in
     let fits : (o : List ℕ × List (List ℕ)) → Contains (share index) o → IsLed steps tracks starts past node o = λ o c.
     let (n, found, fit) = meant index o c in subst (λ (m : Node S). IsLed steps tracks starts past m o) (same_Some n node (sym found ∙ here)) fit in
     let after = gains starts past (share index) (was.number index node here, was.distinct index, fits) before.now before.shared before.meant
     (λ k o c d.
     let (i, less, (n, _, e)) = before.from k o c in
-    let same = apart_next tracks n.places.items node.places.items share i index (length tracks) o (λ x. was.apart i index x) e d in omega arith) in record {
+    let same = apart_next lines n.places.items node.places.items share i index count o (λ x. was.apart i index x) e d in omega arith) in record {
       now = after.now;
       shared = after.shared;
       meant = after.meant;
       each = λ k le n o found c. elim (eqb_tells k index) [
         | inl (_, same) ↦ (
             let alike : n ≡ node = same_Some n node (sym found ∙ ap (λ (i : ℕ). slice_get layer i) same ∙ here) in
-            after.added o (subst (λ (i : ℕ). Contains (by_tracks tracks node.places.items (length tracks) (share i)) o) same
-            (subst (λ (m : Node S). Contains (by_tracks tracks m.places.items (length tracks) (share k)) o) alike c))
+            after.added o (subst (λ (i : ℕ). Contains (by_tracks lines node.places.items count (share i)) o) same
+            (subst (λ (m : Node S). Contains (by_tracks lines m.places.items count (share k)) o) alike c))
             )
         | inr (_, other) ↦ (let (j, d) = before.each k (omega arith) n o found c in after.kept j o d)
       ];
@@ -78,13 +78,14 @@ shares_more {S} {L} steps tracks layer index node old new lt is below gains star
       ];
     }
 
-pub shares_all : {S L : Type 0} (steps : S → L → ℕ → S → Type 0) (tracks : List (Vec L)) (layer next : List (Node S)) (index : ℕ) → length layer ≤ index → SharesBelow steps tracks layer index next
+pub shares_all : {S L : Type 0} (steps : S → L → ℕ → S → Type 0) (tracks : List (Vec L)) (lines : ℕ → List L) (count : ℕ) (layer next : List (Node S)) (index : ℕ) → length layer ≤ index → SharesBelow steps tracks lines count layer index next
     → (starts : List (Node S)) (past : ℕ → List (List (List ℕ))) (share : ℕ → List (List ℕ × List (List ℕ))) → IsShared layer share
-    → IsMeant (IsLed steps tracks starts past) layer share → IsSharedNext (IsLed steps tracks starts past) tracks layer next share
-shares_all {S} {L} steps tracks layer next index all below starts past share was meant =
+    → IsMeant (IsLed steps tracks starts past) layer share → IsSharedNext (IsLed steps tracks starts past) lines count layer next share
+shares_all {S} {L} steps tracks lines count layer next index all below starts past share was meant =
     let done = below starts past share was meant in record {
       now = done.now;
       shared = done.shared;
       meant = done.meant;
       each = λ k n o found c. done.each k (let lt = slice_get_within layer k n found in omega arith) n o found c;
+      from = λ j o c. let (k, _, rest) = done.from j o c in (k, rest);
     }

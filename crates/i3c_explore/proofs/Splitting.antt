@@ -14,7 +14,7 @@ turns_same : (u : ℕ) (turn : Turn) (before : List Turn) → turn.track ≡ u �
 turns_same u turn before same = subst (λ (k : ℕ). turns_of k (turn ∷ before) ≡ suc (turns_of k before)) same (turns_here turn before)
 
 -- one more turn at the beginning
-turns_first : (u : ℕ) (order : List Turn) (turn : Turn) → turns_of u (order ++ turn ∷ []) ≡ turns_of u order + turns_of u (turn ∷ [])
+pub turns_first : (u : ℕ) (order : List Turn) (turn : Turn) → turns_of u (order ++ turn ∷ []) ≡ turns_of u order + turns_of u (turn ∷ [])
 turns_first u [] turn = sym (zero-add (turns_of u (turn ∷ [])))
 turns_first u (o ∷ order) turn = elim (eqb_tells o.track u) [
   | inl (_, same) ↦ (let a = turns_same u o (order ++ turn ∷ []) same in let b = turns_same u o order same in let c = turns_first u order turn in omega arith)
@@ -74,7 +74,7 @@ runs_split steps tracks t line rest without way order start end = (
 )
 
 -- the oldest turn of an order
-oldest_of : (turn : Turn) (order : List Turn) → (later : List Turn) × (first : Turn) × (turn ∷ order ≡ later ++ first ∷ [])
+pub oldest_of : (turn : Turn) (order : List Turn) → (later : List Turn) × (first : Turn) × (turn ∷ order ≡ later ++ first ∷ [])
 oldest_of turn [] = ([], turn, refl)
 oldest_of turn (next ∷ order) = let (later, first, is) = oldest_of next order in (turn ∷ later, first, ap (λ (o : List Turn). turn ∷ o) is)
 

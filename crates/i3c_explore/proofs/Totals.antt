@@ -7,11 +7,13 @@ use Rattle.std.proofs.lemmas.List.{length-map}
 use Rattle.std.proofs.lemmas.List.Elements.{Contains-append_cases, Contains-append_left, Contains-append_right}
 use Rattle.std.proofs.lemmas.Option.{same_Some, slice_get_read}
 use Rattle.i3c_explore.specs.declared.node.Node.{Node}
-use Rattle.i3c_explore.specs.Blocks.{AreCounted, IsCourse, LeadsOn, block, plain_course}
+use Rattle.i3c_explore.specs.Blocks.{IsCourse, LeadsOn, PartIsCounted, block, plain_course}
 use Rattle.i3c_explore.specs.Counts.{AllDistinct, IsShared, plain}
 use Rattle.i3c_explore.specs.Shares.{AreShared, all_below}
 use Rattle.i3c_explore.specs.Numbers.{IsNumber, IsSum}
 use Rattle.i3c_explore.specs.Orders.{IsOrder, Leads}
+use Rattle.i3c_explore.specs.Parts.{BeginsIn, Part, fork}
+use Rattle.i3c_explore.proofs.Opening.{block_part, in_block, of_block}
 use Rattle.i3c_explore.proofs.Sharing.{contains_here, contains_map, contains_map_from, distinct_append, distinct_map}
 
 -- the sum of the numbers so far
@@ -45,12 +47,12 @@ below_distinct nodes share shared (suc count) =
     (λ o c d. let (k, lt, e) = below_from share count o c in let same = shared.apart k count o e d in omega arith)
 
 -- the histories of so many blocks are shared out among the nodes of a layer
-pub record SharesCourses {S L : Type 0} (steps : S → L → ℕ → S → Type 0) (blocks : List (Vec (Vec L))) (start : S) (count : ℕ) (layer : List (Node S)) : Type 0 where
+pub record SharesCourses {S L : Type 0} (steps : S → L → ℕ → S → Type 0) (part : Part) (split : ℕ) (blocks : List (Vec (Vec L))) (start : S) (count : ℕ) (layer : List (Node S)) : Type 0 where
   pub share : ℕ → List (List (List ℕ))
   pub shared : IsShared layer share
   pub led : (k : ℕ) (history : List (List ℕ)) → Contains (share k) history
-      → IsCourse blocks (plain_course history) × (length history ≡ count) × ((n : Node S) × (slice_get layer k ≡ Some n) × LeadsOn steps blocks start (plain_course history) n.state)
-  pub each : (history : List (List ℕ)) → IsCourse blocks (plain_course history) → length history ≡ count → (k : ℕ) × Contains (share k) history
+      → IsCourse blocks (plain_course history) × BeginsIn part split (plain_course history) × (length history ≡ count) × ((n : Node S) × (slice_get layer k ≡ Some n) × LeadsOn steps blocks start (plain_course history) n.state)
+  pub each : (history : List (List ℕ)) → IsCourse blocks (plain_course history) → BeginsIn part split (plain_course history) → length history ≡ count → (k : ℕ) × Contains (share k) history
 
 -- at the start there is one, of no block
 first_share : ℕ → List (List (List ℕ))
@@ -80,9 +82,9 @@ unfolding first_share
 share_each [] len = (0, contains_here [] [])
 share_each (xs ∷ history) len = absurd (omega arith)
 
-pub share_start : {S L : Type 0} (steps : S → L → ℕ → S → Type 0) (blocks : List (Vec (Vec L))) (start : S) (n : Node S) (layer : List (Node S)) → layer ≡ n ∷ [] → n.state ≡ start → n.orders ≡ Some 1
-    → SharesCourses steps blocks start 0 layer
-share_start {S} {L} steps blocks start n layer is same one = record {
+pub share_start : {S L : Type 0} (steps : S → L → ℕ → S → Type 0) (part : Part) (split : ℕ) (blocks : List (Vec (Vec L))) (start : S) (n : Node S) (layer : List (Node S)) → layer ≡ n ∷ [] → n.state ≡ start → n.orders ≡ Some 1
+    → SharesCourses steps part split blocks start 0 layer
+share_start {S} {L} steps part split blocks start n layer is same one = record {
   share = first_share;
   shared = record {
     number = λ k m found. share_number n one k m (subst (λ (l : List (Node S)). slice_get l k ≡ Some m) is found);
@@ -94,10 +96,11 @@ share_start {S} {L} steps blocks start n layer is same one = record {
       let (zero_, none) = share_first k history c in
       let here : slice_get layer k ≡ Some n = ap (λ (l : List (Node S)). slice_get l k) is ∙ ap (λ (j : ℕ). slice_get (n ∷ []) j) zero_ in (
         subst (λ (h : List (List ℕ)). IsCourse blocks (plain_course h)) none tt,
+        subst (λ (h : List (List ℕ)). BeginsIn part split (plain_course h)) none tt,
         ap length (sym none),
         (n, here, subst (λ (h : List (List ℕ)). LeadsOn steps blocks start (plain_course h) n.state) none same),
       );
-  each = λ history course len. share_each history len;
+  each = λ history course fits len. share_each history len;
 }
 
 -- an interleaving goes before the history
@@ -121,21 +124,21 @@ course_before {S} {L} steps blocks start count tracks o s n is lt course len led
       (s, led, subst (λ (t : List (Vec L)). Leads steps t s (plain o.0) n) e leads),
     )
 
-each_next : {S L : Type 0} (steps : S → L → ℕ → S → Type 0) (blocks : List (Vec (Vec L))) (start : S) (count : ℕ) (layer ends : List (Node S)) (tracks : List (Vec L)) → tracks ≡ block blocks count
-    → (was : SharesCourses steps blocks start count layer) → (now : AreShared steps tracks layer ends was.share)
-    → (history : List (List ℕ)) → IsCourse blocks (plain_course history) → length history ≡ suc count → (k : ℕ) × Contains (map put_before (now.share k)) history
-each_next steps blocks start count layer ends tracks is was now [] course len = absurd (omega arith)
-each_next {S} {L} steps blocks start count layer ends tracks is was now (xs ∷ history) (course, lt, whole) len =
+each_next : {S L : Type 0} (steps : S → L → ℕ → S → Type 0) (part : Part) (split : ℕ) (blocks : List (Vec (Vec L))) (start : S) (count : ℕ) (layer ends : List (Node S)) (tracks : List (Vec L)) → tracks ≡ block blocks count
+    → (was : SharesCourses steps part split blocks start count layer) → (now : AreShared steps (block_part part split count) tracks layer ends was.share)
+    → (history : List (List ℕ)) → IsCourse blocks (plain_course history) → BeginsIn part split (plain_course history) → length history ≡ suc count → (k : ℕ) × Contains (map put_before (now.share k)) history
+each_next steps part split blocks start count layer ends tracks is was now [] course fits len = absurd (omega arith)
+each_next {S} {L} steps part split blocks start count layer ends tracks is was now (xs ∷ history) (course, lt, whole) (earlier, fits) len =
     let shorter : length history ≡ count = omega arith in
     let long : length (plain_course history) ≡ count = length-map history plain ∙ shorter in
     let e : tracks ≡ block blocks (length (plain_course history)) = is ∙ ap (λ (k : ℕ). block blocks k) (sym long) in
-    let (i, c) = was.each history course shorter in
-    let (k, d) = now.each i history c xs (subst (λ (t : List (Vec L)). IsOrder t (plain xs)) (sym e) whole) in
+    let (i, c) = was.each history course earlier shorter in
+    let (k, d) = now.each i history c xs (subst (λ (t : List (Vec L)). IsOrder t (plain xs)) (sym e) whole) (in_block part split count (plain xs) (λ at. fits (long ∙ at))) in
     (k, contains_map put_before (now.share k) (xs, history) d)
 
-pub share_next : {S L : Type 0} (steps : S → L → ℕ → S → Type 0) (blocks : List (Vec (Vec L))) (start : S) (count : ℕ) (layer ends : List (Node S)) (tracks : List (Vec L)) → tracks ≡ block blocks count → count < length blocks
-    → (was : SharesCourses steps blocks start count layer) → AreShared steps tracks layer ends was.share → SharesCourses steps blocks start (suc count) ends
-share_next {S} {L} steps blocks start count layer ends tracks is lt was now = record {
+pub share_next : {S L : Type 0} (steps : S → L → ℕ → S → Type 0) (part : Part) (split : ℕ) (blocks : List (Vec (Vec L))) (start : S) (count : ℕ) (layer ends : List (Node S)) (tracks : List (Vec L)) → tracks ≡ block blocks count → count < length blocks
+    → (was : SharesCourses steps part split blocks start count layer) → AreShared steps (block_part part split count) tracks layer ends was.share → SharesCourses steps part split blocks start (suc count) ends
+share_next {S} {L} steps part split blocks start count layer ends tracks is lt was now = record {
   share = λ k. map put_before (now.share k);
   shared = record {
     number = λ k n found. subst (λ (j : ℕ). IsNumber n.orders j) (sym (length-map (now.share k) put_before)) (now.shared.number k n found);
@@ -149,28 +152,29 @@ share_next {S} {L} steps blocks start count layer ends tracks is lt was now = re
   };
   led = λ k h c.
       let (o, at, one) = contains_map_from put_before (now.share k) h c in
-      let (whole, (n, found, (i, s, from, before, leads))) = now.led k o at in
-      let (course, len, (s', from', led)) = was.led i o.1 before in
+      let (whole, in_part, (n, found, (i, s, from, before, leads))) = now.led k o at in
+      let (course, earlier, len, (s', from', led)) = was.led i o.1 before in
       let same : s' ≡ s = same_Some s' s (sym from' ∙ from) in
       let led' : LeadsOn steps blocks start (plain_course o.1) s.state = subst (λ (m : Node S). LeadsOn steps blocks start (plain_course o.1) m.state) same led in
       let (more, on) = course_before steps blocks start count tracks o s.state n.state is lt course len led' whole leads in (
         subst (λ (x : List (List ℕ)). IsCourse blocks (plain_course x)) (sym one) more,
+        subst (λ (x : List (List ℕ)). BeginsIn part split (plain_course x)) (sym one) (earlier, λ here. of_block part split count (plain o.0) in_part (sym (length-map o.1 plain ∙ len) ∙ here)),
         ap length one ∙ ap suc len,
         (n, found, subst (λ (x : List (List ℕ)). LeadsOn steps blocks start (plain_course x) n.state) (sym one) on),
       );
-  each = each_next steps blocks start count layer ends tracks is was now;
+  each = each_next steps part split blocks start count layer ends tracks is was now;
 }
 
-pub all_counted : {S L : Type 0} (steps : S → L → ℕ → S → Type 0) (blocks : List (Vec (Vec L))) (start : S) (count : ℕ) (ends : List (Node S)) (total : Option ℕ) → count ≡ length blocks
+pub all_counted : {S L : Type 0} (steps : S → L → ℕ → S → Type 0) (part : Part) (blocks : List (Vec (Vec L))) (start : S) (count : ℕ) (ends : List (Node S)) (total : Option ℕ) → count ≡ length blocks → (fork blocks ≡ length blocks → part.index ≡ 0)
     → ((share : ℕ → List (List (List ℕ))) → IsShared ends share → IsNumber total (length (all_below share (length ends))))
-    → SharesCourses steps blocks start count ends → AreCounted steps blocks start ends total
-all_counted {S} {L} steps blocks start count ends total all number now = record {
+    → SharesCourses steps part (fork blocks) blocks start count ends → PartIsCounted steps part blocks start ends total
+all_counted {S} {L} steps part blocks start count ends total all one number now = record {
   share = now.share;
   shared = now.shared;
-  led = λ k h c. let (course, len, rest) = now.led k h c in ((course, length-map h plain ∙ len ∙ all), rest);
+  led = λ k h c. let (course, fits, len, rest) = now.led k h c in ((course, length-map h plain ∙ len ∙ all), (fits, one), rest);
   all = all_below now.share (length ends);
   distinct = below_distinct ends now.share now.shared (length ends);
-  each = λ h (course, len). let (k, c) = now.each h course (sym (length-map h plain) ∙ len ∙ sym all) in in_below now.share (length ends) k h (now.shared.within k h c) c;
-  only = λ h c. let (k, _, d) = below_from now.share (length ends) h c in let (course, len, _) = now.led k h d in (course, length-map h plain ∙ len ∙ all);
+  each = λ h (course, len) (fits, _). let (k, c) = now.each h course fits (sym (length-map h plain) ∙ len ∙ sym all) in in_below now.share (length ends) k h (now.shared.within k h c) c;
+  only = λ h c. let (k, _, d) = below_from now.share (length ends) h c in let (course, fits, len, _) = now.led k h d in ((course, length-map h plain ∙ len ∙ all), (fits, one));
   number = number now.share now.shared;
 }

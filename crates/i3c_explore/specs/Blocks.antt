@@ -6,6 +6,7 @@ use Rattle.i3c_explore.specs.declared.turn.Turn.{Turn}
 use Rattle.i3c_explore.specs.Counts.{AllDistinct, IsShared, plain}
 use Rattle.i3c_explore.specs.Numbers.{IsNumber}
 use Rattle.i3c_explore.specs.Orders.{Breaks, IsOrder, IsPrefix, Leads}
+use Rattle.i3c_explore.specs.Parts.{IsOfPart, Part}
 
 -- A course is an order of each of the first blocks, the newest block first.
 -- the tracks of a block; a block that isn't there has none
@@ -53,6 +54,15 @@ pub record IsShortestBreak {S L : Type 0} (steps : S → L → ℕ → S → Typ
   pub broken : BreaksOn steps breaks blocks start course
   pub shortest : (other : List (List Turn)) → IsBegun blocks other → length (turns other) < length (turns course) → (end : S) × LeadsOn steps blocks start other end
 
+-- the same among the courses of a part: each of them of fewer turns leads on
+pub record IsShortestInPart {S L : Type 0} (steps : S → L → ℕ → S → Type 0) (breaks : S → L → ℕ → Type 0) (part : Part) (blocks : List (Vec (Vec L))) (start : S) (order : List Turn) : Type 0 where
+  pub course : List (List Turn)
+  pub is : order ≡ reverse (turns course)
+  pub begun : IsBegun blocks course
+  pub in_part : IsOfPart part blocks course
+  pub broken : BreaksOn steps breaks blocks start course
+  pub shortest : (other : List (List Turn)) → IsBegun blocks other → IsOfPart part blocks other → length (turns other) < length (turns course) → (end : S) × LeadsOn steps blocks start other end
+
 -- the orders of interleavings, in which each line goes way 0
 abbrev pub plain_course : List (List ℕ) → List (List Turn)
 plain_course history = map plain history
@@ -66,4 +76,16 @@ pub record AreCounted {S L : Type 0} (steps : S → L → ℕ → S → Type 0) 
   pub distinct : AllDistinct all
   pub each : (history : List (List ℕ)) → IsWhole blocks (plain_course history) → Contains all history
   pub only : (history : List (List ℕ)) → Contains all history → IsWhole blocks (plain_course history)
+  pub number : IsNumber total (length all)
+
+-- the same of the interleavings of a part
+pub record PartIsCounted {S L : Type 0} (steps : S → L → ℕ → S → Type 0) (part : Part) (blocks : List (Vec (Vec L))) (start : S) (ends : List (Node S)) (total : Option ℕ) : Type 0 where
+  pub share : ℕ → List (List (List ℕ))
+  pub shared : IsShared ends share
+  pub led : (k : ℕ) (history : List (List ℕ)) → Contains (share k) history
+      → IsWhole blocks (plain_course history) × IsOfPart part blocks (plain_course history) × ((n : Node S) × (slice_get ends k ≡ Some n) × LeadsOn steps blocks start (plain_course history) n.state)
+  pub all : List (List (List ℕ))
+  pub distinct : AllDistinct all
+  pub each : (history : List (List ℕ)) → IsWhole blocks (plain_course history) → IsOfPart part blocks (plain_course history) → Contains all history
+  pub only : (history : List (List ℕ)) → Contains all history → IsWhole blocks (plain_course history) × IsOfPart part blocks (plain_course history)
   pub number : IsNumber total (length all)

@@ -4,7 +4,9 @@ use Rattle.std.specs.Global.{Vec}
 use Rattle.i3c_explore.specs.declared.node.Node.{Node}
 use Rattle.i3c_explore.specs.declared.turn.Turn.{Turn}
 use Rattle.i3c_explore.specs.Numbers.{IsSum}
-use Rattle.i3c_explore.specs.Orders.{Breaks, IsPrefix, Leads, turns_of, track}
+use Rattle.i3c_explore.specs.Parts.{Part}
+use Rattle.i3c_explore.specs.Splits.{IsInPart}
+use Rattle.i3c_explore.specs.Orders.{Breaks, IsPrefix, Leads, turns_of}
 
 -- the layer has a node at these places, with this state
 abbrev pub Has : {S : Type 0} → List (Node S) → List ℕ → S → Type 0
@@ -53,38 +55,38 @@ pub record IsPutBehind {S : Type 0} (old : List (Node S)) (node : Node S) (turn 
   pub orders : made.orders ≡ by_way turn.way node.orders
   pub put : ((made.order.items ≡ node.order.items ++ turn ∷ []) × (new ≡ old ++ made ∷ [])) ⊎ IsMerged old made new
 
--- the line of a track that runs next, at these places
-abbrev pub IsNextAt : {L : Type 0} → List (Vec L) → List ℕ → ℕ → L → Type 0
-IsNextAt tracks places t line = slice_get (track tracks t) (slice_index places t) ≡ Some line
+-- the line of a track that runs next at these places, by the lines of each track
+abbrev pub IsNextAt : {L : Type 0} → (ℕ → List L) → List ℕ → ℕ → L → Type 0
+IsNextAt lines places t line = slice_get (lines t) (slice_index places t) ≡ Some line
 
 -- a node follows another one by one line of a track
-pub record IsSuccessor {S L : Type 0} (steps : S → L → ℕ → S → Type 0) (tracks : List (Vec L)) (old new : Node S) : Type 0 where
+pub record IsSuccessor {S L : Type 0} (steps : S → L → ℕ → S → Type 0) (lines : ℕ → List L) (old new : Node S) : Type 0 where
   pub turn : Turn
   pub line : L
-  pub next : IsNextAt tracks old.places.items turn.track line
+  pub next : IsNextAt lines old.places.items turn.track line
   pub step : steps old.state line turn.way new.state
   pub places : new.places.items ≡ advanced turn.track old.places.items
   pub order : new.order.items ≡ old.order.items ++ turn ∷ []
 
 -- the nodes of a layer were there, or follow a node
-abbrev pub AreFrom : {S L : Type 0} → (S → L → ℕ → S → Type 0) → List (Vec L) → Node S → List (Node S) → List (Node S) → Type 0
-AreFrom {S} steps tracks node old new = (n : Node S) → Contains new n → ((m : Node S) × Contains old m × IsLike n m) ⊎ IsSuccessor steps tracks node n
+abbrev pub AreFrom : {S L : Type 0} → (S → L → ℕ → S → Type 0) → (ℕ → List L) → Node S → List (Node S) → List (Node S) → Type 0
+AreFrom {S} steps lines node old new = (n : Node S) → Contains new n → ((m : Node S) × Contains old m × IsLike n m) ⊎ IsSuccessor steps lines node n
 
 -- a line after a node breaks an expectation, in this order
-pub record IsBreak {S L : Type 0} (breaks : S → L → ℕ → Type 0) (tracks : List (Vec L)) (old : Node S) (order : List Turn) : Type 0 where
+pub record IsBreak {S L : Type 0} (breaks : S → L → ℕ → Type 0) (lines : ℕ → List L) (old : Node S) (order : List Turn) : Type 0 where
   pub turn : Turn
   pub line : L
-  pub next : IsNextAt tracks old.places.items turn.track line
+  pub next : IsNextAt lines old.places.items turn.track line
   pub broken : breaks old.state line turn.way
   pub is : order ≡ old.order.items ++ turn ∷ []
 
 -- the layer has what a track's next line leads to, in every way
-abbrev pub IsTracked : {S L : Type 0} → (S → L → ℕ → S → Type 0) → List (Vec L) → ℕ → Node S → List (Node S) → Type 0
-IsTracked {S} {L} steps tracks t node layer = (line : L) → IsNextAt tracks node.places.items t line → (way : ℕ) → (new : S) × steps node.state line way new × Has layer (advanced t node.places.items) new
+abbrev pub IsTracked : {S L : Type 0} → (S → L → ℕ → S → Type 0) → (ℕ → List L) → ℕ → Node S → List (Node S) → Type 0
+IsTracked {S} {L} steps lines t node layer = (line : L) → IsNextAt lines node.places.items t line → (way : ℕ) → (new : S) × steps node.state line way new × Has layer (advanced t node.places.items) new
 
 -- and of each track below a number
-abbrev pub IsExpanded : {S L : Type 0} → (S → L → ℕ → S → Type 0) → List (Vec L) → ℕ → Node S → List (Node S) → Type 0
-IsExpanded steps tracks count node layer = (t : ℕ) → t < count → IsTracked steps tracks t node layer
+abbrev pub IsExpanded : {S L : Type 0} → (S → L → ℕ → S → Type 0) → (ℕ → List L) → ℕ → Node S → List (Node S) → Type 0
+IsExpanded steps lines count node layer = (t : ℕ) → t < count → IsTracked steps lines t node layer
 
 -- a node is reached from a start by its order, and is at the places where the order leaves off
 pub record IsReached {S L : Type 0} (steps : S → L → ℕ → S → Type 0) (tracks : List (Vec L)) (start node : Node S) : Type 0 where
@@ -103,11 +105,12 @@ Holds {S} steps tracks start layer order =
 abbrev pub IsRestarted : {S : Type 0} → ℕ → Node S → Node S → Type 0
 IsRestarted count old new = (new.state ≡ old.state) × (new.order.items ≡ old.order.items) × (new.orders ≡ old.orders) × ((t : ℕ) → slice_index new.places.items t ≡ 0) × (length new.places.items ≡ count)
 
--- the first of the shortest orders that break an expectation: each shorter one leads on
-pub record IsFirstBreak {S L : Type 0} (steps : S → L → ℕ → S → Type 0) (breaks : S → L → ℕ → Type 0) (tracks : List (Vec L)) (starts : List (Node S)) (order : List Turn) : Type 0 where
+-- the first of a part's shortest orders that break an expectation: each shorter one of the part leads on
+pub record IsFirstBreak {S L : Type 0} (steps : S → L → ℕ → S → Type 0) (breaks : S → L → ℕ → Type 0) (part : Part) (tracks : List (Vec L)) (starts : List (Node S)) (order : List Turn) : Type 0 where
   pub start : Node S
   pub at : Contains starts start
   pub turns : List Turn
   pub is : order ≡ start.order.items ++ reverse turns
+  pub in_part : IsInPart part.index part.of turns
   pub broken : Breaks steps breaks tracks start.state turns
-  pub shortest : (from : Node S) → Contains starts from → (other : List Turn) → length other < length turns → IsPrefix tracks other → (end : S) × Leads steps tracks from.state other end
+  pub shortest : (from : Node S) → Contains starts from → (other : List Turn) → length other < length turns → IsPrefix tracks other → IsInPart part.index part.of other → (end : S) × Leads steps tracks from.state other end

@@ -1,8 +1,10 @@
 pub mod Orders
 pub mod Numbers
+pub mod Splits
+pub mod Parts
 pub mod Counts
 pub mod Shares
 pub mod Layers
 pub mod Blocks
 pub mod Stops
-pub mod Splits
+pub mod Sums

@@ -4,8 +4,10 @@ use Rattle.std.specs.Global.{Vec}
 use Rattle.i3c_explore.specs.declared.node.Node.{Node}
 use Rattle.i3c_explore.specs.declared.turn.Turn.{Turn}
 use Rattle.i3c_explore.specs.Numbers.{IsNumber}
-use Rattle.i3c_explore.specs.Orders.{IsOrder, Leads, track, turns_of}
+use Rattle.i3c_explore.specs.Orders.{IsOrder, Leads, turns_of}
 use Rattle.i3c_explore.specs.Counts.{AllDistinct, IsShared, plain}
+use Rattle.i3c_explore.specs.Parts.{Part}
+use Rattle.i3c_explore.specs.Splits.{IsInPart}
 
 -- the shares of the nodes below an index, one after another
 abbrev pub all_below : {O : Type 0} → (ℕ → List O) → ℕ → List O
@@ -61,30 +63,31 @@ abbrev pub by_line : {L : Type 0} → Option L → ℕ → List (List ℕ × Lis
 by_line None t own = []
 by_line (Some line) t own = map (longer t) own
 
-abbrev pub by_track : {L : Type 0} → List (Vec L) → List ℕ → ℕ → List (List ℕ × List (List ℕ)) → List (List ℕ × List (List ℕ))
-by_track tracks places t own = by_line (slice_get (track tracks t) (slice_index places t)) t own
+abbrev pub by_track : {L : Type 0} → (ℕ → List L) → List ℕ → ℕ → List (List ℕ × List (List ℕ)) → List (List ℕ × List (List ℕ))
+by_track lines places t own = by_line (slice_get (lines t) (slice_index places t)) t own
 
 -- the orders that the tracks below a number lead on
-abbrev pub by_tracks : {L : Type 0} → List (Vec L) → List ℕ → ℕ → List (List ℕ × List (List ℕ)) → List (List ℕ × List (List ℕ))
-by_tracks tracks places zero own = []
-by_tracks tracks places (suc t) own = by_tracks tracks places t own ++ by_track tracks places t own
+abbrev pub by_tracks : {L : Type 0} → (ℕ → List L) → List ℕ → ℕ → List (List ℕ × List (List ℕ)) → List (List ℕ × List (List ℕ))
+by_tracks lines places zero own = []
+by_tracks lines places (suc t) own = by_tracks lines places t own ++ by_track lines places t own
 
 -- a layer gains the orders that are made of a node's own ones
 abbrev pub Gains : {S L : Type 0} → (S → L → ℕ → S → Type 0) → List (Vec L) → Node S → List (Node S) → List (Node S) → (List (List ℕ × List (List ℕ)) → List (List ℕ × List (List ℕ))) → Type 0
 Gains {S} steps tracks node old new made = (starts : List (Node S)) (past : ℕ → List (List (List ℕ))) (own : List (List ℕ × List (List ℕ))) → IsOwn (IsLed steps tracks starts past) node own
     → IsAdded (IsLed steps tracks starts past) old new (made own)
 
--- the orders of a layer are shared out to the next one, each with each turn that can follow
-pub record IsSharedNext {S L : Type 0} (Fits : Node S → List ℕ × List (List ℕ) → Type 0) (tracks : List (Vec L)) (layer next : List (Node S)) (share : ℕ → List (List ℕ × List (List ℕ))) : Type 0 where
+-- the orders of a layer are shared out to the next one, each with each turn that can follow, and no other ones
+pub record IsSharedNext {S L : Type 0} (Fits : Node S → List ℕ × List (List ℕ) → Type 0) (lines : ℕ → List L) (count : ℕ) (layer next : List (Node S)) (share : ℕ → List (List ℕ × List (List ℕ))) : Type 0 where
   pub now : ℕ → List (List ℕ × List (List ℕ))
   pub shared : IsShared next now
   pub meant : IsMeant Fits next now
-  pub each : (k : ℕ) (n : Node S) (order : List ℕ × List (List ℕ)) → slice_get layer k ≡ Some n → Contains (by_tracks tracks n.places.items (length tracks) (share k)) order → (j : ℕ) × Contains (now j) order
+  pub each : (k : ℕ) (n : Node S) (order : List ℕ × List (List ℕ)) → slice_get layer k ≡ Some n → Contains (by_tracks lines n.places.items count (share k)) order → (j : ℕ) × Contains (now j) order
+  pub from : (j : ℕ) (order : List ℕ × List (List ℕ)) → Contains (now j) order → (k : ℕ) × ((n : Node S) × (slice_get layer k ≡ Some n) × Contains (by_tracks lines n.places.items count (share k)) order)
 
--- the orders of a block are shared out to its ends: each interleaving behind each order that leads to a start
-pub record AreShared {S L : Type 0} (steps : S → L → ℕ → S → Type 0) (tracks : List (Vec L)) (starts ends : List (Node S)) (past : ℕ → List (List (List ℕ))) : Type 0 where
+-- the orders of a part of a block are shared out to its ends: each interleaving behind each order that leads to a start
+pub record AreShared {S L : Type 0} (steps : S → L → ℕ → S → Type 0) (part : Part) (tracks : List (Vec L)) (starts ends : List (Node S)) (past : ℕ → List (List (List ℕ))) : Type 0 where
   pub share : ℕ → List (List ℕ × List (List ℕ))
   pub shared : IsShared ends share
-  pub led : (k : ℕ) (order : List ℕ × List (List ℕ)) → Contains (share k) order → IsOrder tracks (plain order.0)
+  pub led : (k : ℕ) (order : List ℕ × List (List ℕ)) → Contains (share k) order → IsOrder tracks (plain order.0) × IsInPart part.index part.of (plain order.0)
       × ((n : Node S) × (slice_get ends k ≡ Some n) × ((i : ℕ) × (s : Node S) × (slice_get starts i ≡ Some s) × Contains (past i) order.1 × Leads steps tracks s.state (plain order.0) n.state))
-  pub each : (i : ℕ) (before : List (List ℕ)) → Contains (past i) before → (tracks_run : List ℕ) → IsOrder tracks (plain tracks_run) → (k : ℕ) × Contains (share k) (tracks_run, before)
+  pub each : (i : ℕ) (before : List (List ℕ)) → Contains (past i) before → (tracks_run : List ℕ) → IsOrder tracks (plain tracks_run) → IsInPart part.index part.of (plain tracks_run) → (k : ℕ) × Contains (share k) (tracks_run, before)

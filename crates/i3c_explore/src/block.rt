@@ -1,4 +1,4 @@
-ghost use Rattle.std.specs.Prelude.{◌≡◌, ◌<◌, ◌++◌, ℕ, IfErr, IfOk, OnOk, List, Some, Contains, length, reverse, slice_get};
+ghost use Rattle.std.specs.Prelude.{◌≡◌, ◌<◌, ◌++◌, ◌⊎◌, ◌↔◌, ℕ, IfErr, IfOk, IsTrue, OnOk, List, Some, Contains, length, reverse, slice_get};
 ghost use Rattle.std.specs.Global.{Vec as VecValue};
 ghost use Rattle.i3c_explore.specs.declared.node.Node.{Node as NodeValue};
 ghost use Rattle.i3c_explore.specs.declared.stop.Stop.{Stop as StopValue};
@@ -7,11 +7,14 @@ ghost use Rattle.i3c_explore.specs.Counts.{IsShared};
 ghost use Rattle.i3c_explore.specs.Shares.{AreShared};
 ghost use Rattle.i3c_explore.specs.Layers.{IsFirstBreak, IsRestarted};
 ghost use Rattle.i3c_explore.specs.Orders.{IsOrder, IsPrefix, Leads};
+ghost use Rattle.i3c_explore.specs.Parts.{HasLine, whole};
+ghost use Rattle.i3c_explore.specs.Splits.{IsInPart};
 
 use crate::expand::next_layer;
 use crate::layer::{Layer, spare_all};
 use crate::machine::Machine;
 use crate::node::Node;
+use crate::part::Part;
 use crate::stop::Stop;
 use std::alloc::{AllocError, Global};
 use std::mem;
@@ -35,7 +38,15 @@ fn restart_all<M>(alloc: Global, nodes: &mut Vec<Node<M>>, count: usize) -> Resu
     Ok(())
 }
 
-/// Tries every order of the tracks' lines from each state of a layer, each line in every way. Answers what they lead to.
+/// Whether a layer ends a block, where so many lines have run: none follows it. A part that begins with no line has an
+/// empty layer behind the first line.
+fn is_over<M>(next: &Vec<Node<M>>, part: Part, ran: u64) -> bool
+    ensures { IsTrue result ↔ ((length next.now.items ≡ 0) × ((0 < ran) ⊎ (part ≡ whole))) }
+{
+    next.is_empty() && (ran > 0 || part.is_whole())
+}
+
+/// Tries a part's orders of the tracks' lines from each state of a layer, each line in every way. Answers what they lead to.
 ///
 /// # Errors
 ///
@@ -44,30 +55,42 @@ pub(crate) fn explore_block<M: Machine>(
     alloc: Global,
     starts: Layer<M>,
     tracks: &[Vec<M::Line>],
+    part: Part,
     runner: &mut M::Runner,
 ) -> Result<Layer<M>, Stop>
-    // every order, and every beginning of one, leads on: no line breaks an expectation
-    ensures all { OnOk result ((s : NodeValue M) → Contains starts.nodes.items s → (order : List TurnValue) → IsPrefix tracks.now order → (end : M) × Leads M.steps tracks.now s.state order end) }
-    // every order leads to one of the ends
-    ensures ends { IfOk result (λ ends. (s : NodeValue M) → Contains starts.nodes.items s → (order : List TurnValue) → IsOrder tracks.now order →
+    requires { (part ≡ whole) ⊎ HasLine tracks.now }
+    // every order of the part, and every beginning of one, leads on: no line breaks an expectation
+    ensures all { OnOk result ((s : NodeValue M) → Contains starts.nodes.items s → (order : List TurnValue) → IsPrefix tracks.now order → IsInPart part.index part.of order → (end : M) × Leads M.steps tracks.now s.state order end) }
+    // every order of the part leads to one of the ends
+    ensures ends { IfOk result (λ ends. (s : NodeValue M) → Contains starts.nodes.items s → (order : List TurnValue) → IsOrder tracks.now order → IsInPart part.index part.of order →
         (n : NodeValue M) × Contains ends.nodes.items n × Leads M.steps tracks.now s.state order n.state) }
-    // each end is reached from a start, by the order that it has
+    // each end is reached from a start, by the order of the part that it has
     ensures reached { IfOk result (λ ends. (n : NodeValue M) → Contains ends.nodes.items n →
-        (s : NodeValue M) × Contains starts.nodes.items s × ((turns : List TurnValue) × IsOrder tracks.now turns × (n.order.items ≡ s.order.items ++ reverse turns) × Leads M.steps tracks.now s.state turns n.state)) }
-    // each interleaving's order with each line in way 0 is counted at one of the ends, to which it leads
-    ensures counted { IfOk result (λ ends. (past : ℕ → List (List (List ℕ))) → IsShared starts.nodes.items past → AreShared M.steps tracks.now starts.nodes.items ends.nodes.items past) }
-    // an order that is answered in place of them breaks an expectation at its last line, and no shorter one does
-    ensures broken { IfErr result (λ stop. (order : VecValue TurnValue) → stop ≡ StopValue.Breaks order → IsFirstBreak M.steps M.breaks tracks.now starts.nodes.items order.items) }
+        (s : NodeValue M) × Contains starts.nodes.items s × ((turns : List TurnValue) × IsOrder tracks.now turns × IsInPart part.index part.of turns × (n.order.items ≡ s.order.items ++ reverse turns) × Leads M.steps tracks.now s.state turns n.state)) }
+    // each interleaving's order in the part with each line in way 0 is counted at one of the ends, to which it leads
+    ensures counted { IfOk result (λ ends. (past : ℕ → List (List (List ℕ))) → IsShared starts.nodes.items past → AreShared M.steps part tracks.now starts.nodes.items ends.nodes.items past) }
+    // an order of the part that is answered in place of them breaks an expectation at its last line, and no shorter one does
+    ensures broken { IfErr result (λ stop. (order : VecValue TurnValue) → stop ≡ StopValue.Breaks order → IsFirstBreak M.steps M.breaks part tracks.now starts.nodes.items order.items) }
 {
     let mut layer = starts;
     restart_all(alloc, &mut layer.nodes, tracks.len())?;
     for ran in 0..u64::MAX {
         let spares = mem::replace(&mut layer.spares, Vec::new(alloc));
-        let mut next = match next_layer(alloc, &layer.nodes, layer.limits, tracks, runner, spares) {
+        let opening = part.only_if(ran == 0);
+        let limits = layer.limits;
+        let mut next = match next_layer(
+            alloc,
+            &layer.nodes,
+            limits,
+            tracks,
+            opening,
+            runner,
+            spares,
+        ) {
             Ok(next) => next,
             Err(stop) => return Err(stop),
         };
-        if next.nodes.is_empty() {
+        if is_over(&next.nodes, part, ran) {
             layer.limits = next.limits;
             layer.spares = next.spares;
             return Ok(layer);

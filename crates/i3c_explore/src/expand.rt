@@ -1,4 +1,4 @@
-ghost use Rattle.std.specs.Prelude.{◌≡◌, ◌<◌, ◌^◌, ◌+◌, ℕ, IfErr, IfOk, OnOk, List, Contains, length, slice_index};
+ghost use Rattle.std.specs.Prelude.{◌≡◌, ◌<◌, ◌^◌, ◌+◌, ℕ, IfErr, IfOk, MatchOption, None, OnOk, Some, List, Contains, length, slice_get, slice_index};
 ghost use Rattle.std.specs.Global.{Vec as VecValue};
 ghost use Rattle.i3c_explore.specs.declared.node.Node.{Node as NodeValue};
 ghost use Rattle.i3c_explore.specs.declared.stop.Stop.{Stop as StopValue};
@@ -6,11 +6,14 @@ ghost use Rattle.i3c_explore.specs.declared.turn.Turn.{Turn as TurnValue};
 ghost use Rattle.i3c_explore.specs.Counts.{IsShared};
 ghost use Rattle.i3c_explore.specs.Shares.{Gains, IsLed, IsMeant, IsSharedNext, by_track, by_tracks, by_turn};
 ghost use Rattle.i3c_explore.specs.Layers.{AreFrom, Has, IsBreak, IsExpanded, IsNextAt, IsSuccessor, IsTracked, Keeps, advanced};
+ghost use Rattle.i3c_explore.specs.Orders.{track as lines_of};
+ghost use Rattle.i3c_explore.specs.Parts.{opening};
 
 use crate::layer::Layer;
 use crate::limits::Limits;
 use crate::machine::Machine;
 use crate::node::Node;
+use crate::part::Part;
 use crate::stop::Stop;
 use crate::turn::{Turn, extended};
 use std::alloc::Global;
@@ -27,12 +30,12 @@ fn run<M: Machine>(
 ) -> Result<(), Stop>
     requires within { turn.track < length node.now.places.items }
     requires fits { slice_index node.now.places.items turn.track + 1 < 2 ^ 64 }
-    requires next { IsNextAt tracks.now node.now.places.items turn.track line.now }
+    requires next { IsNextAt (lines_of tracks.now) node.now.places.items turn.track line.now }
     ensures keeps { OnOk result (Keeps next.old.nodes.items next.new.nodes.items) }
     ensures ran { OnOk result ((new : M) × M.steps node.now.state line.now turn.way new × Has next.new.nodes.items (advanced turn.track node.now.places.items) new) }
-    ensures from { OnOk result (AreFrom M.steps tracks.now node.now next.old.nodes.items next.new.nodes.items) }
+    ensures from { OnOk result ((lines : ℕ → List M.Line) → IsNextAt lines node.now.places.items turn.track line.now → AreFrom M.steps lines node.now next.old.nodes.items next.new.nodes.items) }
     ensures counted { OnOk result (Gains M.steps tracks.now node.now next.old.nodes.items next.new.nodes.items (by_turn turn)) }
-    ensures broken { IfErr result (λ stop. (order : VecValue TurnValue) → stop ≡ StopValue.Breaks order → IsBreak M.breaks tracks.now node.now order.items) }
+    ensures broken { IfErr result (λ stop. (order : VecValue TurnValue) → stop ≡ StopValue.Breaks order → (lines : ℕ → List M.Line) → IsNextAt lines node.now.places.items turn.track line.now → IsBreak M.breaks lines node.now order.items) }
 {
     if !next.limits.step() {
         return Err(Stop::Most);
@@ -47,11 +50,23 @@ fn run<M: Machine>(
     }
 }
 
-/// Runs a track's next line from a node in each way.
+/// The line of a track at a place, if orders of a part begin with the track's.
+fn next_line<L>(tracks: &[Vec<L>], part: Part, track: usize, place: usize) -> Option<&L>
+    requires { track < length tracks.now }
+    ensures { MatchOption result (slice_get (opening part tracks.now track) place ≡ None) (λ line. slice_get (opening part tracks.now track) place ≡ Some line.now) }
+{
+    if !part.begins(track) {
+        return None;
+    }
+    tracks[track].get(place)
+}
+
+/// Runs a track's next line from a node in each way, if orders of a part begin with it.
 fn run_track<M: Machine>(
     alloc: Global,
     node: &Node<M>,
     tracks: &[Vec<M::Line>],
+    part: Part,
     track: usize,
     runner: &mut M::Runner,
     next: &mut Layer<M>,
@@ -59,13 +74,12 @@ fn run_track<M: Machine>(
     requires within { track < length tracks.now }
     requires sized { length node.now.places.items ≡ length tracks.now }
     ensures keeps { OnOk result (Keeps next.old.nodes.items next.new.nodes.items) }
-    ensures tracked { OnOk result (IsTracked M.steps tracks.now track node.now next.new.nodes.items) }
-    ensures from { OnOk result (AreFrom M.steps tracks.now node.now next.old.nodes.items next.new.nodes.items) }
-    ensures counted { OnOk result (Gains M.steps tracks.now node.now next.old.nodes.items next.new.nodes.items (by_track tracks.now node.now.places.items track)) }
-    ensures broken { IfErr result (λ stop. (order : VecValue TurnValue) → stop ≡ StopValue.Breaks order → IsBreak M.breaks tracks.now node.now order.items) }
+    ensures tracked { OnOk result (IsTracked M.steps (opening part tracks.now) track node.now next.new.nodes.items) }
+    ensures from { OnOk result (AreFrom M.steps (opening part tracks.now) node.now next.old.nodes.items next.new.nodes.items) }
+    ensures counted { OnOk result (Gains M.steps tracks.now node.now next.old.nodes.items next.new.nodes.items (by_track (opening part tracks.now) node.now.places.items track)) }
+    ensures broken { IfErr result (λ stop. (order : VecValue TurnValue) → stop ≡ StopValue.Breaks order → IsBreak M.breaks (opening part tracks.now) node.now order.items) }
 {
-    let place = node.places[track];
-    let Some(line) = tracks[track].get(place) else {
+    let Some(line) = next_line(tracks, part, track, node.places[track]) else {
         return Ok(());
     };
     let last = node.state.last_way(line);
@@ -78,23 +92,24 @@ fn run_track<M: Machine>(
     Ok(())
 }
 
-/// Runs the next line of each track from a node.
+/// Runs the next line of each track from a node, of those by which orders of a part begin.
 fn expand<M: Machine>(
     alloc: Global,
     node: &Node<M>,
     tracks: &[Vec<M::Line>],
+    part: Part,
     runner: &mut M::Runner,
     next: &mut Layer<M>,
 ) -> Result<(), Stop>
     requires sized { length node.now.places.items ≡ length tracks.now }
     ensures keeps { OnOk result (Keeps next.old.nodes.items next.new.nodes.items) }
-    ensures expanded { OnOk result (IsExpanded M.steps tracks.now (length tracks.now) node.now next.new.nodes.items) }
-    ensures from { OnOk result (AreFrom M.steps tracks.now node.now next.old.nodes.items next.new.nodes.items) }
-    ensures counted { OnOk result (Gains M.steps tracks.now node.now next.old.nodes.items next.new.nodes.items (by_tracks tracks.now node.now.places.items (length tracks.now))) }
-    ensures broken { IfErr result (λ stop. (order : VecValue TurnValue) → stop ≡ StopValue.Breaks order → IsBreak M.breaks tracks.now node.now order.items) }
+    ensures expanded { OnOk result (IsExpanded M.steps (opening part tracks.now) (length tracks.now) node.now next.new.nodes.items) }
+    ensures from { OnOk result (AreFrom M.steps (opening part tracks.now) node.now next.old.nodes.items next.new.nodes.items) }
+    ensures counted { OnOk result (Gains M.steps tracks.now node.now next.old.nodes.items next.new.nodes.items (by_tracks (opening part tracks.now) node.now.places.items (length tracks.now))) }
+    ensures broken { IfErr result (λ stop. (order : VecValue TurnValue) → stop ≡ StopValue.Breaks order → IsBreak M.breaks (opening part tracks.now) node.now order.items) }
 {
     for track in 0..tracks.len() {
-        match run_track(alloc, node, tracks, track, runner, next) {
+        match run_track(alloc, node, tracks, part, track, runner, next) {
             Ok(()) => {}
             Err(stop) => return Err(stop),
         }
@@ -102,26 +117,27 @@ fn expand<M: Machine>(
     Ok(())
 }
 
-/// The layer that follows: what each node leads to, by one more line.
+/// The layer that follows: what each node leads to, by one more line of the tracks by which orders of a part begin.
 pub(crate) fn next_layer<M: Machine>(
     alloc: Global,
     layer: &[Node<M>],
     limits: Limits,
     tracks: &[Vec<M::Line>],
+    part: Part,
     runner: &mut M::Runner,
     spares: Vec<M>,
 ) -> Result<Layer<M>, Stop>
     requires sized { (n : NodeValue M) → Contains layer.now n → length n.places.items ≡ length tracks.now }
-    ensures expanded { IfOk result (λ next. (n : NodeValue M) → Contains layer.now n → IsExpanded M.steps tracks.now (length tracks.now) n next.nodes.items) }
-    ensures from { IfOk result (λ next. (n : NodeValue M) → Contains next.nodes.items n → (old : NodeValue M) × Contains layer.now old × IsSuccessor M.steps tracks.now old n) }
+    ensures expanded { IfOk result (λ next. (n : NodeValue M) → Contains layer.now n → IsExpanded M.steps (opening part tracks.now) (length tracks.now) n next.nodes.items) }
+    ensures from { IfOk result (λ next. (n : NodeValue M) → Contains next.nodes.items n → (old : NodeValue M) × Contains layer.now old × IsSuccessor M.steps (opening part tracks.now) old n) }
     ensures counted { IfOk result (λ next. (starts : List (NodeValue M)) (past : ℕ → List (List (List ℕ))) (share : ℕ → List (List ℕ × List (List ℕ))) → IsShared layer.now share
-        → IsMeant (IsLed M.steps tracks.now starts past) layer.now share → IsSharedNext (IsLed M.steps tracks.now starts past) tracks.now layer.now next.nodes.items share) }
-    ensures broken { IfErr result (λ stop. (order : VecValue TurnValue) → stop ≡ StopValue.Breaks order → (old : NodeValue M) × Contains layer.now old × IsBreak M.breaks tracks.now old order.items) }
+        → IsMeant (IsLed M.steps tracks.now starts past) layer.now share → IsSharedNext (IsLed M.steps tracks.now starts past) (opening part tracks.now) (length tracks.now) layer.now next.nodes.items share) }
+    ensures broken { IfErr result (λ stop. (order : VecValue TurnValue) → stop ≡ StopValue.Breaks order → (old : NodeValue M) × Contains layer.now old × IsBreak M.breaks (opening part tracks.now) old order.items) }
 {
     let mut next = Layer::new(alloc, limits);
     next.spares = spares;
     for node in layer {
-        match expand(alloc, node, tracks, runner, &mut next) {
+        match expand(alloc, node, tracks, part, runner, &mut next) {
             Ok(()) => {}
             Err(stop) => return Err(stop),
         }

@@ -10,17 +10,22 @@
 //! Lines run on one runner ([`Machine::Runner`]), which comes to the state of a node and then to that which the line leads to.
 //! That is kept if it is new, in the room of a state of the layer before. So a step makes no state that it doesn't keep.
 //!
+//! [`explore_part`] tries the orders of one [`Part`] alone. Each order is in exactly one part, and the parts' numbers of orders
+//! add up ([`parts_share_all`]).
+//!
 //! Not claimed: that there is memory enough, that the limits are, or how much time it takes. Where a machine's steps are not
 //! determined, what its `run` doesn't choose is not tried.
 #![tactic(auto)]
 
 mod block;
 mod expand;
+mod fork;
 mod index;
 mod layer;
 mod limits;
 mod machine;
 mod node;
+mod part;
 mod splits;
 mod stop;
 mod turn;
@@ -29,7 +34,8 @@ mod walk;
 pub use limits::Limits;
 pub use machine::Machine;
 pub use node::Node;
-pub use splits::first_turns_split;
+pub use part::Part;
+pub use splits::{first_turns_split, parts_share_all};
 pub use stop::Stop;
 pub use turn::Turn;
-pub use walk::{Explored, explore};
+pub use walk::{Explored, explore, explore_part};

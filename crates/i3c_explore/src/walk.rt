@@ -3,17 +3,20 @@ ghost use Rattle.std.specs.Global.{Vec as VecValue};
 ghost use Rattle.i3c_explore.specs.declared.node.Node.{Node as NodeValue};
 ghost use Rattle.i3c_explore.specs.declared.stop.Stop.{Stop as StopValue};
 ghost use Rattle.i3c_explore.specs.declared.turn.Turn.{Turn as TurnValue};
-ghost use Rattle.i3c_explore.specs.Blocks.{AreCounted, BreaksOn, IsBegun, IsShortestBreak, IsWhole, LeadsOn, turns};
+ghost use Rattle.i3c_explore.specs.Blocks.{AreCounted, BreaksOn, IsBegun, IsShortestBreak, IsShortestInPart, IsWhole, LeadsOn, PartIsCounted, turns};
 ghost use Rattle.i3c_explore.specs.Counts.{IsShared};
 ghost use Rattle.i3c_explore.specs.Shares.{all_below};
 ghost use Rattle.i3c_explore.specs.Numbers.{IsNumber};
 ghost use Rattle.i3c_explore.specs.Orders.{IsDetermined, IsExclusive};
+ghost use Rattle.i3c_explore.specs.Parts.{IsOfPart};
 
 use crate::block::explore_block;
+use crate::fork::fork;
 use crate::layer::Layer;
 use crate::limits::Limits;
 use crate::machine::Machine;
 use crate::node::{Node, sum};
+use crate::part::Part;
 use crate::stop::Stop;
 use std::alloc::{AllocError, Global};
 
@@ -22,7 +25,7 @@ use std::alloc::{AllocError, Global};
 pub struct Explored<M> {
     /// The states that orders lead to, each with the first of them and their number.
     pub ends: Vec<Node<M>>,
-    /// The number of interleavings of all blocks, or none if it is over 18446744073709551615.
+    /// The number of interleavings that were tried, or none if it is over 18446744073709551615.
     pub orders: Option<u64>,
     /// The number of lines that were run.
     pub steps: u64,
@@ -51,6 +54,19 @@ fn first_layer<M: Machine>(alloc: Global, start: M, limits: Limits) -> Result<La
         orders: Some(1),
     })?;
     Ok(layer)
+}
+
+/// What no order leads to.
+fn nothing<M>(alloc: Global) -> Explored<M>
+    ensures ends { result.ends.items ≡ [] }
+    ensures orders { result.orders ≡ Some 0 }
+    ensures steps { result.steps ≡ 0 }
+{
+    Explored {
+        ends: Vec::new(alloc),
+        orders: Some(0),
+        steps: 0,
+    }
 }
 
 /// Tries every order of the lines of some blocks, which run one after another from a start, each line in every way.
@@ -86,10 +102,54 @@ pub fn explore<M: Machine>(
     // an order that is answered in place of them breaks an expectation at its last line, and no shorter one does
     ensures broken { IfErr result (λ stop. (order : VecValue TurnValue) → stop ≡ StopValue.Breaks order → IsShortestBreak M.steps M.breaks blocks.now start order.items) }
 {
+    match explore_part(alloc, start, blocks, limits, Part::whole()) {
+        Ok(found) => Ok(found),
+        Err(stop) => Err(stop),
+    }
+}
+
+/// Tries every order of a part, as [`explore`] tries all of them.
+///
+/// # Errors
+///
+/// `Breaks` has an order that breaks an expectation, of the shortest ones. After `Memory` and `Most` nothing is known of
+/// orders.
+pub fn explore_part<M: Machine>(
+    alloc: Global,
+    start: M,
+    blocks: &[Vec<Vec<M::Line>>],
+    limits: Limits,
+    part: Part,
+) -> Result<Explored<M>, Stop>
+    // every order of the part, and every beginning of one, leads on: no line breaks an expectation
+    ensures all { OnOk result ((course : List (List TurnValue)) → IsBegun blocks.now course → IsOfPart part blocks.now course → (end : M) × LeadsOn M.steps blocks.now start course end) }
+    // and no order of it breaks one in another run, where steps are determined and what breaks leads nowhere
+    ensures unbroken { OnOk result (IsDetermined M.steps → IsExclusive M.steps M.breaks → (course : List (List TurnValue)) → IsBegun blocks.now course → IsOfPart part blocks.now course → BreaksOn M.steps M.breaks blocks.now start course → ⊥) }
+    // every order of it leads to one of the ends
+    ensures ends { IfOk result (λ found. (course : List (List TurnValue)) → IsWhole blocks.now course → IsOfPart part blocks.now course →
+        (n : NodeValue M) × Contains found.ends.items n × LeadsOn M.steps blocks.now start course n.state) }
+    // and to no other state, where steps are determined
+    ensures only { IfOk result (λ found. IsDetermined M.steps → (course : List (List TurnValue)) → IsWhole blocks.now course → IsOfPart part blocks.now course → (end : M) → LeadsOn M.steps blocks.now start course end
+        → (n : NodeValue M) × Contains found.ends.items n × (n.state ≡ end)) }
+    // each end is reached by the order that it has, which is of the part
+    ensures reached { IfOk result (λ found. (n : NodeValue M) → Contains found.ends.items n →
+        (course : List (List TurnValue)) × IsWhole blocks.now course × IsOfPart part blocks.now course × (n.order.items ≡ reverse (turns course)) × LeadsOn M.steps blocks.now start course n.state) }
+    // the part's interleavings are counted, all together and at the ends to which they lead
+    ensures counted { IfOk result (λ found. PartIsCounted M.steps part blocks.now start found.ends.items found.orders) }
+    // no more lines were run than the limits allow
+    ensures within { IfOk result (λ found. found.steps ≤ limits.steps) }
+    // an order of the part that is answered in place of them breaks an expectation at its last line, and no shorter one of the part does
+    ensures broken { IfErr result (λ stop. (order : VecValue TurnValue) → stop ≡ StopValue.Breaks order → IsShortestInPart M.steps M.breaks part blocks.now start order.items) }
+{
+    let split = fork(blocks);
+    if !part.has_orders(split, blocks.len()) {
+        return Ok(nothing(alloc));
+    }
     let mut runner = start.runner(alloc)?;
     let mut layer = first_layer(alloc, start, limits)?;
-    for block in blocks {
-        layer = match explore_block(alloc, layer, block, &mut runner) {
+    for index in 0..blocks.len() {
+        let opening = part.only_if(index == split);
+        layer = match explore_block(alloc, layer, &blocks[index], opening, &mut runner) {
             Ok(layer) => layer,
             Err(stop) => return Err(stop),
         };

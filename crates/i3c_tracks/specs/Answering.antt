@@ -1,7 +1,8 @@
 -- What the exploration of a file answers.
 use Rattle.std.specs.Prelude.{◌≡◌, ℕ, List, ◌++◌, ⊤}
 use Rattle.std.specs.Global.{Vec}
-use Rattle.i3c_explore.specs.Blocks.{IsBegun, IsShortestBreak, LeadsOn}
+use Rattle.i3c_explore.specs.Blocks.{IsBegun, IsShortestInPart, LeadsOn}
+use Rattle.i3c_explore.specs.Parts.{IsOfPart, Part}
 use Rattle.i3c_explore.specs.declared.turn.Turn.{Turn}
 use Rattle.i3c_scene.specs.Scenes.{Seen}
 use Rattle.i3c_scene.specs.Trying.{LineBreaks, LineSteps}
@@ -12,16 +13,16 @@ use Rattle.i3c_tracks.specs.declared.refusal.Refusal.{Refusal}
 use Rattle.i3c_tracks.specs.Planning.{IsPlan}
 use Rattle.i3c_tracks.specs.Telling.{refusal_line, script_text}
 
--- every order of these blocks, and every beginning of one, leads on from the start; or one breaks an expectation, and no shorter one does
-abbrev pub IsAnswer : Seen → List (Vec (Vec Line)) → Answer → Type 0
-IsAnswer start blocks Answer.Holds = (course : List (List Turn)) → IsBegun blocks course → (end : Seen) × LeadsOn LineSteps blocks start course end
-IsAnswer start blocks Answer.Refused = ⊤
-IsAnswer start blocks Answer.Breaks = (order : List Turn) × IsShortestBreak LineSteps LineBreaks blocks start order
+-- every order of a part of these blocks' orders, and every beginning of one, leads on from the start; or one breaks an expectation, and no shorter one of the part does. The whole has every order, by a law of `i3c_explore`
+abbrev pub IsAnswer : Seen → List (Vec (Vec Line)) → Part → Answer → Type 0
+IsAnswer start blocks part Answer.Holds = (course : List (List Turn)) → IsBegun blocks course → IsOfPart part blocks course → (end : Seen) × LeadsOn LineSteps blocks start course end
+IsAnswer start blocks part Answer.Refused = ⊤
+IsAnswer start blocks part Answer.Breaks = (order : List Turn) × IsShortestInPart LineSteps LineBreaks part blocks start order
 
 -- the same of the blocks of a file's plan, from its start; of a file that isn't explored nothing is said
-abbrev pub IsExplored : List (Vec ℕ) → Answer → Type 0
-IsExplored lines Answer.Refused = ⊤
-IsExplored lines answer = (start : Seen) × (blocks : List (Vec (Vec Line))) × IsPlan lines start blocks × IsAnswer start blocks answer
+abbrev pub IsExplored : List (Vec ℕ) → Part → Answer → Type 0
+IsExplored lines part Answer.Refused = ⊤
+IsExplored lines part answer = (start : Seen) × (blocks : List (Vec (Vec Line))) × IsPlan lines start blocks × IsAnswer start blocks part answer
 
 -- what is printed with an answer: the line of a refusal, or a script of the file's lines
 abbrev pub IsPrinted : List (Vec ℕ) → Answer → List ℕ → List ℕ → Type 0

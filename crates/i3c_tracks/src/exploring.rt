@@ -11,7 +11,7 @@ use crate::broken::push_broken;
 use crate::plan::{Plan, PlanFault, read_plan};
 use crate::refusal::{Reason, Refusal};
 use crate::report::push_ends;
-use i3c_explore::{Limits, Stop, explore};
+use i3c_explore::{Limits, Part, Stop, explore_part};
 use i3c_scenario::{ScriptFault, ScriptLines, write_out};
 use i3c_text::Text;
 use std::alloc::{AllocError, Global};
@@ -23,15 +23,15 @@ const CHUNK: usize = 8192;
 /// What an exploration of a file came to.
 #[derive(Clone, Copy, Debug, PartialEq, Eq)]
 pub enum Answer {
-    /// Every order was tried, and none breaks an expectation.
+    /// Every order of the part was tried, and none breaks an expectation.
     Holds,
     /// The file is refused, or a limit was reached: nothing is said of orders that weren't tried.
     Refused,
-    /// An order breaks an expectation.
+    /// An order of the part breaks an expectation.
     Breaks,
 }
 
-/// Explores every order of a file's lines, and prints the ends that they lead to, or an order that breaks an expectation, or
+/// Explores every order of a part of a file's orders, and prints the ends that they lead to, or an order that breaks an expectation, or
 /// why the file is refused.
 ///
 /// The file is read whole before anything runs.
@@ -40,13 +40,14 @@ pub fn run_explore<R: Read, W: Write>(
     reader: &mut R,
     writer: &mut W,
     limits: Limits,
+    part: Part,
 ) -> Result<Answer, ScriptFault>
     // an `Ok` comes after the whole of a file that isn't too large
     ensures whole { OnOk result (IsAtEnd (R.remaining reader.new)) }
     ensures fits { OnOk result (IfSome (R.remaining reader.old) (λ bytes. length bytes ≤ 1048576)) }
     ensures large { result ≡ Err ScriptFault.TooLarge → IfSome (R.remaining reader.old) (λ bytes. 1048576 < length bytes) }
-    // of the plan that the file's lines have, every order leads on and breaks no expectation; or one breaks one, and no shorter one
-    ensures answer { IfOk result (λ answer. (lines : List (VecValue ℕ)) × AreLines (R.remaining reader.old) lines × IsExplored lines answer) }
+    // of the plan that the file's lines have, every order of the part leads on and breaks no expectation; or one breaks one, and no shorter one of the part
+    ensures answer { IfOk result (λ answer. (lines : List (VecValue ℕ)) × AreLines (R.remaining reader.old) lines × IsExplored lines part answer) }
     // a refusal, or an order that breaks an expectation as a script of the file's lines, went out alone
     ensures printed { IfOk result (λ answer. (lines : List (VecValue ℕ)) × (said : List ℕ) × AreLines (R.remaining reader.old) lines × IsPrinted lines answer [] said × Appends (W.contents writer.old) (W.contents writer.new) said) }
 {
@@ -55,7 +56,7 @@ pub fn run_explore<R: Read, W: Write>(
         Err(fault) => return Err(fault),
     };
     let mut text = Text::new(alloc);
-    let Ok(answer) = answered(alloc, &lines, limits, &mut text) else {
+    let Ok(answer) = answered(alloc, &lines, limits, part, &mut text) else {
         return Err(ScriptFault::Memory);
     };
     match write_out(text.as_bytes(), writer) {
@@ -106,13 +107,14 @@ fn answered(
     alloc: Global,
     lines: &[Vec<u8>],
     limits: Limits,
+    part: Part,
     text: &mut Text,
 ) -> Result<Answer, AllocError>
-    ensures answer { IfOk result (IsExplored lines.now) }
+    ensures answer { IfOk result (IsExplored lines.now part) }
     ensures printed { IfOk result (λ answer. IsPrinted lines.now answer text.old text.new) }
 {
     match read_plan(alloc, lines) {
-        Ok(plan) => explored(alloc, lines, &plan, limits, text),
+        Ok(plan) => explored(alloc, lines, &plan, limits, part, text),
         Err(PlanFault::Memory) => Err(AllocError),
         Err(PlanFault::Refused(refusal)) => {
             refusal.push(text)?;
@@ -130,22 +132,23 @@ fn limits_left(limits: Limits, before: usize) -> Option<Limits> {
     })
 }
 
-/// Explores a plan, and appends what is printed of it.
+/// Explores a part of a plan's orders, and appends what is printed of it.
 fn explored(
     alloc: Global,
     lines: &[Vec<u8>],
     plan: &Plan,
     limits: Limits,
+    part: Part,
     text: &mut Text,
 ) -> Result<Answer, AllocError>
-    ensures answer { IfOk result (IsAnswer plan.now.start plan.now.blocks.items) }
+    ensures answer { IfOk result (IsAnswer plan.now.start plan.now.blocks.items part) }
     ensures printed { IfOk result (λ answer. IsPrinted lines.now answer text.old text.new) }
 {
     let Some(limits) = limits_left(limits, plan.before.len()) else {
         return refuse_most(text);
     };
     let start = plan.start.copied(alloc)?;
-    match explore(alloc, start, &plan.blocks, limits) {
+    match explore_part(alloc, start, &plan.blocks, limits, part) {
         Ok(found) => {
             push_ends(alloc, lines, plan, &found, text)?;
             Ok(Answer::Holds)

@@ -21,6 +21,8 @@ pub(crate) enum Fault {
     NotBalanced,
     #[error("i3cbus: --legacy takes an address of two capital hex digits, 08 to 77\n")]
     Legacy,
+    #[error("i3cbus: --part takes K/N, two decimal numbers, K from 1 to N\n")]
+    Part,
     /// A capture isn't read to its end, and why.
     #[error("i3cbus: {0}\n")]
     Capture(CaptureFault),

@@ -8,7 +8,7 @@ use crate::witness::Errors;
 use crate::words::{Capturing, STANDARD_INPUT, Task, Telling, Work, task_named};
 use i3c_base::Addresses;
 use i3c_drive::run_driven;
-use i3c_explore::Limits;
+use i3c_explore::{Limits, Part};
 use i3c_scenario::{
     ScriptFault, Tally, WatchFault, Watching, check_script, run_explained, run_lint, run_script,
     run_trace, run_watched, write_out,
@@ -45,7 +45,7 @@ where
     match task_named(rt.alloc(), &words)? {
         Task::File(work, file) => ran(run_file(rt, work, file)),
         Task::Capture(capturing, telling, file) => ran(run_capture(rt, capturing, telling, file)),
-        Task::Explore(limits, file) => run_exploration(rt, limits, file),
+        Task::Explore(limits, part, file) => run_exploration(rt, limits, part, file),
         Task::Stress(stress) => ran(run_stress(rt, &stress, is_watched)),
         Task::Version => ran(print_version(rt)),
     }
@@ -96,15 +96,15 @@ where
 
 /// Explores a file, or standard input.
 #[inline(never)]
-fn run_exploration<R>(rt: &R, limits: Limits, file: &str) -> Result<Ending, Fault>
+fn run_exploration<R>(rt: &R, limits: Limits, part: Part, file: &str) -> Result<Ending, Fault>
 where
     R: Files + Input + Print + AllocGlobal,
 {
     if file == STANDARD_INPUT {
-        return explore_from(rt, limits, &mut rt.reader());
+        return explore_from(rt, limits, part, &mut rt.reader());
     }
     match fs::open(rt, file) {
-        Ok(mut input) => explore_from(rt, limits, &mut input),
+        Ok(mut input) => explore_from(rt, limits, part, &mut input),
         Err(error) => Err(reading_fault(&error)),
     }
 }
@@ -258,10 +258,11 @@ fn draw_from<R: Print + AllocGlobal, S: Read>(rt: &R, input: &mut S) -> Result<T
 fn explore_from<R: Print + AllocGlobal, S: Read>(
     rt: &R,
     limits: Limits,
+    part: Part,
     input: &mut S,
 ) -> Result<Ending, Fault> {
     let mut printed = io::writer(rt);
-    let outcome = run_explore(rt.alloc(), input, &mut printed, limits);
+    let outcome = run_explore(rt.alloc(), input, &mut printed, limits, part);
     let flushed = printed.flush().is_ok();
     explored(outcome, flushed)
 }

@@ -4,7 +4,7 @@ ghost use Rattle.i3cbus.specs.Words.{RunsInput};
 use crate::fault::Fault;
 use clap::{Arg, ArgAction, ArgGroup, ArgMatches, Command, value_parser};
 use i3c_base::{Addr7, Addresses};
-use i3c_explore::Limits;
+use i3c_explore::{Limits, Part};
 use i3c_scenario::{MOST_DEVICES, MOST_POSTS, Watching};
 use i3c_text::read_byte;
 use std::alloc::Global;
@@ -67,6 +67,9 @@ const EXPLORE: &str = "explore";
 
 /// Its option: how many lines may be run.
 const MOST: &str = "most";
+
+/// Its option: which part of all orders is tried.
+const PART: &str = "part";
 
 /// How many lines may be run without it, as the help has it.
 const MOST_STEPS: u64 = 10_000_000;
@@ -176,8 +179,8 @@ pub(crate) enum Task<'a> {
     File(Work, &'a str),
     /// Reads this file as a capture, and tells its symbols.
     Capture(Capturing<'a>, Telling, &'a str),
-    /// Tries every order of this file's tracks, within these limits.
-    Explore(Limits, &'a str),
+    /// Tries every order of this part, of this file's tracks, within these limits.
+    Explore(Limits, Part, &'a str),
     /// Lets devices post from threads of their own.
     Stress(Stress),
     /// Prints which program this is.
@@ -272,7 +275,7 @@ fn task_given<'a>(matches: &ArgMatches<'a>) -> Result<Task<'a>, Fault> {
         return Ok(Task::File(Work::Drive, STANDARD_INPUT));
     }
     if let Some(explore) = matches.subcommand_matches(EXPLORE) {
-        return Ok(explore_given(explore));
+        return explore_given(explore);
     }
     if let Some(script) = file_given(matches, CHECK) {
         return Ok(Task::File(Work::Check, script));
@@ -334,13 +337,29 @@ fn wave_given<'a>(matches: &ArgMatches<'a>) -> Result<Task<'a>, Fault> {
     }
 }
 
-/// The file that was given to be explored, and its limits.
-fn explore_given<'a>(matches: &ArgMatches<'a>) -> Task<'a> {
+/// The file that was given to be explored, its limits, and the part of its orders.
+fn explore_given<'a>(matches: &ArgMatches<'a>) -> Result<Task<'a>, Fault> {
     let limits = Limits {
         steps: matches.get_one::<u64>(MOST).unwrap_or(MOST_STEPS),
         states: MOST_STATES,
     };
-    Task::Explore(limits, matches.get_str(FILE).unwrap_or(STANDARD_INPUT))
+    let part = match matches.get_str(PART) {
+        Some(text) => part_of(text)?,
+        None => Part::whole(),
+    };
+    let file = matches.get_str(FILE).unwrap_or(STANDARD_INPUT);
+    Ok(Task::Explore(limits, part, file))
+}
+
+/// The part that a text `K/N` names.
+fn part_of(text: &str) -> Result<Part, Fault> {
+    let Some((number, of)) = text.split_once('/') else {
+        return Err(Fault::Part);
+    };
+    match (number.parse::<usize>(), of.parse::<usize>()) {
+        (Ok(number), Ok(of)) => Part::new(number, of).ok_or(Fault::Part),
+        _ => Err(Fault::Part),
+    }
 }
 
 /// The addresses of legacy targets that were given.
@@ -504,6 +523,7 @@ fn explore_command<'a>(alloc: Global) -> Result<Command<'a>, Fault> {
         .after_help(EXPLORING);
     explore
         .arg(most_argument(alloc))?
+        .arg(part_argument(alloc))?
         .arg(file_argument(alloc, "The file, or - for standard input"))
         .or(Err(Fault::Memory))
 }
@@ -515,6 +535,13 @@ fn most_argument<'a>(alloc: Global) -> Arg<'a> {
         .value_name("N")
         .help("Gives up after N lines that were run, 10000000 without this")
         .value_parser(value_parser!(u64))
+}
+
+/// Which part of all orders is tried.
+fn part_argument<'a>(alloc: Global) -> Arg<'a> {
+    Arg::new(alloc, PART).long(PART).value_name("K/N").help(
+        "Tries part K of N alone: the N parts have each order once, by their first turns",
+    )
 }
 
 /// The command that reads a trace.

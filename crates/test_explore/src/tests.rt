@@ -1,5 +1,5 @@
 use crate::counter::{Counter, Line};
-use i3c_explore::{Explored, Limits, Stop, explore};
+use i3c_explore::{Explored, Limits, Part, Stop, explore, explore_part};
 use std::alloc::{AllocError, Global};
 use std::test::Fail;
 
@@ -44,6 +44,21 @@ fn explored(
 ) -> Result<Explored<Counter>, Stop> {
     let blocks = blocks_of(alloc, blocks)?;
     explore(alloc, Counter { count: 1 }, &blocks, limits)
+}
+
+/// Explores the part of this number, of so many, of blocks from a counter at 1. Without such a part it says that a limit was
+/// reached.
+fn part_explored(
+    alloc: Global,
+    blocks: &[&[&[Line]]],
+    number: usize,
+    of: usize,
+) -> Result<Explored<Counter>, Stop> {
+    let blocks = blocks_of(alloc, blocks)?;
+    let Some(part) = Part::new(number, of) else {
+        return Err(Stop::Most);
+    };
+    explore_part(alloc, Counter { count: 1 }, &blocks, WIDE, part)
 }
 
 /// Whether an exploration has so many ends, orders and steps.
@@ -194,5 +209,83 @@ fn nothing_has_one_order(rt: HostRuntime) -> Result<(), Fail> {
     let empty = explored(rt.alloc(), &[&[], &[&[], &[]]], WIDE)?;
     assert!(rt; has(&empty, 1, Some(1), 0));
     assert!(rt; ends_at(&empty, 0, 1, 1, &[]));
+    Ok(())
+}
+
+// of 4! / 2! orders 3! begin with a line of the first track, and 3! / 2! with that of each other one. Part 1 of 2 has the first
+// track and the third: 2 + 3 + 2 + 2 + 2 + 2 + 1 + 1 + 1 + 1 turns. Part 2 has the second: 1 + 2 + 2 + 1 + 1 + 1
+#[test]
+fn a_part_has_the_orders_of_its_tracks(rt: HostRuntime) -> Result<(), Fail> {
+    let tracks: &[&[Line]] = &[
+        &[Line::Add(1), Line::Add(2)],
+        &[Line::Add(4)],
+        &[Line::Add(8)],
+    ];
+    let odd = part_explored(rt.alloc(), &[tracks], 1, 2)?;
+    assert!(rt; has(&odd, 1, Some(9), 17));
+    assert!(rt; ends_at(&odd, 0, 16, 9, &[0, 0, 1, 2]));
+    let even = part_explored(rt.alloc(), &[tracks], 2, 2)?;
+    assert!(rt; has(&even, 1, Some(3), 8));
+    assert!(rt; ends_at(&even, 0, 16, 3, &[1, 0, 0, 2]));
+    Ok(())
+}
+
+// the second block is the first in which two tracks have a line: 2 is doubled before 1 is added, or behind it. The third block
+// has both of its orders in each part
+#[test]
+fn the_first_block_that_interleaves_is_parted(rt: HostRuntime) -> Result<(), Fail> {
+    let blocks: &[&[&[Line]]] = &[
+        &[&[], &[Line::Add(1)]],
+        &[&[Line::Double], &[Line::Add(1)]],
+        &[&[Line::Add(0)], &[Line::Add(0)]],
+    ];
+    let doubled = part_explored(rt.alloc(), blocks, 1, 2)?;
+    assert!(rt; has(&doubled, 1, Some(2), 7));
+    assert!(rt; ends_at(&doubled, 0, 5, 2, &[1, 0, 1, 0, 1]));
+    let added = part_explored(rt.alloc(), blocks, 2, 2)?;
+    assert!(rt; has(&added, 1, Some(2), 7));
+    assert!(rt; ends_at(&added, 0, 6, 2, &[1, 1, 0, 0, 1]));
+    Ok(())
+}
+
+// the first block comes to 500, so the double of the second one breaks: as the second line there in part 1, and the first in
+// part 2
+#[test]
+fn a_break_is_the_shortest_of_its_part(rt: HostRuntime) -> Result<(), Fail> {
+    let blocks: &[&[&[Line]]] = &[
+        &[&[Line::Add(250), Line::Add(249)]],
+        &[&[Line::Add(0), Line::Add(0)], &[Line::Double]],
+    ];
+    match part_explored(rt.alloc(), blocks, 1, 2) {
+        Ok(_found) => assert!(rt; false),
+        Err(stop) => assert!(rt; breaks_by(&stop, &[0, 0, 0, 1])),
+    }
+    match part_explored(rt.alloc(), blocks, 2, 2) {
+        Ok(_found) => assert!(rt; false),
+        Err(stop) => assert!(rt; breaks_by(&stop, &[0, 0, 1])),
+    }
+    Ok(())
+}
+
+// two tracks fill two parts, and the third has no order; where nothing interleaves part 1 has the one order
+#[test]
+fn a_part_without_a_track_has_no_order(rt: HostRuntime) -> Result<(), Fail> {
+    let third = part_explored(rt.alloc(), &[&[&[Line::Double], &[Line::Add(1)]]], 3, 3)?;
+    assert!(rt; has(&third, 0, Some(0), 0));
+    let alone: &[&[&[Line]]] = &[&[&[Line::Add(1), Line::Add(2)], &[]]];
+    let first = part_explored(rt.alloc(), alone, 1, 2)?;
+    assert!(rt; has(&first, 1, Some(1), 2));
+    let second = part_explored(rt.alloc(), alone, 2, 2)?;
+    assert!(rt; has(&second, 0, Some(0), 0));
+    Ok(())
+}
+
+#[test]
+fn a_part_is_one_of_as_many_as_there_are(rt: HostRuntime) -> Result<(), Fail> {
+    assert!(rt; Part::new(0, 2).is_none());
+    assert!(rt; Part::new(3, 2).is_none());
+    assert!(rt; Part::new(1, 0).is_none());
+    assert!(rt; Part::new(2, 2).is_some());
+    assert!(rt; matches!(Part::new(1, 1), Some(part) if part == Part::whole()));
     Ok(())
 }

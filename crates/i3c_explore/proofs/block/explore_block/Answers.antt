@@ -1,22 +1,22 @@
-use Rattle.std.proofs.Common.{◌≡◌, ◌+◌, ℕ, suc, arith, length, subst, sym}
+use Rattle.std.proofs.Common.{◌≡◌, ◌+◌, ℕ, suc, arith, length, subst}
 use Rattle.std.specs.List.{Contains}
-use Rattle.std.proofs.lemmas.Grind.{common_steps}
-use Rattle.i3c_explore.specs.declared.node.Node.{Node}
-use Rattle.i3c_explore.specs.Layers.{IsSuccessor}
+use Rattle.i3c_explore.specs.Layers.{IsBreak}
+use Rattle.i3c_explore.specs.Parts.{Part, opening}
+use Rattle.i3c_explore.specs.Shares.{IsLed, IsSharedNext}
 use Rattle.i3c_explore.proofs.Lists.{get_below}
-use Rattle.i3c_explore.proofs.Blocks.{AreHeld, ends_held, ends_reached, first_break, held_first, held_next, lead_on_first, lead_on_next, no_more, reached_first, reached_next}
+use Rattle.i3c_explore.proofs.Blocks.{ends_held, ends_reached, first_break, held_first, held_then, lead_on_first, lead_on_next, no_more, reached_first, reached_then, some_first, some_next}
 use Rattle.i3c_explore.proofs.Ends.{IsCounted, counted_first, counted_next, ends_shared, next_shared}
 use Rattle.i3c_explore.proofs.block.explore_block.Goals as goal
 
 pub loop-ran-init : goal.loop-ran-init
 loop-ran-init g c =
-    let steps = g.M.Machine.steps in let tracks = c.args.tracks.now in let starts = c.args.starts.nodes.items in let layer = c.restart_all.new.nodes.items in
+    let steps = g.M.Machine.steps in let part = c.args.part in let tracks = c.args.tracks.now in let starts = c.args.starts.nodes.items in let layer = c.restart_all.new.nodes.items in
     let made = c.in_ok-restart_all.ensures in record {
-      lead_on = lead_on_first steps tracks starts;
-      held = held_first steps tracks starts layer (λ k lt. get_below layer k (omega arith)) made.restarted;
-      reached = reached_first steps tracks starts layer made.restarted;
-      counted = counted_first steps tracks starts layer made.restarted made.length;
-      some = λ lt. omega arith;
+      lead_on = lead_on_first steps part tracks starts;
+      held = held_first steps part tracks starts layer (λ k lt. get_below layer k (omega arith)) made.restarted;
+      reached = reached_first steps part tracks starts layer made.restarted;
+      counted = counted_first steps part tracks starts layer made.restarted made.length;
+      some = some_first part tracks starts layer made.length;
     }
 
 pub next_layer-requires : goal.next_layer-requires
@@ -24,60 +24,61 @@ next_layer-requires g c = record { sized = λ n at. (c.loop-ran.invariant.reache
 
 pub returns-in-Err-clause-broken : goal.returns-in-Err-clause-broken
 returns-in-Err-clause-broken g c order is =
-    let (old, at, broken) = c.in-Err.ensures.broken order is in let was = c.loop-ran.invariant in
-    first_break g.M.Machine.steps g.M.Machine.breaks c.args.tracks.now c.args.starts.nodes.items c.loop-ran.layer.nodes.items c.loop-ran.ran old order.items
-    was.reached was.lead_on (subst (λ l. Contains l old) c.deref.ensures.value at) broken
+    let (old, at, broken) = c.in-Err.ensures.broken order is in let was = c.loop-ran.invariant in let tracks = c.args.tracks.now in
+    let here = subst (λ (p : Part). IsBreak g.M.Machine.breaks (opening p tracks) old order.items) c.only_if-opening.ensures broken in
+    first_break g.M.Machine.steps g.M.Machine.breaks c.args.part tracks c.args.starts.nodes.items c.loop-ran.layer.nodes.items c.loop-ran.ran old order.items
+    was.reached was.lead_on (subst (λ l. Contains l old) c.deref.ensures.value at) here
 
-pub returns-then-is_empty-clause-all : goal.returns-then-is_empty-clause-all
-returns-then-is_empty-clause-all g c s at order prefix =
-    let steps = g.M.Machine.steps in let tracks = c.args.tracks.now in let starts = c.args.starts.nodes.items in
+pub returns-then-is_over-clause-all : goal.returns-then-is_over-clause-all
+returns-then-is_over-clause-all g c s at order prefix fits =
+    let steps = g.M.Machine.steps in let part = c.args.part in let tracks = c.args.tracks.now in let starts = c.args.starts.nodes.items in
     let layer = c.loop-ran.layer.nodes.items in let next = c.in-Ok.next.nodes.items in let count = c.loop-ran.ran in let was = c.loop-ran.invariant in
-    let held : AreHeld steps tracks starts (suc count) next = held_next steps tracks starts layer next count was.reached (λ n at. c.in-Ok.ensures.expanded n (subst (λ l. Contains l n) (sym c.deref.ensures.value) at)) was.held in
-    let empty : length next ≡ 0 = grind (arith, common_steps, c.if-is_empty.true, c.is_empty.ensures) in
-    was.lead_on s at order (no_more steps tracks starts next count s at held empty order prefix) prefix
+    let held = held_then steps part tracks starts layer next count c.deref.result.now c.only_if-opening.result c.deref.ensures.value c.only_if-opening.ensures was.reached c.in-Ok.ensures.expanded was.held in
+    let (empty, ended) = c.is_over.ensures.0 c.if-is_over.true in
+    was.lead_on s at order (no_more steps part tracks starts next count s at held empty order prefix fits) prefix fits
 
-pub returns-then-is_empty-clause-ends : goal.returns-then-is_empty-clause-ends
-returns-then-is_empty-clause-ends g c =
-    let steps = g.M.Machine.steps in let tracks = c.args.tracks.now in let starts = c.args.starts.nodes.items in
+pub returns-then-is_over-clause-ends : goal.returns-then-is_over-clause-ends
+returns-then-is_over-clause-ends g c =
+    let steps = g.M.Machine.steps in let part = c.args.part in let tracks = c.args.tracks.now in let starts = c.args.starts.nodes.items in
     let layer = c.loop-ran.layer.nodes.items in let next = c.in-Ok.next.nodes.items in let count = c.loop-ran.ran in let was = c.loop-ran.invariant in
-    let held : AreHeld steps tracks starts (suc count) next = held_next steps tracks starts layer next count was.reached (λ n at. c.in-Ok.ensures.expanded n (subst (λ l. Contains l n) (sym c.deref.ensures.value) at)) was.held in
-    let empty : length next ≡ 0 = grind (arith, common_steps, c.if-is_empty.true, c.is_empty.ensures) in
-    ends_held steps tracks starts layer next count was.reached was.held held empty was.some
+    let held = held_then steps part tracks starts layer next count c.deref.result.now c.only_if-opening.result c.deref.ensures.value c.only_if-opening.ensures was.reached c.in-Ok.ensures.expanded was.held in
+    let (empty, ended) = c.is_over.ensures.0 c.if-is_over.true in
+    ends_held steps part tracks starts layer next count was.reached was.held held empty was.some
 
-pub returns-then-is_empty-clause-reached : goal.returns-then-is_empty-clause-reached
-returns-then-is_empty-clause-reached g c =
-    let steps = g.M.Machine.steps in let tracks = c.args.tracks.now in let starts = c.args.starts.nodes.items in
+pub returns-then-is_over-clause-reached : goal.returns-then-is_over-clause-reached
+returns-then-is_over-clause-reached g c =
+    let steps = g.M.Machine.steps in let part = c.args.part in let tracks = c.args.tracks.now in let starts = c.args.starts.nodes.items in
     let layer = c.loop-ran.layer.nodes.items in let next = c.in-Ok.next.nodes.items in let count = c.loop-ran.ran in let was = c.loop-ran.invariant in
-    let held : AreHeld steps tracks starts (suc count) next = held_next steps tracks starts layer next count was.reached (λ n at. c.in-Ok.ensures.expanded n (subst (λ l. Contains l n) (sym c.deref.ensures.value) at)) was.held in
-    let empty : length next ≡ 0 = grind (arith, common_steps, c.if-is_empty.true, c.is_empty.ensures) in
-    ends_reached steps tracks starts layer next count was.reached held empty
+    let held = held_then steps part tracks starts layer next count c.deref.result.now c.only_if-opening.result c.deref.ensures.value c.only_if-opening.ensures was.reached c.in-Ok.ensures.expanded was.held in
+    let (empty, ended) = c.is_over.ensures.0 c.if-is_over.true in
+    ends_reached steps part tracks starts layer next count was.reached held empty ended
 
-pub returns-then-is_empty-clause-counted : goal.returns-then-is_empty-clause-counted
-returns-then-is_empty-clause-counted g c =
-    let steps = g.M.Machine.steps in let tracks = c.args.tracks.now in let starts = c.args.starts.nodes.items in
+pub returns-then-is_over-clause-counted : goal.returns-then-is_over-clause-counted
+returns-then-is_over-clause-counted g c =
+    let steps = g.M.Machine.steps in let part = c.args.part in let tracks = c.args.tracks.now in let starts = c.args.starts.nodes.items in
     let layer = c.loop-ran.layer.nodes.items in let next = c.in-Ok.next.nodes.items in let count = c.loop-ran.ran in let was = c.loop-ran.invariant in
-    let held : AreHeld steps tracks starts (suc count) next = held_next steps tracks starts layer next count was.reached (λ n at. c.in-Ok.ensures.expanded n (subst (λ l. Contains l n) (sym c.deref.ensures.value) at)) was.held in
-    let empty : length next ≡ 0 = grind (arith, common_steps, c.if-is_empty.true, c.is_empty.ensures) in
-    λ past shared. ends_shared steps tracks starts layer next past count was.reached held empty was.some shared (was.counted past shared)
+    let held = held_then steps part tracks starts layer next count c.deref.result.now c.only_if-opening.result c.deref.ensures.value c.only_if-opening.ensures was.reached c.in-Ok.ensures.expanded was.held in
+    let (empty, ended) = c.is_over.ensures.0 c.if-is_over.true in
+    λ past shared. ends_shared steps part tracks starts layer next past count was.reached held empty ended was.some shared (was.counted past shared)
 
 pub loop-ran-preserved : goal.loop-ran-preserved
 loop-ran-preserved g c =
-    let steps = g.M.Machine.steps in let tracks = c.args.tracks.now in let starts = c.args.starts.nodes.items in
+    let steps = g.M.Machine.steps in let part = c.args.part in let tracks = c.args.tracks.now in let starts = c.args.starts.nodes.items in
     let layer = c.loop-ran.layer.nodes.items in let next = c.in-Ok.next.nodes.items in let count = c.loop-ran.ran in let was = c.loop-ran.invariant in
-    let held : AreHeld steps tracks starts (suc count) next = held_next steps tracks starts layer next count was.reached (λ n at. c.in-Ok.ensures.expanded n (subst (λ l. Contains l n) (sym c.deref.ensures.value) at)) was.held in
-    let from : (n : Node g.row.M.Denot) → Contains next n → (old : Node g.row.M.Denot) × Contains layer old × IsSuccessor steps tracks old n =
-    λ n at. let (old, before, made) = c.in-Ok.ensures.from n at in (old, subst (λ l. Contains l old) c.deref.ensures.value before, made) in
-    let lead = lead_on_next steps tracks starts next count was.lead_on held in
-    let reached = reached_next steps tracks starts layer next count was.reached from in
+    let chosen = c.only_if-opening.result in
+    let held = held_then steps part tracks starts layer next count c.deref.result.now chosen c.deref.ensures.value c.only_if-opening.ensures was.reached c.in-Ok.ensures.expanded was.held in
+    let reached = reached_then steps part tracks starts layer next count c.deref.result.now chosen c.deref.ensures.value c.only_if-opening.ensures was.reached c.in-Ok.ensures.from in
+    let lead = lead_on_next steps part tracks starts next count was.lead_on held in
     record {
       lead_on = λ s at order le. lead s at order (omega arith);
       held = λ s at order len. held s at order (omega arith);
-      reached = λ n at. let (s, in_starts, (r, len)) = reached n at in (s, in_starts, (r, omega arith));
+      reached = λ n at. let (s, in_starts, (r, len, fits)) = reached n at in (s, in_starts, (r, omega arith, fits));
       counted = λ past shared.
           let before = was.counted past shared in
-          let then_ = next_shared steps tracks layer next starts past c.deref.result.now c.deref.ensures.value before.share c.in-Ok.ensures.counted before.shared before.meant in
-          let more : IsCounted steps tracks starts past (suc count) next = counted_next steps tracks starts past count layer next before then_ in
+          let then_ = next_shared steps tracks (opening chosen tracks) (length tracks) layer next starts past c.deref.result.now c.deref.ensures.value before.share c.in-Ok.ensures.counted before.shared before.meant in
+          let here = subst (λ (p : Part). IsSharedNext (IsLed steps tracks starts past) (opening p tracks) (length tracks) layer next before.share) c.only_if-opening.ensures then_ in
+          let more : IsCounted steps part tracks starts past (suc count) next = counted_next steps part tracks starts past count layer next before here in
           let same : suc count ≡ count + 1 = omega arith in
-          subst (λ (k : ℕ). IsCounted steps tracks starts past k next) same more;
-      some = λ lt. grind (arith, common_steps, c.if-is_empty.false, c.is_empty.ensures);
+          subst (λ (k : ℕ). IsCounted steps part tracks starts past k next) same more;
+      some = some_next steps part tracks starts next count held c.requires (λ over. let is = c.is_over.ensures.1 over in cc);
     }

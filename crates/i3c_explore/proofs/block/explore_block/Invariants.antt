@@ -1,15 +1,15 @@
-use Rattle.std.proofs.Common.{◌<◌, ℕ, List, length}
+use Rattle.std.proofs.Common.{ℕ, List}
 use Rattle.i3c_explore.specs.Counts.{IsShared}
-use Rattle.i3c_explore.proofs.Blocks.{AreHeld, AreReached, LeadOn}
+use Rattle.i3c_explore.proofs.Blocks.{AreHeld, AreReached, AreSome, LeadOn}
 use Rattle.i3c_explore.proofs.Ends.{IsCounted}
 use Rattle.i3c_explore.proofs.block.explore_block.Given as goal
 
--- every order of so many lines leads to a node of the layer, and each node is reached by such an order
+-- every order of the part of so many lines leads to a node of the layer, and each node is reached by such an order
 abbrev pub invariant-loop-ran : goal.invariant-loop-ran
 invariant-loop-ran g l = record {
-  lead_on : LeadOn g.M.Machine.steps l.fn.tracks l.fn.starts.nodes.items l.ran;
-  held : AreHeld g.M.Machine.steps l.fn.tracks l.fn.starts.nodes.items l.ran l.layer.nodes.items;
-  reached : AreReached g.M.Machine.steps l.fn.tracks l.fn.starts.nodes.items l.ran l.layer.nodes.items;
-  counted : (past : ℕ → List (List (List ℕ))) → IsShared l.fn.starts.nodes.items past → IsCounted g.M.Machine.steps l.fn.tracks l.fn.starts.nodes.items past l.ran l.layer.nodes.items;
-  some : 0 < length l.fn.starts.nodes.items → 0 < length l.layer.nodes.items;
+  lead_on : LeadOn g.M.Machine.steps l.fn.part l.fn.tracks l.fn.starts.nodes.items l.ran;
+  held : AreHeld g.M.Machine.steps l.fn.part l.fn.tracks l.fn.starts.nodes.items l.ran l.layer.nodes.items;
+  reached : AreReached g.M.Machine.steps l.fn.part l.fn.tracks l.fn.starts.nodes.items l.ran l.layer.nodes.items;
+  counted : (past : ℕ → List (List (List ℕ))) → IsShared l.fn.starts.nodes.items past → IsCounted g.M.Machine.steps l.fn.part l.fn.tracks l.fn.starts.nodes.items past l.ran l.layer.nodes.items;
+  some : AreSome l.fn.part l.fn.tracks l.fn.starts.nodes.items l.layer.nodes.items;
 }

@@ -1,4 +1,5 @@
 use Rattle.i3c_explore.specs.Shares.{Gains, by_tracks}
+use Rattle.i3c_explore.specs.Parts.{opening}
 use Rattle.i3c_explore.specs.Layers.{AreFrom, IsExpanded, Keeps}
 use Rattle.i3c_explore.proofs.expand.expand.Given as goal
 
@@ -6,7 +7,7 @@ use Rattle.i3c_explore.proofs.expand.expand.Given as goal
 abbrev pub invariant-loop-track : goal.invariant-loop-track
 invariant-loop-track g l = record {
   keeps : Keeps l.initial.next.nodes.items l.next.nodes.items;
-  expanded : IsExpanded g.M.Machine.steps l.fn.tracks l.track l.fn.node l.next.nodes.items;
-  counted : Gains g.M.Machine.steps l.fn.tracks l.fn.node l.initial.next.nodes.items l.next.nodes.items (by_tracks l.fn.tracks l.fn.node.places.items l.track);
-  from : AreFrom g.M.Machine.steps l.fn.tracks l.fn.node l.initial.next.nodes.items l.next.nodes.items;
+  expanded : IsExpanded g.M.Machine.steps (opening l.fn.part l.fn.tracks) l.track l.fn.node l.next.nodes.items;
+  counted : Gains g.M.Machine.steps l.fn.tracks l.fn.node l.initial.next.nodes.items l.next.nodes.items (by_tracks (opening l.fn.part l.fn.tracks) l.fn.node.places.items l.track);
+  from : AreFrom g.M.Machine.steps (opening l.fn.part l.fn.tracks) l.fn.node l.initial.next.nodes.items l.next.nodes.items;
 }

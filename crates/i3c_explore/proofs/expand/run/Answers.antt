@@ -24,13 +24,13 @@ returns-in-Ok-clause-ran g c =
     )
 
 pub returns-in-Ok-clause-from : goal.returns-in-Ok-clause-from
-returns-in-Ok-clause-from g c n in_new =
+returns-in-Ok-clause-from g c lines next n in_new =
     let old = c.args.next.now.nodes.items in let new = c.put.new.self.nodes.items in let put = c.in-Ok.ensures.put in let end = g.M.Machine.shown c.run.new.runner in
-    let steps = g.M.Machine.steps in let tracks = c.args.tracks.now in let node = c.args.node.now in
+    let steps = g.M.Machine.steps in let node = c.args.node.now in
     elim (behind_from old new node c.args.turn end put n in_new) [
       | inl before ↦ inl before
-      | inr (is, order) ↦ inr (subst (λ m. IsSuccessor steps tracks node m) (sym is)
-          (successor_of steps tracks node put.made c.args.turn c.args.line.now end c.requires.next (stepped g c) put.state put.places order))
+      | inr (is, order) ↦ inr (subst (λ m. IsSuccessor steps lines node m) (sym is)
+          (successor_of steps lines node put.made c.args.turn c.args.line.now end next (stepped g c) put.state put.places order))
     ]
 
 pub returns-in-Ok-clause-counted : goal.returns-in-Ok-clause-counted

@@ -1,38 +1,39 @@
 use borrow.Author.Count.{below_more}
-use Rattle.std.proofs.Common.{◌≡◌, ◌<◌, ◌≤◌, suc, arith, inl, inr, length, subst}
+use Rattle.std.proofs.Common.{◌≡◌, ◌<◌, ◌≤◌, suc, arith, inl, inr, length, subst, None, Some}
 use Rattle.std.proofs.lemmas.Bool.Decides.{leb_tells}
-use Rattle.i3c_explore.specs.Layers.{IsNextAt}
 use Rattle.i3c_explore.specs.Shares.{IsLed}
 use Rattle.i3c_explore.proofs.Counting.{gains_line, gains_no_line, gains_way}
 use Rattle.i3c_explore.proofs.Sharing.{added_none}
-use Rattle.i3c_explore.proofs.NextLines.{is_next, next_once, no_next}
+use Rattle.i3c_explore.specs.Parts.{opening}
+use Rattle.i3c_explore.proofs.Opening.{opened}
+use Rattle.i3c_explore.proofs.NextLines.{next_at, next_once}
 use Rattle.i3c_explore.proofs.Expanding.{from_more, from_same, keeps_both}
 use Rattle.i3c_explore.proofs.expand.run_track.Goals as goal
 
 pub run-requires-clause-next : goal.run-requires-clause-next
 run-requires-clause-next g c =
     let here : c.args.track < length c.args.node.now.places.items = omega arith in
-    is_next c.args.tracks.now c.args.node.now.places.items c.args.track c.index-tracks-track.result c.index-place.result.now c.deref.result.now c.in-Some.line.now
-    c.requires.within c.index-tracks-track.is here c.index-place.ensures c.deref.ensures.value c.in-Some.ensures.lookup.3.0 c.in-Some.ensures.lookup.1
+    (opened c.args.part c.args.tracks.now c.args.node.now.places.items c.args.track c.in-Some.line.now
+    (next_at (opening c.args.part c.args.tracks.now) c.args.node.now.places.items c.args.track c.index.result.now (Some c.in-Some.line.now) here c.index.ensures c.in-Some.ensures)).1
 
 pub loop-way-preserved : goal.loop-way-preserved
 loop-way-preserved g c =
+    let here : c.args.track < length c.args.node.now.places.items = omega arith in
+    let next_ = next_at (opening c.args.part c.args.tracks.now) c.args.node.now.places.items c.args.track c.index.result.now (Some c.in-Some.line.now) here c.index.ensures c.in-Some.ensures in
     let done = c.in-Ok.ensures in let was = c.loop-way.invariant in
     let old = c.args.next.now.nodes.items in let mid = c.loop-way.next.nodes.items in let new = c.run.new.next.nodes.items in record {
       keeps = keeps_both old mid new was.keeps done.keeps;
       ran = below_more _ _ (λ way lt. let (state, step, has) = was.ran way lt in (state, step, done.keeps _ state has)) done.ran;
       counted = gains_way g.M.Machine.steps c.args.tracks.now c.args.node.now old mid new c.args.track c.loop-way.way was.counted done.counted;
-      from = from_more g.M.Machine.steps c.args.tracks.now c.args.node.now old mid new was.from done.from;
+      from = from_more g.M.Machine.steps (opening c.args.part c.args.tracks.now) c.args.node.now old mid new was.from (done.from (opening c.args.part c.args.tracks.now) next_);
     }
 
 pub returns-clause-tracked : goal.returns-clause-tracked
 returns-clause-tracked g c line next way =
     let steps = g.M.Machine.steps in let node = c.args.node.now in let was = c.loop-way.invariant in let last = c.last_way-last.result in
-    let here : c.args.track < length node.places.items = omega arith in
-    let is : IsNextAt c.args.tracks.now node.places.items c.args.track c.in-Some.line.now =
-    is_next c.args.tracks.now node.places.items c.args.track c.index-tracks-track.result c.index-place.result.now c.deref.result.now c.in-Some.line.now
-    c.requires.within c.index-tracks-track.is here c.index-place.ensures c.deref.ensures.value c.in-Some.ensures.lookup.3.0 c.in-Some.ensures.lookup.1 in
-    let same : c.in-Some.line.now ≡ line = next_once c.args.tracks.now node.places.items c.args.track c.in-Some.line.now line is next in
+    let here : c.args.track < length c.args.node.now.places.items = omega arith in
+    let is = next_at (opening c.args.part c.args.tracks.now) c.args.node.now.places.items c.args.track c.index.result.now (Some c.in-Some.line.now) here c.index.ensures c.in-Some.ensures in
+    let same : c.in-Some.line.now ≡ line = next_once (opening c.args.part c.args.tracks.now) node.places.items c.args.track c.in-Some.line.now line is next in
     elim (leb_tells (suc way) last) [
       | inl (_, lt) ↦ (let before : way < c.loop-way.way = omega arith in
           let (new, step, has) = was.ran way before in (new, subst (λ l. steps node.state l way new) same step, has))
@@ -41,27 +42,25 @@ returns-clause-tracked g c line next way =
     ]
 
 pub returns-in_default-clause-from : goal.returns-in_default-clause-from
-returns-in_default-clause-from g c = from_same g.M.Machine.steps c.args.tracks.now c.args.node.now c.args.next.now.nodes.items
+returns-in_default-clause-from g c = from_same g.M.Machine.steps (opening c.args.part c.args.tracks.now) c.args.node.now c.args.next.now.nodes.items
 
 pub loop-way-init : goal.loop-way-init
 loop-way-init g c = record {
   keeps = λ places state has. has;
   ran = λ way lt. absurd (omega arith);
   counted = λ starts past own mine. added_none (IsLed g.M.Machine.steps c.args.tracks.now starts past) c.args.next.now.nodes.items;
-  from = from_same g.M.Machine.steps c.args.tracks.now c.args.node.now c.args.next.now.nodes.items;
+  from = from_same g.M.Machine.steps (opening c.args.part c.args.tracks.now) c.args.node.now c.args.next.now.nodes.items;
 }
 
 pub returns-in_default-clause-counted : goal.returns-in_default-clause-counted
 returns-in_default-clause-counted g c =
+    let lines = opening c.args.part c.args.tracks.now in
     let here : c.args.track < length c.args.node.now.places.items = omega arith in
-    gains_no_line g.M.Machine.steps c.args.tracks.now c.args.node.now c.args.next.now.nodes.items c.args.track
-    (no_next c.args.tracks.now c.args.node.now.places.items c.args.track c.index-tracks-track.result c.index-place.result.now c.deref.result.now
-    c.requires.within c.index-tracks-track.is here c.index-place.ensures c.deref.ensures.value c.in_default.ensures.lookup.3)
+    gains_no_line g.M.Machine.steps c.args.tracks.now lines c.args.node.now c.args.next.now.nodes.items c.args.track
+    (next_at lines c.args.node.now.places.items c.args.track c.index.result.now None here c.index.ensures c.in_default.ensures)
 
 pub returns-clause-counted : goal.returns-clause-counted
 returns-clause-counted g c =
     let here : c.args.track < length c.args.node.now.places.items = omega arith in
-    gains_line g.M.Machine.steps c.args.tracks.now c.args.node.now c.args.next.now.nodes.items c.loop-way.next.nodes.items c.args.track c.loop-way.way c.in-Some.line.now
-    (is_next c.args.tracks.now c.args.node.now.places.items c.args.track c.index-tracks-track.result c.index-place.result.now c.deref.result.now c.in-Some.line.now
-    c.requires.within c.index-tracks-track.is here c.index-place.ensures c.deref.ensures.value c.in-Some.ensures.lookup.3.0 c.in-Some.ensures.lookup.1)
-    (omega arith) c.loop-way.invariant.counted
+    gains_line g.M.Machine.steps c.args.tracks.now (opening c.args.part c.args.tracks.now) c.args.node.now c.args.next.now.nodes.items c.loop-way.next.nodes.items c.args.track c.loop-way.way c.in-Some.line.now
+    (next_at (opening c.args.part c.args.tracks.now) c.args.node.now.places.items c.args.track c.index.result.now (Some c.in-Some.line.now) here c.index.ensures c.in-Some.ensures) (omega arith) c.loop-way.invariant.counted

@@ -1,5 +1,6 @@
 use Rattle.std.proofs.Common.{◌<◌, ℕ}
 use Rattle.i3c_explore.specs.Shares.{Gains, by_ways}
+use Rattle.i3c_explore.specs.Parts.{opening}
 use Rattle.i3c_explore.specs.Layers.{AreFrom, Has, Keeps, advanced}
 use Rattle.i3c_explore.proofs.expand.run_track.Given as goal
 
@@ -9,5 +10,5 @@ invariant-loop-way g l = record {
   keeps : Keeps l.initial.next.nodes.items l.next.nodes.items;
   ran : (way : ℕ) → way < l.way → (new : g.row.M.Denot) × g.M.Machine.steps l.fn.node.state l.line way new × Has l.next.nodes.items (advanced l.fn.track l.fn.node.places.items) new;
   counted : Gains g.M.Machine.steps l.fn.tracks l.fn.node l.initial.next.nodes.items l.next.nodes.items (by_ways l.way l.fn.track);
-  from : AreFrom g.M.Machine.steps l.fn.tracks l.fn.node l.initial.next.nodes.items l.next.nodes.items;
+  from : AreFrom g.M.Machine.steps (opening l.fn.part l.fn.tracks) l.fn.node l.initial.next.nodes.items l.next.nodes.items;
 }

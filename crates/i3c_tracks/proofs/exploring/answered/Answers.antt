@@ -2,6 +2,7 @@
 use Rattle.std.proofs.Common.{ℕ, List, Result, Ok, Err}
 use Rattle.std.specs.Global.{Vec}
 use Rattle.std.specs.Prelude.{IfOk}
+use Rattle.i3c_explore.specs.Parts.{Part}
 use Rattle.i3c_scene.specs.declared.line.Line.{Line}
 use Rattle.i3c_scene.specs.Scenes.{Seen}
 use Rattle.i3c_tracks.specs.declared.exploring.Answer.{Answer}
@@ -9,11 +10,11 @@ use Rattle.i3c_tracks.specs.Answering.{IsAnswer, IsExplored}
 use Rattle.i3c_tracks.specs.Planning.{IsPlan}
 use Rattle.i3c_tracks.proofs.exploring.answered.Goals as goal
 
-of_file : {E : Type 0} (lines : List (Vec ℕ)) (start : Seen) (blocks : List (Vec (Vec Line))) (result : Result Answer E) → IsPlan lines start blocks → IfOk result (IsAnswer start blocks) → IfOk result (IsExplored lines)
-of_file lines start blocks (Ok Answer.Holds) plan answer = (start, blocks, plan, answer)
-of_file lines start blocks (Ok Answer.Refused) plan answer = tt
-of_file lines start blocks (Ok Answer.Breaks) plan answer = (start, blocks, plan, answer)
-of_file lines start blocks (Err e) plan answer = tt
+of_file : {E : Type 0} (lines : List (Vec ℕ)) (start : Seen) (blocks : List (Vec (Vec Line))) (part : Part) (result : Result Answer E) → IsPlan lines start blocks → IfOk result (IsAnswer start blocks part) → IfOk result (IsExplored lines part)
+of_file lines start blocks part (Ok Answer.Holds) plan answer = (start, blocks, plan, answer)
+of_file lines start blocks part (Ok Answer.Refused) plan answer = tt
+of_file lines start blocks part (Ok Answer.Breaks) plan answer = (start, blocks, plan, answer)
+of_file lines start blocks part (Err e) plan answer = tt
 
 pub returns-in-Ok-clause-answer : goal.returns-in-Ok-clause-answer
-returns-in-Ok-clause-answer c = of_file c.args.lines.now c.in-Ok.plan.start c.in-Ok.plan.blocks.items c.explored.result c.in-Ok.ensures c.explored.ensures.answer
+returns-in-Ok-clause-answer c = of_file c.args.lines.now c.in-Ok.plan.start c.in-Ok.plan.blocks.items c.args.part c.explored.result c.in-Ok.ensures c.explored.ensures.answer

@@ -2,7 +2,8 @@
 use Rattle.std.proofs.Common.{List, subst}
 use Rattle.std.specs.Global.{Vec}
 use Rattle.i3c_explore.specs.declared.turn.Turn.{Turn}
-use Rattle.i3c_explore.specs.Blocks.{IsBegun, IsShortestBreak, LeadsOn}
+use Rattle.i3c_explore.specs.Blocks.{IsBegun, IsShortestInPart, LeadsOn}
+use Rattle.i3c_explore.specs.Parts.{IsOfPart}
 use Rattle.i3c_scene.specs.declared.line.Line.{Line}
 use Rattle.i3c_scene.specs.Scenes.{Seen}
 use Rattle.i3c_scene.specs.Trying.{LineBreaks, LineSteps}
@@ -10,13 +11,13 @@ use Rattle.i3c_tracks.proofs.exploring.explored.Goals as goal
 
 pub returns-in_ok-push_ends-in-Ok-clause-answer : goal.returns-in_ok-push_ends-in-Ok-clause-answer
 returns-in_ok-push_ends-in-Ok-clause-answer c =
-    subst (λ (s : Seen). (course : List (List Turn)) → IsBegun c.args.plan.now.blocks.items course → (end : Seen) × LeadsOn LineSteps c.args.plan.now.blocks.items s course end) c.in_ok-start.ensures
-    (subst (λ (bs : List (Vec (Vec Line))). (course : List (List Turn)) → IsBegun bs course → (end : Seen) × LeadsOn LineSteps bs c.in_ok-start.start course end) c.deref.ensures.value c.in-Ok.ensures.all)
+    subst (λ (s : Seen). (course : List (List Turn)) → IsBegun c.args.plan.now.blocks.items course → IsOfPart c.args.part c.args.plan.now.blocks.items course → (end : Seen) × LeadsOn LineSteps c.args.plan.now.blocks.items s course end) c.in_ok-start.ensures
+    (subst (λ (bs : List (Vec (Vec Line))). (course : List (List Turn)) → IsBegun bs course → IsOfPart c.args.part bs course → (end : Seen) × LeadsOn LineSteps bs c.in_ok-start.start course end) c.deref.ensures.value c.in-Ok.ensures.all)
 
 pub returns-in_ok-push_broken-in-Err-Breaks-clause-answer : goal.returns-in_ok-push_broken-in-Err-Breaks-clause-answer
 returns-in_ok-push_broken-in-Err-Breaks-clause-answer c =
     let order = c.in-Err-Breaks.order in (
       order.items,
-      subst (λ (s : Seen). IsShortestBreak LineSteps LineBreaks c.args.plan.now.blocks.items s order.items) c.in_ok-start.ensures
-          (subst (λ (bs : List (Vec (Vec Line))). IsShortestBreak LineSteps LineBreaks bs c.in_ok-start.start order.items) c.deref.ensures.value (c.in-Err-Breaks.ensures.broken order c.in-Err-Breaks.field-0-is)),
+      subst (λ (s : Seen). IsShortestInPart LineSteps LineBreaks c.args.part c.args.plan.now.blocks.items s order.items) c.in_ok-start.ensures
+          (subst (λ (bs : List (Vec (Vec Line))). IsShortestInPart LineSteps LineBreaks c.args.part bs c.in_ok-start.start order.items) c.deref.ensures.value (c.in-Err-Breaks.ensures.broken order c.in-Err-Breaks.field-0-is)),
     )

@@ -1,0 +1,108 @@
+use Rattle.std.proofs.Common.{◌≡◌, ◌∙◌, ◌<◌, ◌+◌, ◌⊎◌, ℕ, suc, List, ap, arith, get_or, inl, inr, length, refl, subst, sym}
+use Rattle.std.specs.Global.{Vec}
+use Rattle.std.proofs.lemmas.Bool.Decides.{eqb_tells}
+use Rattle.std.proofs.lemmas.Option.{slice_get_read}
+use Rattle.i3c_explore.specs.declared.node.Node.{Node}
+use Rattle.i3c_explore.specs.Blocks.{block, tracks_in}
+use Rattle.i3c_explore.specs.Counts.{IsShared}
+use Rattle.i3c_explore.specs.Layers.{IsFirstBreak}
+use Rattle.i3c_explore.specs.Shares.{AreShared, all_below}
+use Rattle.i3c_explore.specs.Numbers.{IsNumber}
+use Rattle.i3c_explore.specs.Parts.{HasLine, Part, fork, whole}
+use Rattle.i3c_explore.proofs.Courses.{CoursesLead, HoldCourses, ReachCourses, begun_within, hold_first, hold_next, lead_first, lead_next, leads_on_once, none_breaks, reach_first, reach_next, shortest_break}
+use Rattle.i3c_explore.proofs.Opening.{InPart, block_part}
+use Rattle.i3c_explore.proofs.Parting.{block_ready, none_counted}
+use Rattle.i3c_explore.proofs.Totals.{SharesCourses, all_counted, share_next, share_start}
+use Rattle.i3c_explore.proofs.walk.explore_part.Goals as goal
+
+pub returns-then-not-has_orders-clause-counted : goal.returns-then-not-has_orders-clause-counted
+returns-then-not-has_orders-clause-counted g c =
+    let split = c.fork-split.result in let blocks = c.args.blocks.now in let found = c.nothing.result in
+    let none : split ≡ length blocks = elim (eqb_tells split (length blocks)) [
+      | inl (_, same) ↦ same
+      | inr (_, other) ↦ (let has = c.has_orders.ensures.1 (λ e. absurd (other e)) in absurd (cc))
+    ] in
+    none_counted g.M.Machine.steps c.args.part blocks c.args.start found.ends.items found.orders (sym c.fork-split.ensures ∙ none) (λ first. let has = c.has_orders.ensures.1 (λ e. first) in cc)
+    (ap length c.nothing.ensures.ends) c.nothing.ensures.orders
+
+-- the block that is read is the one of this number
+block_read : {L : Type 0} (blocks : List (Vec (Vec L))) (index : ℕ) (item : Vec (Vec L)) (tracks : List (Vec L)) → index < length blocks → item ≡ get_or blocks index item → tracks ≡ item.items → tracks ≡ block blocks index
+block_read blocks index item tracks lt is same = same ∙ sym (ap tracks_in (slice_get_read blocks (length blocks) index item refl lt is))
+
+-- the part of a block, by the number that was found
+part_read : (part : Part) (split found index : ℕ) (chosen : Part) → found ≡ split → chosen ≡ block_part part found index → chosen ≡ block_part part split index
+part_read part split found index chosen same is = is ∙ ap (λ (k : ℕ). block_part part k index) same
+
+pub loop-index-init : goal.loop-index-init
+loop-index-init g c =
+    let steps = g.M.Machine.steps in let part = c.args.part in let blocks = c.args.blocks.now in let start = c.args.start in let layer = c.in_ok-layer.layer.nodes.items in
+    let (n, is, same, none, one) = c.in_ok-layer.ensures in record {
+      lead = lead_first steps part (fork blocks) blocks start;
+      held = hold_first steps part (fork blocks) blocks start n layer is same;
+      reached = reach_first steps part (fork blocks) blocks start n layer is same none;
+      counted = share_start steps part (fork blocks) blocks start n layer is same one;
+    }
+
+pub explore_block-requires : goal.explore_block-requires
+explore_block-requires g c =
+    let blocks = c.args.blocks.now in let count = c.loop-index.index in let tracks = c.deref.result.now in
+    let here : tracks ≡ block blocks count = block_read blocks count c.index-blocks-index.result tracks c.loop-index-test.true c.index-blocks-index.is c.deref.ensures.value in
+    let chosen = part_read c.args.part (fork blocks) c.fork-split.result count c.only_if-opening.result c.fork-split.ensures c.only_if-opening.ensures in
+    subst (λ (p : Part). (p ≡ whole) ⊎ HasLine tracks) (sym chosen) (block_ready c.args.part blocks count tracks here c.loop-index-test.true)
+
+pub returns-in-Err-clause-broken : goal.returns-in-Err-clause-broken
+returns-in-Err-clause-broken g c order is =
+    let blocks = c.args.blocks.now in let count = c.loop-index.index in let tracks = c.deref.result.now in let was = c.loop-index.invariant in let layer = c.loop-index.layer.nodes.items in
+    let here : tracks ≡ block blocks count = block_read blocks count c.index-blocks-index.result tracks c.loop-index-test.true c.index-blocks-index.is c.deref.ensures.value in
+    let chosen = part_read c.args.part (fork blocks) c.fork-split.result count c.only_if-opening.result c.fork-split.ensures c.only_if-opening.ensures in
+    let first = subst (λ (p : Part). IsFirstBreak g.M.Machine.steps g.M.Machine.breaks p tracks layer order.items) chosen (c.in-Err.ensures.broken order is) in
+    shortest_break g.M.Machine.steps g.M.Machine.breaks c.args.part blocks c.args.start count layer tracks order.items here c.loop-index-test.true
+    (λ none. c.has_orders.ensures.0 c.if-not-has_orders.false (c.fork-split.ensures ∙ none)) was.lead was.held was.reached first
+
+pub loop-index-preserved : goal.loop-index-preserved
+loop-index-preserved g c =
+    let steps = g.M.Machine.steps in let part = c.args.part in let blocks = c.args.blocks.now in let split = fork blocks in let start = c.args.start in let count = c.loop-index.index in let tracks = c.deref.result.now in
+    let layer = c.loop-index.layer.nodes.items in let ends = c.in-Ok.layer.nodes.items in let was = c.loop-index.invariant in let done = c.in-Ok.ensures in
+    let here : tracks ≡ block blocks count = block_read blocks count c.index-blocks-index.result tracks c.loop-index-test.true c.index-blocks-index.is c.deref.ensures.value in
+    let chosen = part_read part split c.fork-split.result count c.only_if-opening.result c.fork-split.ensures c.only_if-opening.ensures in
+    let next : suc count ≡ count + 1 = omega arith in record {
+      lead = subst (λ (k : ℕ). CoursesLead steps part split blocks start k) next
+          (lead_next steps part split blocks start count layer tracks here was.lead was.held (λ s at order prefix fits. done.all s at order prefix (subst (λ (p : Part). InPart p order) (sym chosen) fits)));
+      held = subst (λ (k : ℕ). HoldCourses steps part split blocks start k ends) next
+          (hold_next steps part split blocks start count layer ends tracks here was.held (λ s at order whole fits. done.ends s at order whole (subst (λ (p : Part). InPart p order) (sym chosen) fits)));
+      reached = subst (λ (k : ℕ). ReachCourses steps part split blocks start k ends) next
+          (reach_next steps part split blocks start count layer ends tracks here c.loop-index-test.true was.reached
+          (λ n at. let (s, before, (order, all, fits, by, led)) = done.reached n at in (s, before, (order, all, subst (λ (p : Part). InPart p order) chosen fits, by, led))));
+      counted = subst (λ (k : ℕ). SharesCourses steps part split blocks start k ends) next
+          (share_next steps part split blocks start count layer ends tracks here c.loop-index-test.true was.counted
+          (subst (λ (p : Part). AreShared steps p tracks layer ends was.counted.share) chosen (done.counted was.counted.share was.counted.shared)));
+    }
+
+pub returns-clause-all : goal.returns-clause-all
+returns-clause-all g c course begun (fits, _) = let e = begun_within c.args.blocks.now course begun in c.loop-index.invariant.lead course begun fits (omega arith)
+
+pub returns-clause-unbroken : goal.returns-clause-unbroken
+returns-clause-unbroken g c determined exclusive course begun of_part broken =
+    let (end, leads) = returns-clause-all g c course begun of_part in
+    none_breaks g.M.Machine.steps g.M.Machine.breaks c.args.blocks.now c.args.start determined exclusive course end leads broken
+
+pub returns-clause-ends : goal.returns-clause-ends
+returns-clause-ends g c course (is, len) (fits, _) = c.loop-index.invariant.held course is fits (omega arith)
+
+pub returns-clause-only : goal.returns-clause-only
+returns-clause-only g c determined course (is, len) (fits, _) end leads =
+    let (n, at, led) = c.loop-index.invariant.held course is fits (omega arith) in
+    (n, at, leads_on_once g.M.Machine.steps c.args.blocks.now c.args.start determined course n.state end led leads)
+
+pub returns-clause-reached : goal.returns-clause-reached
+returns-clause-reached g c n at =
+    let (course, is, fits, len, order, led) = c.loop-index.invariant.reached n at in
+    (course, (is, omega arith), (fits, λ none. c.has_orders.ensures.0 c.if-not-has_orders.false (c.fork-split.ensures ∙ none)), order, led)
+
+pub returns-clause-counted : goal.returns-clause-counted
+returns-clause-counted g c =
+    let ends = c.loop-index.layer.nodes.items in
+    let all : c.loop-index.index ≡ length c.args.blocks.now = omega arith in
+    all_counted g.M.Machine.steps c.args.part c.args.blocks.now c.args.start c.loop-index.index ends c.total-orders.result all (λ none. c.has_orders.ensures.0 c.if-not-has_orders.false (c.fork-split.ensures ∙ none))
+    (subst (λ (l : List (Node g.row.M.Denot)). (share : ℕ → List (List (List ℕ))) → IsShared l share → IsNumber c.total-orders.result (length (all_below share (length l)))) c.deref-2.ensures.value c.total-orders.ensures)
+    c.loop-index.invariant.counted
