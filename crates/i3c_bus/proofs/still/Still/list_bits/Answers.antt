@@ -1,5 +1,5 @@
 -- The list has an entry for each row and each legacy target.
-use Rattle.std.proofs.Common.{◌≡◌, ◌∙◌, ◌+◌, ℕ, Some, ap, arith, count_by, is_some, sym}
+use Rattle.std.proofs.Common.{◌≡◌, ◌∙◌, ◌+◌, Some, ap, arith, count_by, is_some, sym}
 use Rattle.i3c_base.specs.declared.device.LegacyTarget.{LegacyTarget}
 use Rattle.i3c_base.specs.Frames.{list_bits}
 use Rattle.i3c_base.specs.State.{State, device_at}
