@@ -1,0 +1,4 @@
+pub mod Pieces
+pub mod Kinds
+pub mod Values
+pub mod Objects
