@@ -40,7 +40,3 @@ byte_data (Some byte) = text_data (byte_text byte)
 abbrev pub record_data : ℕ → Record → Data
 record_data count record_at =
     object (put (codes "byte") (byte_data record_at.byte) (put (codes "address") (text_data (byte_text record_at.at)) (put (codes "raise") (number (unsigned record_at.number)) (put (codes "slot") (number (unsigned record_at.slot)) (put (codes "number") (number (unsigned count)) no_members)))))
-
--- names, each behind a space
-abbrev pub names_data : List (List ℕ) → List Data
-names_data names = map text_data names
