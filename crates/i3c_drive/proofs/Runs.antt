@@ -3,9 +3,10 @@ use Rattle.std.proofs.Common.{◌≡◌, ◌≢◌, ◌∙◌, ℕ, suc, ◌+◌
 use Rattle.std.proofs.lemmas.List.Elements.{All-tail}
 use Rattle.std.specs.Io.KnownBytes.{Appends, Consumes, IsAtEnd}
 use Rattle.i3c_drive.specs.declared.driven.Driver.{Driver}
+use Rattle.i3c_drive.specs.declared.form.Form.{Form}
 use Rattle.i3c_drive.specs.declared.input.Input.{Input}
 use Rattle.i3c_base.specs.declared.requests.Record.{Record}
-use Rattle.i3c_drive.specs.Answers.{AreAnswered, AreLinesOf, Asks, IsAnswered, IsChange, IsDrivenPart, IsNews, LacksFeed, WentBefore, last_line, log_of}
+use Rattle.i3c_drive.specs.Answers.{AreAnswered, AreLinesOf, Asks, IsAnswered, IsChange, IsDrivenPart, IsNews, IsWritten, LacksFeed, WentBefore, log_of}
 use Rattle.i3c_drive.specs.Inputs.{IsInHand, Takes, pending}
 use Rattle.i3c_drive.specs.Steps.{Closes, Fails, IsAnswer, IsCut, IsTold, Knows, RunsAll, RunsPart, RunsWhole, Tells, state}
 use Rattle.i3c_lines.specs.Gathering.{gathered}
@@ -14,7 +15,6 @@ use Rattle.i3c_scenario.specs.declared.faults.ScriptFault.{ScriptFault}
 use Rattle.i3c_scenario.specs.Outcomes.{HasNoFeed}
 use Rattle.i3c_scenario.specs.Scripts.{IsRun, Lead, LineDoes, LineRun, lines_bytes, lines_refused, refusals_of}
 use Rattle.i3c_script.specs.Obeying.{IsBegun, ScriptState}
-use Rattle.i3c_script.specs.Printed.{numbered_text}
 use Rattle.i3c_scenario.proofs.CheckRuns.{some_out}
 use Rattle.i3c_scenario.proofs.Gathered.{nothing_out, some_after}
 use Rattle.i3c_scenario.proofs.ScriptRead.{ended_is, script_is, unread}
@@ -23,38 +23,38 @@ use Rattle.i3c_scenario.proofs.TraceRead.{more_read, none_read}
 use Rattle.i3c_scenario.proofs.Written.{appends_both}
 
 -- Lines that are answered lead on
-pub answered_lead : (number : ℕ) (old : ScriptState) (lines : List LineRun) (new : ScriptState) (answers : List ℕ) → AreAnswered number old lines new answers → Lead old lines new
-answered_lead number old [] new answers (same, none) = same
-answered_lead number old (run ∷ rest) new answers (mid, is, (answer, later, one, text, are)) = (mid, is, answered_lead (suc number) mid rest new later are)
+pub answered_lead : (form : Form) (number : ℕ) (old : ScriptState) (lines : List LineRun) (new : ScriptState) (answers : List ℕ) → AreAnswered form number old lines new answers → Lead old lines new
+answered_lead form number old [] new answers (same, none) = same
+answered_lead form number old (run ∷ rest) new answers (mid, is, (answer, later, one, text, are)) = (mid, is, answered_lead form (suc number) mid rest new later are)
 
 -- one more line is answered
-answered_more : (lines : List LineRun) (number at : ℕ) (old mid new : ScriptState) (run : LineRun) (answers answer : List ℕ)
-    → at ≡ number + length lines → AreAnswered number old lines mid answers → IsRun mid run new → IsAnswered at mid run new answer → AreAnswered number old (lines ++ run ∷ []) new (answers ++ answer)
-answered_more [] number at old mid new run answers answer e (same, none) is one =
+answered_more : (form : Form) (lines : List LineRun) (number at : ℕ) (old mid new : ScriptState) (run : LineRun) (answers answer : List ℕ)
+    → at ≡ number + length lines → AreAnswered form number old lines mid answers → IsRun mid run new → IsAnswered form at mid run new answer → AreAnswered form number old (lines ++ run ∷ []) new (answers ++ answer)
+answered_more form [] number at old mid new run answers answer e (same, none) is one =
     let first : at ≡ number = omega (arith, e) in
-    let here = subst (λ st. IsAnswered number st run new answer) same (subst (λ n. IsAnswered n mid run new answer) first one) in
+    let here = subst (λ st. IsAnswered form number st run new answer) same (subst (λ n. IsAnswered form n mid run new answer) first one) in
     (new, subst (λ st. IsRun st run new) same is, (answer, [], here, ap (λ a. a ++ answer) none ∙ sym (append-nil answer), (refl, refl)))
-answered_more (other ∷ lines) number at old mid new run answers answer e (next, does, (before, later, told, text, are)) is one =
+answered_more form (other ∷ lines) number at old mid new run answers answer e (next, does, (before, later, told, text, are)) is one =
     let on : at ≡ suc number + length lines = omega (arith, e) in
-    (next, does, (before, later ++ answer, told, ap (λ a. a ++ answer) text ∙ append_assoc before later answer, answered_more lines (suc number) at next mid new run later answer on are is one))
+    (next, does, (before, later ++ answer, told, ap (λ a. a ++ answer) text ∙ append_assoc before later answer, answered_more form lines (suc number) at next mid new run later answer on are is one))
 
 length_more : (lines : List LineRun) (run : LineRun) → length (lines ++ run ∷ []) ≡ length lines + 1
 length_more [] run = omega arith
 length_more (one ∷ lines) run = omega (arith, length_more lines run)
 
 -- the lines that were run so far, of which the next has this number, and what was read beside them
-pub record DrivenSoFar (known now before after : Option (List ℕ)) (input : Input) (old new : Driver) (at : ℕ) : Type 0 where
+pub record DrivenSoFar (form : Form) (known now before after : Option (List ℕ)) (input : Input) (old new : Driver) (at : ℕ) : Type 0 where
   pub lines : List LineRun
   pub answers : List ℕ
-  pub answered : AreAnswered 1 (state old) lines (state new) answers
+  pub answered : AreAnswered form 1 (state old) lines (state new) answers
   pub number : at ≡ 1 + length lines
   pub out : Appends before after answers
   pub count : min new.refused 18446744073709551615 ≡ min (old.refused + lines_refused lines) 18446744073709551615
   pub read : Consumes known now (lines_bytes lines ++ pending input)
   pub knows : Knows new
 
-pub none_driven : (known before : Option (List ℕ)) (input : Input) (driver : Driver) → pending input ≡ [] → Knows driver → DrivenSoFar known known before before input driver driver 1
-none_driven known before input driver none knows = record {
+pub none_driven : (form : Form) (known before : Option (List ℕ)) (input : Input) (driver : Driver) → pending input ≡ [] → Knows driver → DrivenSoFar form known known before before input driver driver 1
+none_driven form known before input driver none knows = record {
   lines = [];
   answers = [];
   answered = (refl, refl);
@@ -72,8 +72,8 @@ taken_read known now next old new before text one takes =
     (append_assoc before text (pending new) ∙ ap (λ b. before ++ b) (sym takes.same) ∙ sym (append_assoc before (pending old) takes.read))
 
 -- a line is answered by its first bytes
-whole_answer : (number : ℕ) (line first : List ℕ) (old new : Driver) (answer : List ℕ) → first ≡ take 257 line → IsAnswer number first old new answer → IsAnswer number line old new answer
-whole_answer number line first old new answer same is = record {
+whole_answer : (form : Form) (number : ℕ) (line first : List ℕ) (old new : Driver) (answer : List ℕ) → first ≡ take 257 line → IsAnswer form number first old new answer → IsAnswer form number line old new answer
+whole_answer form number line first old new answer same is = record {
   said = is.said;
   refused = is.refused;
   does = does_whole (state old) line is.said is.refused (state new) (subst (λ l. LineDoes (state old) l is.said is.refused (state new)) same is.does);
@@ -83,15 +83,15 @@ whole_answer number line first old new answer same is = record {
 }
 
 -- one more line, with its answer
-more_driven : (known now before mid : Option (List ℕ)) (input : Input) (old from to : Driver) (number : ℕ) (line first answer : List ℕ) → (so_far : DrivenSoFar known now before mid input old from number) → HasNoFeed line → first ≡ take 257 line
-    → IsAnswer number first from to answer → (run : LineRun) × (run.line ≡ line) × AreAnswered 1 (state old) (so_far.lines ++ run ∷ []) (state to) (so_far.answers ++ answer) × (min to.refused 18446744073709551615 ≡ min (old.refused + lines_refused (so_far.lines ++ run ∷ [])) 18446744073709551615)
-more_driven known now before mid input old from to number line first answer so_far one same is =
-    let whole = whole_answer number line first from to answer same is in
+more_driven : (form : Form) (known now before mid : Option (List ℕ)) (input : Input) (old from to : Driver) (number : ℕ) (line first answer : List ℕ) → (so_far : DrivenSoFar form known now before mid input old from number) → HasNoFeed line → first ≡ take 257 line
+    → IsAnswer form number first from to answer → (run : LineRun) × (run.line ≡ line) × AreAnswered form 1 (state old) (so_far.lines ++ run ∷ []) (state to) (so_far.answers ++ answer) × (min to.refused 18446744073709551615 ≡ min (old.refused + lines_refused (so_far.lines ++ run ∷ [])) 18446744073709551615)
+more_driven form known now before mid input old from to number line first answer so_far one same is =
+    let whole = whole_answer form number line first from to answer same is in
     let run : LineRun = record { line = line; said = whole.said; refused = whole.refused } in
     let ran : IsRun (state from) run (state to) = record { one = one; does = whole.does } in (
       run,
       refl,
-      answered_more so_far.lines 1 number (state old) (state from) (state to) run so_far.answers answer so_far.number so_far.answered ran whole.text,
+      answered_more form so_far.lines 1 number (state old) (state from) (state to) run so_far.answers answer so_far.number so_far.answered ran whole.text,
       omega (arith, so_far.count, whole.count, refused_both so_far.lines (run ∷ [])),
     )
 
@@ -100,11 +100,11 @@ more_bytes : (lines : List LineRun) (run : LineRun) (line : List ℕ) → run.li
 more_bytes lines run line same = ap (λ l. lines_bytes lines ++ (l ++ 10 ∷ [])) (sym same) ∙ sym (bytes_both lines (run ∷ []))
 
 -- a line that came with its feed was told
-pub one_driven : (known now next before mid after : Option (List ℕ)) (input further : Input) (old from to : Driver) (number : ℕ) (line : List ℕ)
-    → DrivenSoFar known now before mid input old from number → IsInHand further line → Takes now next input further (line ++ 10 ∷ [])
-    → IsTold number (gathered further.line) mid after from to → DrivenSoFar known next before after further old to (number + 1)
-one_driven known now next before mid after input further old from to number line so_far hand takes told =
-    let (run, same, answered, count) = more_driven known now before mid input old from to number line (gathered further.line) told.answer so_far hand.0 hand.1 told.is in
+pub one_driven : (form : Form) (known now next before mid after : Option (List ℕ)) (input further : Input) (old from to : Driver) (number : ℕ) (line : List ℕ)
+    → DrivenSoFar form known now before mid input old from number → IsInHand further line → Takes now next input further (line ++ 10 ∷ [])
+    → IsTold form number (gathered further.line) mid after from to → DrivenSoFar form known next before after further old to (number + 1)
+one_driven form known now next before mid after input further old from to number line so_far hand takes told =
+    let (run, same, answered, count) = more_driven form known now before mid input old from to number line (gathered further.line) told.answer so_far hand.0 hand.1 told.is in
     record {
       lines = so_far.lines ++ run ∷ [];
       answers = so_far.answers ++ told.answer;
@@ -138,11 +138,11 @@ lacks_feed front (byte ∷ (more ∷ line)) one some =
     (head, last, sym (append_assoc front (byte ∷ []) (more ∷ line)) ∙ same, is)
 
 -- the last line was told, which has no feed
-pub last_driven : (known now next before mid after : Option (List ℕ)) (input further : Input) (old from to : Driver) (number : ℕ) (line : List ℕ)
-    → DrivenSoFar known now before mid input old from number → IsInHand further line → line ≢ [] → Takes now next input further line → pending further ≡ [] → IsAtEnd next
-    → IsTold number (gathered further.line) mid after from to → RunsWhole known before after old to
-last_driven known now next before mid after input further old from to number line so_far hand some takes none end told =
-    let (run, same, answered, count) = more_driven known now before mid input old from to number line (gathered further.line) told.answer so_far hand.0 hand.1 told.is in
+pub last_driven : (form : Form) (known now next before mid after : Option (List ℕ)) (input further : Input) (old from to : Driver) (number : ℕ) (line : List ℕ)
+    → DrivenSoFar form known now before mid input old from number → IsInHand further line → line ≢ [] → Takes now next input further line → pending further ≡ [] → IsAtEnd next
+    → IsTold form number (gathered further.line) mid after from to → RunsWhole form known before after old to
+last_driven form known now next before mid after input further old from to number line so_far hand some takes none end told =
+    let (run, same, answered, count) = more_driven form known now before mid input old from to number line (gathered further.line) told.answer so_far hand.0 hand.1 told.is in
     let bytes = lines_bytes so_far.lines in
     let lines = so_far.lines ++ run ∷ [] in
     let read = taken_read known now next input further bytes line so_far.read takes in
@@ -166,8 +166,8 @@ went_whole ScriptFault.Read before after answers out = out
 went_whole ScriptFault.TooLarge before after answers out = out
 
 -- a fault before the next line
-pub driven_stops : (known now before after : Option (List ℕ)) (input : Input) (old to : Driver) (number : ℕ) (fault : ScriptFault) → DrivenSoFar known now before after input old to number → RunsPart known before after old fault
-driven_stops known now before after input old to number fault so_far = record {
+pub driven_stops : (form : Form) (known now before after : Option (List ℕ)) (input : Input) (old to : Driver) (number : ℕ) (fault : ScriptFault) → DrivenSoFar form known now before after input old to number → RunsPart form known before after old fault
+driven_stops form known now before after input old to number fault so_far = record {
   lines = so_far.lines;
   end = state to;
   answers = so_far.answers;
@@ -178,8 +178,8 @@ driven_stops known now before after input old to number fault so_far = record {
 }
 
 -- no line was run
-pub none_ran : (known out : Option (List ℕ)) (driver : Driver) → IsBegun (state driver) → IsDrivenPart known out out ScriptFault.Memory
-none_ran known out driver begun = record {
+pub none_ran : (form : Form) (known out : Option (List ℕ)) (driver : Driver) → IsBegun (state driver) → IsDrivenPart form known out out ScriptFault.Memory
+none_ran form known out driver begun = record {
   lines = [];
   start = state driver;
   end = state driver;
@@ -192,11 +192,11 @@ none_ran known out driver begun = record {
 }
 
 -- a line's answer was cut
-pub driven_cut : (known now before mid after : Option (List ℕ)) (input further : Input) (old from to : Driver) (number : ℕ) (line rest : List ℕ)
-    → (so_far : DrivenSoFar known now before mid input old from number) → IsInHand further line → IfSome known (λ input. lines_bytes so_far.lines ++ (line ++ (10 ∷ rest)) ≡ input ++ 10 ∷ [])
-    → IsCut number (gathered further.line) mid after from to → RunsPart known before after old ScriptFault.Write
-driven_cut known now before mid after input further old from to number line rest so_far hand first cut =
-    let (run, same, answered, count) = more_driven known now before mid input old from to number line (gathered further.line) cut.answer so_far hand.0 hand.1 cut.is in
+pub driven_cut : (form : Form) (known now before mid after : Option (List ℕ)) (input further : Input) (old from to : Driver) (number : ℕ) (line rest : List ℕ)
+    → (so_far : DrivenSoFar form known now before mid input old from number) → IsInHand further line → IfSome known (λ input. lines_bytes so_far.lines ++ (line ++ (10 ∷ rest)) ≡ input ++ 10 ∷ [])
+    → IsCut form number (gathered further.line) mid after from to → RunsPart form known before after old ScriptFault.Write
+driven_cut form known now before mid after input further old from to number line rest so_far hand first cut =
+    let (run, same, answered, count) = more_driven form known now before mid input old from to number line (gathered further.line) cut.answer so_far hand.0 hand.1 cut.is in
     let lines = so_far.lines ++ run ∷ [] in
     let whole : lines_bytes so_far.lines ++ (line ++ (10 ∷ rest)) ≡ lines_bytes lines ++ rest =
     ap (λ b. lines_bytes so_far.lines ++ b) (sym (append_assoc line (10 ∷ []) rest)) ∙ sym (append_assoc (lines_bytes so_far.lines) (line ++ 10 ∷ []) rest) ∙ ap (λ b. b ++ rest) (more_bytes so_far.lines run line same) in
@@ -230,51 +230,45 @@ last_first known now next input further bytes line one takes none end =
     ended_is known next ((bytes ++ line) ++ pending further) (bytes ++ (line ++ 10 ∷ [])) read end same
 
 -- a fault at a line that came with its feed
-pub fed_fails : (fault : ScriptFault) (known now next before mid after : Option (List ℕ)) (input further : Input) (old from to : Driver) (number : ℕ) (line : List ℕ)
-    → DrivenSoFar known now before mid input old from number → IsInHand further line → Takes now next input further (line ++ 10 ∷ []) → Fails fault number (gathered further.line) mid after from to → RunsPart known before after old fault
-fed_fails ScriptFault.Memory known now next before mid after input further old from to number line so_far hand takes same =
-    subst (λ out. RunsPart known before out old ScriptFault.Memory) (sym same) (driven_stops known now before mid input old from number ScriptFault.Memory so_far)
-fed_fails ScriptFault.Write known now next before mid after input further old from to number line so_far hand takes cut =
-    driven_cut known now before mid after input further old from to number line (pending further ++ (unread next ++ 10 ∷ [])) so_far hand (fed_first known now next input further (lines_bytes so_far.lines) line so_far.read takes) cut
-fed_fails ScriptFault.Read known now next before mid after input further old from to number line so_far hand takes none = absurd none
-fed_fails ScriptFault.TooLarge known now next before mid after input further old from to number line so_far hand takes none = absurd none
+pub fed_fails : (form : Form) (fault : ScriptFault) (known now next before mid after : Option (List ℕ)) (input further : Input) (old from to : Driver) (number : ℕ) (line : List ℕ)
+    → DrivenSoFar form known now before mid input old from number → IsInHand further line → Takes now next input further (line ++ 10 ∷ []) → Fails form fault number (gathered further.line) mid after from to → RunsPart form known before after old fault
+fed_fails form ScriptFault.Memory known now next before mid after input further old from to number line so_far hand takes same =
+    subst (λ out. RunsPart form known before out old ScriptFault.Memory) (sym same) (driven_stops form known now before mid input old from number ScriptFault.Memory so_far)
+fed_fails form ScriptFault.Write known now next before mid after input further old from to number line so_far hand takes cut =
+    driven_cut form known now before mid after input further old from to number line (pending further ++ (unread next ++ 10 ∷ [])) so_far hand (fed_first known now next input further (lines_bytes so_far.lines) line so_far.read takes) cut
+fed_fails form ScriptFault.Read known now next before mid after input further old from to number line so_far hand takes none = absurd none
+fed_fails form ScriptFault.TooLarge known now next before mid after input further old from to number line so_far hand takes none = absurd none
 
 -- a fault at the last line
-last_fails : (fault : ScriptFault) (known now next before mid after : Option (List ℕ)) (input further : Input) (old from to : Driver) (number : ℕ) (line : List ℕ)
-    → DrivenSoFar known now before mid input old from number → IsInHand further line → Takes now next input further line → pending further ≡ [] → IsAtEnd next → Fails fault number (gathered further.line) mid after from to → RunsPart known before after old fault
-last_fails ScriptFault.Memory known now next before mid after input further old from to number line so_far hand takes none end same =
-    subst (λ out. RunsPart known before out old ScriptFault.Memory) (sym same) (driven_stops known now before mid input old from number ScriptFault.Memory so_far)
-last_fails ScriptFault.Write known now next before mid after input further old from to number line so_far hand takes none end cut =
-    driven_cut known now before mid after input further old from to number line [] so_far hand (last_first known now next input further (lines_bytes so_far.lines) line so_far.read takes none end) cut
-last_fails ScriptFault.Read known now next before mid after input further old from to number line so_far hand takes none end is = absurd is
-last_fails ScriptFault.TooLarge known now next before mid after input further old from to number line so_far hand takes none end is = absurd is
+last_fails : (form : Form) (fault : ScriptFault) (known now next before mid after : Option (List ℕ)) (input further : Input) (old from to : Driver) (number : ℕ) (line : List ℕ)
+    → DrivenSoFar form known now before mid input old from number → IsInHand further line → Takes now next input further line → pending further ≡ [] → IsAtEnd next → Fails form fault number (gathered further.line) mid after from to → RunsPart form known before after old fault
+last_fails form ScriptFault.Memory known now next before mid after input further old from to number line so_far hand takes none end same =
+    subst (λ out. RunsPart form known before out old ScriptFault.Memory) (sym same) (driven_stops form known now before mid input old from number ScriptFault.Memory so_far)
+last_fails form ScriptFault.Write known now next before mid after input further old from to number line so_far hand takes none end cut =
+    driven_cut form known now before mid after input further old from to number line [] so_far hand (last_first known now next input further (lines_bytes so_far.lines) line so_far.read takes none end) cut
+last_fails form ScriptFault.Read known now next before mid after input further old from to number line so_far hand takes none end is = absurd is
+last_fails form ScriptFault.TooLarge known now next before mid after input further old from to number line so_far hand takes none end is = absurd is
 
 -- what the last line comes to is what the run comes to
-pub last_tells : (known now next before mid after : Option (List ℕ)) (input further : Input) (old from to : Driver) (number : ℕ) (line : List ℕ) (result : Result (Unit {0}) ScriptFault)
-    → DrivenSoFar known now before mid input old from number → IsInHand further line → line ≢ [] → Takes now next input further line → pending further ≡ [] → IsAtEnd next
-    → Tells number (gathered further.line) mid after from to result → RunsAll known before after old to result
-last_tells known now next before mid after input further old from to number line (Ok done) so_far hand some takes none end told = last_driven known now next before mid after input further old from to number line so_far hand some takes none end told
-last_tells known now next before mid after input further old from to number line (Err fault) so_far hand some takes none end fails = last_fails fault known now next before mid after input further old from to number line so_far hand takes none end fails
+pub last_tells : (form : Form) (known now next before mid after : Option (List ℕ)) (input further : Input) (old from to : Driver) (number : ℕ) (line : List ℕ) (result : Result (Unit {0}) ScriptFault)
+    → DrivenSoFar form known now before mid input old from number → IsInHand further line → line ≢ [] → Takes now next input further line → pending further ≡ [] → IsAtEnd next
+    → Tells form number (gathered further.line) mid after from to result → RunsAll form known before after old to result
+last_tells form known now next before mid after input further old from to number line (Ok done) so_far hand some takes none end told = last_driven form known now next before mid after input further old from to number line so_far hand some takes none end told
+last_tells form known now next before mid after input further old from to number line (Err fault) so_far hand some takes none end fails = last_fails form fault known now next before mid after input further old from to number line so_far hand takes none end fails
 
 -- a line that was run, as it is answered
-pub line_answered : (number : ℕ) (line : List ℕ) (refused : Option Refusal) (log : List Record) (from mid to : Driver) → LineDoes (state from) line mid.answer refused (state mid) → state to ≡ state mid → log ≡ log_of (state from)
-    → Knows from → mid.asked ≡ from.asked → Closes number (length log) refused mid to → to.refused ≡ min (from.refused + refusals_of refused) 18446744073709551615 → IsAnswer number line from to to.answer
-line_answered number line refused log from mid to does same logged knows kept closes count =
+pub line_answered : (form : Form) (number : ℕ) (line : List ℕ) (refused : Option Refusal) (log : List Record) (from mid to : Driver) → LineDoes (state from) line mid.answer refused (state mid) → state to ≡ state mid → log ≡ log_of (state from)
+    → Knows from → mid.asked ≡ from.asked → Closes form number (length log) refused mid to → to.refused ≡ min (from.refused + refusals_of refused) 18446744073709551615 → IsAnswer form number line from to to.answer
+line_answered form number line refused log from mid to does same logged knows kept closes count =
     let before = log_of (state from) in
-    let news = closes.news in
     let asks = subst (λ st. Asks st to.asked) (sym same) closes.asks in
-    let change : IsChange (state from) (state to) news = record { before = from.asked; after = to.asked; asked = knows; asks = asks; news = subst (λ b. IsNews b to.asked news) kept closes.is } in
+    let change : IsChange (state from) (state to) closes.news = record { before = from.asked; after = to.asked; asked = knows; asks = asks; is = subst (λ b. IsNews b to.asked closes.news) kept closes.is } in
+    let told = subst (λ l. IsWritten form number mid.answer (length l) (drop (length l) (log_of (state mid))) closes.news refused to.answer) logged closes.told in
     record {
       said = mid.answer;
       refused = refused;
       does = subst (LineDoes (state from) line mid.answer refused) (sym same) does;
-      text = (
-        news,
-        change,
-        closes.told
-            ∙ ap (λ l. mid.answer ++ (numbered_text (suc (length l)) (drop (length l) (log_of (state mid))) ++ (news ++ last_line number refused))) logged
-            ∙ ap (λ m. mid.answer ++ (numbered_text (suc (length before)) (drop (length before) (log_of m)) ++ (news ++ last_line number refused))) (sym same),
-      );
+      text = (closes.news, change, subst (λ st. IsWritten form number mid.answer (length before) (drop (length before) (log_of st)) closes.news refused to.answer) (sym same) told);
       knows = asks;
       count = count;
     }

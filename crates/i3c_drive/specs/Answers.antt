@@ -3,6 +3,8 @@ use Rattle.std.specs.Prelude.{◌≡◌, ◌≢◌, ◌⊎◌, ℕ, suc, List, [
 use Rattle.std.specs.Fmt.{decimal}
 use Rattle.std.specs.Io.KnownBytes.{Appends}
 use Rattle.i3c_base.specs.declared.requests.Record.{Record}
+use Rattle.i3c_drive.specs.declared.form.Form.{Form}
+use Rattle.i3c_json.specs.Objects.{IsLineOf, answer_data}
 use Rattle.i3c_lines.specs.declared.names.Names.{Names}
 use Rattle.i3c_lines.specs.declared.refusals.Refusal.{Refusal}
 use Rattle.i3c_lines.specs.Refusing.{refusal_text}
@@ -22,10 +24,6 @@ log_at (Stage.Running ran) = ran.state.records
 abbrev pub log_of : ScriptState → List Record
 log_of state = log_at state.stage
 
--- the records that a line added to the log, each as `show` prints it
-abbrev pub added_text : ScriptState → ScriptState → List ℕ
-added_text old new = numbered_text (suc (length (log_of old))) (drop (length (log_of old)) (log_of new))
-
 -- the last line of an answer: the line's number, and why the line was refused, if it was
 abbrev pub last_line : ℕ → Option Refusal → List ℕ
 last_line number None = codes "ok " ++ (decimal number ++ 10 ∷ [])
@@ -39,28 +37,44 @@ AsksAt (Stage.Running ran) names told = TellsAskers ran.state names told
 abbrev pub Asks : ScriptState → List ℕ → Type 0
 Asks state told = AsksAt state.stage state.names told
 
--- the line of those names, where they have changed
-abbrev pub IsNews : List ℕ → List ℕ → List ℕ → Type 0
-IsNews before after line = ((before ≡ after) × (line ≡ [])) ⊎ ((before ≢ after) × (line ≡ codes "asking" ++ (after ++ 10 ∷ [])))
+-- those names, where they have changed
+abbrev pub IsNews : List ℕ → List ℕ → Option (List ℕ) → Type 0
+IsNews before after news = ((before ≡ after) × (news ≡ None)) ⊎ ((before ≢ after) × (news ≡ Some after))
 
 -- what a line changed about who asks
-pub record IsChange (old new : ScriptState) (line : List ℕ) : Type 0 where
+pub record IsChange (old new : ScriptState) (news : Option (List ℕ)) : Type 0 where
   pub before : List ℕ
   pub after : List ℕ
   pub asked : Asks old before
   pub asks : Asks new after
-  pub news : IsNews before after line
+  pub is : IsNews before after news
 
--- the answer to a line: what it prints, the records that it added, who asks, where that has changed, and the last line
-abbrev pub IsAnswered : ℕ → ScriptState → LineRun → ScriptState → List ℕ → Type 0
-IsAnswered number old run new answer =
-    (news : List ℕ) × IsChange old new news × (answer ≡ run.said ++ (added_text old new ++ (news ++ last_line number run.refused)))
+-- the line of names that have changed
+abbrev pub news_text : Option (List ℕ) → List ℕ
+news_text None = []
+news_text (Some names) = codes "asking" ++ (names ++ 10 ∷ [])
+
+-- the first of the records that a line added behind so many, with its number
+abbrev pub first_added : ℕ → List Record → Option (ℕ × Record)
+first_added count [] = None
+first_added count (added ∷ more) = Some (suc count, added)
+
+-- an answer in its form: what the line prints, the records that it added behind so many, who asks, where that has changed, and
+-- what it came to. As lines these follow one another, and the last line has the line's number. As an object they are its fields
+abbrev pub IsWritten : Form → ℕ → List ℕ → ℕ → List Record → Option (List ℕ) → Option Refusal → List ℕ → Type 0
+IsWritten Form.Lines number said count added news refused answer = answer ≡ said ++ (numbered_text (suc count) added ++ (news_text news ++ last_line number refused))
+IsWritten Form.Json number said count added news refused answer = IsLineOf (answer_data number refused said (first_added count added) news) answer
+
+-- the answer to a line
+abbrev pub IsAnswered : Form → ℕ → ScriptState → LineRun → ScriptState → List ℕ → Type 0
+IsAnswered form number old run new answer =
+    (news : Option (List ℕ)) × IsChange old new news × IsWritten form number run.said (length (log_of old)) (drop (length (log_of old)) (log_of new)) news run.refused answer
 
 -- lines, counted from this number on, were run and answered so
-abbrev pub AreAnswered : ℕ → ScriptState → List LineRun → ScriptState → List ℕ → Type 0
-AreAnswered number old [] new answers = (new ≡ old) × (answers ≡ [])
-AreAnswered number old (run ∷ rest) new answers = (mid : ScriptState) × IsRun old run mid
-    × ((answer : List ℕ) × (later : List ℕ) × IsAnswered number old run mid answer × (answers ≡ answer ++ later) × AreAnswered (suc number) mid rest new later)
+abbrev pub AreAnswered : Form → ℕ → ScriptState → List LineRun → ScriptState → List ℕ → Type 0
+AreAnswered form number old [] new answers = (new ≡ old) × (answers ≡ [])
+AreAnswered form number old (run ∷ rest) new answers = (mid : ScriptState) × IsRun old run mid
+    × ((answer : List ℕ) × (later : List ℕ) × IsAnswered form number old run mid answer × (answers ≡ answer ++ later) × AreAnswered form (suc number) mid rest new later)
 
 -- an input whose last line lacks its line feed
 abbrev pub LacksFeed : List ℕ → Type 0
@@ -71,13 +85,13 @@ abbrev pub AreLinesOf : List ℕ → List LineRun → Type 0
 AreLinesOf input lines = (lines_bytes lines ≡ input) ⊎ (LacksFeed input × (lines_bytes lines ≡ input ++ 10 ∷ []))
 
 -- each line of the input was run from a script's start, and all answers went out
-pub record IsDriven (known old new : Option (List ℕ)) (tally : Tally) : Type 0 where
+pub record IsDriven (form : Form) (known old new : Option (List ℕ)) (tally : Tally) : Type 0 where
   pub lines : List LineRun
   pub start : ScriptState
   pub end : ScriptState
   pub answers : List ℕ
   pub begun : IsBegun start
-  pub answered : AreAnswered 1 start lines end answers
+  pub answered : AreAnswered form 1 start lines end answers
   pub all : IfSome known (λ input. AreLinesOf input lines)
   pub out : Appends old new answers
   pub counted : tally.refused ≡ min (lines_refused lines) 18446744073709551615
@@ -90,21 +104,21 @@ WentBefore ScriptFault.Read old new answers = Appends old new answers
 WentBefore ScriptFault.TooLarge old new answers = Appends old new answers
 
 -- the first lines of the input were run and answered, and then a fault ended the run
-pub record IsDrivenPart (known old new : Option (List ℕ)) (fault : ScriptFault) : Type 0 where
+pub record IsDrivenPart (form : Form) (known old new : Option (List ℕ)) (fault : ScriptFault) : Type 0 where
   pub lines : List LineRun
   pub start : ScriptState
   pub end : ScriptState
   pub answers : List ℕ
   pub rest : List ℕ
   pub begun : IsBegun start
-  pub answered : AreAnswered 1 start lines end answers
+  pub answered : AreAnswered form 1 start lines end answers
   pub first : IfSome known (λ input. lines_bytes lines ++ rest ≡ input ++ 10 ∷ [])
   pub out : WentBefore fault old new answers
 
 -- what goes out to another program that sends these lines
-abbrev pub AnswersGoOut : Option (List ℕ) → Option (List ℕ) → Option (List ℕ) → Result Tally ScriptFault → Type 0
-AnswersGoOut known old new result = MatchResult result (IsDriven known old new) (IsDrivenPart known old new)
+abbrev pub AnswersGoOut : Form → Option (List ℕ) → Option (List ℕ) → Option (List ℕ) → Result Tally ScriptFault → Type 0
+AnswersGoOut form known old new result = MatchResult result (IsDriven form known old new) (IsDrivenPart form known old new)
 
 -- Lines that are answered do what they do in a script
 abbrev pub AnsweredLinesLead : Type 0
-AnsweredLinesLead = (number : ℕ) (old : ScriptState) (lines : List LineRun) (new : ScriptState) (answers : List ℕ) → AreAnswered number old lines new answers → Lead old lines new
+AnsweredLinesLead = (form : Form) (number : ℕ) (old : ScriptState) (lines : List LineRun) (new : ScriptState) (answers : List ℕ) → AreAnswered form number old lines new answers → Lead old lines new

@@ -1,14 +1,16 @@
-ghost use Rattle.std.specs.Prelude.{◌≡◌, ℕ, ◌+◌, List, [], ◌∷◌, ◌++◌, codes, drop, min, suc, IfOk, OnOk};
+ghost use Rattle.std.specs.Prelude.{◌≡◌, ℕ, ◌+◌, List, [], ◌∷◌, ◌++◌, drop, min, option_map, suc, IfOk, OnOk};
 ghost use Rattle.std.specs.Io.KnownBytes.{IsAtEnd};
-ghost use Rattle.i3c_drive.specs.Answers.{AnswersGoOut, AsksAt, last_line, log_of};
+ghost use Rattle.i3c_drive.specs.Answers.{AnswersGoOut, AsksAt, IsWritten, first_added, last_line, log_of, news_text};
 ghost use Rattle.i3c_drive.specs.Inputs.{pending};
-ghost use Rattle.i3c_drive.specs.Steps.{Closes, IsAnswer, Knows, Reads, RunsAll, Tells, TellsNews, state};
+ghost use Rattle.i3c_drive.specs.Steps.{Asked, Closes, IsAnswer, Knows, Reads, RunsAll, Tells, news_of, state};
 ghost use Rattle.i3c_script.specs.Obeying.{IsBegun};
 ghost use Rattle.i3c_script.specs.Printed.{numbered_text};
 ghost use Rattle.i3c_scenario.specs.Scripts.{refusals_of};
 
+use crate::form::Form;
 use crate::input::{Input, Next};
 use i3c_base::Record;
+use i3c_json::{Answer, push_object};
 use i3c_lines::{Command, Names, Refusal, is_skipped};
 use i3c_scenario::{ScriptFault, Tally, write_out};
 use i3c_script::{Stage, Stop, show_askers, show_records_behind};
@@ -18,15 +20,17 @@ use std::io::{Read, Write};
 
 /// Runs the lines that another program sends, and answers each before it reads the next, until the input ends.
 ///
-/// An answer begins with what the line prints in a script. Then comes each record that the line added to the log, as `show`
-/// prints it. Where those have changed whose requests the next frame would meet, `asking` and their names follow. The last
-/// line is `ok` and the line's number, or `refused`, the number and why.
+/// As lines an answer begins with what the line prints in a script. Then comes each record that the line added to the log, as
+/// `show` prints it. Where those have changed whose requests the next frame would meet, `asking` and their names follow. The
+/// last line is `ok` and the line's number, or `refused`, the number and why. As JSON an answer is one line, an object that has
+/// the same in its fields.
 ///
 /// Each line has an answer, empty ones and comments too. Expectations and other marks of a script have no form here. The input may have any length. At its end an open session is
 /// ended, and the bus retired. Before a fault all answers went out, but to a writer that fails only a part of them.
 #[inline(never)]
 pub fn run_driven<R: Read, W: Write>(
     alloc: Global,
+    form: Form,
     reader: &mut R,
     writer: &mut W,
 ) -> Result<Tally, ScriptFault>
@@ -34,7 +38,7 @@ pub fn run_driven<R: Read, W: Write>(
     ensures whole { OnOk result (IsAtEnd (R.remaining reader.new)) }
     // a script starts with no bus, no legacy target and no name; each line changes the state and is answered as its command
     // says; with `Ok` all answers went out, and before a fault as much as that fault says
-    ensures answers { AnswersGoOut (R.remaining reader.old) (W.contents writer.old) (W.contents writer.new) result }
+    ensures answers { AnswersGoOut form (R.remaining reader.old) (W.contents writer.old) (W.contents writer.new) result }
     ensures unmet { IfOk result (λ tally. tally.unmet ≡ 0) }
 {
     let mut driver = Driver::new(alloc);
@@ -42,7 +46,7 @@ pub fn run_driven<R: Read, W: Write>(
         let _none = driver.retire();
         return Err(ScriptFault::Memory);
     };
-    let outcome = driver.run_all(&mut input, reader, writer);
+    let outcome = driver.run_all(form, &mut input, reader, writer);
     let refused = driver.retire();
     match outcome {
         Ok(()) => Ok(Tally { refused, unmet: 0 }),
@@ -90,6 +94,7 @@ impl Driver {
     /// Answers each line of an input.
     fn run_all<R: Read, W: Write>(
         &mut self,
+        form: Form,
         input: &mut Input,
         reader: &mut R,
         out: &mut W,
@@ -97,7 +102,7 @@ impl Driver {
         requires unread { pending input.old ≡ [] }
         requires knows { Knows self.old }
         ensures whole { OnOk result (IsAtEnd (R.remaining reader.new)) }
-        ensures runs { RunsAll (R.remaining reader.old) (W.contents out.old) (W.contents out.new) self.old self.new result }
+        ensures runs { RunsAll form (R.remaining reader.old) (W.contents out.old) (W.contents out.new) self.old self.new result }
     {
         for number in 1..u64::MAX {
             let next = match input.advance(reader) {
@@ -106,8 +111,8 @@ impl Driver {
             };
             match next {
                 Next::End => return Ok(()),
-                Next::Last => return self.tell(number, input.line(), out),
-                Next::Line => match self.tell(number, input.line(), out) {
+                Next::Last => return self.tell(form, number, input.line(), out),
+                Next::Line => match self.tell(form, number, input.line(), out) {
                     Ok(()) => {}
                     Err(fault) => return Err(fault),
                 },
@@ -118,11 +123,17 @@ impl Driver {
     }
 
     /// Runs a line, and hands its answer to the writer.
-    fn tell<W: Write>(&mut self, number: u64, line: &[u8], out: &mut W) -> Result<(), ScriptFault>
+    fn tell<W: Write>(
+        &mut self,
+        form: Form,
+        number: u64,
+        line: &[u8],
+        out: &mut W,
+    ) -> Result<(), ScriptFault>
         requires { Knows self.old }
-        ensures { Tells number line.now (W.contents out.old) (W.contents out.new) self.old self.new result }
+        ensures { Tells form number line.now (W.contents out.old) (W.contents out.new) self.old self.new result }
     {
-        match self.run(number, line) {
+        match self.run(form, number, line) {
             Ok(()) => {}
             Err(_) => return Err(ScriptFault::Memory),
         }
@@ -137,35 +148,82 @@ impl Driver {
     }
 
     /// Runs a line. Its answer waits.
-    fn run(&mut self, number: u64, line: &[u8]) -> Result<(), AllocError>
+    fn run(&mut self, form: Form, number: u64, line: &[u8]) -> Result<(), AllocError>
         requires { Knows self.old }
-        ensures { OnOk result (IsAnswer number line.now self.old self.new self.new.answer) }
+        ensures { OnOk result (IsAnswer form number line.now self.old self.new self.new.answer) }
     {
         let count = self.log().len();
         self.answer.clear();
         match self.obey(line) {
-            Ok(()) => return self.close(number, count, None),
-            Err(Stop::Refused(why)) => return self.close(number, count, Some(why)),
+            Ok(()) => return self.close(form, number, count, None),
+            Err(Stop::Refused(why)) => return self.close(form, number, count, Some(why)),
             Err(Stop::Memory) => return Err(AllocError),
         }
     }
 
-    /// Appends what follows what a line printed, and counts its refusal: the records behind the first `count`, who asks, where
-    /// that has changed, and the last line.
+    /// Makes the answer of what a line printed, and counts its refusal.
     fn close(
         &mut self,
+        form: Form,
         number: u64,
         count: usize,
         refused: Option<Refusal>,
     ) -> Result<(), AllocError>
-        ensures told { OnOk result (Closes number count refused self.old self.new) }
+        ensures told { OnOk result (Closes form number count refused self.old self.new) }
         ensures state { state self.new ≡ state self.old }
         ensures counted { self.new.refused ≡ min (self.old.refused + refusals_of refused) u64.MAX }
     {
         self.refused = self.refused.saturating_add(refusals(&refused));
+        let changed = self.ask()?;
+        match form {
+            Form::Lines => self.push_lines(number, count, changed, &refused),
+            Form::Json => self.make_object(number, count, changed, refused),
+        }
+    }
+
+    /// Appends to what a line printed: the records behind the first `count`, who asks, if that has changed, and the last line.
+    fn push_lines(
+        &mut self,
+        number: u64,
+        count: usize,
+        changed: bool,
+        refused: &Option<Refusal>,
+    ) -> Result<(), AllocError>
+        ensures told { OnOk result (IsWritten Form.Lines number self.old.answer count (drop count (log_of (state self.old))) (news_of changed self.old.asked) refused.now self.new.answer) }
+        ensures state { state self.new ≡ state self.old }
+        ensures refused { self.new.refused ≡ self.old.refused }
+        ensures asked { self.new.asked ≡ self.old.asked }
+    {
         self.push_added(count)?;
-        self.push_asking()?;
-        push_last(number, &refused, &mut self.answer)
+        push_news(changed, self.asked.as_bytes(), &mut self.answer)?;
+        push_last(number, refused, &mut self.answer)
+    }
+
+    /// Makes an object of what a line printed, the first record behind the first `count`, who asks, if that has changed, and
+    /// what the line came to.
+    fn make_object(
+        &mut self,
+        number: u64,
+        count: usize,
+        changed: bool,
+        refused: Option<Refusal>,
+    ) -> Result<(), AllocError>
+        ensures told { OnOk result (IsWritten Form.Json number self.old.answer count (drop count (log_of (state self.old))) (news_of changed self.old.asked) refused self.new.answer) }
+        ensures state { state self.new ≡ state self.old }
+        ensures refused { self.new.refused ≡ self.old.refused }
+        ensures asked { self.new.asked ≡ self.old.asked }
+    {
+        let answer = Answer {
+            number,
+            refused,
+            said: self.answer.as_bytes(),
+            added: first_added(self.log(), count),
+            asking: news(changed, self.asked.as_bytes()),
+        };
+        let mut object = Text::new(self.alloc);
+        push_object(self.alloc, &answer, &mut object)?;
+        self.answer = object;
+        Ok(())
     }
 
     /// Obeys a line, if it has a command.
@@ -215,20 +273,21 @@ impl Driver {
         }
     }
 
-    /// Appends the line of those who ask to the answer, where they have changed.
-    fn push_asking(&mut self) -> Result<(), AllocError>
-        ensures told { OnOk result (TellsNews self.old self.new) }
+    /// Looks who asks now, and tells whether that has changed.
+    fn ask(&mut self) -> Result<bool, AllocError>
+        ensures asked { IfOk result (Asked self.old self.new) }
         ensures state { state self.new ≡ state self.old }
+        ensures answer { self.new.answer ≡ self.old.answer }
         ensures refused { self.new.refused ≡ self.old.refused }
     {
         self.asks.clear();
         push_askers(&self.stage, &self.names, &mut self.asks)?;
         if self.asks.as_bytes() == self.asked.as_bytes() {
-            return Ok(());
+            return Ok(false);
         }
         self.asked.clear();
         self.asked.push(self.asks.as_bytes())?;
-        push_news(self.asks.as_bytes(), &mut self.answer)
+        Ok(true)
     }
 
     /// Takes the driver apart, with its bus, and tells how many lines were refused.
@@ -260,13 +319,33 @@ fn push_askers(stage: &Stage, names: &Names, text: &mut Text) -> Result<(), Allo
     }
 }
 
-/// Appends the line of those who ask.
-fn push_news(asks: &[u8], answer: &mut Text) -> Result<(), AllocError>
-    ensures { OnOk result (answer.new ≡ answer.old ++ (codes "asking" ++ (asks.now ++ 10 ∷ []))) }
+/// The names of those who ask, if they have changed.
+fn news(changed: bool, asks: &[u8]) -> Option<&[u8]>
+    ensures { option_map (λ names. names.now) result ≡ news_of changed asks.now }
 {
+    if changed { Some(asks) } else { None }
+}
+
+/// Appends the line of those who ask, if they have changed.
+fn push_news(changed: bool, asks: &[u8], answer: &mut Text) -> Result<(), AllocError>
+    ensures { OnOk result (answer.new ≡ answer.old ++ news_text (news_of changed asks.now)) }
+{
+    if !changed {
+        return Ok(());
+    }
     answer.push(b"asking")?;
     answer.push(asks)?;
     answer.end()
+}
+
+/// The first record behind the first `count` of a log, with its number.
+fn first_added(log: &[Record], count: usize) -> Option<(u64, Record)>
+    ensures { result ≡ first_added count (drop count log.now) }
+{
+    match log.get(count) {
+        Some(record) => Some((count as u64 + 1, *record)),
+        None => None,
+    }
 }
 
 /// How many refusals a line is.

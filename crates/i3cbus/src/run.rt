@@ -139,7 +139,7 @@ fn run_from<R: Print + Eprint + AllocGlobal, S: Read>(
         Work::Draw => return draw_from(rt, input),
         Work::WaveScript(legacies) => return wave_script_from(rt, legacies, input),
         Work::Run => run_script(rt.alloc(), input, &mut printed),
-        Work::Drive => run_driven(rt.alloc(), input, &mut printed),
+        Work::Drive(form) => run_driven(rt.alloc(), form, input, &mut printed),
         Work::Check => check_script(rt.alloc(), input, &mut printed),
         Work::Tell(telling) => tell_from(rt, telling, input, &mut printed),
     };

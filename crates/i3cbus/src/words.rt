@@ -4,6 +4,7 @@ ghost use Rattle.i3cbus.specs.Words.{RunsInput};
 use crate::fault::Fault;
 use clap::{Arg, ArgAction, ArgGroup, ArgMatches, Command, value_parser};
 use i3c_base::{Addr7, Addresses};
+use i3c_drive::Form;
 use i3c_explore::{Limits, Part};
 use i3c_scenario::{MOST_DEVICES, MOST_POSTS, Watching};
 use i3c_text::read_byte;
@@ -58,6 +59,9 @@ const MOST_LEGACY: u8 = 0x77;
 
 /// The command that answers the lines of another program.
 const DRIVE: &str = "drive";
+
+/// Its flag: each answer is a JSON object.
+const JSON: &str = "json";
 
 /// The command that prints a picture of a script.
 const DRAW: &str = "draw";
@@ -141,6 +145,10 @@ const DRIVING: &str = "\
 The lines are those of a script. The answer to each is what it prints, then each interrupt that it recorded, as 'show'
 prints it, and then one last line with the line's number: 'ok 7', or 'refused 7 NoAnswer 09'.
 
+With --json the answer to each is one object on one line, with fields for the line's number, what it came to, and the rest:
+
+  {\"line\":7,\"ok\":true,\"served\":\"turned down\"}
+
 docs/DRIVING.md has all of it; clients/ has clients in Python and C.";
 
 /// What `draw --help` says at its end.
@@ -194,8 +202,8 @@ pub(crate) enum Work {
     Run,
     /// Runs it as a script, and shows more of it.
     Watch(Watching),
-    /// Runs it as a script, and answers each line before it reads the next.
-    Drive,
+    /// Runs it as a script, and answers each line in this form before it reads the next.
+    Drive(Form),
     /// Checks it as a script, and doesn't run it.
     Check,
     /// Runs it as a script, and prints a picture of its wire.
@@ -271,8 +279,8 @@ fn task_given<'a>(matches: &ArgMatches<'a>) -> Result<Task<'a>, Fault> {
     if let Some(stress) = stress_given(matches) {
         return Ok(Task::Stress(stress));
     }
-    if matches.subcommand_matches(DRIVE).is_some() {
-        return Ok(Task::File(Work::Drive, STANDARD_INPUT));
+    if let Some(drive) = matches.subcommand_matches(DRIVE) {
+        return Ok(Task::File(drive_given(drive), STANDARD_INPUT));
     }
     if let Some(explore) = matches.subcommand_matches(EXPLORE) {
         return explore_given(explore);
@@ -292,6 +300,15 @@ fn task_given<'a>(matches: &ArgMatches<'a>) -> Result<Task<'a>, Fault> {
             run_given(matches),
             file_given(matches, RUN).unwrap_or(STANDARD_INPUT),
         )),
+    }
+}
+
+/// In which form lines are to be answered.
+fn drive_given(matches: &ArgMatches<'_>) -> Work {
+    if matches.get_flag(JSON) {
+        Work::Drive(Form::Json)
+    } else {
+        Work::Drive(Form::Lines)
     }
 }
 
@@ -485,14 +502,18 @@ fn flag<'a>(alloc: Global, name: &'a str, help: &'a str) -> Arg<'a> {
 
 /// The command that answers another program.
 fn drive_command<'a>(alloc: Global) -> Result<Command<'a>, Fault> {
-    let drive = Command::new(alloc, DRIVE);
-    Ok(
-        drive
-            .about(
-                "Answers the lines on standard input, each before it reads the next, for another program",
-            )
-            .after_help(DRIVING),
-    )
+    let drive = Command::new(alloc, DRIVE)
+        .about(
+            "Answers the lines on standard input, each before it reads the next, for another program",
+        )
+        .after_help(DRIVING);
+    drive
+        .arg(flag(
+            alloc,
+            JSON,
+            "Answers each line with one JSON object on one line",
+        ))
+        .or(Err(Fault::Memory))
 }
 
 /// The command that checks a script.

@@ -12,7 +12,7 @@ returns-in-Ok c =
     let log = c.log-count.result.now in
     let does = said_whole (state from) c.args.line.now c.clear.new.self mid.answer None (state mid) c.in-Ok.ensures.reads c.clear.ensures in
     let count = c.close.ensures.counted ∙ ap (λ n. min (n + 0) 18446744073709551615) c.in-Ok.ensures.refused in
-    on_ok c.close.result (λ (closes : Closes c.args.number (length log) None mid to). line_answered c.args.number c.args.line.now None log from mid to does c.close.ensures.state c.log-count.ensures c.requires c.in-Ok.ensures.asked closes count)
+    on_ok c.close.result (λ (closes : Closes c.args.form c.args.number (length log) None mid to). line_answered c.args.form c.args.number c.args.line.now None log from mid to does c.close.ensures.state c.log-count.ensures c.requires c.in-Ok.ensures.asked closes count)
     c.close.ensures.told
 
 pub returns-in-Err-Refused : goal.returns-in-Err-Refused
@@ -25,5 +25,5 @@ returns-in-Err-Refused c =
     let does = said_whole (state from) c.args.line.now c.clear.new.self mid.answer why (state mid) (subst (λ stop. Reads (state from) c.args.line.now c.clear.new.self mid.answer (Err stop) (state mid)) c.in-Err-Refused.field-0-is c.in-Err-Refused.ensures.reads) c.clear.ensures in
     let count = c.close-in-Err-Refused.ensures.counted ∙ ap (λ n. min (n + 1) 18446744073709551615) c.in-Err-Refused.ensures.refused in
     on_ok c.close-in-Err-Refused.result
-    (λ (closes : Closes c.args.number (length log) why mid to). line_answered c.args.number c.args.line.now why log from mid to does c.close-in-Err-Refused.ensures.state c.log-count.ensures c.requires c.in-Err-Refused.ensures.asked closes count)
+    (λ (closes : Closes c.args.form c.args.number (length log) why mid to). line_answered c.args.form c.args.number c.args.line.now why log from mid to does c.close-in-Err-Refused.ensures.state c.log-count.ensures c.requires c.in-Err-Refused.ensures.asked closes count)
     c.close-in-Err-Refused.ensures.told

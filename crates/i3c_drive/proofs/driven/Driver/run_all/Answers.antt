@@ -7,11 +7,11 @@ use Rattle.i3c_drive.proofs.driven.Driver.run_all.Goals as goal
 
 pub returns-in-Err-clause-runs : goal.returns-in-Err-clause-runs
 returns-in-Err-clause-runs g c =
-    driven_stops (g.R.Read.remaining c.args.reader.now) (g.R.Read.remaining c.loop-number.reader) (g.W.Write.contents c.args.out.now) (g.W.Write.contents c.loop-number.out) c.loop-number.input c.args.self.now c.loop-number.self c.loop-number.number c.in-Err.fault c.loop-number.invariant
+    driven_stops c.args.form (g.R.Read.remaining c.args.reader.now) (g.R.Read.remaining c.loop-number.reader) (g.W.Write.contents c.args.out.now) (g.W.Write.contents c.loop-number.out) c.loop-number.input c.args.self.now c.loop-number.self c.loop-number.number c.in-Err.fault c.loop-number.invariant
 
 pub returns-clause-runs : goal.returns-clause-runs
 returns-clause-runs g c =
-    driven_stops (g.R.Read.remaining c.args.reader.now) (g.R.Read.remaining c.loop-number.reader) (g.W.Write.contents c.args.out.now) (g.W.Write.contents c.loop-number.out) c.loop-number.input c.args.self.now c.loop-number.self c.loop-number.number ScriptFault.TooLarge c.loop-number.invariant
+    driven_stops c.args.form (g.R.Read.remaining c.args.reader.now) (g.R.Read.remaining c.loop-number.reader) (g.W.Write.contents c.args.out.now) (g.W.Write.contents c.loop-number.out) c.loop-number.input c.args.self.now c.loop-number.self c.loop-number.number ScriptFault.TooLarge c.loop-number.invariant
 
 pub returns-in-Last-clause-runs : goal.returns-in-Last-clause-runs
 returns-in-Last-clause-runs g c =
@@ -26,8 +26,8 @@ returns-in-Last-clause-runs g c =
     let to = c.tell.new.self in
     let number = c.loop-number.number in
     let (line, hand, some, takes, none, end) = subst (Gives now next input further) c.in-Last.is c.in-Ok.ensures.given in
-    last_tells known now next (g.W.Write.contents c.args.out.now) mid after input further c.args.self.now from to number line c.tell.result c.loop-number.invariant hand some takes none end
-    (subst (λ l. Tells number l mid after from to c.tell.result) c.line.ensures c.tell.ensures)
+    last_tells c.args.form known now next (g.W.Write.contents c.args.out.now) mid after input further c.args.self.now from to number line c.tell.result c.loop-number.invariant hand some takes none end
+    (subst (λ l. Tells c.args.form number l mid after from to c.tell.result) c.line.ensures c.tell.ensures)
 
 pub returns-in-Err-tell-clause-runs : goal.returns-in-Err-tell-clause-runs
 returns-in-Err-tell-clause-runs g c =
@@ -43,8 +43,8 @@ returns-in-Err-tell-clause-runs g c =
     let number = c.loop-number.number in
     let fault = c.in-Err-tell.fault in
     let (line, hand, takes) = subst (Gives now next input further) c.in-Line.is c.in-Ok.ensures.given in
-    fed_fails fault known now next (g.W.Write.contents c.args.out.now) mid after input further c.args.self.now from to number line c.loop-number.invariant hand takes
-    (subst (λ l. Fails fault number l mid after from to) c.line-in-Line.ensures c.in-Err-tell.ensures)
+    fed_fails c.args.form fault known now next (g.W.Write.contents c.args.out.now) mid after input further c.args.self.now from to number line c.loop-number.invariant hand takes
+    (subst (λ l. Fails c.args.form fault number l mid after from to) c.line-in-Line.ensures c.in-Err-tell.ensures)
 
 pub loop-number-preserved : goal.loop-number-preserved
 loop-number-preserved g c =
@@ -59,5 +59,5 @@ loop-number-preserved g c =
     let to = c.tell-in-Line.new.self in
     let number = c.loop-number.number in
     let (line, hand, takes) = subst (Gives now next input further) c.in-Line.is c.in-Ok.ensures.given in
-    one_driven known now next (g.W.Write.contents c.args.out.now) mid after input further c.args.self.now from to number line c.loop-number.invariant hand takes
-    (subst (λ l. IsTold number l mid after from to) c.line-in-Line.ensures c.in-Ok-tell.ensures)
+    one_driven c.args.form known now next (g.W.Write.contents c.args.out.now) mid after input further c.args.self.now from to number line c.loop-number.invariant hand takes
+    (subst (λ l. IsTold c.args.form number l mid after from to) c.line-in-Line.ensures c.in-Ok-tell.ensures)

@@ -1,0 +1,5 @@
+use Rattle.i3c_json.proofs.Outcomes.{outcomes_told}
+use Rattle.i3c_json.proofs.laws.objects_tell_outcomes.Goals as goal
+
+pub returns : goal.returns
+returns c = outcomes_told

@@ -1,0 +1,5 @@
+pub mod Pieces
+pub mod Kinds
+pub mod Values
+pub mod Objects
+pub mod Laws

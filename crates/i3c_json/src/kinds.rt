@@ -1,0 +1,103 @@
+ghost use Rattle.std.specs.Prelude.{◌≡◌, bytes_eq};
+ghost use Rattle.i3c_json.specs.Kinds.{begins, has_kind, is_active, is_assigned, is_bytes, is_recorded, is_served, is_told};
+
+/// How long the words in front of a record's number are.
+const RECORDED_LENGTH: usize = 9;
+
+/// How long the line `assigned ADDR PID BCR DCR` is.
+const ASSIGNED_LENGTH: usize = 30;
+
+/// How long the line `bytes` with sixteen registers is.
+const BYTES_LENGTH: usize = 38;
+
+/// How long the line `active ADDR` is.
+const ACTIVE_LENGTH: usize = 9;
+
+/// Which field of the object a printed line belongs to.
+#[derive(Clone, Copy, Debug, PartialEq, Eq)]
+pub(crate) enum Kind {
+    /// What became of the frame's first request.
+    Served,
+    /// A device that got an address.
+    Assigned,
+    /// The registers that were read.
+    Bytes,
+    /// The address of the active controller.
+    Active,
+    /// Any other line, which is told as it is printed.
+    Told,
+}
+
+/// Whether a printed line is of this kind.
+pub(crate) fn has_kind(kind: Kind, line: &[u8]) -> bool
+    ensures { result ≡ has_kind kind line.now }
+{
+    match kind {
+        Kind::Served => is_served(line),
+        Kind::Assigned => is_assigned(line),
+        Kind::Bytes => is_bytes(line),
+        Kind::Active => is_active(line),
+        Kind::Told => is_told(line),
+    }
+}
+
+/// Whether it says what became of the first request.
+fn is_served(line: &[u8]) -> bool
+    ensures { result ≡ is_served line.now }
+{
+    is(line, b"quiet")
+        || is(line, b"turned down")
+        || is(line, b"torn")
+        || is(line, b"joining")
+        || begins(line, b"wants role ")
+        || is_recorded(line)
+}
+
+/// Whether it says that an interrupt was recorded. The line of a device that is called `recorded` has more words.
+fn is_recorded(line: &[u8]) -> bool
+    ensures { result ≡ is_recorded line.now }
+{
+    begins(line, b"recorded ") && !line[RECORDED_LENGTH..].contains(&b' ')
+}
+
+/// Whether it says that a device got an address.
+fn is_assigned(line: &[u8]) -> bool
+    ensures { result ≡ is_assigned line.now }
+{
+    line.len() == ASSIGNED_LENGTH && begins(line, b"assigned ")
+}
+
+/// Whether it has the registers that were read.
+fn is_bytes(line: &[u8]) -> bool
+    ensures { result ≡ is_bytes line.now }
+{
+    line.len() == BYTES_LENGTH && begins(line, b"bytes ")
+}
+
+/// Whether it has the address of the active controller.
+fn is_active(line: &[u8]) -> bool
+    ensures { result ≡ is_active line.now }
+{
+    line.len() == ACTIVE_LENGTH && begins(line, b"active ")
+}
+
+/// Whether it has no field of its own.
+fn is_told(line: &[u8]) -> bool
+    ensures { result ≡ is_told line.now }
+{
+    !(is_served(line) || is_assigned(line) || is_bytes(line) || is_active(line))
+}
+
+/// Whether a line is these words.
+fn is(line: &[u8], words: &[u8]) -> bool
+    ensures { result ≡ bytes_eq line.now words.now }
+{
+    line == words
+}
+
+/// Whether a line begins with these words.
+fn begins(line: &[u8], words: &[u8]) -> bool
+    ensures { result ≡ begins line.now words.now }
+{
+    line.starts_with(words)
+}
