@@ -44,6 +44,7 @@ IsOfWords Fault.Write = ⊥
 IsOfWords Fault.TooLarge = ⊥
 IsOfWords Fault.NotBalanced = ⊥
 IsOfWords Fault.Legacy = ⊥
+IsOfWords Fault.Part = ⊥
 IsOfWords (Fault.Capture fault) = ⊥
 IsOfWords (Fault.NoForm reason) = ⊥
 
