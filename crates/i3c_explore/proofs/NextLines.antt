@@ -9,13 +9,6 @@ use Rattle.i3c_explore.specs.declared.turn.Turn.{Turn}
 use Rattle.i3c_explore.specs.Layers.{IsNextAt, IsSuccessor, advanced}
 use Rattle.i3c_explore.specs.Orders.{lines_in, track}
 
--- the line that is read of a track
-pub line_read : {L : Type 0} (tracks : List (Vec L)) (t : ℕ) (v : Vec L) (p : ℕ) (lines : List L) (x : L)
-    → t < length tracks → v ≡ get_or tracks t v → lines ≡ v.items → p < length lines → x ≡ get_or lines p x → slice_get (track tracks t) p ≡ Some x
-line_read {L} tracks t v p lines x within is same inside read =
-    let alike : lines ≡ track tracks t = same ∙ sym (ap lines_in (slice_get_read tracks (length tracks) t v refl within is)) in
-    subst (λ (l : List L). slice_get l p ≡ Some x) alike (slice_get_read lines (length lines) p x refl inside read)
-
 -- behind a track's last line there is none
 pub none_read : {L : Type 0} (tracks : List (Vec L)) (t : ℕ) (v : Vec L) (p : ℕ) (lines : List L)
     → t < length tracks → v ≡ get_or tracks t v → lines ≡ v.items → length lines ≤ p → slice_get (track tracks t) p ≡ None

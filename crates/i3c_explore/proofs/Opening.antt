@@ -49,9 +49,6 @@ plain_successor steps part tracks old new made = record {
 abbrev pub part_at : Part → ℕ → Part
 part_at part count = if count == 0 then part else whole
 
-pub part_first : (part : Part) → part_at part 0 ≡ part
-part_first part = refl
-
 pub part_later : (part : Part) (count : ℕ) → 0 < count → part_at part count ≡ whole
 part_later part count some = ap (λ (b : Bool). if b then part else whole) (ne_eqb count 0 (λ e. omega arith))
 
