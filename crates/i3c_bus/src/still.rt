@@ -49,7 +49,7 @@ impl Bus {
     ///
     /// # Errors
     ///
-    /// There is no memory for it.
+    /// There is no memory for it. The bus is gone then, with its role or session.
     pub fn rest(self, alloc: Global, hand: Hand) -> Result<Still, OutOfMemory>
         requires { HandFits hand self.state }
         ensures { IfOk result (λ still. still ≡ self.state) }

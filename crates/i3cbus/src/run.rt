@@ -66,6 +66,7 @@ where
 }
 
 /// Does this with standard input.
+// kept apart, as the other tasks are, so that a file's run doesn't clear the room that they take on the stack
 #[inline(never)]
 fn run_standard<R>(rt: &R, work: Work) -> Result<Tally, Fault>
 where
