@@ -614,6 +614,106 @@ enum daskreyf_result daskreyf_setnewda(struct daskreyf *bus, uint8_t old, uint8_
     return send_line(bus, "setnewda %02X %02X", old, address);
 }
 
+/*
+ * Asks the device at an address by a line of this word, which begins with `get`. The answer is the rest of the word, and from
+ * `least` to `most` bytes, which are stored: `count` of them.
+ */
+static enum daskreyf_result get_bytes(
+    struct daskreyf *bus, const char *word, uint8_t address, uint8_t *bytes, size_t least, size_t most, size_t *count)
+{
+    enum daskreyf_result result = send_line(bus, "%s %02X", word, address);
+    const char *told = word + strlen("get");
+    const char *line = last_line(bus->text);
+    const char *digits = line + strlen(told) + 1;
+
+    if (result != DASKREYF_OK)
+        return result;
+    if (!begins(line, told) || line[strlen(told)] != ' ')
+        return broken(bus);
+    *count = strlen(digits) / 2;
+    if (*count < least || *count > most)
+        return broken(bus);
+    for (size_t i = 0; i < *count; i++)
+        if (sscanf(digits + 2 * i, "%2" SCNx8, &bytes[i]) != 1)
+            return broken(bus);
+    return DASKREYF_OK;
+}
+
+/* The same of a datum that has just so many bytes. */
+static enum daskreyf_result get_datum(struct daskreyf *bus, const char *word, uint8_t address, uint8_t *bytes, size_t count)
+{
+    size_t had;
+
+    return get_bytes(bus, word, address, bytes, count, count, &had);
+}
+
+enum daskreyf_result daskreyf_get_pid(struct daskreyf *bus, uint8_t address, uint64_t *pid)
+{
+    uint8_t bytes[6];
+    enum daskreyf_result result = get_datum(bus, "getpid", address, bytes, sizeof bytes);
+
+    if (result != DASKREYF_OK)
+        return result;
+    *pid = 0;
+    for (size_t i = 0; i < sizeof bytes; i++)
+        *pid = *pid << 8 | bytes[i];
+    return DASKREYF_OK;
+}
+
+enum daskreyf_result daskreyf_get_bcr(struct daskreyf *bus, uint8_t address, uint8_t *bcr)
+{
+    return get_datum(bus, "getbcr", address, bcr, 1);
+}
+
+enum daskreyf_result daskreyf_get_dcr(struct daskreyf *bus, uint8_t address, uint8_t *dcr)
+{
+    return get_datum(bus, "getdcr", address, dcr, 1);
+}
+
+enum daskreyf_result daskreyf_get_status(struct daskreyf *bus, uint8_t address, bool *waits)
+{
+    uint8_t bytes[2];
+    enum daskreyf_result result = get_datum(bus, "getstatus", address, bytes, sizeof bytes);
+
+    if (result == DASKREYF_OK)
+        *waits = bytes[1] != 0;
+    return result;
+}
+
+enum daskreyf_result daskreyf_get_mwl(struct daskreyf *bus, uint8_t address, uint16_t *length)
+{
+    uint8_t bytes[2];
+    enum daskreyf_result result = get_datum(bus, "getmwl", address, bytes, sizeof bytes);
+
+    if (result == DASKREYF_OK)
+        *length = (uint16_t)(bytes[0] << 8 | bytes[1]);
+    return result;
+}
+
+enum daskreyf_result daskreyf_get_mrl(struct daskreyf *bus, uint8_t address, uint16_t *length, uint8_t *interrupt)
+{
+    uint8_t bytes[3] = {0};
+    size_t count;
+    enum daskreyf_result result = get_bytes(bus, "getmrl", address, bytes, 2, sizeof bytes, &count);
+
+    if (result != DASKREYF_OK)
+        return result;
+    *length = (uint16_t)(bytes[0] << 8 | bytes[1]);
+    if (interrupt)
+        *interrupt = bytes[2];
+    return DASKREYF_OK;
+}
+
+enum daskreyf_result daskreyf_get_mxds(struct daskreyf *bus, uint8_t address, uint8_t limits[2])
+{
+    return get_datum(bus, "getmxds", address, limits, 2);
+}
+
+enum daskreyf_result daskreyf_get_caps(struct daskreyf *bus, uint8_t address, uint8_t capabilities[2])
+{
+    return get_datum(bus, "getcaps", address, capabilities, 2);
+}
+
 enum daskreyf_result daskreyf_handover(struct daskreyf *bus, uint8_t address)
 {
     return send_line(bus, "handover %02X", address);

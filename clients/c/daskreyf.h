@@ -54,7 +54,7 @@ enum daskreyf_result {
     DASKREYF_NO_SESSION,       /* no assignment is open */
     DASKREYF_NO_ANSWER,        /* nobody at the address acknowledged, or the table has nobody there */
     DASKREYF_BAD_ADDRESS,      /* the address can't be given: it is out of range, somebody's, or a static one */
-    DASKREYF_NO_END,           /* the last T of the read said that more bytes would come */
+    DASKREYF_NO_END,           /* the last T of what was read said that more bytes would come */
     DASKREYF_TOO_LONG,         /* a transfer has sixteen bytes at most */
     DASKREYF_LIST_STALE,       /* addresses have changed since the last `list` [5.1.9.3.7] */
     DASKREYF_REFUSED,          /* for a reason that isn't known here: daskreyf_why has it */
@@ -228,6 +228,25 @@ enum daskreyf_result daskreyf_setdasa(struct daskreyf *bus, uint8_t fixed, uint8
 
 /* Gives another dynamic address to the device at this one, by SETNEWDA. [5.1.9.3.11] */
 enum daskreyf_result daskreyf_setnewda(struct daskreyf *bus, uint8_t old, uint8_t address);
+
+/* What the device at an address tells, by GETPID, GETBCR and GETDCR: `pid` has 48 bits. [5.1.9.3.12 to 5.1.9.3.14] */
+enum daskreyf_result daskreyf_get_pid(struct daskreyf *bus, uint8_t address, uint64_t *pid);
+enum daskreyf_result daskreyf_get_bcr(struct daskreyf *bus, uint8_t address, uint8_t *bcr);
+enum daskreyf_result daskreyf_get_dcr(struct daskreyf *bus, uint8_t address, uint8_t *dcr);
+
+/* GETSTATUS: whether an interrupt of the device waits, disabled or not. [5.1.9.3.15] */
+enum daskreyf_result daskreyf_get_status(struct daskreyf *bus, uint8_t address, bool *waits);
+
+/*
+ * GETMWL and GETMRL: the most bytes that it takes in a write, and gives to a read. `interrupt` may be NULL: the bytes of its
+ * interrupts, 0 where they have none. [5.1.9.3.5, 5.1.9.3.6]
+ */
+enum daskreyf_result daskreyf_get_mwl(struct daskreyf *bus, uint8_t address, uint16_t *length);
+enum daskreyf_result daskreyf_get_mrl(struct daskreyf *bus, uint8_t address, uint16_t *length, uint8_t *interrupt);
+
+/* The two bytes of GETMXDS, the limits of its speed, and of GETCAPS, its capabilities. [5.1.9.3.18, 5.1.9.3.19] */
+enum daskreyf_result daskreyf_get_mxds(struct daskreyf *bus, uint8_t address, uint8_t limits[2]);
+enum daskreyf_result daskreyf_get_caps(struct daskreyf *bus, uint8_t address, uint8_t capabilities[2]);
 
 /* Offers the role to the device at an address, by GETACCCR. [5.1.7] */
 enum daskreyf_result daskreyf_handover(struct daskreyf *bus, uint8_t address);

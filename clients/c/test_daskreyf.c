@@ -182,6 +182,45 @@ static void test_static_addresses(const char *program)
     CHECK(daskreyf_close(bus) == 1);
 }
 
+static void test_data(const char *program)
+{
+    const struct daskreyf_identity plain = {.pid = 0x020400000020, .bcr = 0x02, .dcr = 0x45};
+    struct daskreyf *bus = daskreyf_start(program);
+    struct daskreyf_assigned assigned[2];
+    size_t count = 0;
+    uint64_t pid = 0;
+    uint16_t length = 0;
+    uint8_t byte = 0, bytes[2] = {0xFF, 0xFF};
+    bool waits = true;
+
+    CHECK(bus && daskreyf_main(bus, "hub", &hub) == DASKREYF_OK);
+    if (!bus)
+        return;
+    CHECK(daskreyf_attach(bus, "t", &target, NULL) == DASKREYF_OK);
+    CHECK(daskreyf_attach(bus, "plain", &plain, NULL) == DASKREYF_OK);
+    CHECK(daskreyf_daa(bus, assigned, 2, &count) == DASKREYF_OK && count == 2);
+    CHECK(daskreyf_get_pid(bus, 0x09, &pid) == DASKREYF_OK && pid == target.pid);
+    CHECK(daskreyf_get_bcr(bus, 0x09, &byte) == DASKREYF_OK && byte == 0x06);
+    CHECK(daskreyf_get_dcr(bus, 0x09, &byte) == DASKREYF_OK && byte == 0x44);
+    CHECK(daskreyf_get_mwl(bus, 0x09, &length) == DASKREYF_OK && length == 16);
+    CHECK(daskreyf_get_mrl(bus, 0x09, &length, &byte) == DASKREYF_OK && length == 16 && byte == 1);
+    CHECK(daskreyf_get_mrl(bus, 0x0A, &length, &byte) == DASKREYF_OK && length == 16 && byte == 0);
+    CHECK(daskreyf_get_mrl(bus, 0x0A, &length, NULL) == DASKREYF_OK && length == 16);
+    CHECK(daskreyf_get_mxds(bus, 0x09, bytes) == DASKREYF_OK && bytes[0] == 0 && bytes[1] == 0);
+    CHECK(daskreyf_get_caps(bus, 0x09, bytes) == DASKREYF_OK && bytes[0] == 0 && bytes[1] == 1);
+    CHECK(daskreyf_get_status(bus, 0x09, &waits) == DASKREYF_OK && !waits);
+    CHECK(daskreyf_raise(bus, "t", 0x11, NULL) == DASKREYF_OK);
+    CHECK(daskreyf_policy(bus, DASKREYF_ACCEPT_NONE) == DASKREYF_OK);
+    CHECK(daskreyf_get_status(bus, 0x09, &waits) == DASKREYF_OK && waits);
+    CHECK(daskreyf_served(bus)->request == DASKREYF_TURNED_DOWN);
+    CHECK(daskreyf_policy(bus, DASKREYF_ACCEPT_ALL) == DASKREYF_OK);
+    CHECK(daskreyf_get_status(bus, 0x09, &waits) == DASKREYF_OK && !waits);
+    CHECK(daskreyf_served(bus)->request == DASKREYF_RECORDED && !strcmp(daskreyf_text(bus), "recorded 1\nstatus 0000"));
+    CHECK(daskreyf_get_pid(bus, 0x50, &pid) == DASKREYF_NO_ANSWER);
+    CHECK(daskreyf_cut(bus, "t", 27) == DASKREYF_OK && daskreyf_get_bcr(bus, 0x09, &byte) == DASKREYF_NO_END);
+    CHECK(daskreyf_close(bus) == 1);
+}
+
 static void test_all_slots(const char *program)
 {
     enum { DEVICES = DASKREYF_SLOTS - 1 };
@@ -238,6 +277,7 @@ int main(int count, char **words)
     test_lines(bus);
     CHECK(daskreyf_close(bus) == 1);
     test_static_addresses(program);
+    test_data(program);
     test_all_slots(program);
     test_the_end(program);
     puts(failures ? "test_daskreyf: FAILED" : "test_daskreyf: ok");

@@ -99,6 +99,16 @@ class Nobody:
 
 
 @dataclass(frozen=True)
+class ReadLength:
+    """How many bytes a device gives at most. [5.1.9.3.6]"""
+
+    read: int
+    """To a private read."""
+    interrupt: int | None
+    """In an interrupt, the mandatory byte counted; None for a device that sends none."""
+
+
+@dataclass(frozen=True)
 class DeviceState:
     """A device that is present: its address, or None without one, and how many of its interrupts wait."""
 
@@ -485,6 +495,43 @@ class Bus:
     def setnewda(self, old: int, address: int) -> Served | None:
         """`setnewda`: gives another dynamic address to the device at this one. [5.1.9.3.11]"""
         return self.line(f"setnewda {_hex(old, 2)} {_hex(address, 2)}").served
+
+    def get_pid(self, address: int) -> int:
+        """`getpid`: the provisioned ID of the device at this address. [5.1.9.3.12]"""
+        return int.from_bytes(self._told("getpid", address), "big")
+
+    def get_bcr(self, address: int) -> int:
+        """`getbcr`: its bus characteristics. [5.1.9.3.13]"""
+        return int.from_bytes(self._told("getbcr", address), "big")
+
+    def get_dcr(self, address: int) -> int:
+        """`getdcr`: its device characteristics. [5.1.9.3.14]"""
+        return int.from_bytes(self._told("getdcr", address), "big")
+
+    def get_status(self, address: int) -> bool:
+        """`getstatus`: whether an interrupt of the device waits, disabled or not. [5.1.9.3.15]"""
+        return self._told("getstatus", address)[1] != 0
+
+    def get_mwl(self, address: int) -> int:
+        """`getmwl`: the most bytes that it takes in a write. [5.1.9.3.5]"""
+        return int.from_bytes(self._told("getmwl", address), "big")
+
+    def get_mrl(self, address: int) -> ReadLength:
+        """`getmrl`: the most bytes that it gives to a read, and in an interrupt. [5.1.9.3.6]"""
+        told = self._told("getmrl", address)
+        return ReadLength(int.from_bytes(told[:2], "big"), told[2] if len(told) > 2 else None)
+
+    def get_mxds(self, address: int) -> bytes:
+        """`getmxds`: the limits of its speed, for writes and for reads; 00 is none. [5.1.9.3.18]"""
+        return self._told("getmxds", address)
+
+    def get_caps(self, address: int) -> bytes:
+        """`getcaps`: its capabilities, as the two bytes of GETCAPS. [5.1.9.3.19]"""
+        return self._told("getcaps", address)
+
+    def _told(self, word: str, address: int) -> bytes:
+        """What a device tells, where it is asked by this word."""
+        return bytes.fromhex(self._own(self.line(f"{word} {_hex(address, 2)}")).split()[1])
 
     def handover(self, address: int) -> int:
         """`handover`: offers the role to the device at the address, by GETACCCR. Gives the new controller's. [5.1.7]"""

@@ -11,7 +11,7 @@ import unittest
 
 import daskreyf
 from daskreyf import Answer, Assigned, Bus, BusDetails, BusGone, BusState, Device, DeviceDetails, DeviceState, Kinds
-from daskreyf import LegacyTarget, Nobody, Policy, Record, Refused, Torn
+from daskreyf import LegacyTarget, Nobody, Policy, ReadLength, Record, Refused, Torn, TurnedDown
 
 PROGRAM = os.environ.get("I3CBUS", "i3cbus")
 
@@ -110,6 +110,30 @@ class LinesTest(unittest.TestCase):
             self.bus.setdasa(0x20, 0x30)
         with self.assertRaises(daskreyf.BusMade):
             self.bus.declare(0x22, 0x020400000011, 0x06, 0x44)
+
+    def test_data_of_a_device(self) -> None:
+        with_hub(self.bus)
+        target = with_target(self.bus)
+        self.bus.attach("plain", pid=0x020400000020, bcr=0x02, dcr=0x45)
+        self.bus.daa()
+        self.assertEqual(self.bus.get_pid(0x09), 0x020400000010)
+        self.assertEqual((self.bus.get_bcr(0x09), self.bus.get_dcr(0x09)), (0x06, 0x44))
+        self.assertEqual((self.bus.get_mwl(0x09), self.bus.get_mrl(0x09)), (16, ReadLength(16, 1)))
+        self.assertEqual(self.bus.get_mrl(0x0A), ReadLength(16, None))
+        self.assertEqual((self.bus.get_mxds(0x09), self.bus.get_caps(0x09)), (b"\x00\x00", b"\x00\x01"))
+        self.assertFalse(self.bus.get_status(0x09))
+        target.raise_interrupt(0x11)
+        self.bus.policy(Policy.NONE)
+        self.assertTrue(self.bus.get_status(0x09))
+        self.assertEqual(self.bus.answer.served, TurnedDown())
+        self.bus.policy(Policy.ALL)
+        self.assertFalse(self.bus.get_status(0x09))
+        self.assertEqual(self.bus.records, [Record(1, 1, 1, 0x09, 0x11)])
+        with self.assertRaises(daskreyf.NoAnswer):
+            self.bus.get_pid(0x50)
+        target.cut(27)
+        with self.assertRaises(daskreyf.NoEnd):
+            self.bus.get_bcr(0x09)
 
     def test_sixteen_identities_are_declared(self) -> None:
         for number in range(16):

@@ -1,13 +1,13 @@
 -- What stands in a place after a change.
-use Rattle.std.proofs.Common.{◌≡◌, ℕ, zero, suc, ◌+◌, ◌≤◌, ◌<◌, Bool, true, false, List, [], ◌∷◌, ◌++◌, drop, length, get_or, set, replicate, take, Option, Some, None, option_map, ◌==◌, if◌then◌else◌, ◌⊎◌, inl, inr, sym, refl, ap, ◌∙◌, arith, zero-add}
+use Rattle.std.proofs.Common.{◌≡◌, ℕ, zero, suc, ◌+◌, ◌≤◌, ◌<◌, Bool, true, false, List, [], ◌∷◌, length, get_or, set, replicate, Option, Some, None, option_map, ◌==◌, if◌then◌else◌, ◌⊎◌, inl, inr, sym, refl, ap, ◌∙◌, arith, zero-add}
 use Rattle.std.proofs.lemmas.Bool.{cases_eq, cases_lt, cond-true, cond-false, eq-eqb, eqb-true, ne_eqb}
-use Rattle.std.proofs.lemmas.List.{append-nil, drop_all, get_or-set_other, get_or-set_same, get_or_past, set_past, take_all}
+use Rattle.std.proofs.lemmas.List.{get_or-set_other, get_or-set_same, get_or_past, set_past}
 use Rattle.std.proofs.lemmas.Option.{none-some, same_Some}
 use Rattle.i3c_base.specs.declared.range.TheConstants.{ADDRESSES, SLOTS}
 use Rattle.i3c_base.specs.declared.device.Setup.{Setup}
 use Rattle.i3c_base.specs.declared.identity.Identity.{Identity}
 use Rattle.i3c_base.specs.Places.{changed, changed_from}
-use Rattle.i3c_base.specs.State.{Device, Entry, State, attached, change, device_at, each, entry_at, entry_in, fixed_of, kept_again, kept_of, no_devices, no_entries, no_identities, no_raises, taken_over, unkept}
+use Rattle.i3c_base.specs.State.{Device, Entry, State, attached, change, device_at, each, entry_in, fixed_of, kept_again, kept_of, no_devices, no_entries, no_identities, no_raises, taken_over, unkept}
 use Rattle.i3c_base.specs.Local.{attach, drop_off}
 use Rattle.i3c_base.specs.Cutting.{Lost}
 use Rattle.i3c_base.specs.Serve.{emptied}

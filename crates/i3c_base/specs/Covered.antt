@@ -1,10 +1,9 @@
 -- A controller's table and the copies that devices keep of it, against the state.
-use Rattle.std.specs.Prelude.{◌≡◌, ◌≢◌, ℕ, Bool, true, List, map, Option, Some, option_map}
+use Rattle.std.specs.Prelude.{◌≡◌, Bool, List, map, Option, option_map}
 use Rattle.i3c_base.specs.declared.device.LegacyTarget.{LegacyTarget}
 use Rattle.i3c_base.specs.declared.identity.Identity.{Identity}
 use Rattle.i3c_base.specs.declared.identity.Lvr.{Lvr}
-use Rattle.i3c_base.specs.Numbers.{is_capable}
-use Rattle.i3c_base.specs.State.{Device, Entry, State, device_at, unkept}
+use Rattle.i3c_base.specs.State.{Entry, State, unkept}
 
 -- a controller's table: the entries at their addresses, the LVRs of legacy targets and the declared identities at theirs,
 -- and whether its list is current

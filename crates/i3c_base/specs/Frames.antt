@@ -1,8 +1,11 @@
--- The frames' own parts: enabling, reset, list, handover, private transfers, SETDASA and SETNEWDA, with the bits that each sends.
-use Rattle.std.specs.Prelude.{◌≡◌, ◌≢◌, ℕ, ◌+◌, ◌*◌, ◌<◌, Bool, true, false, not, ◌&&◌, ◌||◌, ◌==◌, ◌⊎◌, List, ◌++◌, All, length, drop, slice_index, slice_set, count_by, Option, Some, None, if◌then◌else◌, is_none, is_some, option_map}
+-- The frames' own parts: enabling, reset, list, handover, private transfers, SETDASA, SETNEWDA and the codes GET.., with the
+-- bits that each sends.
+use Rattle.std.specs.Prelude.{◌≡◌, ◌≢◌, ℕ, ◌+◌, ◌*◌, ◌/◌, ◌%◌, ◌^◌, ◌<◌, Bool, true, false, not, ◌&&◌, ◌||◌, ◌==◌, ◌⊎◌, List, [], ◌∷◌, ◌++◌, All, length, drop, slice_index, slice_set, count_by, Option, Some, None, if◌then◌else◌, is_none, is_some, option_map}
 use Rattle.i3c_base.specs.declared.answers.Answer.{Answer}
+use Rattle.i3c_base.specs.declared.datum.Datum.{Datum}
 use Rattle.i3c_base.specs.declared.device.LegacyTarget.{LegacyTarget}
-use Rattle.i3c_base.specs.State.{Device, Entry, State, IsPresent, IsTargetAt, change, declared_at, device_at, each, entry_in, has_address, in_slot, is_the, kept_entry_of, known_in, legacy_target_at, released, taken_over, unkept}
+use Rattle.i3c_base.specs.declared.device.TheConstants.{REGISTERS}
+use Rattle.i3c_base.specs.State.{Device, Entry, State, IsPresent, IsTargetAt, change, declared_at, device_at, each, entry_at, entry_in, has_address, in_slot, is_the, kept_entry_of, known_in, legacy_target_at, released, taken_over, unkept}
 use Rattle.i3c_base.specs.Places.{changed}
 use Rattle.i3c_base.specs.declared.identity.Identity.{Identity}
 use Rattle.i3c_base.specs.declared.kinds.Change.{Change}
@@ -11,7 +14,7 @@ use Rattle.i3c_base.specs.declared.kinds.Kinds.{Kinds}
 use Rattle.i3c_base.specs.Numbers.{KindSet, kind_set}
 use Rattle.i3c_base.specs.Cutting.{Lost}
 use Rattle.i3c_base.specs.Round.{winner}
-use Rattle.i3c_base.specs.Serve.{IsAnd, without_role}
+use Rattle.i3c_base.specs.Serve.{IsAnd, byte_due, is_empty, without_role}
 
 -- some device other than the active controller has the address
 abbrev pub AnyAt : State → ℕ → Type 0
@@ -229,3 +232,54 @@ Writes a bytes (Answer.Bytes read) lost mid done = ⊥
 abbrev pub write_bits : List ℕ → Answer → ℕ
 write_bits bytes (Answer.NoAnswer b) = 9
 write_bits bytes _ = 9 + 9 * length bytes
+
+-- a provisioned ID in six bytes, the most significant first
+abbrev pub pid_bytes : ℕ → List ℕ
+pid_bytes pid = pid / 2 ^ 40 % 256 ∷ pid / 2 ^ 32 % 256 ∷ pid / 2 ^ 24 % 256 ∷ pid / 2 ^ 16 % 256 ∷ pid / 2 ^ 8 % 256 ∷ pid % 256 ∷ []
+
+-- the second byte of a status: whether an interrupt waits, be its kind enabled or not
+abbrev pub pending : Device → ℕ
+pending d = if is_empty d.waiting then 0 else 1
+
+-- what a device tells of a datum: of a status no protocol error and activity mode 0, of its speed no limit, and of its
+-- capabilities I3C Basic 1.1 and nothing else
+abbrev pub told_bytes : Datum → Device → List ℕ
+told_bytes Datum.Pid d = pid_bytes d.identity.pid
+told_bytes Datum.Bcr d = d.identity.bcr.0 ∷ []
+told_bytes Datum.Dcr d = d.identity.dcr.0 ∷ []
+told_bytes Datum.Status d = 0 ∷ pending d ∷ []
+told_bytes Datum.WriteLength d = 0 ∷ REGISTERS ∷ []
+told_bytes Datum.ReadLength d = 0 ∷ REGISTERS ∷ 1 ∷ []
+told_bytes Datum.Speed d = 0 ∷ 0 ∷ []
+told_bytes Datum.Capabilities d = 0 ∷ 1 ∷ []
+
+-- how many bytes a controller reads of a datum, at an address of which its table has this entry
+abbrev pub told_length : Datum → Option Entry → ℕ
+told_length Datum.Pid entry = 6
+told_length Datum.Bcr entry = 1
+told_length Datum.Dcr entry = 1
+told_length Datum.ReadLength entry = if byte_due entry then 3 else 2
+told_length _ entry = 2
+
+-- slot s has the address, and v is byte k of what its device tells of a datum
+abbrev pub DrivesTold : State → Datum → ℕ → ℕ → ℕ → ℕ → Type 0
+DrivesTold st what a k s v = (d : Device) × IsTargetAt st a s d × (v ≡ slice_index (told_bytes what d) k)
+
+-- what a controller reads of a datum at an address: of several devices the AND, any bytes where some are lost
+abbrev pub IsToldAt : State → Datum → ℕ → Lost → List ℕ → Type 0
+IsToldAt st what a lost bytes =
+    SomeLeftAt st a lost × (length bytes ≡ told_length what (entry_at st a)) × All (λ byte. byte < 256) bytes
+    × (((s : ℕ) (d : Device) → IsTargetAt st a s d → lost s ≡ false)
+    → (k : ℕ) → k < length bytes → IsAnd (slice_index bytes k) (DrivesTold st what a k))
+
+-- the answers of GETPID and its like, which change nothing
+abbrev pub Gets : Datum → ℕ → Answer → Lost → State → State → Type 0
+Gets what a (Answer.Bytes bytes) lost mid done = IsToldAt mid what a lost bytes × (done ≡ mid)
+Gets what a (Answer.NoAnswer b) lost mid done = (b ≡ a) × AllLostAt mid a lost × (done ≡ mid)
+Gets what a Answer.NoEnd lost mid done = AllLostAt mid a lost × AnyAt mid a × (done ≡ mid)
+Gets what a Answer.Done lost mid done = ⊥
+
+-- the bits of GETPID and its like: the code and a header, and after its ACK a word for each byte
+abbrev pub get_bits : Datum → Option Entry → Answer → ℕ
+get_bits what entry (Answer.NoAnswer b) = 18
+get_bits what entry _ = 18 + 9 * told_length what entry

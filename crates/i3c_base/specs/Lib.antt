@@ -1,5 +1,6 @@
 pub mod Numbers
 pub mod Places
+pub mod Filling
 pub mod Sets
 pub mod Cutting
 pub mod State

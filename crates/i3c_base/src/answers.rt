@@ -1,4 +1,4 @@
-use crate::device::REGISTERS;
+use crate::bytes::Bytes;
 use crate::identity::Identity;
 use crate::range::Addr7;
 
@@ -7,8 +7,8 @@ use crate::range::Addr7;
 pub enum Answer {
     /// It was carried out.
     Done,
-    /// The registers that were read.
-    Bytes([u8; REGISTERS]),
+    /// These bytes were read, and ended.
+    Bytes(Bytes),
     /// The header of this address was not acknowledged, or nobody took the role that was offered there.
     NoAnswer(Addr7),
     /// The data that was read did not end.

@@ -6,7 +6,9 @@
 
 mod addresses;
 mod answers;
+mod bytes;
 mod cuts;
+mod datum;
 mod device;
 mod identity;
 mod kinds;
@@ -16,7 +18,9 @@ mod requests;
 
 pub use addresses::Addresses;
 pub use answers::{Answer, RoundReply};
+pub use bytes::Bytes;
 pub use cuts::Cuts;
+pub use datum::Datum;
 pub use device::{LegacyTarget, REGISTERS, Setup, WAITING, Waiting};
 pub use identity::{Bcr, Dcr, Identity, Lvr};
 pub use kinds::{Change, Kinds};

@@ -15,5 +15,6 @@ pub mod Listing
 pub mod Resetting
 pub mod Handovers
 pub mod Transfers
+mod Asked
 pub mod RoundsMore
 mod Settings

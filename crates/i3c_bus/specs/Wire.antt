@@ -2,16 +2,17 @@
 use Rattle.std.specs.Prelude.{◌≡◌, ◌↔◌, ℕ, ◌+◌, Bool, true, false, List, [], ◌∷◌, ◌++◌, map, Option, Some, None, is_some, IfSome, MatchOption, ⊤}
 use Rattle.i3c_base.specs.declared.answers.Answer.{Answer}
 use Rattle.i3c_base.specs.declared.answers.RoundReply.{RoundReply}
+use Rattle.i3c_base.specs.declared.datum.Datum.{Datum}
 use Rattle.i3c_base.specs.declared.kinds.Change.{Change}
 use Rattle.i3c_base.specs.declared.kinds.Kinds.{Kinds}
 use Rattle.i3c_base.specs.declared.requests.Record.{Record}
 use Rattle.i3c_base.specs.declared.requests.Request.{Request}
 use Rattle.i3c_base.specs.declared.requests.Request.TheVariants.{Join, Role, Interrupt}
 use Rattle.i3c_base.specs.declared.requests.Served.{Served}
-use Rattle.i3c_base.specs.Cutting.{CutList, lost_by}
+use Rattle.i3c_base.specs.Cutting.{CutList, Lost, lost_by}
 use Rattle.i3c_base.specs.State.{State, entry_at}
-use Rattle.i3c_base.specs.Serve.{IsFirst, IsWordBits, byte_due, drives, emptied, header_bits}
-use Rattle.i3c_base.specs.Frames.{AnyLeft, SomeLeftAt, SomeUnaddressedLeftAt, active_has}
+use Rattle.i3c_base.specs.Serve.{IsFirst, IsWordBits, Serves, byte_due, drives, emptied, given_for, header_bits}
+use Rattle.i3c_base.specs.Frames.{AnyLeft, SomeLeftAt, SomeUnaddressedLeftAt, active_has, get_bits, told_length}
 use Rattle.i3c_word.specs.declared.Word.{Word}
 use Rattle.i3c_deftgts.specs.declared.entries.Entry.{Entry}
 use Rattle.i3c_deftgts.specs.Entries.{entries_of}
@@ -25,14 +26,16 @@ use Rattle.i3c_handoff.specs.Offers.{IsReadAs, SomeTakes, is_acknowledged, offer
 use Rattle.i3c_handoff.specs.Telling.{IsOfferWire}
 use Rattle.i3c_ibi.specs.Driving.{IsByteRead}
 use Rattle.i3c_ibi.specs.Telling.{byte_word, request_header}
+use Rattle.i3c_xfer.specs.declared.outcome.Get.{Get as Told}
 use Rattle.i3c_xfer.specs.declared.outcome.Read.{Read}
 use Rattle.i3c_xfer.specs.declared.outcome.Write.{Write}
-use Rattle.i3c_xfer.specs.Telling.{IsReadWire, IsWriteWire}
+use Rattle.i3c_xfer.specs.Getting.{IsToldAs, get_answer, is_get_acknowledged}
+use Rattle.i3c_xfer.specs.Telling.{IsGetWire, IsReadWire, IsWriteWire}
 use Rattle.i3c_xfer.specs.Transfers.{AnyAnswers, IsReadAs as IsDataAs, IsWrittenBy, is_read_acknowledged, is_write_acknowledged, read_answer, write_answer}
 use Rattle.i3c_frame.specs.declared.symbols.Symbol.{Symbol}
 use Rattle.i3c_frame.specs.declared.symbols.Symbol.TheVariants.{Start, Repeated, Stop, Header}
 use Rattle.i3c_step.specs.declared.events.Event.{Event}
-use Rattle.i3c_step.specs.declared.events.Event.TheVariants.{Enec, Disec, Reset, SendList, ReadFrom, WriteTo, SetStatic, SetNew, HandOver}
+use Rattle.i3c_step.specs.declared.events.Event.TheVariants.{Enec, Disec, Reset, SendList, ReadFrom, WriteTo, SetStatic, SetNew, Get, HandOver}
 use Rattle.i3c_step.specs.declared.replies.Reply.{Reply}
 use Rattle.i3c_step.specs.Step.{cuts_in}
 use Rattle.i3c_bus.specs.Whole.{the_table}
@@ -133,6 +136,25 @@ abbrev pub IsWritePart : State → CutList → ℕ → List ℕ → Answer → �
 IsWritePart old cuts a bytes answer begun wire =
     (write : Write) × (write_answer a write ≡ answer) × ((is_write_acknowledged write ≡ true) ↔ AnyAnswers old a (lost_by cuts (begun + 9))) × IsWrittenBy old a write × IsWriteWire a bytes write wire
 
+-- the bus as a frame's own part finds it, which loses these devices by its last bit and leaves the bus so: its first request
+-- is served, and who is lost is still there
+abbrev pub IsFound : State → Lost → State → State → Type 0
+IsFound old lost new mid = (served : Served) × Serves old (given_for served) lost served mid × (new ≡ emptied lost mid)
+
+-- a datum that is asked for after so many bits: acknowledged where a device is left at its header's ninth bit, and its bytes
+-- as those there drive them
+abbrev pub IsToldPart : State → CutList → Datum → ℕ → Answer → ℕ → List Symbol → Type 0
+IsToldPart mid cuts what a answer begun wire =
+    (get : Told) × (get_answer a get ≡ answer) × ((is_get_acknowledged get ≡ true) ↔ SomeLeftAt mid a (lost_by cuts (begun + 18)))
+    × IsToldAs mid what (told_length what (entry_at mid a)) a cuts (begun + 19) get × IsGetWire what a get wire
+
+-- the same of a frame: the bytes are told when its first request is served
+abbrev pub IsGetPart : State → CutList → Datum → ℕ → Answer → State → ℕ → List Symbol → Type 0
+IsGetPart old cuts what a answer new begun wire =
+    (mid : State) × (get : Told) × IsFound old (lost_by cuts (begun + get_bits what (entry_at old a) answer)) new mid
+    × (get_answer a get ≡ answer) × ((is_get_acknowledged get ≡ true) ↔ SomeLeftAt old a (lost_by cuts (begun + 18)))
+    × IsToldAs mid what (told_length what (entry_at old a)) a cuts (begun + 19) get × IsGetWire what a get wire
+
 -- nobody took the role
 abbrev pub IsUntaken : Offer → Type 0
 IsUntaken Offer.Nobody = ⊤
@@ -161,6 +183,7 @@ IsOwnWire old cuts (ReadFrom a policy others) answer new begun wire = IsReadPart
 IsOwnWire old cuts (WriteTo a bytes policy others) answer new begun wire = IsWritePart old cuts a bytes.items answer begun wire
 IsOwnWire old cuts (SetStatic f to policy others) answer new begun wire = IsStaticPart old cuts f to answer begun wire
 IsOwnWire old cuts (SetNew a to policy others) answer new begun wire = IsNewPart old cuts a to answer begun wire
+IsOwnWire old cuts (Get what a policy others) answer new begun wire = IsGetPart old cuts what a answer new begun wire
 IsOwnWire old cuts (HandOver to others) answer new begun wire = IsDeclinedPart old cuts to new begun wire
 IsOwnWire old cuts _ answer new begun wire = ⊥
 

@@ -64,6 +64,9 @@ impl Bus {
             Event::SetNew(old, new, policy, cuts) => {
                 self.send(hand, Command::SetNew(*old, *new), *policy, tap, cuts)
             }
+            Event::Get(what, from, policy, cuts) => {
+                self.send(hand, Command::Get(*what, *from), *policy, tap, cuts)
+            }
             Event::HandOver(to, cuts) => self.step_hand(hand, *to, tap, cuts),
             Event::OpenDaa(cuts) => self.step_open(hand, tap, cuts),
             Event::Round(cuts) => self.step_round(hand, tap, cuts),

@@ -140,6 +140,9 @@ impl Bus {
             Command::SetNew(old, new) => {
                 Reply::from(self.set_new(role, *old, *new, policy, tap, cuts))
             }
+            Command::Get(what, from) => {
+                Reply::from(self.get(role, *what, *from, policy, tap, cuts))
+            }
         }
     }
 

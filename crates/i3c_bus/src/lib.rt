@@ -9,6 +9,7 @@ mod assigning;
 mod bus;
 mod dispatch;
 mod frames;
+mod getting;
 mod handing;
 mod runs;
 mod sessions;
@@ -21,7 +22,7 @@ mod wishes;
 
 pub use assigning::Assignment;
 pub use bus::{Bus, Records};
-pub use i3c_base::{Answer, JoinRefusal, RaiseRefusal, Request, RoundReply, Served};
+pub use i3c_base::{Answer, Bytes, Datum, JoinRefusal, RaiseRefusal, Request, RoundReply, Served};
 pub use i3c_device::SlotSet;
 pub use i3c_handoff::Role;
 pub use i3c_ibi::{Fixed, Policy, Record, Verdict};

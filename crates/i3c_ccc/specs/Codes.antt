@@ -1,7 +1,19 @@
 -- Common command codes and their bytes.
 use Rattle.std.specs.Prelude.{◌≡◌, ◌≢◌, ℕ}
+use Rattle.i3c_base.specs.declared.datum.Datum.{Datum}
 use Rattle.i3c_ccc.specs.declared.codes.Code.{Code}
-use Rattle.i3c_ccc.specs.declared.codes.Code.TheVariants.{Enec, Disec, Rstdaa, Entdaa, Deftgts, EnecDirect, DisecDirect, Setdasa, Setnewda, Getacccr, Other}
+use Rattle.i3c_ccc.specs.declared.codes.Code.TheVariants.{Enec, Disec, Rstdaa, Entdaa, Deftgts, EnecDirect, DisecDirect, Setdasa, Setnewda, Get, Getacccr, Other}
+
+-- the byte of the code that asks for a datum
+abbrev pub byte_of_datum : Datum → ℕ
+byte_of_datum Datum.WriteLength = 0x8B
+byte_of_datum Datum.ReadLength = 0x8C
+byte_of_datum Datum.Pid = 0x8D
+byte_of_datum Datum.Bcr = 0x8E
+byte_of_datum Datum.Dcr = 0x8F
+byte_of_datum Datum.Status = 0x90
+byte_of_datum Datum.Speed = 0x94
+byte_of_datum Datum.Capabilities = 0x95
 
 -- the byte of a code
 abbrev pub byte_of_code : Code → ℕ
@@ -14,12 +26,15 @@ byte_of_code EnecDirect = 0x80
 byte_of_code DisecDirect = 0x81
 byte_of_code Setdasa = 0x87
 byte_of_code Setnewda = 0x88
+byte_of_code (Get what) = byte_of_datum what
 byte_of_code Getacccr = 0x91
 byte_of_code (Other byte) = byte
 
 -- a byte that is none of the codes known by name
 abbrev pub IsUnnamed : ℕ → Type 0
-IsUnnamed b = (b ≢ 0x00) × (b ≢ 0x01) × (b ≢ 0x06) × (b ≢ 0x07) × (b ≢ 0x08) × (b ≢ 0x80) × (b ≢ 0x81) × (b ≢ 0x87) × (b ≢ 0x88) × (b ≢ 0x91)
+IsUnnamed b =
+    (b ≢ 0x00) × (b ≢ 0x01) × (b ≢ 0x06) × (b ≢ 0x07) × (b ≢ 0x08) × (b ≢ 0x80) × (b ≢ 0x81) × (b ≢ 0x87) × (b ≢ 0x88)
+    × (b ≢ 0x8B) × (b ≢ 0x8C) × (b ≢ 0x8D) × (b ≢ 0x8E) × (b ≢ 0x8F) × (b ≢ 0x90) × (b ≢ 0x91) × (b ≢ 0x94) × (b ≢ 0x95)
 
 -- `Other` stands for unnamed bytes alone
 abbrev pub IsNamedWhereKnown : Code → Type 0
@@ -33,6 +48,7 @@ IsNamedWhereKnown EnecDirect = Unit {0}
 IsNamedWhereKnown DisecDirect = Unit {0}
 IsNamedWhereKnown Setdasa = Unit {0}
 IsNamedWhereKnown Setnewda = Unit {0}
+IsNamedWhereKnown (Get what) = Unit {0}
 IsNamedWhereKnown Getacccr = Unit {0}
 
 -- this is the code of the byte

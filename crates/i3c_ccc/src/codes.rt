@@ -1,5 +1,7 @@
 ghost use Rattle.std.specs.Prelude.{◌≡◌};
-ghost use Rattle.i3c_ccc.specs.Codes.{IsCodeOf, byte_of_code};
+ghost use Rattle.i3c_ccc.specs.Codes.{IsCodeOf, byte_of_code, byte_of_datum};
+
+use i3c_base::Datum;
 
 /// A common command code (I3C Basic 5.1.9.3).
 #[derive(Clone, Copy, Debug, PartialEq, Eq)]
@@ -22,6 +24,8 @@ pub enum Code {
     Setdasa,
     /// Set new dynamic address, direct: `88`.
     Setnewda,
+    /// A target is asked for a datum: `8B` to `90`, `94` and `95`.
+    Get(Datum),
     /// Get accept controller role: `91`.
     Getacccr,
     /// A code that this engine doesn't use.
@@ -42,7 +46,15 @@ pub fn code_of(byte: u8) -> Code
         0x81 => Code::DisecDirect,
         0x87 => Code::Setdasa,
         0x88 => Code::Setnewda,
+        0x8B => Code::Get(Datum::WriteLength),
+        0x8C => Code::Get(Datum::ReadLength),
+        0x8D => Code::Get(Datum::Pid),
+        0x8E => Code::Get(Datum::Bcr),
+        0x8F => Code::Get(Datum::Dcr),
+        0x90 => Code::Get(Datum::Status),
         0x91 => Code::Getacccr,
+        0x94 => Code::Get(Datum::Speed),
+        0x95 => Code::Get(Datum::Capabilities),
         other => Code::Other(other),
     }
 }
@@ -61,7 +73,24 @@ pub fn byte_of(code: Code) -> u8
         Code::DisecDirect => 0x81,
         Code::Setdasa => 0x87,
         Code::Setnewda => 0x88,
+        Code::Get(what) => byte_of_datum(what),
         Code::Getacccr => 0x91,
         Code::Other(byte) => byte,
+    }
+}
+
+/// The byte of the code that asks for a datum.
+fn byte_of_datum(what: Datum) -> u8
+    ensures { result ≡ byte_of_datum what }
+{
+    match what {
+        Datum::WriteLength => 0x8B,
+        Datum::ReadLength => 0x8C,
+        Datum::Pid => 0x8D,
+        Datum::Bcr => 0x8E,
+        Datum::Dcr => 0x8F,
+        Datum::Status => 0x90,
+        Datum::Speed => 0x94,
+        Datum::Capabilities => 0x95,
     }
 }

@@ -1,8 +1,9 @@
 -- What the lines give while devices drive their registers.
-use Rattle.std.proofs.Common.{◌≡◌, ℕ, ◌+◌, ◌-◌, ◌*◌, ◌/◌, ◌^◌, ◌<◌, ◌≤◌, ◌↔◌, Bool, true, false, not, ◌&&◌, ◌==◌, ◌⊎◌, if◌then◌else◌, min, max, List, length, length-set, get_or, set, Option, Some, None, inl, inr, refl, sym, ap, ◌∙◌, subst, arith}
+use Rattle.std.proofs.Common.{◌≡◌, ℕ, ◌+◌, ◌-◌, ◌*◌, ◌/◌, ◌^◌, ◌<◌, ◌≤◌, ◌↔◌, Bool, true, false, not, ◌&&◌, ◌==◌, ◌⊎◌, if◌then◌else◌, min, max, List, length, length-set, take, get_or, set, Option, Some, None, inl, inr, refl, sym, ap, ◌∙◌, subst, arith}
 use Rattle.std.proofs.lemmas.Bool.{both_ways, cases_eq, cases_lt, cond-true, cond-false, eq-eqb, eqb-true, le-leb, lt-leb, ne_eqb}
 use Rattle.std.proofs.lemmas.Bool.Decides.{nat_tests}
-use Rattle.std.proofs.lemmas.List.{get_or_default, get_or_past, get_or-set_other, get_or-set_same}
+use Rattle.std.proofs.lemmas.List.{get_or_default, get_or_past, get_or-set_other, get_or-set_same, get_or-take, length-take-le}
+use Rattle.std.proofs.lemmas.List.Elements.{All-take}
 use Rattle.std.proofs.lemmas.Option.{none-some}
 use Rattle.std.proofs.lemmas.Nat.Bits.{bit_at-lt, bit_at_and, bit_at_ones, bit_at_ones_above, bit_at_or, ones_shr}
 use Rattle.std.specs.Int.{bit_at}
@@ -10,11 +11,10 @@ use Rattle.std.specs.List.{All}
 use Rattle.std.specs.Int.RustNames.{bit_or}
 use lib.Bits.{bit_and}
 use Rattle.i3c_base.specs.declared.range.TheConstants.{SLOTS}
-use Rattle.i3c_base.specs.declared.device.TheConstants.{REGISTERS}
 use Rattle.i3c_base.specs.Cutting.{CutList, Lost, cut_of, is_by, lost_by}
 use Rattle.i3c_base.specs.State.{Device, in_slot}
 use Rattle.i3c_device.specs.declared.sets.SlotSet.{SlotSet}
-use Rattle.i3c_device.specs.Reading.{AreAt, AreReadOf, IsDrivenFrom, IsRegisterFrom, IsRegisterOf, PullsLow, SomeZero, has_zero}
+use Rattle.i3c_device.specs.Reading.{AreAt, AreBytesOf, Driving, IsByteFrom, IsByteOf, IsDrivenFrom, PullsLow, SomeZero, has_zero}
 use Rattle.i3c_device.specs.Sets.{has}
 use Rattle.i3c_device.specs.Walks.{reaches_at, written_at}
 
@@ -46,8 +46,8 @@ driven_part own bit start n at few j l = elim (cases_lt j n) [
   | inr after ↦ ones_after own n j l after ∙ sym (cond-true (is_by (start + j) (Some bit)) 1 (bit_at own (7 - j)) (le-leb bit (start + j) (omega arith)))
 ]
 
-pub register_of_none : (k start : ℕ) (cut : Option ℕ) → IsRegisterFrom None k cut start 255
-register_of_none k start cut j l = bit_at_ones 8 (7 - j) (omega arith) ∙ go (is_by (start + j) cut)
+pub byte_from_none : (own : Driving) (k start : ℕ) (cut : Option ℕ) → IsByteFrom own None k cut start 255
+byte_from_none own k start cut j l = bit_at_ones 8 (7 - j) (omega arith) ∙ go (is_by (start + j) cut)
   where
     go : (b : Bool) → ◌≡◌ {A = ℕ} 1 (if not b && false then 0 else 1)
     go true = refl
@@ -58,16 +58,16 @@ abbrev TakesOut : ℕ → SlotSet → SlotSet → Type 0
 TakesOut i left next = (s : ℕ) → s < SLOTS → has next s ≡ (if s == i then false else has left s)
 
 -- one of the slots that aren't left isn't lost, and has 0 there
-abbrev pub SomeZeroSoFar : SlotSet → SlotSet → Lost → ℕ → ℕ → List (Option Device) → Type 0
-SomeZeroSoFar among left lost k bit devices = (s : ℕ) × (s < SLOTS) × (has among s ≡ true) × (has left s ≡ false) × (lost s ≡ false) × (has_zero k bit (get_or devices s None) ≡ true)
+abbrev pub SomeZeroSoFar : Driving → SlotSet → SlotSet → Lost → ℕ → ℕ → List (Option Device) → Type 0
+SomeZeroSoFar own among left lost k bit devices = (s : ℕ) × (s < SLOTS) × (has among s ≡ true) × (has left s ≡ false) × (lost s ≡ false) × (has_zero own k bit (get_or devices s None) ≡ true)
 
 -- the lines' byte, of the slots that aren't left
-pub record RegisterSoFar (among left : SlotSet) (k : ℕ) (cuts : CutList) (start : ℕ) (devices : List (Option Device)) (byte : ℕ) : Type 0 where
+pub record ByteSoFar (own : Driving) (among left : SlotSet) (k : ℕ) (cuts : CutList) (start : ℕ) (devices : List (Option Device)) (byte : ℕ) : Type 0 where
   pub among_them : (s : ℕ) → s < SLOTS → has left s ≡ true → has among s ≡ true
-  pub bits : (j : ℕ) → j < 8 → (bit_at byte (7 - j) ≡ 0) ↔ SomeZeroSoFar among left (lost_by cuts (start + j)) k (7 - j) devices
+  pub bits : (j : ℕ) → j < 8 → (bit_at byte (7 - j) ≡ 0) ↔ SomeZeroSoFar own among left (lost_by cuts (start + j)) k (7 - j) devices
 
-pub register_none : (among : SlotSet) (k : ℕ) (cuts : CutList) (start : ℕ) (devices : List (Option Device)) → RegisterSoFar among among k cuts start devices 255
-register_none among k cuts start devices = record {
+pub byte_none : (own : Driving) (among : SlotSet) (k : ℕ) (cuts : CutList) (start : ℕ) (devices : List (Option Device)) → ByteSoFar own among among k cuts start devices 255
+byte_none own among k cuts start devices = record {
   among_them = λ s l h. h;
   bits = λ j l. (
     λ z. let ones = bit_at_ones 8 (7 - j) (omega arith) in absurd (omega (arith, z, ones)),
@@ -95,18 +95,18 @@ drives_zero true zero g z = absurd (both_ways _ g refl)
 drives_zero false true g z = refl
 drives_zero false false g z = absurd (both_ways _ refl z)
 
-pub register_more : (among left next : SlotSet) (k : ℕ) (cuts : CutList) (start : ℕ) (devices : List (Option Device)) (byte i driven : ℕ) → RegisterSoFar among left k cuts start devices byte
-    → i < SLOTS → has left i ≡ true → TakesOut i left next → IsRegisterFrom (get_or devices i None) k (cut_of cuts i) start driven → RegisterSoFar among next k cuts start devices (bit_and byte driven)
-register_more among left next k cuts start devices byte i driven h low there out is = record {
+pub byte_more : (own : Driving) (among left next : SlotSet) (k : ℕ) (cuts : CutList) (start : ℕ) (devices : List (Option Device)) (byte i driven : ℕ) → ByteSoFar own among left k cuts start devices byte
+    → i < SLOTS → has left i ≡ true → TakesOut i left next → IsByteFrom own (get_or devices i None) k (cut_of cuts i) start driven → ByteSoFar own among next k cuts start devices (bit_and byte driven)
+byte_more own among left next k cuts start devices byte i driven h low there out is = record {
   among_them = λ s l t. h.among_them s l (still s l t);
   bits = λ j l. (
     λ z. elim (min_of (bit_at byte (7 - j)) (bit_at driven (7 - j)) (sym (bit_at_and byte driven (7 - j)) ∙ z)) [
       | inl zero ↦ let old = (h.bits j l).0 zero in (old.0, old.1, old.2, taken old.0 old.1 old.3, old.4, old.5)
-      | inr zero ↦ let own = drove (is_by (start + j) (cut_of cuts i)) (has_zero k (7 - j) (get_or devices i None)) (sym (is j l) ∙ zero) in (i, low, h.among_them i low there, out i low ∙ cond-true (i == i) false (has left i) (eq-eqb i i refl), own.0, own.1)
+      | inr zero ↦ let d = drove (is_by (start + j) (cut_of cuts i)) (has_zero own k (7 - j) (get_or devices i None)) (sym (is j l) ∙ zero) in (i, low, h.among_them i low there, out i low ∙ cond-true (i == i) false (has left i) (eq-eqb i i refl), d.0, d.1)
     ],
     λ some. bit_at_and byte driven (7 - j) ∙ elim (cases_eq some.0 i) [
-      | inl e ↦ min_right (bit_at byte (7 - j)) (bit_at driven (7 - j)) (is j l ∙ drives_zero (is_by (start + j) (cut_of cuts i)) (has_zero k (7 - j) (get_or devices i None))
-          (subst (λ s. lost_by cuts (start + j) s ≡ false) e some.4) (subst (λ s. has_zero k (7 - j) (get_or devices s None) ≡ true) e some.5))
+      | inl e ↦ min_right (bit_at byte (7 - j)) (bit_at driven (7 - j)) (is j l ∙ drives_zero (is_by (start + j) (cut_of cuts i)) (has_zero own k (7 - j) (get_or devices i None))
+          (subst (λ s. lost_by cuts (start + j) s ≡ false) e some.4) (subst (λ s. has_zero own k (7 - j) (get_or devices s None) ≡ true) e some.5))
       | inr ne ↦ min_left (bit_at byte (7 - j)) (bit_at driven (7 - j)) ((h.bits j l).1 (some.0, some.1, some.2, sym (out some.0 some.1 ∙ cond-false (some.0 == i) false (has left some.0) (ne_eqb some.0 i ne)) ∙ some.3, some.4, some.5))
     ],
   );
@@ -124,65 +124,77 @@ register_more among left next k cuts start devices byte i driven h low there out
       | inr ne ↦ out s l ∙ (cond-false (s == i) false (has left s) (ne_eqb s i ne) ∙ n)
     ]
 
-pub register_all : (among left : SlotSet) (k : ℕ) (cuts : CutList) (start : ℕ) (devices : List (Option Device)) (byte : ℕ) → RegisterSoFar among left k cuts start devices byte
-    → ((s : ℕ) → s < SLOTS → has left s ≡ false) → IsRegisterOf among k cuts start devices byte
-register_all among left k cuts start devices byte h none j l = (
+pub byte_all : (own : Driving) (among left : SlotSet) (k : ℕ) (cuts : CutList) (start : ℕ) (devices : List (Option Device)) (byte : ℕ) → ByteSoFar own among left k cuts start devices byte
+    → ((s : ℕ) → s < SLOTS → has left s ≡ false) → IsByteOf own among k cuts start devices byte
+byte_all own among left k cuts start devices byte h none j l = (
   λ z. let some = (h.bits j l).0 z in (some.0, some.1, some.2, some.4, some.5),
   λ some. (h.bits j l).1 (some.0, some.1, some.2, none some.0 some.1, some.3, some.4),
 )
 
 -- whoever has a 0 there at the address pulls low
-zero_in : (k bit : ℕ) (o : Option Device) → has_zero k bit o ≡ true → (d : Device) × (o ≡ Some d) × (bit_at (get_or d.registers k 0) bit ≡ 0)
-zero_in k bit None e = absurd (both_ways _ refl e)
-zero_in k bit (Some d) e = (d, refl, eqb-true (bit_at (get_or d.registers k 0) bit) 0 e)
+zero_in : (own : Driving) (k bit : ℕ) (o : Option Device) → has_zero own k bit o ≡ true → (d : Device) × (o ≡ Some d) × (bit_at (get_or (own d) k 0) bit ≡ 0)
+zero_in own k bit None e = absurd (both_ways _ refl e)
+zero_in own k bit (Some d) e = (d, refl, eqb-true (bit_at (get_or (own d) k 0) bit) 0 e)
 
-pub pulls_low : (active a : ℕ) (slots : SlotSet) (devices : List (Option Device)) (lost : Lost) (k bit : ℕ) → AreAt active a slots devices → SomeZero slots lost k bit devices → PullsLow active a lost k bit devices
-pulls_low active a slots devices lost k bit are some =
-    let zero = zero_in k bit (get_or devices some.0 None) some.4 in
+pub pulls_low : (own : Driving) (active a : ℕ) (slots : SlotSet) (devices : List (Option Device)) (lost : Lost) (k bit : ℕ) → AreAt active a slots devices → SomeZero own slots lost k bit devices → PullsLow own active a lost k bit devices
+pulls_low own active a slots devices lost k bit are some =
+    let zero = zero_in own k bit (get_or devices some.0 None) some.4 in
     (some.0, zero.0, zero.1, sym (ap (in_slot (reaches_at active (Some a) some.0)) zero.1) ∙ (sym (are some.0 some.1) ∙ some.2), some.3, zero.2)
 
-pub low_pulled : (active a : ℕ) (slots : SlotSet) (devices : List (Option Device)) (lost : Lost) (k bit : ℕ) → length devices ≡ SLOTS → AreAt active a slots devices → PullsLow active a lost k bit devices → SomeZero slots lost k bit devices
-low_pulled active a slots devices lost k bit long are low =
+pub low_pulled : (own : Driving) (active a : ℕ) (slots : SlotSet) (devices : List (Option Device)) (lost : Lost) (k bit : ℕ) → length devices ≡ SLOTS → AreAt active a slots devices → PullsLow own active a lost k bit devices → SomeZero own slots lost k bit devices
+low_pulled own active a slots devices lost k bit long are low =
     let s = low.0 in
     let l : s < SLOTS = elim (cases_lt s SLOTS) [ inl l ↦ l | inr past ↦ absurd (none-some low.1 (sym (get_or_past devices s None (omega (arith, long))) ∙ low.2)) ] in
-    (s, l, are s l ∙ (ap (in_slot (reaches_at active (Some a) s)) low.2 ∙ low.3), low.4, ap (has_zero k bit) low.2 ∙ eq-eqb (bit_at (get_or low.1.registers k 0) bit) 0 low.5)
+    (s, l, are s l ∙ (ap (in_slot (reaches_at active (Some a) s)) low.2 ∙ low.3), low.4, ap (has_zero own k bit) low.2 ∙ eq-eqb (bit_at (get_or (own low.1) k 0) bit) 0 low.5)
 
--- a register as devices at the address drive it
-pub register_read : (active a : ℕ) (slots : SlotSet) (devices : List (Option Device)) (cuts : CutList) (start k byte : ℕ) → length devices ≡ SLOTS → AreAt active a slots devices → IsRegisterOf slots k cuts start devices byte
-    → (j : ℕ) → j < 8 → (bit_at byte (7 - j) ≡ 0) ↔ PullsLow active a (lost_by cuts (start + j)) k (7 - j) devices
-register_read active a slots devices cuts start k byte long are is j l = (
-  λ z. pulls_low active a slots devices (lost_by cuts (start + j)) k (7 - j) are ((is j l).0 z),
-  λ low. (is j l).1 (low_pulled active a slots devices (lost_by cuts (start + j)) k (7 - j) long are low),
+-- a byte as devices at the address drive it
+pub byte_read : (own : Driving) (active a : ℕ) (slots : SlotSet) (devices : List (Option Device)) (cuts : CutList) (start k byte : ℕ) → length devices ≡ SLOTS → AreAt active a slots devices → IsByteOf own slots k cuts start devices byte
+    → (j : ℕ) → j < 8 → (bit_at byte (7 - j) ≡ 0) ↔ PullsLow own active a (lost_by cuts (start + j)) k (7 - j) devices
+byte_read own active a slots devices cuts start k byte long are is j l = (
+  λ z. pulls_low own active a slots devices (lost_by cuts (start + j)) k (7 - j) are ((is j l).0 z),
+  λ low. (is j l).1 (low_pulled own active a slots devices (lost_by cuts (start + j)) k (7 - j) long are low),
 )
 
--- the registers so far
-pub record ReadSoFar (slots : SlotSet) (cuts : CutList) (first : ℕ) (devices : List (Option Device)) (n : ℕ) (bytes : List ℕ) : Type 0 where
-  pub long : length bytes ≡ REGISTERS
-  pub read : (k : ℕ) → k < n → IsRegisterOf slots k cuts (first + 9 * k) devices (get_or bytes k 0)
+-- the bytes so far, of so many
+pub record ReadSoFar (own : Driving) (most : ℕ) (slots : SlotSet) (cuts : CutList) (first : ℕ) (devices : List (Option Device)) (n : ℕ) (bytes : List ℕ) : Type 0 where
+  pub long : length bytes ≡ most
+  pub read : (k : ℕ) → k < n → IsByteOf own slots k cuts (first + 9 * k) devices (get_or bytes k 0)
   pub small : (k : ℕ) → k < n → get_or bytes k 0 < 256
 
-pub read_more : (slots : SlotSet) (cuts : CutList) (first : ℕ) (devices : List (Option Device)) (n byte : ℕ) (bytes : List ℕ) → n < REGISTERS → byte < 256 → ReadSoFar slots cuts first devices n bytes
-    → IsRegisterOf slots n cuts (first + 9 * n) devices byte → ReadSoFar slots cuts first devices (n + 1) (set bytes n byte)
-read_more slots cuts first devices n byte bytes low fits h is = record {
+pub read_more : (own : Driving) (most : ℕ) (slots : SlotSet) (cuts : CutList) (first : ℕ) (devices : List (Option Device)) (n byte : ℕ) (bytes : List ℕ) → n < most → byte < 256
+    → ReadSoFar own most slots cuts first devices n bytes → IsByteOf own slots n cuts (first + 9 * n) devices byte → ReadSoFar own most slots cuts first devices (n + 1) (set bytes n byte)
+read_more own most slots cuts first devices n byte bytes low fits h is = record {
   long = length-set bytes n byte ∙ h.long;
   small = λ k l. elim (cases_eq k n) [
     | inl e ↦ subst (λ m. get_or (set bytes n byte) m 0 < 256) (sym e) (subst (λ v. v < 256) (sym (get_or-set_same bytes n byte 0 (omega (arith, h.long)))) fits)
     | inr ne ↦ subst (λ v. v < 256) (sym (get_or-set_other bytes n k byte 0 ne)) (h.small k (omega arith))
   ];
   read = λ k l. elim (cases_eq k n) [
-    | inl e ↦ subst (λ m. IsRegisterOf slots m cuts (first + 9 * m) devices (get_or (set bytes n byte) m 0)) (sym e)
-        (subst (IsRegisterOf slots n cuts (first + 9 * n) devices) (sym (get_or-set_same bytes n byte 0 (omega (arith, h.long)))) is)
-    | inr ne ↦ subst (IsRegisterOf slots k cuts (first + 9 * k) devices) (sym (get_or-set_other bytes n k byte 0 ne)) (h.read k (omega arith))
+    | inl e ↦ subst (λ m. IsByteOf own slots m cuts (first + 9 * m) devices (get_or (set bytes n byte) m 0)) (sym e)
+        (subst (IsByteOf own slots n cuts (first + 9 * n) devices) (sym (get_or-set_same bytes n byte 0 (omega (arith, h.long)))) is)
+    | inr ne ↦ subst (IsByteOf own slots k cuts (first + 9 * k) devices) (sym (get_or-set_other bytes n k byte 0 ne)) (h.read k (omega arith))
   ];
 }
 
-pub read_all : (active a : ℕ) (slots : SlotSet) (devices : List (Option Device)) (cuts : CutList) (first n : ℕ) (bytes : List ℕ) → length devices ≡ SLOTS → AreAt active a slots devices → REGISTERS ≤ n
-    → ReadSoFar slots cuts first devices n bytes → AreReadOf active a cuts first devices bytes
-read_all active a slots devices cuts first n bytes long are past h k j l m =
-    register_read active a slots devices cuts (first + 9 * k) k (get_or bytes k 0) long are (h.read k (omega arith)) j m
+pub read_all : (own : Driving) (most active a : ℕ) (slots : SlotSet) (devices : List (Option Device)) (cuts : CutList) (first n : ℕ) (bytes : List ℕ) → length devices ≡ SLOTS → AreAt active a slots devices → most ≤ n
+    → ReadSoFar own most slots cuts first devices n bytes → AreBytesOf own most active a cuts first devices bytes
+read_all own most active a slots devices cuts first n bytes long are past h k j l m =
+    byte_read own active a slots devices cuts (first + 9 * k) k (get_or bytes k 0) long are (h.read k (omega arith)) j m
 
-pub read_small : (slots : SlotSet) (cuts : CutList) (first : ℕ) (devices : List (Option Device)) (n : ℕ) (bytes : List ℕ) → REGISTERS ≤ n → ReadSoFar slots cuts first devices n bytes → All (λ byte. byte < 256) bytes
-read_small slots cuts first devices n bytes past h k d l = subst (λ v. v < 256) (get_or_default bytes k 0 d l) (h.small k (omega (arith, h.long)))
+pub read_small : (own : Driving) (most : ℕ) (slots : SlotSet) (cuts : CutList) (first : ℕ) (devices : List (Option Device)) (n : ℕ) (bytes : List ℕ) → most ≤ n
+    → ReadSoFar own most slots cuts first devices n bytes → All (λ byte. byte < 256) bytes
+read_small own most slots cuts first devices n bytes past h k d l = subst (λ v. v < 256) (get_or_default bytes k 0 d l) (h.small k (omega (arith, h.long)))
+
+-- the first ones of them
+pub read_first : (own : Driving) (most count active a : ℕ) (devices : List (Option Device)) (cuts : CutList) (first : ℕ) (bytes : List ℕ) → count ≤ most → length bytes ≡ most
+    → AreBytesOf own most active a cuts first devices bytes → AreBytesOf own (length (take count bytes)) active a cuts first devices (take count bytes)
+read_first own most count active a devices cuts first bytes few long h k j l m =
+    let counted : length (take count bytes) ≡ count = length-take-le count bytes (omega (arith, few, long)) in
+    let low : k < count = omega (arith, counted, l) in
+    subst (λ b. (bit_at b (7 - j) ≡ 0) ↔ PullsLow own active a (lost_by cuts (first + 9 * k + j)) k (7 - j) devices) (sym (get_or-take count bytes k 0 low)) (h k j (omega arith) m)
+
+pub small_first : (count : ℕ) (bytes : List ℕ) → All (λ byte. byte < 256) bytes → All (λ byte. byte < 256) (take count bytes)
+small_first count bytes h = All-take (λ byte. byte < 256) count bytes h
 
 -- a write changes nobody where there is none
 pub write_spares : (active a : ℕ) (bytes : List ℕ) (s : ℕ) (o : Option Device) → in_slot (λ d. true) o ≡ false → written_at active a bytes s o ≡ o

@@ -9,14 +9,15 @@ use Rattle.i3c_base.specs.declared.refusals.RaiseRefusal.{RaiseRefusal}
 use Rattle.i3c_base.specs.declared.requests.Request.{Request}
 use Rattle.i3c_base.specs.declared.requests.Request.TheVariants.{Interrupt, Join, Role}
 use Rattle.i3c_base.specs.Cutting.{CutList, Lost, lost_by}
-use Rattle.i3c_base.specs.Frames.{takes_static, with_kinds, without_kinds}
+use Rattle.i3c_base.specs.Frames.{takes_static, with_kinds, without_kinds, told_bytes}
 use Rattle.i3c_base.specs.Numbers.{KindSet}
 use Rattle.i3c_base.specs.Places.{changed}
 use Rattle.i3c_base.specs.Serve.{asks, is_empty}
 use Rattle.i3c_base.specs.State.{Device, in_slot, is_the}
 use Rattle.i3c_word.specs.declared.Word.{Word}
 use Rattle.i3c_ccc.specs.declared.codes.Code.{Code}
-use Rattle.i3c_ccc.specs.declared.codes.Code.TheVariants.{Deftgts, Disec, DisecDirect, Enec, EnecDirect, Getacccr, Other, Setdasa, Setnewda}
+use Rattle.i3c_base.specs.declared.datum.Datum.{Datum}
+use Rattle.i3c_ccc.specs.declared.codes.Code.TheVariants.{Deftgts, Disec, DisecDirect, Enec, EnecDirect, Get, Getacccr, Other, Setdasa, Setnewda}
 use Rattle.i3c_device.specs.declared.enabled.Enabled.{Enabled}
 use Rattle.i3c_device.specs.declared.marks.Marks.{Marks}
 use Rattle.i3c_device.specs.declared.sets.SlotSet.{SlotSet}
@@ -26,7 +27,7 @@ use Rattle.i3c_device.specs.Hearing.{named_kinds}
 use Rattle.i3c_device.specs.Holding.{address_in, byte_in, front_in, identity_in, waiting_in}
 use Rattle.i3c_device.specs.Marks.{AreMarks, IsSetOf}
 use Rattle.i3c_device.specs.Raising.{interrupting_if, next_fault}
-use Rattle.i3c_device.specs.Reading.{AreReadOf, PullsLow}
+use Rattle.i3c_device.specs.Reading.{AreBytesOf, Driving, PullsLow, registers_of}
 use Rattle.i3c_device.specs.Sets.{SomeLeft, has}
 use Rattle.i3c_device.specs.Walks.{AreReached, AreTakers, AreWillingLost, IsLowestWilling, SomeReached, SomeTakes, heard_at, reaches_at, willing_at}
 use Rattle.i3c_device.specs.Wishing.{asks_some, wishes_interrupt, wishes_join, wishes_role}
@@ -301,12 +302,13 @@ disabled_alike active to code words kinds now named (inr e) =
     ap (λ k. changed (λ s place. option_map (λ d. if reaches_at active to s d then under (without_kinds d.kinds k) d else d) place) now) named ∙ ap (λ c. changed (heard_at active to c words) now) (sym e)
 
 pub unheard_alike : (active : ℕ) (to : Option ℕ) (code : Code) (words : List Word) (now : List (Option Device))
-    → (code ≡ Deftgts) ⊎ ((code ≡ Setdasa) ⊎ ((code ≡ Setnewda) ⊎ ((code ≡ Getacccr) ⊎ ((byte : ℕ) × (code ≡ Other byte))))) → now ≡ changed (heard_at active to code words) now
+    → (code ≡ Deftgts) ⊎ ((code ≡ Setdasa) ⊎ ((code ≡ Setnewda) ⊎ (((what : Datum) × (code ≡ Get what)) ⊎ ((code ≡ Getacccr) ⊎ ((byte : ℕ) × (code ≡ Other byte)))))) → now ≡ changed (heard_at active to code words) now
 unheard_alike active to code words now (inl e) = unheard active to now ∙ ap (λ c. changed (heard_at active to c words) now) (sym e)
 unheard_alike active to code words now (inr (inl e)) = unheard active to now ∙ ap (λ c. changed (heard_at active to c words) now) (sym e)
 unheard_alike active to code words now (inr (inr (inl e))) = unheard active to now ∙ ap (λ c. changed (heard_at active to c words) now) (sym e)
-unheard_alike active to code words now (inr (inr (inr (inl e)))) = unheard active to now ∙ ap (λ c. changed (heard_at active to c words) now) (sym e)
-unheard_alike active to code words now (inr (inr (inr (inr e)))) = unheard active to now ∙ ap (λ c. changed (heard_at active to c words) now) (sym e.1)
+unheard_alike active to code words now (inr (inr (inr (inl e)))) = unheard active to now ∙ ap (λ c. changed (heard_at active to c words) now) (sym e.1)
+unheard_alike active to code words now (inr (inr (inr (inr (inl e))))) = unheard active to now ∙ ap (λ c. changed (heard_at active to c words) now) (sym e)
+unheard_alike active to code words now (inr (inr (inr (inr (inr e))))) = unheard active to now ∙ ap (λ c. changed (heard_at active to c words) now) (sym e.1)
 
 -- a kind that is enabled for the slot's device
 pub kind_there : (e : Enabled) (xs now : List (Option Device)) (kind : KindSet → Bool) (present own both : SlotSet) (s : ℕ) → seen e xs ≡ now → IsSetOf (λ d. true) present xs → has own s ≡ kind (kinds_in e s)
@@ -318,19 +320,38 @@ kind_there e xs now kind present own both s is of enables joined l =
     go None = refl
     go (Some d) = refl
 
--- registers as they are read
-pulls_seen : (e : Enabled) (xs now : List (Option Device)) (active a : ℕ) (lost : Lost) (k bit : ℕ) → seen e xs ≡ now → PullsLow active a lost k bit xs → PullsLow active a lost k bit now
-pulls_seen e xs now active a lost k bit is h = (h.0, under (kinds_in e h.0) h.1, now_at e xs now h.0 is ∙ ap (seen_in e h.0) h.2, h.3, h.4, h.5)
+-- what a device drives doesn't depend on its enabled kinds
+abbrev pub IsBlind : Driving → Type 0
+IsBlind own = (kinds : KindSet) (d : Device) → own (under kinds d) ≡ own d
 
-seen_pulls : (e : Enabled) (xs now : List (Option Device)) (active a : ℕ) (lost : Lost) (k bit : ℕ) → seen e xs ≡ now → PullsLow active a lost k bit now → PullsLow active a lost k bit xs
-seen_pulls e xs now active a lost k bit is h =
+pub registers_blind : IsBlind registers_of
+registers_blind kinds d = refl
+
+pub told_blind : (what : Datum) → IsBlind (told_bytes what)
+told_blind Datum.Pid kinds d = refl
+told_blind Datum.Bcr kinds d = refl
+told_blind Datum.Dcr kinds d = refl
+told_blind Datum.Status kinds d = refl
+told_blind Datum.WriteLength kinds d = refl
+told_blind Datum.ReadLength kinds d = refl
+told_blind Datum.Speed kinds d = refl
+told_blind Datum.Capabilities kinds d = refl
+
+-- bytes as they are read
+pulls_seen : (own : Driving) → IsBlind own → (e : Enabled) (xs now : List (Option Device)) (active a : ℕ) (lost : Lost) (k bit : ℕ) → seen e xs ≡ now → PullsLow own active a lost k bit xs → PullsLow own active a lost k bit now
+pulls_seen own blind e xs now active a lost k bit is h =
+    (h.0, under (kinds_in e h.0) h.1, now_at e xs now h.0 is ∙ ap (seen_in e h.0) h.2, h.3, h.4, ap (λ bytes. bit_at (slice_index bytes k) bit) (blind (kinds_in e h.0) h.1) ∙ h.5)
+
+seen_pulls : (own : Driving) → IsBlind own → (e : Enabled) (xs now : List (Option Device)) (active a : ℕ) (lost : Lost) (k bit : ℕ) → seen e xs ≡ now → PullsLow own active a lost k bit now → PullsLow own active a lost k bit xs
+seen_pulls own blind e xs now active a lost k bit is h =
     let u = unseen e h.0 (get_or xs h.0 None) h.1 (sym (now_at e xs now h.0 is) ∙ h.2) in
-    (h.0, u.0, u.1, sym (ap (reaches_at active (Some a) h.0) u.2) ∙ h.3, h.4, sym (ap (λ d. bit_at (slice_index d.registers k) bit) u.2) ∙ h.5)
+    (h.0, u.0, u.1, sym (ap (reaches_at active (Some a) h.0) u.2) ∙ h.3, h.4, sym (ap (λ bytes. bit_at (slice_index bytes k) bit) (ap own u.2 ∙ blind (kinds_in e h.0) u.0)) ∙ h.5)
 
-pub read_seen : (e : Enabled) (xs now : List (Option Device)) (active a : ℕ) (cuts : CutList) (first : ℕ) (bytes : List ℕ) → seen e xs ≡ now → AreReadOf active a cuts first xs bytes → AreReadOf active a cuts first now bytes
-read_seen e xs now active a cuts first bytes is h k j l m = (
-  λ z. pulls_seen e xs now active a (lost_by cuts (first + 9 * k + j)) k (7 - j) is ((h k j l m).0 z),
-  λ p. (h k j l m).1 (seen_pulls e xs now active a (lost_by cuts (first + 9 * k + j)) k (7 - j) is p),
+pub read_seen : (own : Driving) → IsBlind own → (e : Enabled) (xs now : List (Option Device)) (count active a : ℕ) (cuts : CutList) (first : ℕ) (bytes : List ℕ) → seen e xs ≡ now
+    → AreBytesOf own count active a cuts first xs bytes → AreBytesOf own count active a cuts first now bytes
+read_seen own blind e xs now count active a cuts first bytes is h k j l m = (
+  λ z. pulls_seen own blind e xs now active a (lost_by cuts (first + 9 * k + j)) k (7 - j) is ((h k j l m).0 z),
+  λ p. (h k j l m).1 (seen_pulls own blind e xs now active a (lost_by cuts (first + 9 * k + j)) k (7 - j) is p),
 )
 
 -- a slot that holds a device

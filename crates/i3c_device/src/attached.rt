@@ -1,9 +1,15 @@
+ghost use Rattle.std.specs.Prelude.{◌≡◌};
+ghost use Rattle.i3c_base.specs.Frames.{pid_bytes};
+
 use crate::answering::NOWHERE;
 use crate::queues::{are_same, copied, copy_from};
 use arrayvec::ArrayVec;
-use i3c_base::{Addr7, Identity, REGISTERS, RaiseRefusal, Request, Setup, WAITING, Waiting};
+use i3c_base::{Addr7, Datum, Identity, REGISTERS, RaiseRefusal, Request, Setup, WAITING, Waiting};
 use i3c_header::key;
 use std::marker::Model;
+
+/// How many bytes the longest datum has that a device is asked for.
+pub(crate) const LONGEST: usize = 6;
 
 /// A device while it is attached, but for which kinds of its events are enabled: clauses see it with all of them.
 #[derive(Drop)]
@@ -44,7 +50,9 @@ impl Model for Attached {
 impl Attached {
     ghost use Rattle.std.specs.Prelude.{◌≡◌, ◌≤◌, ◌↔◌, IsTrue, is_none, suc, length, slice_get, MatchOption, MatchResult, OnErr, OnOk, Some, None, true};
     ghost use Rattle.i3c_base.specs.declared.device.TheConstants.{REGISTERS as REGISTER_COUNT};
-    ghost use Rattle.i3c_base.specs.Frames.{overwritten, readdressed, unaddressed_device};
+    ghost use Rattle.i3c_base.specs.Filling.{filled_up};
+    ghost use Rattle.i3c_base.specs.Frames.{overwritten, pending, readdressed, told_bytes, unaddressed_device};
+    ghost use Rattle.i3c_device.specs.declared.attached.TheConstants.{LONGEST as MOST_TOLD};
     ghost use Rattle.i3c_base.specs.State.{attached};
     ghost use Rattle.i3c_base.specs.Serve.{without_front, without_join, without_role};
     ghost use Rattle.i3c_base.specs.Round.{hears, unhearing, winner};
@@ -179,6 +187,29 @@ impl Attached {
         ensures { result.now ≡ self.now.registers }
     {
         &self.registers
+    }
+
+    /// What it tells of a datum, the most significant byte first, with 00 behind it (I3C Basic 5.1.9.3).
+    pub fn told(&self, what: Datum) -> [u8; LONGEST]
+        ensures { result ≡ filled_up MOST_TOLD (told_bytes what self.now) }
+    {
+        match what {
+            Datum::Pid => pid_bytes(self.identity.pid.get()),
+            Datum::Bcr => [self.identity.bcr.0, 0, 0, 0, 0, 0],
+            Datum::Dcr => [self.identity.dcr.0, 0, 0, 0, 0, 0],
+            Datum::Status => [0, self.pending(), 0, 0, 0, 0],
+            Datum::WriteLength => [0, REGISTERS as u8, 0, 0, 0, 0],
+            Datum::ReadLength => [0, REGISTERS as u8, 1, 0, 0, 0],
+            Datum::Speed => [0; LONGEST],
+            Datum::Capabilities => [0, 1, 0, 0, 0, 0],
+        }
+    }
+
+    /// The second byte of its status: whether an interrupt of it waits (I3C Basic 5.1.9.3.15).
+    fn pending(&self) -> u8
+        ensures { result ≡ pending self.now }
+    {
+        if self.waiting.is_empty() { 0 } else { 1 }
     }
 
     /// A private write puts these bytes into its first registers.
@@ -402,4 +433,18 @@ impl Attached {
     {
         self.role_wish = false;
     }
+}
+
+/// A provisioned ID in bytes, the most significant first.
+fn pid_bytes(pid: u64) -> [u8; LONGEST]
+    ensures { result ≡ pid_bytes pid }
+{
+    [
+        (pid / 0x100_0000_0000 % 256) as u8,
+        (pid / 0x1_0000_0000 % 256) as u8,
+        (pid / 0x100_0000 % 256) as u8,
+        (pid / 0x1_0000 % 256) as u8,
+        (pid / 0x100 % 256) as u8,
+        (pid % 256) as u8,
+    ]
 }

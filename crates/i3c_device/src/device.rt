@@ -68,7 +68,12 @@ impl Device {
             Code::Disec | Code::DisecDirect => self.kinds = self.kinds.without(named(words)),
             Code::Entdaa => self.attached.hear_opening(),
             Code::Rstdaa => self.attached.lose_address(),
-            Code::Deftgts | Code::Setdasa | Code::Setnewda | Code::Getacccr | Code::Other(_) => {}
+            Code::Deftgts
+            | Code::Setdasa
+            | Code::Setnewda
+            | Code::Get(_)
+            | Code::Getacccr
+            | Code::Other(_) => {}
         }
     }
 

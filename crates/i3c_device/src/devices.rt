@@ -1,3 +1,4 @@
+use crate::attached::LONGEST;
 use crate::device::Device;
 use crate::driven::{enter_requests, slots_with};
 use crate::enabled::Enabled;
@@ -7,12 +8,13 @@ use crate::places::{address_in, byte_in, front_in, identity_in, waiting_in};
 use crate::resting::Resting;
 use crate::sets::{SlotSet, lost_slots};
 use crate::walks::{
-    Accepted, Ended, FrontLost, JoinWished, Lost, Opened, Readdressed, Reset, RoleLost, RoleWished,
-    SlotUpdate, Willing, Won, Written,
+    Accepted, Ended, FrontLost, JoinWished, Lost, Opened, Readdressed, Registers, Reset, RoleLost,
+    RoleWished, SlotUpdate, Told, Willing, Won, Written,
 };
 use arrayvec::ArrayVec;
 use i3c_base::{
-    Addr7, Change, Cuts, Identity, Kinds, REGISTERS, RaiseRefusal, Request, SLOTS, Slot, Waiting,
+    Addr7, Bytes, Change, Cuts, Datum, Identity, Kinds, REGISTERS, RaiseRefusal, Request, SLOTS,
+    Slot, Waiting,
 };
 use i3c_ccc::Code;
 use i3c_header::arbitrate;
@@ -48,7 +50,7 @@ impl Devices {
     ghost use Rattle.i3c_device.specs.Holding.{address_in, byte_in, front_in, identity_in, waiting_in};
     ghost use Rattle.i3c_device.specs.Walks.{accepted_at, heard_at, left_at, readdressed_at, taken_at, AreDrivers, AreHearers, AreReached, AreTakers, AreWillingLost, IsFirstDriven, IsLowestWilling, NobodyDrives, SomeReached, rekinded_at, written_at};
     ghost use Rattle.i3c_device.specs.Least.{IsLeastHeard, NobodyHears};
-    ghost use Rattle.i3c_device.specs.Reading.{AreReadOf, IsRegisterOf};
+    ghost use Rattle.i3c_device.specs.Reading.{AreReadOf, AreToldOf, IsByteOf};
     ghost use Rattle.i3c_device.specs.Sets.{has};
     ghost use Rattle.i3c_device.specs.Wishing.{asks_some};
     ghost use Rattle.std.specs.Prelude.{◌≡◌, ◌≤◌, ◌<◌, ◌+◌, ◌^◌, ◌↔◌, ◌&&◌, ◌==◌, ℕ, not, All, length, Option, IsTrue, is_some, suc, Some, None, option_map, slice_index_or, slice_set, MatchOption, MatchResult, OnOk, OnErr};
@@ -326,11 +328,48 @@ impl Devices {
         let targets = self.occupants.targets(active, address);
         let mut bytes = [0; REGISTERS];
         for (index, byte) in bytes.iter_mut().enumerate() {
-            *byte = self
-                .occupants
-                .register_of(targets, index, cuts, first + WORD_BITS * index as u16);
+            *byte = self.occupants.byte_of(
+                &Registers,
+                targets,
+                index,
+                cuts,
+                first + WORD_BITS * index as u16,
+            );
         }
         bytes
+    }
+
+    /// So many bytes of a datum, as the lines give them while the devices at an address tell it; the first data bit is
+    /// this bit of the frame (I3C Basic 5.1.9.3). All who have the address drive theirs, but the active controller and,
+    /// from their cuts on, those who are cut.
+    pub fn tell(
+        &self,
+        what: Datum,
+        count: usize,
+        active: Slot,
+        address: Addr7,
+        cuts: &Cuts,
+        first: u16,
+    ) -> Bytes
+        requires few { count ≤ 6 }
+        requires fits { first + 54 ≤ 2 ^ 16 }
+        ensures told { AreToldOf what active address cuts.now first self.now result }
+        ensures long { length result ≡ count }
+        ensures bytes { All (λ byte. byte < 256) result }
+    {
+        let targets = self.occupants.targets(active, address);
+        let told = Told { what };
+        let mut bytes = [0; LONGEST];
+        for (index, byte) in bytes.iter_mut().enumerate() {
+            *byte = self.occupants.byte_of(
+                &told,
+                targets,
+                index,
+                cuts,
+                first + WORD_BITS * index as u16,
+            );
+        }
+        Bytes::new(&bytes[..count])
     }
 
     /// The slots of the devices that a command reaches, all but the active controller or those of them at one address.
@@ -368,7 +407,12 @@ impl Devices {
             }
             Code::Entdaa => self.occupants.each(reached, &Opened),
             Code::Rstdaa => self.occupants.each(reached, &Reset),
-            Code::Deftgts | Code::Setdasa | Code::Setnewda | Code::Getacccr | Code::Other(_) => {}
+            Code::Deftgts
+            | Code::Setdasa
+            | Code::Setnewda
+            | Code::Get(_)
+            | Code::Getacccr
+            | Code::Other(_) => {}
         }
     }
 

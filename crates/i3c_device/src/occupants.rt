@@ -1,9 +1,9 @@
 use crate::attached::Attached;
 use crate::kept::Kept;
 use crate::marks::Marks;
-use crate::places::{raise, register_from, stands, wishes_interrupt};
+use crate::places::{byte_from, raise, stands, wishes_interrupt};
 use crate::sets::SlotSet;
-use crate::walks::{SlotUpdate, Sought, happen_in};
+use crate::walks::{Driven, SlotUpdate, Sought, happen_in};
 use i3c_base::{Addr7, Cuts, RaiseRefusal, SLOTS, Slot};
 use std::marker::Model;
 
@@ -37,7 +37,7 @@ impl Occupants {
     ghost use Rattle.i3c_device.specs.Least.{IsLeastHeard, NobodyHears};
     ghost use Rattle.i3c_device.specs.Marks.{AreMarks};
     ghost use Rattle.i3c_device.specs.Raising.{interrupting_if, next_fault, with_raise};
-    ghost use Rattle.i3c_device.specs.Reading.{AreAt, IsRegisterOf};
+    ghost use Rattle.i3c_device.specs.Reading.{AreAt, IsByteOf};
     ghost use Rattle.i3c_device.specs.Sets.{has};
     ghost use Rattle.i3c_device.specs.Walks.{AreTakers};
     ghost use Rattle.std.specs.Prelude.{◌≡◌, ◌<◌, ◌&&◌, ℕ, is_some, length, suc, true, Some, None, option_copied, option_map, slice_index_or, slice_set, MatchOption, MatchResult, OnOk, OnErr};
@@ -173,16 +173,23 @@ impl Occupants {
         }
     }
 
-    /// A register of these slots' devices, as the lines give it from this bit of a frame on.
-    pub fn register_of(&self, among: SlotSet, register: usize, cuts: &Cuts, at: u16) -> u8
-        requires { register < REGISTER_COUNT }
-        ensures { IsRegisterOf among register cuts.now at self.now result }
+    /// A byte of what these slots' devices drive, as the lines give it from this bit of a frame on.
+    pub fn byte_of<D: Driven>(
+        &self,
+        driven: &D,
+        among: SlotSet,
+        index: usize,
+        cuts: &Cuts,
+        at: u16,
+    ) -> u8
+        requires { index < D.count }
+        ensures { IsByteOf (D.bytes driven.now) among index cuts.now at self.now result }
     {
         let mut byte = u8::MAX;
         let mut left = among;
-        while let Some(index) = left.take_lowest() {
-            let cut = cuts.at(Slot::from_index(index));
-            byte &= register_from(&self.places[index], register, cut, at);
+        while let Some(slot) = left.take_lowest() {
+            let cut = cuts.at(Slot::from_index(slot));
+            byte &= byte_from(driven, &self.places[slot], index, cut, at);
         }
         byte
     }

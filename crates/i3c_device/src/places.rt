@@ -9,12 +9,13 @@ ghost use Rattle.i3c_device.specs.Addressing.{IsDynamicIn};
 ghost use Rattle.i3c_device.specs.Holding.{address_in, byte_in, front_in, identity_in, waiting_in};
 ghost use Rattle.i3c_device.specs.Marks.{answer_in, key_in};
 ghost use Rattle.i3c_device.specs.Raising.{interrupting_if, next_fault, wishing_join, wishing_role, with_raise};
-ghost use Rattle.i3c_device.specs.Reading.{IsDrivenFrom, IsRegisterFrom};
+ghost use Rattle.i3c_device.specs.Reading.{IsByteFrom, IsDrivenFrom};
 ghost use Rattle.i3c_device.specs.Walks.{reaches_at, taken_from, willing_at, written_at};
 ghost use Rattle.i3c_device.specs.Wishing.{wishes_interrupt, wishes_join, wishes_role};
 
 use crate::answering::NOWHERE;
 use crate::attached::Attached;
+use crate::walks::Driven;
 use i3c_base::{Addr7, Identity, RaiseRefusal, Request, Slot, Waiting};
 
 /// Whether this device stands here.
@@ -248,18 +249,19 @@ fn driven_from(own: u8, cut: Option<u16>, at: u16) -> u8
     }
 }
 
-/// A register of whatever stands in this slot, as it is driven from this bit of a frame on: all ones by nobody.
-pub(crate) fn register_from(
+/// A byte of what whatever stands in this slot drives, from this bit of a frame on: all ones by nobody.
+pub(crate) fn byte_from<D: Driven>(
+    driven: &D,
     place: &Option<Attached>,
-    register: usize,
+    index: usize,
     cut: Option<u16>,
     at: u16,
 ) -> u8
-    requires { register < REGISTER_COUNT }
-    ensures { IsRegisterFrom place.now register cut at result }
+    requires { index < D.count }
+    ensures { IsByteFrom (D.bytes driven.now) place.now index cut at result }
 {
     match place {
-        Some(device) => driven_from(device.registers()[register], cut, at),
+        Some(device) => driven_from(driven.byte(device, index), cut, at),
         None => u8::MAX,
     }
 }

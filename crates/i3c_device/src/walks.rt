@@ -1,11 +1,13 @@
-ghost use Rattle.std.specs.Prelude.{◌≡◌, ◌≤◌, ◌<◌, ℕ, Bool, List, Option, None, false, length, option_map, slice_index_or, slice_set};
+ghost use Rattle.std.specs.Prelude.{◌≡◌, ◌≤◌, ◌<◌, ℕ, Bool, List, Option, None, false, length, option_map, slice_index, slice_index_or, slice_set};
 ghost use Rattle.i3c_base.specs.declared.device.TheConstants.{REGISTERS as REGISTER_COUNT};
 ghost use Rattle.i3c_base.specs.declared.range.TheConstants.{SLOTS as SLOT_COUNT};
-ghost use Rattle.i3c_base.specs.Frames.{readdressed, unaddressed_device};
+ghost use Rattle.i3c_base.specs.Frames.{readdressed, told_bytes, unaddressed_device};
 ghost use Rattle.i3c_base.specs.Round.{hears, unhearing, winner};
 ghost use Rattle.i3c_base.specs.Serve.{without_front, without_role};
 ghost use Rattle.i3c_base.specs.State.{Device as DeviceState};
 ghost use Rattle.i3c_device.specs.Marks.{AreMarks};
+ghost use Rattle.i3c_device.specs.declared.attached.TheConstants.{LONGEST};
+ghost use Rattle.i3c_device.specs.Reading.{registers_of};
 ghost use Rattle.i3c_device.specs.Raising.{wishing_join, wishing_role};
 ghost use Rattle.i3c_device.specs.Walks.{taken_from, willing_at, written_at};
 
@@ -15,7 +17,7 @@ use crate::places::{
     accept, is_willing, lose_front, lose_role_wish, open, reaches, readdress, reset, silence, win,
     wish_join, wish_role, wishes_interrupt, write,
 };
-use i3c_base::{Addr7, Request, Slot};
+use i3c_base::{Addr7, Datum, Request, Slot};
 
 /// What happens to whatever stands in some slots.
 pub(crate) trait SlotUpdate {
@@ -305,5 +307,49 @@ impl Sought for Willing {
 
     fn is_found(&self, place: &Option<Attached>, index: usize) -> bool {
         is_willing(place, index, self.active, self.address)
+    }
+}
+
+/// What devices drive while they are read.
+pub(crate) trait Driven {
+    /// How many bytes each drives.
+    ghost count: { ℕ };
+
+    /// The bytes that a device drives.
+    ghost bytes: { Self → DeviceState → List ℕ };
+
+    /// One of these bytes.
+    fn byte(&self, device: &Attached, index: usize) -> u8
+        requires { index < count }
+        ensures { result ≡ slice_index (bytes self.now device.now) index };
+}
+
+/// Their registers, as in a private read.
+#[derive(Drop)]
+pub(crate) struct Registers;
+
+impl Driven for Registers {
+    ghost count = { REGISTER_COUNT };
+
+    ghost bytes = { λ r d. registers_of d };
+
+    fn byte(&self, device: &Attached, index: usize) -> u8 {
+        device.registers()[index]
+    }
+}
+
+/// A datum that they are asked for, with 00 behind it.
+#[derive(Drop)]
+pub(crate) struct Told {
+    pub what: Datum,
+}
+
+impl Driven for Told {
+    ghost count = { LONGEST };
+
+    ghost bytes = { λ t d. told_bytes t.what d };
+
+    fn byte(&self, device: &Attached, index: usize) -> u8 {
+        device.told(self.what)[index]
     }
 }

@@ -6,15 +6,17 @@ use Rattle.std.specs.Ordering.{match_ordering}
 use Rattle.serde_json.specs.Data.{Data, array, boolean, number, unsigned, Members, no_members, member, put, depth, items_depth, members_depth}
 use Rattle.serde_json.specs.View.{items_of}
 use Rattle.serde_json.specs.Written.{has_float, items_have_float, members_have_float}
+use Rattle.i3c_base.specs.declared.datum.Datum.{Datum}
 use Rattle.i3c_base.specs.declared.requests.Record.{Record}
 use Rattle.i3c_lines.specs.declared.refusals.Refusal.{Refusal}
+use Rattle.i3c_lines.specs.Data.{told_word}
 use Rattle.i3c_lines.specs.Refusing.{refusal_word}
 use Rattle.i3c_text.specs.Hex.{byte_text}
 use Rattle.i3c_json.specs.declared.kinds.Kind.{Kind}
-use Rattle.i3c_json.specs.Kinds.{has_kind}
+use Rattle.i3c_json.specs.Kinds.{has_kind, told_datum}
 use Rattle.i3c_json.specs.Pieces.{pieces}
-use Rattle.i3c_json.specs.Values.{byte_data, line_data, record_data, text_data, values_of}
-use Rattle.i3c_json.specs.Objects.{answer_data, put_address, put_array, put_asking, put_first, put_outcome, put_record, put_said, refusal_address}
+use Rattle.i3c_json.specs.Values.{byte_data, datum_data, line_data, record_data, text_data, values_of}
+use Rattle.i3c_json.specs.Objects.{answer_data, put_address, put_array, put_asking, put_data, put_datum, put_first, put_outcome, put_record, put_said, refusal_address}
 
 -- no float, and at most two levels
 abbrev IsFlat : Data → Type 0
@@ -88,13 +90,22 @@ first_put : (key : List ℕ) (values : List Data) (members : Members) → Values
 first_put key [] members are flat = flat
 first_put key (value ∷ more) members are flat = put_flat key value members ((or_parts (has_float value) (items_have_float (items_of more)) are.0).0, omega (arith, are.1)) flat
 
+datum_put : (what : Option Datum) (line : List ℕ) (members : Members) → AreFlat members → AreFlat (put_datum what line members)
+datum_put None line members flat = flat
+datum_put (Some what) line members flat = put_flat (told_word what) (datum_data what line) members (refl, omega arith) flat
+
+data_put : (lines : List (List ℕ)) (members : Members) → AreFlat members → AreFlat (put_data lines members)
+data_put [] members flat = flat
+data_put (line ∷ lines) members flat = data_put lines (put_datum (told_datum line) line members) (datum_put (told_datum line) line members flat)
+
 said_put : (lines : List (List ℕ)) (members : Members) → AreFlat members → AreFlat (put_said lines members)
 said_put lines members flat =
     array_put (codes "told") _ _ (values_flat Kind.Told lines)
+    (data_put lines _
     (first_put (codes "active") _ _ (values_flat Kind.Active lines)
     (first_put (codes "bytes") _ _ (values_flat Kind.Bytes lines)
     (array_put (codes "assigned") _ _ (values_flat Kind.Assigned lines)
-    (first_put (codes "served") _ _ (values_flat Kind.Served lines) flat))))
+    (first_put (codes "served") _ _ (values_flat Kind.Served lines) flat)))))
 
 address_put : (address : Option ℕ) (members : Members) → AreFlat members → AreFlat (put_address address members)
 address_put None members flat = flat

@@ -1,20 +1,23 @@
 -- What stands under the names `line`, `ok` and `refused`, whatever is put beside it.
-use Rattle.std.proofs.Common.{◌≡◌, ◌∙◌, ℕ, Bool, true, false, List, [], ◌∷◌, Option, Some, None, option_map, refl, sym}
+use Rattle.std.proofs.Common.{◌≡◌, ◌∙◌, ℕ, true, false, List, [], ◌∷◌, Option, Some, None, option_map, refl, sym}
 use Rattle.std.proofs.lemmas.Bool.{false≢true}
 use Rattle.std.proofs.lemmas.Slice.Eq.{bytes_eq-Decides}
 use Rattle.std.specs.Prelude.{bytes_eq, codes}
 use Rattle.serde_json.specs.Data.{Data, Members, boolean, number, unsigned, no_members, put}
 use Rattle.serde_json.specs.Find.{get_member}
 use Rattle.serde_json.proofs.Views.{get_member-put, get_member-put_other}
+use Rattle.i3c_base.specs.declared.datum.Datum.{Datum}
 use Rattle.i3c_base.specs.declared.requests.Record.{Record}
 use Rattle.i3c_lines.specs.declared.refusals.Refusal.{Refusal}
+use Rattle.i3c_lines.specs.Data.{told_word}
 use Rattle.i3c_lines.specs.Refusing.{refusal_word}
 use Rattle.i3c_text.specs.Hex.{byte_text}
 use Rattle.i3c_json.specs.declared.kinds.Kind.{Kind}
+use Rattle.i3c_json.specs.Kinds.{told_datum}
 use Rattle.i3c_json.specs.Laws.{ObjectsTellOutcomes, ok_of}
-use Rattle.i3c_json.specs.Objects.{put_address, put_array, put_asking, put_first, put_outcome, put_record, put_said, refusal_address}
+use Rattle.i3c_json.specs.Objects.{put_address, put_array, put_asking, put_data, put_datum, put_first, put_outcome, put_record, put_said, refusal_address}
 use Rattle.i3c_json.specs.Pieces.{pieces}
-use Rattle.i3c_json.specs.Values.{record_data, text_data, values_of}
+use Rattle.i3c_json.specs.Values.{datum_data, record_data, text_data, values_of}
 
 differ : (name key : List ℕ) → bytes_eq name key ≡ false → name ≡ key → ⊥
 differ name key far same = absurd (false≢true (sym far ∙ (bytes_eq-Decides name key).1 same))
@@ -43,9 +46,35 @@ other_asking : (name : List ℕ) (asking : Option (List ℕ)) (members : Members
 other_asking name None members far = refl
 other_asking name (Some names) members far = other name (codes "asking") _ members far
 
+-- a name that no datum's field has
+abbrev IsNoDatum : List ℕ → Type 0
+IsNoDatum name = (what : Datum) → bytes_eq name (told_word what) ≡ false
+
+other_datum : (name : List ℕ) (what : Option Datum) (line : List ℕ) (members : Members) → IsNoDatum name → get_member name (put_datum what line members) ≡ get_member name members
+other_datum name None line members far = refl
+other_datum name (Some what) line members far = other name (told_word what) (datum_data what line) members (far what)
+
+other_data : (name : List ℕ) (lines : List (List ℕ)) (members : Members) → IsNoDatum name → get_member name (put_data lines members) ≡ get_member name members
+other_data name [] members far = refl
+other_data name (line ∷ lines) members far =
+    other_data name lines (put_datum (told_datum line) line members) far ∙ other_datum name (told_datum line) line members far
+
+-- it differs from each of the eight words
+apart_words : (name : List ℕ) → bytes_eq name (codes "pid") ≡ false → bytes_eq name (codes "bcr") ≡ false → bytes_eq name (codes "dcr") ≡ false → bytes_eq name (codes "status") ≡ false
+    → bytes_eq name (codes "mwl") ≡ false → bytes_eq name (codes "mrl") ≡ false → bytes_eq name (codes "mxds") ≡ false → bytes_eq name (codes "caps") ≡ false → IsNoDatum name
+apart_words name pid bcr dcr status mwl mrl mxds caps Datum.Pid = pid
+apart_words name pid bcr dcr status mwl mrl mxds caps Datum.Bcr = bcr
+apart_words name pid bcr dcr status mwl mrl mxds caps Datum.Dcr = dcr
+apart_words name pid bcr dcr status mwl mrl mxds caps Datum.Status = status
+apart_words name pid bcr dcr status mwl mrl mxds caps Datum.WriteLength = mwl
+apart_words name pid bcr dcr status mwl mrl mxds caps Datum.ReadLength = mrl
+apart_words name pid bcr dcr status mwl mrl mxds caps Datum.Speed = mxds
+apart_words name pid bcr dcr status mwl mrl mxds caps Datum.Capabilities = caps
+
 -- a name that no field has but those of the outcome
 record IsApart (name : List ℕ) : Type 0 where
   told : bytes_eq name (codes "told") ≡ false
+  datum : IsNoDatum name
   active : bytes_eq name (codes "active") ≡ false
   read : bytes_eq name (codes "bytes") ≡ false
   assigned : bytes_eq name (codes "assigned") ≡ false
@@ -59,7 +88,8 @@ other_said name lines members apart =
     let assigned = put_array (codes "assigned") (values_of Kind.Assigned lines) served in
     let read = put_first (codes "bytes") (values_of Kind.Bytes lines) assigned in
     let active = put_first (codes "active") (values_of Kind.Active lines) read in
-    other_array name (codes "told") (values_of Kind.Told lines) active apart.told
+    other_array name (codes "told") (values_of Kind.Told lines) (put_data lines active) apart.told
+    ∙ other_data name lines active apart.datum
     ∙ other_first name (codes "active") (values_of Kind.Active lines) read apart.active
     ∙ other_first name (codes "bytes") (values_of Kind.Bytes lines) assigned apart.read
     ∙ other_array name (codes "assigned") (values_of Kind.Assigned lines) served apart.assigned
@@ -95,13 +125,13 @@ why_found count (Some why) =
     ∙ get_member-put (codes "refused") (text_data (refusal_word why)) (numbered count)
 
 apart_line : IsApart (codes "line")
-apart_line = record { told = refl; active = refl; read = refl; assigned = refl; served = refl; added = refl; asking = refl }
+apart_line = record { told = refl; datum = apart_words (codes "line") refl refl refl refl refl refl refl refl; active = refl; read = refl; assigned = refl; served = refl; added = refl; asking = refl }
 
 apart_ok : IsApart (codes "ok")
-apart_ok = record { told = refl; active = refl; read = refl; assigned = refl; served = refl; added = refl; asking = refl }
+apart_ok = record { told = refl; datum = apart_words (codes "ok") refl refl refl refl refl refl refl refl; active = refl; read = refl; assigned = refl; served = refl; added = refl; asking = refl }
 
 apart_refused : IsApart (codes "refused")
-apart_refused = record { told = refl; active = refl; read = refl; assigned = refl; served = refl; added = refl; asking = refl }
+apart_refused = record { told = refl; datum = apart_words (codes "refused") refl refl refl refl refl refl refl refl; active = refl; read = refl; assigned = refl; served = refl; added = refl; asking = refl }
 
 pub outcomes_told : ObjectsTellOutcomes
 outcomes_told count refused said added asking =

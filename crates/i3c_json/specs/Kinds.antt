@@ -1,6 +1,8 @@
 -- Which field of the object a printed line belongs to.
-use Rattle.std.specs.Prelude.{ℕ, ◌==◌, nat_eq, Bool, ◌&&◌, ◌||◌, not, List, codes, drop, length, bytes_eq}
-use Rattle.std.specs.List.{list_any, starts_with}
+use Rattle.std.specs.Prelude.{ℕ, ◌==◌, nat_eq, Bool, ◌&&◌, ◌||◌, not, List, [], ◌∷◌, Option, codes, drop, is_some, length, bytes_eq}
+use Rattle.std.specs.List.{find, list_any, starts_with}
+use Rattle.i3c_base.specs.declared.datum.Datum.{Datum}
+use Rattle.i3c_lines.specs.Data.{told_word}
 use Rattle.i3c_json.specs.declared.kinds.Kind.{Kind}
 
 -- the line begins with these words
@@ -28,9 +30,25 @@ is_bytes line = (length line == 38) && begins line (codes "bytes ")
 abbrev pub is_active : List ℕ → Bool
 is_active line = (length line == 9) && begins line (codes "active ")
 
+-- the data that a controller asks for
+abbrev pub all_data : List Datum
+all_data = Datum.Pid ∷ Datum.Bcr ∷ Datum.Dcr ∷ Datum.Status ∷ Datum.WriteLength ∷ Datum.ReadLength ∷ Datum.Speed ∷ Datum.Capabilities ∷ []
+
+-- a space, and one word behind it
+abbrev pub is_one_word : List ℕ → Bool
+is_one_word rest = begins rest (codes " ") && not (list_any (λ byte. byte == 32) (drop 1 rest))
+
+-- the line tells this datum, by its word and one more: the line of a device that is called so has more words
+abbrev pub tells : List ℕ → Datum → Bool
+tells line what = is_one_word (drop (length (told_word what)) line) && begins line (told_word what)
+
+-- the datum that the line tells, if it tells one
+abbrev pub told_datum : List ℕ → Option Datum
+told_datum line = find (λ what. tells line what) all_data
+
 -- any other line
 abbrev pub is_told : List ℕ → Bool
-is_told line = not (is_served line || (is_assigned line || (is_bytes line || is_active line)))
+is_told line = not (is_served line || (is_assigned line || (is_bytes line || (is_active line || is_some (told_datum line)))))
 
 abbrev pub has_kind : Kind → List ℕ → Bool
 has_kind Kind.Served line = is_served line

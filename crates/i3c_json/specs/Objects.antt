@@ -4,15 +4,18 @@ use Rattle.serde_json.specs.Data.{Data, Members, array, boolean, number, object,
 use Rattle.serde_json.specs.Read.{read}
 use Rattle.serde_json.specs.View.{items_of}
 use Rattle.serde_json.specs.Written.{compact_text}
+use Rattle.i3c_base.specs.declared.datum.Datum.{Datum}
 use Rattle.i3c_base.specs.declared.requests.Record.{Record}
 use Rattle.i3c_step.specs.declared.replies.Refusal.{Refusal as BusRefusal}
 use Rattle.i3c_lines.specs.declared.refusals.Refusal.{Refusal}
+use Rattle.i3c_lines.specs.Data.{told_word}
 use Rattle.i3c_lines.specs.Refusing.{refusal_word}
 use Rattle.i3c_text.specs.Hex.{byte_text}
 use Rattle.i3c_json.specs.declared.answer.Answer.{Answer}
 use Rattle.i3c_json.specs.declared.kinds.Kind.{Kind}
+use Rattle.i3c_json.specs.Kinds.{told_datum}
 use Rattle.i3c_json.specs.Pieces.{pieces}
-use Rattle.i3c_json.specs.Values.{record_data, text_data, values_of}
+use Rattle.i3c_json.specs.Values.{datum_data, record_data, text_data, values_of}
 
 -- an array, unless it is empty
 abbrev pub put_array : List ℕ → List Data → Members → Members
@@ -74,10 +77,20 @@ abbrev pub put_asking : Option (List ℕ) → Members → Members
 put_asking None members = members
 put_asking (Some names) members = put (codes "asking") (array (items_of (map text_data (drop 1 (pieces 32 names))))) members
 
+-- what a line tells of a datum, under the datum's word
+abbrev pub put_datum : Option Datum → List ℕ → Members → Members
+put_datum None line members = members
+put_datum (Some what) line members = put (told_word what) (datum_data what line) members
+
+-- the data that lines tell
+abbrev pub put_data : List (List ℕ) → Members → Members
+put_data [] members = members
+put_data (line ∷ rest) members = put_data rest (put_datum (told_datum line) line members)
+
 -- the fields that printed lines belong to
 abbrev pub put_said : List (List ℕ) → Members → Members
 put_said lines members =
-    put_array (codes "told") (values_of Kind.Told lines) (put_first (codes "active") (values_of Kind.Active lines) (put_first (codes "bytes") (values_of Kind.Bytes lines) (put_array (codes "assigned") (values_of Kind.Assigned lines) (put_first (codes "served") (values_of Kind.Served lines) members))))
+    put_array (codes "told") (values_of Kind.Told lines) (put_data lines (put_first (codes "active") (values_of Kind.Active lines) (put_first (codes "bytes") (values_of Kind.Bytes lines) (put_array (codes "assigned") (values_of Kind.Assigned lines) (put_first (codes "served") (values_of Kind.Served lines) members)))))
 
 -- the object of an answer: the line's number, what it came to, what it printed, the record that it added, and who asks
 abbrev pub answer_data : ℕ → Option Refusal → List ℕ → Option (ℕ × Record) → Option (List ℕ) → Data

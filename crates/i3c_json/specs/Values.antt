@@ -1,7 +1,9 @@
 -- The values of fields, as JSON data.
-use Rattle.std.specs.Prelude.{ℕ, nat_lt, List, [], ◌∷◌, codes, drop, map, take, Option, Some, None, if◌then◌else◌}
+use Rattle.std.specs.Prelude.{ℕ, ◌+◌, nat_lt, List, [], ◌∷◌, codes, drop, length, map, take, Option, Some, None, if◌then◌else◌}
 use Rattle.serde_json.specs.Data.{Data, null, number, object, string, unsigned, no_members, put}
+use Rattle.i3c_base.specs.declared.datum.Datum.{Datum}
 use Rattle.i3c_base.specs.declared.requests.Record.{Record}
+use Rattle.i3c_lines.specs.Data.{told_word}
 use Rattle.i3c_text.specs.Hex.{byte_text}
 use Rattle.i3c_json.specs.Kinds.{has_kind}
 use Rattle.i3c_json.specs.declared.kinds.Kind.{Kind}
@@ -30,6 +32,10 @@ line_data Kind.Told line = text_data line
 abbrev pub values_of : Kind → List (List ℕ) → List Data
 values_of kind [] = []
 values_of kind (line ∷ rest) = if has_kind kind line then line_data kind line ∷ values_of kind rest else values_of kind rest
+
+-- what a line tells of a datum, behind its word and a space
+abbrev pub datum_data : Datum → List ℕ → Data
+datum_data what line = text_data (drop (length (told_word what) + 1) line)
 
 -- the byte of a record, in hex digits
 abbrev pub byte_data : Option ℕ → Data

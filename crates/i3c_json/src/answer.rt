@@ -3,13 +3,13 @@ ghost use Rattle.serde_json.specs.Data.{array};
 ghost use Rattle.serde_json.specs.View.{items_of, members_view, view};
 ghost use Rattle.i3c_json.specs.Pieces.{pieces};
 ghost use Rattle.i3c_json.specs.Values.{text_data};
-ghost use Rattle.i3c_json.specs.Objects.{IsLineOf, data_of, put_address, put_array, put_asking, put_first, put_outcome, put_record, put_said, refusal_address};
+ghost use Rattle.i3c_json.specs.Objects.{IsLineOf, data_of, put_address, put_array, put_asking, put_data, put_first, put_outcome, put_record, put_said, refusal_address};
 
-use crate::kinds::Kind;
+use crate::kinds::{Kind, told_datum};
 use crate::pieces::pieces;
-use crate::values::{hex_value, record_value, text_value, values_of};
+use crate::values::{datum_value, hex_value, record_value, text_value, values_of};
 use i3c_base::{Addr7, Record};
-use i3c_lines::Refusal;
+use i3c_lines::{Refusal, told_word};
 use i3c_step::Refusal as BusRefusal;
 use i3c_text::Text;
 use serde_json::{Map, Value, push, put};
@@ -127,7 +127,27 @@ fn put_said(alloc: Global, said: &[u8], fields: &mut Fields) -> Result<(), Alloc
         values_of(alloc, Kind::Active, &lines)?,
         fields,
     )?;
+    put_data(alloc, &lines, fields)?;
     put_array(alloc, "told", values_of(alloc, Kind::Told, &lines)?, fields)
+}
+
+/// Puts the data that lines tell, each under its word.
+fn put_data(alloc: Global, lines: &[Vec<u8>], fields: &mut Fields) -> Result<(), AllocError>
+    ensures { OnOk result (members_view fields.new.entries ≡ put_data (map (λ line. line.items) lines.now) (members_view fields.old.entries)) }
+{
+    let mut rest = lines;
+    while let [line, more @ ..] = rest {
+        if let Some(what) = told_datum(line) {
+            put(
+                fields,
+                alloc,
+                told_word(what),
+                datum_value(alloc, what, line)?,
+            )?;
+        }
+        rest = more;
+    }
+    Ok(())
 }
 
 /// Puts an array, unless it is empty.

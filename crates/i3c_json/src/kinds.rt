@@ -1,5 +1,8 @@
-ghost use Rattle.std.specs.Prelude.{◌≡◌, bytes_eq};
-ghost use Rattle.i3c_json.specs.Kinds.{begins, has_kind, is_active, is_assigned, is_bytes, is_recorded, is_served, is_told};
+ghost use Rattle.std.specs.Prelude.{◌≡◌, bytes_eq, drop};
+ghost use Rattle.i3c_json.specs.Kinds.{begins, has_kind, is_active, is_assigned, is_bytes, is_one_word, is_recorded, is_served, is_told, told_datum, tells};
+
+use i3c_base::Datum;
+use i3c_lines::told_word;
 
 /// How long the words in front of a record's number are.
 const RECORDED_LENGTH: usize = 9;
@@ -13,7 +16,19 @@ const BYTES_LENGTH: usize = 38;
 /// How long the line `active ADDR` is.
 const ACTIVE_LENGTH: usize = 9;
 
-/// Which field of the object a printed line belongs to.
+/// The data that a controller asks for.
+const DATA: [Datum; 8] = [
+    Datum::Pid,
+    Datum::Bcr,
+    Datum::Dcr,
+    Datum::Status,
+    Datum::WriteLength,
+    Datum::ReadLength,
+    Datum::Speed,
+    Datum::Capabilities,
+];
+
+/// Which field of the object a printed line belongs to, if it tells no datum.
 #[derive(Clone, Copy, Debug, PartialEq, Eq)]
 pub(crate) enum Kind {
     /// What became of the frame's first request.
@@ -81,11 +96,37 @@ fn is_active(line: &[u8]) -> bool
     line.len() == ACTIVE_LENGTH && begins(line, b"active ")
 }
 
+/// The datum that a printed line tells, if it tells one.
+pub(crate) fn told_datum(line: &[u8]) -> Option<Datum>
+    ensures { result ≡ told_datum line.now }
+{
+    DATA.iter().copied().find(|what| tells(line, *what))
+}
+
+/// Whether it tells this datum. The line of a device that is called as the datum has more words.
+fn tells(line: &[u8], what: Datum) -> bool
+    ensures { result ≡ tells line.now what }
+{
+    let word = told_word(what).as_bytes();
+    is_one_word(behind(line, word.len())) && begins(line, word)
+}
+
+/// Whether it is a space, and one word behind it.
+fn is_one_word(rest: &[u8]) -> bool
+    ensures { result ≡ is_one_word rest.now }
+{
+    begins(rest, b" ") && !rest[1..].contains(&b' ')
+}
+
 /// Whether it has no field of its own.
 fn is_told(line: &[u8]) -> bool
     ensures { result ≡ is_told line.now }
 {
-    !(is_served(line) || is_assigned(line) || is_bytes(line) || is_active(line))
+    !(is_served(line)
+        || is_assigned(line)
+        || is_bytes(line)
+        || is_active(line)
+        || told_datum(line).is_some())
 }
 
 /// Whether a line is these words.
@@ -93,6 +134,16 @@ fn is(line: &[u8], words: &[u8]) -> bool
     ensures { result ≡ bytes_eq line.now words.now }
 {
     line == words
+}
+
+/// What stands behind the first bytes of a line.
+pub(crate) fn behind(line: &[u8], count: usize) -> &[u8]
+    ensures { result.now ≡ drop count line.now }
+{
+    match line.get(count..) {
+        Some(rest) => rest,
+        None => &[],
+    }
 }
 
 /// Whether a line begins with these words.

@@ -1,10 +1,11 @@
 ghost use Rattle.std.specs.Prelude.{◌≡◌, ◌<◌, drop, map, take, IfOk};
 ghost use Rattle.serde_json.specs.View.{view};
 ghost use Rattle.i3c_text.specs.Hex.{byte_text};
-ghost use Rattle.i3c_json.specs.Values.{ascii, assigned_data, byte_data, line_data, record_data, text_data, values_of};
+ghost use Rattle.i3c_json.specs.Values.{ascii, assigned_data, byte_data, datum_data, line_data, record_data, text_data, values_of};
 
-use crate::kinds::{Kind, has_kind};
-use i3c_base::Record;
+use crate::kinds::{Kind, behind, has_kind};
+use i3c_base::{Datum, Record};
+use i3c_lines::told_word;
 use i3c_text::Text;
 use serde_json::{Map, Value, push, put};
 use std::alloc::{AllocError, Global};
@@ -70,14 +71,11 @@ fn line_value(alloc: Global, kind: Kind, line: &[u8]) -> Result<Value, AllocErro
     }
 }
 
-/// What stands behind the first bytes of a line.
-fn behind(line: &[u8], count: usize) -> &[u8]
-    ensures { result.now ≡ drop count line.now }
+/// What a line tells of a datum.
+pub(crate) fn datum_value(alloc: Global, what: Datum, line: &[u8]) -> Result<Value, AllocError>
+    ensures { IfOk result (λ value. view value ≡ datum_data what line.now) }
 {
-    match line.get(count..) {
-        Some(rest) => rest,
-        None => &[],
-    }
+    text_value(alloc, behind(line, told_word(what).len() + 1))
 }
 
 /// The first bytes of what stands behind others.

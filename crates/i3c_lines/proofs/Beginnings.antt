@@ -1,12 +1,14 @@
 -- The lines that begin with a letter.
-use Rattle.std.proofs.Common.{◌≡◌, ◌∙◌, ◌⊎◌, ℕ, Bool, true, false, cond, inl, inr, List, [], ◌∷◌, ◌++◌, Option, Some, None, codes, ap, arith, refl, sym, subst}
+use Rattle.std.proofs.Common.{◌≡◌, ◌∙◌, ◌⊎◌, ℕ, Bool, true, false, cond, inl, inr, List, [], ◌∷◌, ◌++◌, Option, Some, None, codes, drop, take, ap, arith, refl, sym, subst}
 use Rattle.std.specs.List.{slice_get}
+use Rattle.i3c_base.specs.declared.datum.Datum.{Datum}
 use Rattle.i3c_step.specs.declared.events.Command.{Command as Frame}
 use Rattle.i3c_lines.specs.declared.command.Command.{Command}
-use Rattle.i3c_lines.specs.Forms.{IsForm, tokens, with_first}
+use Rattle.i3c_lines.specs.Data.{datum_word, told_word}
+use Rattle.i3c_lines.specs.Forms.{AreAsked, IsForm, WritesAddress, tokens, with_first}
 use Rattle.i3c_lines.specs.Parsing.{Becomes, BecomesOther, IsOther}
 use Rattle.i3c_lines.proofs.LineLaws.{line_is, line_of, some_word}
-use Rattle.i3c_lines.proofs.Meanings.{are_same, as_meant, first_of, hex, identity_of, kinds_of, meant, meant_is, named, number_of, rest_of, shown_by, written_of}
+use Rattle.i3c_lines.proofs.Meanings.{are_same, as_meant, first_of, hex, datum_of, identity_of, kinds_of, meant, meant_is, named, number_of, rest_of, shown_by, written_of}
 
 abbrev tail_of : List ℕ → List ℕ
 tail_of [] = []
@@ -131,6 +133,31 @@ only_r tail command form =
                 ]
           ]
     ]
+
+-- behind `g`: the other letters of `get`, and the words of a question
+pub only_g : (tail : List ℕ) (command : Command) → IsForm (tokens (103 ∷ tail)) command
+    → (what : Datum) × (at : ℕ) × (word : List ℕ) × (tokens (103 ∷ tail) ≡ datum_word what ∷ word ∷ []) × WritesAddress word at
+only_g tail command form =
+    let (word, words, e, here) = begun 103 tail command refl form in
+    elim (either (are_same (take 3 (103 ∷ word)) (codes "get")) (Command.Frame (Frame.Get (datum_of (drop 3 (103 ∷ word))) (hex (first_of words)))) Command.Show _ here) [
+      | inl is ↦ (datum_of (drop 3 (103 ∷ word)), hex (first_of words), is.0, e ∙ is.1, is.2)
+      | inr show ↦ absurd (omega (arith, ap first_letter show))
+    ]
+
+-- the words of a line without its first letters `get`
+behind_get : (rest word : List ℕ) (words : List (List ℕ)) → tokens (103 ∷ 101 ∷ 116 ∷ rest) ≡ (103 ∷ 101 ∷ 116 ∷ word) ∷ words → tokens rest ≡ word ∷ words
+behind_get rest word words e =
+    let some = some_word rest in
+    let both : (103 ∷ 101 ∷ 116 ∷ some.0) ∷ some.1 ≡ (103 ∷ 101 ∷ 116 ∷ word) ∷ words = ap (λ ws. with_first 103 (with_first 101 (with_first 116 ws))) (sym some.2) ∙ e in
+    some.2 ∙ (λ i. drop 3 (first_of (both i)) ∷ rest_of (both i))
+
+-- such a line has `get` in front
+pub asks : (tail : List ℕ) (command : Command) → IsForm (tokens (103 ∷ tail)) command → (rest : List ℕ) × (tail ≡ codes "et" ++ rest)
+asks tail command form = let (what, at, word, e, is) = only_g tail command form in (told_word what ++ 32 ∷ word, ap tail_of (line_is (103 ∷ tail) _ e))
+
+-- and then the words of a question
+pub asked_args : (rest : List ℕ) (command : Command) → IsForm (tokens (103 ∷ 101 ∷ 116 ∷ rest)) command → (what : Datum) × (at : ℕ) × AreAsked (tokens rest) what at
+asked_args rest command form = let (what, at, word, e, is) = only_g (101 ∷ 116 ∷ rest) command form in (what, at, (word, behind_get rest (told_word what) (word ∷ []) e, is))
 
 -- the same, with the command that it is
 either_is : (b : Bool) (one other command : Command) (words : List (List ℕ)) → cond b one other ≡ command → IsForm words (cond b one other) → ((one ≡ command) × IsForm words one) ⊎ ((other ≡ command) × IsForm words other)

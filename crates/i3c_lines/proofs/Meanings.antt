@@ -8,6 +8,7 @@ use std.HLevel.{prop→path_p}
 use mathlib.Core.List.{is_set}
 use native.Mathlib.Bridge.{le_prop}
 use native.Mathlib.Nat.{ℕ_set}
+use Rattle.i3c_base.specs.declared.datum.Datum.{Datum}
 use Rattle.i3c_base.specs.declared.device.Setup.{Setup}
 use Rattle.i3c_base.specs.declared.identity.Identity.{Identity}
 use Rattle.i3c_base.specs.declared.kinds.Kinds.{Kinds}
@@ -17,6 +18,7 @@ use Rattle.i3c_step.specs.declared.events.Command.{Command as Frame}
 use Rattle.i3c_lines.specs.declared.command.Command.{Command}
 use Rattle.i3c_lines.specs.declared.names.Name.{Name}
 use Rattle.i3c_lines.specs.Forms.{AreAddress, AreByte, AreWritten, IsForm, IsFrameForm, IsNamed, IsPolicy, WritesIdentity, WritesKinds, willing_words}
+use Rattle.i3c_lines.specs.Data.{told_word}
 use Rattle.i3c_lines.specs.Naming.{letters}
 use Rattle.i3c_lines.specs.Policies.{each_kind, interrupts_alone, joins_alone, roles_alone}
 use Rattle.i3c_lines.specs.Words.{pair_values}
@@ -98,6 +100,16 @@ abbrev pub policy_of : List ℕ → Fixed
 policy_of word = cond (are_same word (codes "all")) (each_kind Accept)
     (cond (are_same word (codes "none")) (each_kind Refuse) (cond (are_same word (codes "joins")) joins_alone (cond (are_same word (codes "roles")) roles_alone interrupts_alone)))
 
+-- the datum that has this word, if one has
+abbrev pub datum_of : List ℕ → Datum
+datum_of word = cond (are_same word (codes "pid")) Datum.Pid
+    (cond (are_same word (codes "bcr")) Datum.Bcr
+    (cond (are_same word (codes "dcr")) Datum.Dcr
+    (cond (are_same word (codes "status")) Datum.Status
+    (cond (are_same word (codes "mwl")) Datum.WriteLength
+    (cond (are_same word (codes "mrl")) Datum.ReadLength
+    (cond (are_same word (codes "mxds")) Datum.Speed Datum.Capabilities))))))
+
 -- the command that begins with this word, if it begins with one's
 abbrev pub meant_by : List ℕ → List (List ℕ) → Command
 meant_by word args =
@@ -127,7 +139,8 @@ meant_by word args =
     (cond (are_same word (codes "handover")) (Command.HandOver (hex (first_of args)))
     (cond (are_same word (codes "policy")) (Command.Policy (policy_of (first_of args)))
     (cond (are_same word (codes "cut")) (Command.Cut (named (first_of args)) (digits_value 10 (first_of (rest_of args))))
-    (cond (are_same word (codes "frames")) (Command.Frames (digits_value 10 (first_of args))) Command.Show))))))))))))))))))))))))))
+    (cond (are_same word (codes "frames")) (Command.Frames (digits_value 10 (first_of args)))
+    (cond (are_same (take 3 word) (codes "get")) (Command.Frame (Frame.Get (datum_of (drop 3 word)) (hex (first_of args)))) Command.Show)))))))))))))))))))))))))))
 
 -- the command that these words can be at most
 abbrev pub meant : List (List ℕ) → Command
@@ -156,6 +169,16 @@ policy_is word policy (inr (inr (inl (e, is)))) = ap policy_of e ∙ sym is
 policy_is word policy (inr (inr (inr (inl (e, is))))) = ap policy_of e ∙ sym is
 policy_is word policy (inr (inr (inr (inr (e, is))))) = ap policy_of e ∙ sym is
 
+datum_is : (what : Datum) → datum_of (told_word what) ≡ what
+datum_is Datum.Pid = refl
+datum_is Datum.Bcr = refl
+datum_is Datum.Dcr = refl
+datum_is Datum.Status = refl
+datum_is Datum.WriteLength = refl
+datum_is Datum.ReadLength = refl
+datum_is Datum.Speed = refl
+datum_is Datum.Capabilities = refl
+
 identity_is : (pid bcr dcr : List ℕ) (identity : Identity) → WritesIdentity pid bcr dcr identity → identity_of (pid ∷ bcr ∷ dcr ∷ []) ≡ identity
 identity_is pid bcr dcr identity is = λ i. record { pid = sym is.0.1 i; bcr = record { 0 = sym is.1.1 i }; dcr = record { 0 = sym is.2.1 i } }
 
@@ -182,6 +205,7 @@ frame_is words (Frame.SetStatic at to) (rest, e, (one, other, e', first, second)
     ap meant (e ∙ ap (λ ws. codes "setdasa" ∷ ws) e') ∙ (λ i. Command.Frame (Frame.SetStatic (sym first.0.1 i) (sym second.0.1 i)))
 frame_is words (Frame.SetNew at to) (rest, e, (one, other, e', first, second)) =
     ap meant (e ∙ ap (λ ws. codes "setnewda" ∷ ws) e') ∙ (λ i. Command.Frame (Frame.SetNew (sym first.0.1 i) (sym second.0.1 i)))
+frame_is words (Frame.Get what at) (word, e, is) = ap meant e ∙ (λ i. Command.Frame (Frame.Get (datum_is what i) (sym is.0.1 i)))
 
 -- words are no other command's than the one that they mean
 pub meant_is : (words : List (List ℕ)) (command : Command) → IsForm words command → meant words ≡ command

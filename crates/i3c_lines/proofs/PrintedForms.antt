@@ -3,6 +3,7 @@ use Rattle.std.proofs.Common.{◌≡◌, ◌∙◌, ℕ, ◌<◌, ◌≤◌, Boo
 use Rattle.std.proofs.lemmas.List.{take_all}
 use Rattle.std.proofs.lemmas.Nat.{and_le_r}
 use Rattle.std.specs.Fmt.{decimal}
+use Rattle.i3c_base.specs.declared.datum.Datum.{Datum}
 use Rattle.i3c_base.specs.declared.device.Setup.{Setup}
 use Rattle.i3c_base.specs.declared.identity.Identity.{Identity}
 use Rattle.i3c_base.specs.declared.kinds.Kinds.{Kinds}
@@ -13,6 +14,7 @@ use Rattle.i3c_lines.specs.declared.command.Command.{Command}
 use Rattle.i3c_lines.specs.declared.names.Name.{Name}
 use Rattle.i3c_lines.specs.Forms.{AreAddress, AreAddresses, AreByte, AreDeclared, AreDevice, AreKinds, AreWritten, IsCommand, IsForm, IsPolicy, tokens, willing_words}
 use Rattle.i3c_text.specs.Hex.{byte_text, bytes_text, hex_text}
+use Rattle.i3c_lines.specs.Data.{datum_word}
 use Rattle.i3c_lines.specs.Naming.{letters}
 use Rattle.i3c_lines.specs.Printing.{AreKnown, HasLine, IsWithin, IsNamable, byte_words, command_text, command_words, device_words, identity_words, spaced, verdicts_word, written_words}
 use Rattle.i3c_lines.proofs.Meanings.{as_meant}
@@ -100,6 +102,16 @@ policy_fits word policy (inr (inr (inr (inr (_, is))))) = let same = ap word_of 
 named_fits : (name : Name) → IsNamable name → Apart (letters name ∷ []) × (total (letters name ∷ []) ≤ 17)
 named_fits name is = ((name_no_space (letters name) is, tt), omega (arith, is.1))
 
+datum_fits : (what : Datum) → HasNoSpace (datum_word what) × (length (datum_word what) ≤ 9)
+datum_fits Datum.Pid = (plain (codes "getpid") tt, omega arith)
+datum_fits Datum.Bcr = (plain (codes "getbcr") tt, omega arith)
+datum_fits Datum.Dcr = (plain (codes "getdcr") tt, omega arith)
+datum_fits Datum.Status = (plain (codes "getstatus") tt, omega arith)
+datum_fits Datum.WriteLength = (plain (codes "getmwl") tt, omega arith)
+datum_fits Datum.ReadLength = (plain (codes "getmrl") tt, omega arith)
+datum_fits Datum.Speed = (plain (codes "getmxds") tt, omega arith)
+datum_fits Datum.Capabilities = (plain (codes "getcaps") tt, omega arith)
+
 -- a command's words have its form, none has a space, and they are short
 abbrev Prints : Command → Type 0
 Prints command = Fit (IsForm (command_words command) command) (command_words command) 60
@@ -117,6 +129,10 @@ frame_prints (Frame.WriteTo at bytes) h =
     ((byte_text at, written_words bytes.items, refl, (byte_writes at small, h.0), fit.0), (plain (codes "write") tt, (byte_apart at small, fit.1)), omega (arith, fit.2))
 frame_prints (Frame.SetStatic at to) h = let fit = addresses_fit at to h.0 h.1 in ((byte_text at ∷ byte_text to ∷ [], refl, fit.0), (plain (codes "setdasa") tt, fit.1), omega (arith, fit.2))
 frame_prints (Frame.SetNew at to) h = let fit = addresses_fit at to h.0 h.1 in ((byte_text at ∷ byte_text to ∷ [], refl, fit.0), (plain (codes "setnewda") tt, fit.1), omega (arith, fit.2))
+frame_prints (Frame.Get what at) h =
+    let small : at < 256 = omega (arith, h) in
+    let fit = datum_fits what in
+    ((byte_text at, refl, (byte_writes at small, h)), (fit.0, (byte_apart at small, tt)), omega (arith, fit.1))
 
 prints : (command : Command) → HasLine command → Prints command
 prints (Command.Legacy name address lvr) h =

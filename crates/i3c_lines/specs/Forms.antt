@@ -2,6 +2,7 @@
 use Rattle.std.specs.Prelude.{◌≡◌, ◌⊎◌, ℕ, ◌<◌, ◌≤◌, ◌==◌, Bool, true, false, List, [], ◌∷◌, Option, Some, None, bit_and, codes, if◌then◌else◌, length, slice_get, take}
 use Rattle.std.specs.Str.Parse.{digits_value}
 use Rattle.i3c_base.specs.declared.device.Setup.{Setup}
+use Rattle.i3c_base.specs.declared.datum.Datum.{Datum}
 use Rattle.i3c_base.specs.declared.identity.Identity.{Identity}
 use Rattle.i3c_base.specs.declared.kinds.Kinds.{Kinds}
 use Rattle.i3c_base.specs.declared.requests.Fixed.{Fixed}
@@ -9,6 +10,7 @@ use Rattle.i3c_base.specs.declared.requests.Verdict.TheVariants.{Accept, Refuse}
 use Rattle.i3c_step.specs.declared.events.Command.{Command as Frame}
 use Rattle.i3c_lines.specs.declared.command.Command.{Command}
 use Rattle.i3c_lines.specs.declared.names.Name.{Name}
+use Rattle.i3c_lines.specs.Data.{datum_word, told_word}
 use Rattle.i3c_lines.specs.Naming.{letters}
 use Rattle.i3c_lines.specs.Policies.{each_kind, interrupts_alone, joins_alone, roles_alone}
 use Rattle.i3c_lines.specs.Words.{AreBytes, IsDecimal, IsHex, IsName, pair_values}
@@ -79,6 +81,10 @@ AreKinds words to kinds = (word : List ℕ) × (rest : List (List ℕ)) × (word
 abbrev pub AreAddresses : List (List ℕ) → ℕ → ℕ → Type 0
 AreAddresses words first second = (one other : List ℕ) × (words ≡ one ∷ other ∷ []) × WritesAddress one first × WritesAddress other second
 
+-- the words of a question for a datum, whose first stands without its letters `get`
+abbrev pub AreAsked : List (List ℕ) → Datum → ℕ → Type 0
+AreAsked words what at = (word : List ℕ) × (words ≡ told_word what ∷ word ∷ []) × WritesAddress word at
+
 -- `ADDR PID BCR DCR`
 abbrev pub AreDeclared : List (List ℕ) → ℕ → Identity → Type 0
 AreDeclared words address identity = (at pid bcr dcr : List ℕ) × (words ≡ at ∷ pid ∷ bcr ∷ dcr ∷ []) × WritesAddress at address × WritesIdentity pid bcr dcr identity
@@ -104,6 +110,7 @@ IsFrameForm words (Frame.ReadFrom at) = (word : List ℕ) × (words ≡ codes "r
 IsFrameForm words (Frame.WriteTo at bytes) = (word : List ℕ) × (rest : List (List ℕ)) × (words ≡ codes "write" ∷ word ∷ rest) × WritesAddress word at × AreWritten rest bytes.items
 IsFrameForm words (Frame.SetStatic at to) = (rest : List (List ℕ)) × (words ≡ codes "setdasa" ∷ rest) × AreAddresses rest at to
 IsFrameForm words (Frame.SetNew at to) = (rest : List (List ℕ)) × (words ≡ codes "setnewda" ∷ rest) × AreAddresses rest at to
+IsFrameForm words (Frame.Get what at) = (word : List ℕ) × (words ≡ datum_word what ∷ word ∷ []) × WritesAddress word at
 
 -- these words are this command's line
 abbrev pub IsForm : List (List ℕ) → Command → Type 0

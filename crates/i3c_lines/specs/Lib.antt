@@ -1,6 +1,7 @@
 pub mod Words
 pub mod Naming
 pub mod Policies
+pub mod Data
 pub mod Refusing
 pub mod Gathering
 pub mod Forms

@@ -1,12 +1,13 @@
 ghost use Rattle.std.specs.Prelude.{◌≡◌, ◌∷◌, Some, codes, option_copied};
-ghost use Rattle.i3c_lines.specs.Forms.{AreAddress, AreAddresses, AreByte, AreDeclared, AreDevice, AreKinds, IsForm, IsNamed, Writes, tokens};
+ghost use Rattle.i3c_lines.specs.Forms.{AreAddress, AreAddresses, AreAsked, AreByte, AreDeclared, AreDevice, AreKinds, IsForm, IsNamed, Writes, tokens};
 ghost use Rattle.i3c_lines.specs.Parsing.{AreKept, AreNamed, AreWilling, Becomes, BecomesOther, IsOtherForm, Reads, TakesIdentity, TakesWord, left_words, words_of};
 
+use crate::data::datum;
 use crate::names::Name;
 use crate::policies::policy;
 use crate::tokens::{self, Tokens, after, is_word};
 use arrayvec::ArrayVec;
-use i3c_base::{Addr7, Bcr, Dcr, Fixed, Identity, Kinds, Lvr, Setup};
+use i3c_base::{Addr7, Bcr, Datum, Dcr, Fixed, Identity, Kinds, Lvr, Setup};
 use i3c_step::{Command as Frame, WRITE_KEPT};
 
 // Words behind their first letters. Letters that are compared at once take fewer steps than one by one.
@@ -43,6 +44,8 @@ const LIST: &[u8] = b"ist";
 const OPEN: &[u8] = b"pen";
 
 const WRITE: &[u8] = b"rite ";
+
+const GET: &[u8] = b"et";
 
 // Whole words.
 const DROP: &[u8] = b"drop";
@@ -109,8 +112,8 @@ pub enum Command {
         name: Name,
     },
     /// A line that sends a frame under the role: `serve`, `enec BYTE [ADDR]`, `disec BYTE [ADDR]`, `reset`, `list`,
-    /// `read ADDR`, `write ADDR [BYTES]`, `setdasa ADDR NEW` or `setnewda OLD NEW`. Of more bytes than may be written one
-    /// more is kept.
+    /// `read ADDR`, `write ADDR [BYTES]`, `setdasa ADDR NEW`, `setnewda OLD NEW`, or `getpid ADDR` and its like. Of more
+    /// bytes than may be written one more is kept.
     Frame(Frame),
     /// `handover ADDR`: the role is offered to the device at an address.
     HandOver {
@@ -168,6 +171,7 @@ impl Command {
             b'l' => self.read_l::<K>(tail, line),
             b'o' => self.read_o::<K>(tail),
             b'w' => self.read_w::<K>(tail),
+            b'g' => self.read_g(tail),
             _ => self.read_words(line),
         }
     }
@@ -280,6 +284,18 @@ impl Command {
             return self.read_write(line);
         }
         None
+    }
+
+    /// Becomes a question for a datum, by the line behind its first letter, which is a `g`.
+    // kept apart, so that no other line pays for the words of data
+    #[inline(never)]
+    fn read_g(&mut self, tail: &[u8]) -> Option<()>
+        ensures { Becomes (tokens (103 ∷ tail.now)) result self.old self.new }
+    {
+        let line = after(tail, GET)?;
+        let (what, at) = parse_asked(&mut Tokens::of(line))?;
+        *self = Command::Frame(Frame::Get(what, at));
+        Some(())
     }
 
     /// Becomes a raise by the words behind its first: a name, and a byte if one is given.
@@ -584,6 +600,16 @@ fn parse_addresses(line: &[u8]) -> Option<(Addr7, Addr7)>
     let second = rest?;
     let to = tokens::address(second)?;
     Some((at, to))
+}
+
+/// The words of a question behind its letters `get`: a datum's, and an address.
+fn parse_asked(words: &mut Tokens<'_>) -> Option<(Datum, Addr7)>
+    ensures { Reads (λ words parts. AreAsked words parts.0 parts.1) (left_words words.old) result }
+{
+    let what = datum(words.next()?)?;
+    let at = tokens::address(words.next()?)?;
+    words.end()?;
+    Some((what, at))
 }
 
 /// The last words of `raise`: a byte, if one is given.

@@ -1,12 +1,14 @@
 //! What a script's line says by itself: its words, its command, the names that it gives, and why it is refused.
 //!
 //! `tokens` reads one word, `command` a line of text, `line` a line of bytes, which may come in pieces. `names` keeps what the names of a script
-//! stand for, and `namings` which names a command gives and means. `policies` are the words that name a policy.
+//! stand for, and `namings` which names a command gives and means. `policies` are the words that name a policy,
+//! and `data` those of what a controller asks for.
 //! `form_faults` says why a line has no form, by the `fields` and the `shapes` of the commands. `laws` are theorems over all
 //! lines.
 #![tactic(auto)]
 
 mod command;
+mod data;
 mod fields;
 mod form_faults;
 mod laws;
@@ -20,6 +22,7 @@ mod shapes;
 pub mod tokens;
 
 pub use command::Command;
+pub use data::{datum, told_word};
 pub use fields::Field;
 pub use form_faults::{FormFault, form_fault, push_quoted};
 pub use laws::{

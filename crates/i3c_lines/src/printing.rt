@@ -2,13 +2,15 @@ ghost use Rattle.std.specs.Prelude.{◌≡◌, [], ◌∷◌, ◌++◌, OnOk, co
 ghost use Rattle.std.specs.Fmt.{decimal};
 ghost use Rattle.i3c_lines.specs.Forms.{willing_words};
 ghost use Rattle.i3c_text.specs.Hex.{byte_text, hex_text};
+ghost use Rattle.i3c_lines.specs.Data.{datum_word};
 ghost use Rattle.i3c_lines.specs.Naming.{letters};
 ghost use Rattle.i3c_lines.specs.Printing.{behind, byte_words, command_text, device_words, frame_words, identity_words, spaced, verdicts_word, written_words};
 
 use crate::command::Command;
+use crate::data::told_word;
 use crate::names::Name;
 use bitflags::Flags;
-use i3c_base::{Addr7, Fixed, Identity, Kinds, Lvr, Pid, Setup, Verdict};
+use i3c_base::{Addr7, Datum, Fixed, Identity, Kinds, Lvr, Pid, Setup, Verdict};
 use i3c_step::Command as Frame;
 use i3c_text::Text;
 use std::alloc::AllocError;
@@ -154,6 +156,7 @@ fn push_frame(text: &mut Text, frame: &Frame) -> Result<(), AllocError>
         Frame::WriteTo(at, bytes) => push_write(text, *at, bytes.as_slice()),
         Frame::SetStatic(at, to) => push_setting(text, b"setdasa", *at, *to),
         Frame::SetNew(at, to) => push_setting(text, b"setnewda", *at, *to),
+        Frame::Get(what, at) => push_get(text, *what, *at),
     }
 }
 
@@ -192,6 +195,14 @@ fn push_setting(text: &mut Text, first: &[u8], at: Addr7, to: Addr7) -> Result<(
 {
     push_addressed(text, first, at)?;
     push_byte(text, to.get())
+}
+
+/// Appends a question for a datum.
+fn push_get(text: &mut Text, what: Datum, at: Addr7) -> Result<(), AllocError>
+    ensures { OnOk result (text.new ≡ text.old ++ spaced (datum_word what ∷ byte_text at ∷ [])) }
+{
+    text.push(b"get")?;
+    push_addressed(text, told_word(what).as_bytes(), at)
 }
 
 /// Appends a policy's line.

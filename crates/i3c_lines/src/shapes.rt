@@ -11,7 +11,7 @@ pub(crate) struct Shape {
 }
 
 /// The commands, in the order of docs/FORMATS.md.
-static SHAPES: [Shape; 27] = [
+static SHAPES: [Shape; 35] = [
     Shape {
         word: "legacy",
         needed: &[Field::Name, Field::Addr, Field::Lvr],
@@ -105,6 +105,46 @@ static SHAPES: [Shape; 27] = [
     Shape {
         word: "setnewda",
         needed: &[Field::Old, Field::New],
+        further: None,
+    },
+    Shape {
+        word: "getpid",
+        needed: &[Field::Addr],
+        further: None,
+    },
+    Shape {
+        word: "getbcr",
+        needed: &[Field::Addr],
+        further: None,
+    },
+    Shape {
+        word: "getdcr",
+        needed: &[Field::Addr],
+        further: None,
+    },
+    Shape {
+        word: "getstatus",
+        needed: &[Field::Addr],
+        further: None,
+    },
+    Shape {
+        word: "getmwl",
+        needed: &[Field::Addr],
+        further: None,
+    },
+    Shape {
+        word: "getmrl",
+        needed: &[Field::Addr],
+        further: None,
+    },
+    Shape {
+        word: "getmxds",
+        needed: &[Field::Addr],
+        further: None,
+    },
+    Shape {
+        word: "getcaps",
+        needed: &[Field::Addr],
         further: None,
     },
     Shape {

@@ -19,3 +19,4 @@ pub mod Transfers
 pub mod FirstLaws
 pub mod TableLaws
 pub mod SettingLaws
+pub mod Told

@@ -204,7 +204,7 @@ together_with st a lost n both registers new h given long each = (
       (and_with (DrivesLeft st a lost k) n (slice_index both k) (slice_index registers k) (h.1 k l) driven (λ v d. one_register st a lost k n (slice_index registers k) v driven d)),
 )
 
-device_low : (st : State) (s : ℕ) (d : Device) → device_at st s ≡ Some d → s < length st.devices
+pub device_low : (st : State) (s : ℕ) (d : Device) → device_at st s ≡ Some d → s < length st.devices
 device_low st s d h = elim (cases_lt s (length st.devices)) [ inl l ↦ l | inr past ↦ absurd (none-some d (sym (get_or_past st.devices s None past) ∙ h)) ]
 
 pub together_all : (st : State) (a : ℕ) (lost : Lost) (n : ℕ) (both : List ℕ) → length st.devices ≤ n → AreTogether st a lost n both → (k : ℕ) → k < 16 → IsAnd (slice_index both k) (DrivesLeft st a lost k)

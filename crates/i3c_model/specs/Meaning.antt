@@ -1,10 +1,11 @@
 -- Whom a command means, what it may be answered, who contends in a round, and who takes the role.
 use Rattle.std.specs.Prelude.{◌≡◌, ℕ, ◌+◌, ◌<◌, Bool, true, false, ◌⊎◌, List, Option, Some, None, option_map, if◌then◌else◌}
 use Rattle.i3c_base.specs.declared.answers.Answer.{Answer}
+use Rattle.i3c_base.specs.declared.datum.Datum.{Datum}
 use Rattle.i3c_base.specs.declared.identity.Identity.{Identity}
 use Rattle.i3c_base.specs.declared.device.LegacyTarget.{LegacyTarget}
 use Rattle.i3c_base.specs.Cutting.{CutList, Lost, lost_by}
-use Rattle.i3c_base.specs.Frames.{AllLostAt, AllUnaddressedLostAt, AnyAt, AnyUnaddressedAt, DrivesRegister, IsReadOf, IsWillingAt, NobodyLeftAt, overwritten, reaches, readdressed, takes_static}
+use Rattle.i3c_base.specs.Frames.{AllLostAt, AllUnaddressedLostAt, AnyAt, AnyUnaddressedAt, DrivesRegister, DrivesTold, IsReadOf, IsToldAt, IsWillingAt, NobodyLeftAt, overwritten, reaches, readdressed, takes_static, told_bytes}
 use Rattle.i3c_base.specs.Numbers.{IsBelow}
 use Rattle.i3c_base.specs.Places.{changed}
 use Rattle.i3c_base.specs.Round.{IsHearer, winner}
@@ -64,6 +65,24 @@ pub record IsGivenBy (st : State) (a : ℕ) (lost : Lost) (s : ℕ) (registers :
 -- no such device is in slot s
 abbrev pub NoneGives : State → ℕ → Lost → ℕ → Type 0
 NoneGives st a lost s = (d : Device) → IsTargetAt st a s d → lost s ≡ false → ⊥
+
+-- slot s has the address, isn't lost, and its device has v as byte k of what it tells of a datum
+abbrev pub DrivesToldLeft : State → Datum → ℕ → Lost → ℕ → ℕ → ℕ → Type 0
+DrivesToldLeft st what a lost k s v = DrivesTold st what a k s v × (lost s ≡ false)
+
+-- these bytes are what the device in slot s, which has the address and isn't lost, tells of a datum
+pub record IsToldBy (st : State) (what : Datum) (a : ℕ) (lost : Lost) (s : ℕ) (bytes : List ℕ) : Type 0 where
+  pub device : Device
+  pub there : IsTargetAt st a s device
+  pub left : lost s ≡ false
+  pub value : bytes ≡ told_bytes what device
+
+-- the answer of a code that asks for a datum, after that of its header: that of the header where it isn't acknowledged
+abbrev pub Tells : State → Datum → ℕ → Lost → Answer → Answer → Type 0
+Tells st what a lost Answer.Done (Answer.Bytes bytes) = IsToldAt st what a lost bytes
+Tells st what a lost Answer.Done Answer.NoEnd = AllLostAt st a lost
+Tells st what a lost Answer.Done _ = ⊥
+Tells st what a lost header answer = answer ≡ header
 
 -- a device after a write to the address
 abbrev pub overwriting : State → ℕ → List ℕ → ℕ → Device → Device

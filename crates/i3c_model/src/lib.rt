@@ -10,6 +10,7 @@ mod assigning;
 mod device;
 mod enabling;
 mod faults;
+mod getting;
 mod handing;
 mod keeping;
 mod kinds;

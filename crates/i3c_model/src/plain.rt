@@ -180,6 +180,9 @@ impl Plain {
             Event::SetNew(old, new, policy, cuts) => {
                 self.set_new(*old, *new, policy, cuts, choice)
             }
+            Event::Get(what, at, policy, cuts) => {
+                self.get_datum(*what, *at, policy, cuts, choice)
+            }
             Event::HandOver(to, cuts) => Ok(self.hand_over(*to, cuts, choice)),
             Event::OpenDaa(cuts) => Ok(Reply::Opened(self.open_daa(cuts))),
             Event::Round(cuts) => Ok(Reply::Round(self.round(cuts, choice)?)),

@@ -31,6 +31,7 @@ impl Plain {
             }
             Event::SetStatic(fixed, new, _, cuts) => self.static_refusal(*fixed, *new, cuts),
             Event::SetNew(old, new, _, cuts) => self.new_refusal(*old, *new, cuts),
+            Event::Get(_, at, _, cuts) => self.command_refusal(&Some(*at), cuts),
             Event::HandOver(to, cuts) => self.hand_refusal(*to, cuts),
             Event::OpenDaa(cuts) => self.frame_refusal(cuts),
             Event::Round(cuts) => self.round_refusal(cuts),

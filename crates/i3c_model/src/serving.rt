@@ -18,7 +18,7 @@ impl Plain {
     ghost use Rattle.i3c_model.specs.Storing.{IsRecordDue};
 
     // Whether the interrupts at an address have a mandatory byte, by the BCR in the table.
-    fn is_byte_due(&self, at: Addr7) -> bool
+    pub(crate) fn is_byte_due(&self, at: Addr7) -> bool
         ensures { result ≡ byte_due (entry_at self.now at) }
     {
         match self.entry(at) {

@@ -4,7 +4,7 @@ ghost use Rattle.i3c_base.specs.Frames.{overwritten, read_bits, write_bits};
 
 use crate::faults::OutOfMemory;
 use crate::plain::{Choice, Plain};
-use i3c_base::{Addr7, Answer, Cuts, Fixed, REGISTERS, Slot};
+use i3c_base::{Addr7, Answer, Bytes, Cuts, Fixed, REGISTERS, Slot};
 use i3c_step::{Framed, Reply};
 
 impl Plain {
@@ -74,11 +74,11 @@ impl Plain {
         ensures chosen { ReadsAsChosen self.now at cuts.now begin choice result }
     {
         if let Some(target) = self.target(at) {
-            return Answer::Bytes(target.registers);
+            return Answer::Bytes(Bytes::new(&target.registers));
         }
         let last = begin + READ_END;
         if self.is_any_left_at(at, cuts, last) {
-            return Answer::Bytes(self.registers_together(at, cuts, last));
+            return Answer::Bytes(Bytes::new(&self.registers_together(at, cuts, last)));
         }
         match self.answer_of(&Some(at), cuts, begin + 9, choice) {
             Answer::Done => Answer::NoEnd,

@@ -1,16 +1,38 @@
 -- The code of a byte.
-use Rattle.std.proofs.Common.{◌≡◌, ◌≤◌, ◌∙◌, ℕ, ◌+◌, List, [], ◌∷◌, ◌-◌, length, take, drop, Result, Ok, sym, ap, subst, arith}
+use Rattle.std.proofs.Common.{◌≡◌, ◌≤◌, ◌∙◌, ℕ, ◌+◌, List, [], ◌∷◌, ◌-◌, length, take, drop, Result, Ok, sym, ap, refl, subst, arith}
+use Rattle.std.proofs.lemmas.Bool.{ne_eqb}
 use Rattle.std.proofs.lemmas.List.{take_all}
+use Rattle.i3c_base.specs.declared.datum.Datum.{Datum}
 use Rattle.i3c_frame.specs.declared.symbols.Symbol.{Symbol}
 use Rattle.i3c_monitor.specs.declared.header.Told.{Told}
 use Rattle.i3c_monitor.specs.declared.decoded.Stop.{Stop}
 use Rattle.i3c_monitor.specs.Due.{Comes, go_on, written_byte}
 use Rattle.i3c_ccc.specs.declared.codes.Code.{Code}
-use Rattle.i3c_ccc.specs.Codes.{IsCodeOf, IsUnnamed}
-use Rattle.i3c_monitor.specs.Told.{code_at, code_of, command_of}
+use Rattle.i3c_ccc.specs.Codes.{IsCodeOf, IsUnnamed, byte_of_datum}
+use Rattle.i3c_monitor.specs.Told.{asking_at, code_at, code_of, command_of}
 
+-- a byte that is no code known by name, among those that ask for a datum
+asking_other : (byte : ℕ) → IsUnnamed byte → asking_at byte ≡ Code.Other byte
+asking_other byte (_, _, _, _, _, _, _, _, _, n8b, n8c, n8d, n8e, n8f, n90, _, n94, n95) = grind (arith, n8b, n8c, n8d, n8e, n8f, n90, n94, n95)
+
+-- and among all
 other_at : (byte : ℕ) → IsUnnamed byte → code_at byte ≡ Code.Other byte
-other_at byte h = grind (arith, h)
+other_at byte h =
+    let (n00, n01, n06, n07, n08, n80, n81, n87, n88, _, _, _, _, _, _, n91, _, _) = h in
+    rw (ne_eqb byte 0x00 n00) (rw (ne_eqb byte 0x01 n01) (rw (ne_eqb byte 0x06 n06) (rw (ne_eqb byte 0x07 n07) (rw (ne_eqb byte 0x08 n08)
+    (rw (ne_eqb byte 0x80 n80) (rw (ne_eqb byte 0x81 n81) (rw (ne_eqb byte 0x87 n87) (rw (ne_eqb byte 0x88 n88) (rw (ne_eqb byte 0x91 n91)
+    (asking_other byte h))))))))))
+
+-- a byte that asks for a datum
+asking : (what : Datum) → code_at (byte_of_datum what) ≡ Code.Get what
+asking Datum.Pid = refl
+asking Datum.Bcr = refl
+asking Datum.Dcr = refl
+asking Datum.Status = refl
+asking Datum.WriteLength = refl
+asking Datum.ReadLength = refl
+asking Datum.Speed = refl
+asking Datum.Capabilities = refl
 
 pub named : (byte : ℕ) (code : Code) → IsCodeOf byte code → code_at byte ≡ code
 named byte Code.Enec h = ap code_at (sym h.0)
@@ -23,6 +45,7 @@ named byte Code.DisecDirect h = ap code_at (sym h.0)
 named byte Code.Setdasa h = ap code_at (sym h.0)
 named byte Code.Setnewda h = ap code_at (sym h.0)
 named byte Code.Getacccr h = ap code_at (sym h.0)
+named byte (Code.Get what) h = ap code_at (sym h.0) ∙ asking what
 named byte (Code.Other b) h = ap code_at (sym h.0) ∙ other_at b h.1
 
 -- a command whose code was read

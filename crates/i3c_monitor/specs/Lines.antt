@@ -1,6 +1,7 @@
 -- The lines that are printed.
 use Rattle.std.specs.Prelude.{ℕ, Bool, true, false, List, [], ◌∷◌, ◌++◌, codes, drop, take, Option, Some, None}
 use Rattle.std.specs.Fmt.{decimal}
+use Rattle.i3c_base.specs.declared.datum.Datum.{Datum}
 use Rattle.i3c_base.specs.declared.requests.Request.{Request}
 use Rattle.i3c_deftgts.specs.declared.faults.ListFault.{ListFault}
 use Rattle.i3c_frame.specs.declared.symbols.Symbol.{Symbol}
@@ -56,6 +57,17 @@ abbrev pub answer_text : Option ℕ → List ℕ
 answer_text None = codes " no answer"
 answer_text (Some byte) = words_text (codes " ") byte
 
+-- a code that asks for a datum
+abbrev pub datum_name : Datum → List ℕ
+datum_name Datum.Pid = codes "GETPID "
+datum_name Datum.Bcr = codes "GETBCR "
+datum_name Datum.Dcr = codes "GETDCR "
+datum_name Datum.Status = codes "GETSTATUS "
+datum_name Datum.WriteLength = codes "GETMWL "
+datum_name Datum.ReadLength = codes "GETMRL "
+datum_name Datum.Speed = codes "GETMXDS "
+datum_name Datum.Capabilities = codes "GETCAPS "
+
 -- the direction of a transfer
 abbrev pub transfer_text : Bool → List ℕ
 transfer_text true = codes "read "
@@ -72,7 +84,7 @@ abbrev pub data_text : List Symbol → List ℕ
 data_text [] = []
 data_text (symbol ∷ rest) = byte_after (byte_of symbol) ++ data_text rest
 
--- the bytes of a transfer, unless nobody answered
+-- the bytes behind a header, unless nobody answered
 abbrev pub bytes_text : Option Span → List Symbol → List ℕ
 bytes_text None trace = codes " no answer"
 bytes_text (Some span) trace = data_text (symbols_of span trace)
@@ -100,6 +112,7 @@ decoded_text trace (Decoded.Other byte) = words_text (codes "Other ") byte
 decoded_text trace (Decoded.Round identity byte taken) = codes "round " ++ (hex_text 16 identity ++ (words_text (codes " ") byte ++ taken_text taken))
 decoded_text trace Decoded.RoundsDone = codes "round done"
 decoded_text trace (Decoded.Single command address byte) = words_text (command_text command) address ++ answer_text byte
+decoded_text trace (Decoded.Get what address span) = words_text (datum_name what) address ++ bytes_text span trace
 decoded_text trace (Decoded.Transfer address read span) = words_text (transfer_text read) address ++ bytes_text span trace
 decoded_text trace (Decoded.Refused fault) = codes "refused " ++ fault_text fault
 

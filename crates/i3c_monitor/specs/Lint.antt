@@ -2,6 +2,7 @@
 use Rattle.std.specs.Prelude.{ℕ, zero, suc, ◌+◌, ◌/◌, ◌%◌, ◌==◌, ◌&&◌, ◌||◌, Bool, true, false, not, count_ones, drop, List, [], ◌∷◌, ◌++◌, map, Option, Some, None, option_map, position, Result, Ok, Err, if◌then◌else◌}
 use Rattle.std.specs.Option.{option_and_then, option_to_list}
 use Rattle.i3c_base.specs.Sets.{is_in}
+use Rattle.i3c_base.specs.declared.datum.Datum.{Datum}
 use Rattle.i3c_ccc.specs.declared.codes.Code.{Code}
 use Rattle.i3c_frame.specs.declared.symbols.Symbol.{Symbol}
 use Rattle.i3c_monitor.specs.declared.decoded.Decoded.{Decoded}
@@ -12,7 +13,6 @@ use Rattle.i3c_monitor.specs.declared.header.Mode.{Mode}
 use Rattle.i3c_monitor.specs.declared.header.Told.{Told}
 use Rattle.i3c_monitor.specs.declared.known.Known.{Known}
 use Rattle.i3c_monitor.specs.declared.known.Owner.{Owner}
-use Rattle.i3c_monitor.specs.declared.known.Status.{Status}
 use Rattle.i3c_monitor.specs.declared.lint_fault.Breach.{Breach}
 use Rattle.i3c_monitor.specs.declared.lint_fault.LintFault.{LintFault}
 use Rattle.i3c_monitor.specs.Known.{dynamic_in, forgotten, learned_of, present, status_of}
@@ -70,6 +70,7 @@ fault_if wrong frame symbol breach = if wrong then Some (fault_at frame symbol b
 -- the dynamic address of a single target to which a header speaks
 abbrev pub spoken_to : Decoded → Option ℕ
 spoken_to (Decoded.Transfer a read span) = Some a
+spoken_to (Decoded.Get what a span) = Some a
 spoken_to (Decoded.Single command a byte) = dynamic_in command a
 spoken_to _ = None
 
@@ -159,11 +160,19 @@ abbrev pub stray_fault : ℕ → ℕ → Header → List Symbol → Option LintF
 stray_fault frame number header symbols =
     option_map (λ n. fault_at frame (number + (n + 1)) Breach.Stray) (position (λ symbol. not (belongs (heads_round header) symbol)) symbols)
 
+-- how many words may follow a code that asks for a datum: a defining byte, where there are several of the kind
+abbrev pub defining_bytes : Datum → ℕ
+defining_bytes Datum.Status = 1
+defining_bytes Datum.Speed = 1
+defining_bytes Datum.Capabilities = 1
+defining_bytes _ = 0
+
 -- how many words follow a code, unless as many as come
 abbrev pub words_taken : Code → Option ℕ
 words_taken Code.Enec = Some 1
 words_taken Code.Disec = Some 1
 words_taken Code.Deftgts = None
+words_taken (Code.Get what) = Some (defining_bytes what)
 words_taken (Code.Other byte) = None
 words_taken _ = Some 0
 

@@ -1,5 +1,6 @@
 -- What a header and the symbols behind it tell, where a frame stands.
 use Rattle.std.specs.Prelude.{ℕ, ◌+◌, Bool, true, false, ◌==◌, ◌&&◌, not, List, [], ◌∷◌, length, Option, Some, None, Result, Ok, Err, if◌then◌else◌}
+use Rattle.i3c_base.specs.declared.datum.Datum.{Datum}
 use Rattle.i3c_base.specs.declared.requests.Request.{Request}
 use Rattle.i3c_ccc.specs.declared.codes.Code.{Code}
 use Rattle.i3c_frame.specs.declared.symbols.Symbol.{Symbol}
@@ -9,6 +10,7 @@ use Rattle.i3c_monitor.specs.declared.header.Told.{Told}
 use Rattle.i3c_monitor.specs.declared.decoded.Direct.{Direct}
 use Rattle.i3c_monitor.specs.declared.decoded.Fault.{Fault}
 use Rattle.i3c_monitor.specs.declared.decoded.Decoded.{Decoded}
+use Rattle.i3c_monitor.specs.declared.decoded.Span.{Span}
 use Rattle.i3c_monitor.specs.Due.{due_word, entries_told, go_on, written_byte}
 
 -- nothing is told, and the frame stands so
@@ -34,10 +36,17 @@ abbrev pub request_of : Header → List Symbol → Decoded
 request_of header symbols =
     Decoded.Request (request_at header.address header.read) header.ack (if header.read && header.ack then next_byte symbols else None)
 
+-- the symbols behind a header, so many, unless nobody answered
+abbrev pub span_of : Header → ℕ → ℕ → Option Span
+span_of header count before = if header.ack then Some (record { before = before; count = count }) else None
+
 -- a private transfer, of so many symbols
 abbrev pub transfer_of : Header → ℕ → ℕ → Decoded
-transfer_of header count before =
-    Decoded.Transfer header.address header.read (if header.ack then Some (record { before = before; count = count }) else None)
+transfer_of header count before = Decoded.Transfer header.address header.read (span_of header count before)
+
+-- a header of a code that asks for a datum, with so many symbols behind it: it may have either direction, and a datum any length
+abbrev pub get_of : Datum → Header → ℕ → ℕ → Decoded
+get_of what header count before = Decoded.Get what header.address (span_of header count before)
 
 -- the byte behind a header of a command to single targets: of one that a target sent, T doesn't count
 abbrev pub single_byte : Direct → List Symbol → ℕ → Result ℕ Fault
@@ -75,7 +84,16 @@ command_of Code.DisecDirect symbols before = Ok (nothing (Mode.Single Direct.Dis
 command_of Code.Setdasa symbols before = Ok (nothing (Mode.Single Direct.Setdasa))
 command_of Code.Setnewda symbols before = Ok (nothing (Mode.Single Direct.Setnewda))
 command_of Code.Getacccr symbols before = Ok (nothing (Mode.Single Direct.Getacccr))
+command_of (Code.Get what) symbols before = Ok (nothing (Mode.Get what))
 command_of (Code.Other byte) symbols before = one Mode.Skipped (Decoded.Other byte)
+
+-- the code of a byte that asks for a datum, or isn't known
+abbrev pub asking_at : ℕ → Code
+asking_at byte =
+    if byte == 0x8B then Code.Get Datum.WriteLength else if byte == 0x8C then Code.Get Datum.ReadLength
+    else if byte == 0x8D then Code.Get Datum.Pid else if byte == 0x8E then Code.Get Datum.Bcr else if byte == 0x8F then Code.Get Datum.Dcr
+    else if byte == 0x90 then Code.Get Datum.Status else if byte == 0x94 then Code.Get Datum.Speed
+    else if byte == 0x95 then Code.Get Datum.Capabilities else Code.Other byte
 
 -- the code of a byte
 abbrev pub code_at : ℕ → Code
@@ -83,7 +101,7 @@ code_at byte =
     if byte == 0x00 then Code.Enec else if byte == 0x01 then Code.Disec else if byte == 0x06 then Code.Rstdaa
     else if byte == 0x07 then Code.Entdaa else if byte == 0x08 then Code.Deftgts else if byte == 0x80 then Code.EnecDirect
     else if byte == 0x81 then Code.DisecDirect else if byte == 0x87 then Code.Setdasa else if byte == 0x88 then Code.Setnewda
-    else if byte == 0x91 then Code.Getacccr else Code.Other byte
+    else if byte == 0x91 then Code.Getacccr else asking_at byte
 
 -- what follows 7E/W
 abbrev pub code_of : List Symbol → ℕ → Result Told Fault
@@ -95,6 +113,7 @@ abbrev pub other_told : Mode → Header → List Symbol → ℕ → Result Told 
 other_told Mode.First header symbols before = one Mode.Plain (request_of header symbols)
 other_told Mode.Plain header symbols before = one Mode.Plain (transfer_of header (length symbols) before)
 other_told (Mode.Single command) header symbols before = go_on (single_of command header symbols before) (one (Mode.Single command))
+other_told (Mode.Get what) header symbols before = one (Mode.Get what) (get_of what header (length symbols) before)
 other_told Mode.Rounds header symbols before =
     if header.address == 0x7E then go_on (round_of header symbols before) (one Mode.Rounds)
     else one Mode.Rounds (transfer_of header (length symbols) before)

@@ -1,9 +1,10 @@
 ghost use Rattle.std.specs.Prelude.{true, false, not, ◌&&◌, ◌==◌, ◌≡◌, ◌+◌, ◌<◌, ◌≤◌, drop, length, position};
-ghost use Rattle.i3c_monitor.specs.Lint.{begins_with, belongs, code_takes, ended_after, ended_fault, fault_at, heads_round, heeded, is_unanswered, is_word, is_wrong_address, mode_takes, parity_fault, stray_fault, surplus_fault, taken_by, unanswered_fault, words_taken};
+ghost use Rattle.i3c_monitor.specs.Lint.{begins_with, belongs, code_takes, defining_bytes, ended_after, ended_fault, fault_at, heads_round, heeded, is_unanswered, is_word, is_wrong_address, mode_takes, parity_fault, stray_fault, surplus_fault, taken_by, unanswered_fault, words_taken};
 
 use crate::header::{BROADCAST, Header, Mode};
 use crate::lint::{Spot, begins_with_word, fault_at, fault_if};
 use crate::lint_fault::{Breach, LintFault};
+use i3c_base::Datum;
 use i3c_ccc::{Code, code_of};
 use i3c_frame::Symbol;
 use i3c_word::read_address_byte;
@@ -133,6 +134,18 @@ fn words_taken(code: &Code) -> Option<usize>
         Code::Rstdaa | Code::Entdaa => Some(0),
         Code::EnecDirect | Code::DisecDirect | Code::Getacccr => Some(0),
         Code::Setdasa | Code::Setnewda => Some(0),
+        Code::Get(what) => Some(defining_bytes(*what)),
+    }
+}
+
+/// How many words may follow a code that asks for a datum: a defining byte, where there are several of the kind (I3C Basic
+/// 5.1.9.3.15, 5.1.9.3.18, 5.1.9.3.19).
+fn defining_bytes(what: Datum) -> usize
+    ensures { result ≡ defining_bytes what }
+{
+    match what {
+        Datum::Status | Datum::Speed | Datum::Capabilities => 1,
+        Datum::Pid | Datum::Bcr | Datum::Dcr | Datum::WriteLength | Datum::ReadLength => 0,
     }
 }
 

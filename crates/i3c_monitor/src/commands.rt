@@ -43,6 +43,7 @@ fn read_command(alloc: Global, code: Code, symbols: &[Symbol], before: usize) ->
         Code::Setdasa => return Ok(Told::nothing(Mode::Single(Direct::Setdasa))),
         Code::Setnewda => return Ok(Told::nothing(Mode::Single(Direct::Setnewda))),
         Code::Getacccr => return Ok(Told::nothing(Mode::Single(Direct::Getacccr))),
+        Code::Get(what) => return Ok(Told::nothing(Mode::Get(what))),
         Code::Other(byte) => (Decoded::Other(byte), Mode::Skipped),
     };
     Ok(Told {

@@ -2,7 +2,7 @@ ghost use Rattle.std.specs.Prelude.{◌≡◌};
 ghost use Rattle.i3c_monitor.specs.Known.{dynamic_in};
 ghost use Rattle.i3c_monitor.specs.declared.decoded.Stop.TheVariants.{Refused as StopRefused, Memory};
 
-use i3c_base::{Addr7, Request};
+use i3c_base::{Addr7, Datum, Request};
 use i3c_deftgts::ListFault;
 use i3c_frame::Symbol;
 use std::alloc::AllocError;
@@ -85,6 +85,9 @@ pub enum Decoded {
         address: Addr7,
         byte: Option<u8>,
     },
+    /// A header of a code that asks a target for a datum, and the symbols behind it, of which words are the bytes that it
+    /// tells: `None` where nobody answered (I3C Basic 5.1.9.3).
+    Get(Datum, Addr7, Option<Span>),
     /// A private transfer, and the symbols behind its header, of which words are its bytes: `None` where nobody answered
     /// (I3C Basic 5.1.2).
     Transfer {
@@ -106,7 +109,7 @@ impl Decoded {
         ensures { result ≡ spoken_to self.now }
     {
         match self {
-            Decoded::Transfer { address, .. } => Some(*address),
+            Decoded::Transfer { address, .. } | Decoded::Get(_, address, _) => Some(*address),
             Decoded::Single {
                 command,
                 address,
@@ -126,6 +129,7 @@ impl Decoded {
                 span: Some(_),
                 ..
             }
+            | Decoded::Get(_, address, Some(_))
             | Decoded::Request {
                 request: Request::Interrupt(address) | Request::Role(address),
                 ..
@@ -149,6 +153,7 @@ impl Decoded {
                 span: None,
                 ..
             }
+            | Decoded::Get(_, address, None)
             | Decoded::Single {
                 command: Direct::Enec | Direct::Disec | Direct::Setnewda,
                 address,

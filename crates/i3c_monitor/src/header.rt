@@ -1,12 +1,12 @@
 ghost use Rattle.std.specs.Prelude.{◌≡◌, ◌+◌, ◌<◌, length, IfOk};
 ghost use Rattle.i3c_monitor.specs.Due.{Comes};
 ghost use Rattle.i3c_monitor.specs.Lint.{settled};
-ghost use Rattle.i3c_monitor.specs.Told.{request_of, round_of, single_byte, single_of, told, transfer_of};
+ghost use Rattle.i3c_monitor.specs.Told.{get_of, request_of, round_of, single_byte, single_of, span_of, told, transfer_of};
 
 use crate::commands::read_code;
 use crate::decoded::{Decoded, Direct, Fault, Span, Stop};
 use crate::words::{due_word, written_byte};
-use i3c_base::{Addr7, Request};
+use i3c_base::{Addr7, Datum, Request};
 use i3c_frame::Symbol;
 use std::alloc::{AllocError, Global};
 
@@ -25,6 +25,8 @@ pub(crate) enum Mode {
     Plain,
     /// In a command to single targets.
     Single(Direct),
+    /// In a code that asks targets for a datum.
+    Get(Datum),
     /// In the rounds of ENTDAA.
     Rounds,
     /// After a code that isn't known, where nothing is read.
@@ -114,6 +116,10 @@ pub(crate) fn read_header(
             let decoded = read_single(command, header, symbols, before)?;
             Ok(Told::one(decoded, Mode::Single(*command)))
         }
+        Mode::Get(what) => {
+            let decoded = get_of(*what, header, symbols.len(), before);
+            Ok(Told::one(decoded, Mode::Get(*what)))
+        }
         Mode::Rounds if is_broadcast => {
             let decoded = read_round(header, symbols, before)?;
             Ok(Told::one(decoded, Mode::Rounds))
@@ -168,15 +174,30 @@ fn request_of(header: &Header, symbols: &[Symbol]) -> Decoded
 fn transfer_of(header: &Header, count: usize, before: usize) -> Decoded
     ensures { result ≡ transfer_of header.now count before }
 {
-    let span = if header.ack {
-        Some(Span { before, count })
-    } else {
-        None
-    };
     Decoded::Transfer {
         address: header.address,
         read: header.read,
-        span,
+        span: span_of(header, count, before),
+    }
+}
+
+/// A header of a code that asks for a datum, whichever its direction. A datum is as long as it comes, with any T bits.
+#[inline(always)]
+fn get_of(what: Datum, header: &Header, count: usize, before: usize) -> Decoded
+    ensures { result ≡ get_of what header.now count before }
+{
+    Decoded::Get(what, header.address, span_of(header, count, before))
+}
+
+/// The symbols behind a header, unless nobody answered.
+#[inline(always)]
+fn span_of(header: &Header, count: usize, before: usize) -> Option<Span>
+    ensures { result ≡ span_of header.now count before }
+{
+    if header.ack {
+        Some(Span { before, count })
+    } else {
+        None
     }
 }
 

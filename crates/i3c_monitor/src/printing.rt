@@ -1,9 +1,9 @@
 ghost use Rattle.std.specs.Prelude.{◌≡◌, ◌++◌, OnOk, codes};
-ghost use Rattle.i3c_monitor.specs.Lines.{answer_text, byte_after, byte_of, bytes_text, command_text, data_text, fault_text, number_text, request_text, taken_text, transfer_text, verdict_text, words_text};
+ghost use Rattle.i3c_monitor.specs.Lines.{answer_text, byte_after, byte_of, bytes_text, command_text, data_text, datum_name, fault_text, number_text, request_text, taken_text, transfer_text, verdict_text, words_text};
 ghost use Rattle.i3c_text.specs.Hex.{hex_text};
 
 use crate::decoded::{Decoded, Direct, Fault, Span};
-use i3c_base::{Addr7, Request};
+use i3c_base::{Addr7, Datum, Request};
 use i3c_deftgts::ListFault;
 use i3c_frame::Symbol;
 use i3c_text::Text;
@@ -51,6 +51,7 @@ impl Decoded {
                 address,
                 byte,
             } => push_single(command, *address, *byte, text),
+            Decoded::Get(what, address, span) => push_get(*what, *address, span, trace, text),
             Decoded::Transfer {
                 address,
                 read,
@@ -196,6 +197,38 @@ fn push_answer(byte: Option<u8>, text: &mut Text) -> Result<(), AllocError>
     }
 }
 
+/// Appends a code that asks for a datum, and the bytes behind its header.
+#[inline(always)]
+fn push_get(
+    what: Datum,
+    address: Addr7,
+    span: &Option<Span>,
+    trace: &[Symbol],
+    text: &mut Text,
+) -> Result<(), AllocError>
+    ensures { OnOk result (text.new ≡ text.old ++ (words_text (datum_name what) address ++ bytes_text span.now trace.now)) }
+{
+    push_address(datum_name(what), address, text)?;
+    push_bytes(span, trace, text)
+}
+
+/// The name of the code that asks for a datum, and a space.
+#[inline(always)]
+fn datum_name(what: Datum) -> &'static [u8]
+    ensures { result.now ≡ datum_name what }
+{
+    match what {
+        Datum::Pid => b"GETPID ",
+        Datum::Bcr => b"GETBCR ",
+        Datum::Dcr => b"GETDCR ",
+        Datum::Status => b"GETSTATUS ",
+        Datum::WriteLength => b"GETMWL ",
+        Datum::ReadLength => b"GETMRL ",
+        Datum::Speed => b"GETMXDS ",
+        Datum::Capabilities => b"GETCAPS ",
+    }
+}
+
 /// The words for the direction of a private transfer.
 #[inline(always)]
 fn transfer_words(read: bool) -> &'static [u8]
@@ -204,7 +237,7 @@ fn transfer_words(read: bool) -> &'static [u8]
     if read { b"read " } else { b"write " }
 }
 
-/// Appends the bytes of a private transfer.
+/// Appends the bytes behind a header, unless nobody answered.
 #[inline(always)]
 fn push_bytes(span: &Option<Span>, trace: &[Symbol], text: &mut Text) -> Result<(), AllocError>
     ensures { OnOk result (text.new ≡ text.old ++ bytes_text span.now trace.now) }

@@ -272,5 +272,6 @@ fn event_of(command: Command, policy: Fixed, cuts: Cuts) -> Event
         Command::WriteTo(to, bytes) => Event::WriteTo(to, bytes, policy, cuts),
         Command::SetStatic(fixed, new) => Event::SetStatic(fixed, new, policy, cuts),
         Command::SetNew(old, new) => Event::SetNew(old, new, policy, cuts),
+        Command::Get(what, from) => Event::Get(what, from, policy, cuts),
     }
 }

@@ -1,17 +1,21 @@
 -- Cuts behind the last bit of a line's frame: two of one slot lead to the same.
-use Rattle.std.proofs.Common.{min, Result, Err, Ok, ◌≡◌, ◌∙◌, ℕ, zero, suc, ◌+◌, ◌<◌, ◌≤◌, Bool, true, false, List, Option, None, Some, arith, inl, inr, refl, subst, sym}
+use Rattle.std.proofs.Common.{min, Result, Err, Ok, ◌≡◌, ◌∙◌, ℕ, zero, suc, ◌+◌, ◌<◌, ◌≤◌, Bool, true, false, List, Option, None, Some, arith, inl, inr, refl, subst, sym, if◌then◌else◌}
 use Rattle.std.specs.declared.alloc.AllocError.{AllocError}
 use Rattle.std.specs.Prelude.{IfOk}
 use Rattle.std.proofs.Math.Nat.{min-eq_left, min-eq_right}
 use Rattle.std.proofs.lemmas.Bool.Decides.{leb_tells}
+use Rattle.i3c_base.specs.declared.answers.Answer.{Answer}
+use Rattle.i3c_base.specs.declared.datum.Datum.{Datum}
 use Rattle.i3c_base.specs.declared.requests.Fixed.{Fixed}
 use Rattle.i3c_base.specs.Cutting.{CutList}
-use Rattle.i3c_base.specs.State.{State}
+use Rattle.i3c_base.specs.Frames.{get_bits, told_length}
+use Rattle.i3c_base.specs.Serve.{byte_due}
+use Rattle.i3c_base.specs.State.{Entry, State, entry_at}
 use Rattle.i3c_step.specs.declared.events.Command.{Command as Frame}
 use Rattle.i3c_step.specs.declared.events.Event.{Event}
 use Rattle.i3c_step.specs.declared.replies.Reply.{Reply}
 use Rattle.i3c_step.specs.Commands.{event_of}
-use Rattle.i3c_step.specs.LateCuts.{most_bits, recut}
+use Rattle.i3c_step.specs.LateCuts.{bits_after_byte, most_bits, recut}
 use Rattle.i3c_step.specs.Step.{Step}
 use Rattle.i3c_step.proofs.LateCuts.{and_cut, both_alike}
 use Rattle.i3c_step.proofs.LateSteps.{each_alike, step_alike}
@@ -33,6 +37,24 @@ step_late : (old : State) (event : Event) (reply : Reply) (new : State) (s bit m
 step_late old event reply new s bit more late later h =
     step_alike old event (and_cut s bit) (and_cut s more) reply new (each_alike old event (and_cut s bit) (and_cut s more) (λ cuts. both_alike old cuts s bit more (most_bits old event) late later)) h
 
+-- no datum has more than six bytes
+told_at_most : (what : Datum) (entry : Option Entry) → told_length what entry ≤ 6
+told_at_most Datum.Pid entry = omega arith
+told_at_most Datum.Bcr entry = omega arith
+told_at_most Datum.Dcr entry = omega arith
+told_at_most Datum.Status entry = omega arith
+told_at_most Datum.WriteLength entry = omega arith
+told_at_most Datum.ReadLength entry = go (byte_due entry)
+  where
+    go : (b : Bool) → (if b then 3 else 2) ≤ 6
+    go true = omega arith
+    go false = omega arith
+told_at_most Datum.Speed entry = omega arith
+told_at_most Datum.Capabilities entry = omega arith
+
+get_at_most : (what : Datum) (entry : Option Entry) → bits_after_byte (get_bits what entry Answer.NoEnd) ≤ 90
+get_at_most what entry = omega (arith, told_at_most what entry)
+
 -- so do they in a frame under the role
 frame_late : (old : State) (frame : Frame) (policy : Fixed) (cuts : CutList) (reply : Reply) (new : State) (s bit more : ℕ) → last_of_frame old frame < bit → last_of_frame old frame < more
     → Step old (event_of frame policy (cut_at cuts s bit)) reply new → Step old (event_of frame policy (cut_at cuts s more)) reply new
@@ -47,6 +69,8 @@ frame_late old (Frame.ReadFrom a) policy cuts reply new s bit more late later h 
 frame_late old (Frame.WriteTo a bytes) policy cuts reply new s bit more late later h = step_late old (Event.WriteTo a bytes policy cuts) reply new s bit more (omega (arith, late)) (omega (arith, later)) h
 frame_late old (Frame.SetStatic f to) policy cuts reply new s bit more late later h = step_late old (Event.SetStatic f to policy cuts) reply new s bit more late later h
 frame_late old (Frame.SetNew a to) policy cuts reply new s bit more late later h = step_late old (Event.SetNew a to policy cuts) reply new s bit more late later h
+frame_late old (Frame.Get what a) policy cuts reply new s bit more late later h =
+    let few = get_at_most what (entry_at old a) in step_late old (Event.Get what a policy cuts) reply new s bit more (omega (arith, late, few)) (omega (arith, later, few)) h
 
 -- a step of events that take the same cuts
 moves_as : (st : State) (policy : Fixed) (c d : CutList) (names : List Named) (e f : Event) (reply : Reply) (new : Seen) → cuts_left e c ≡ cuts_left f d → (Step st e reply new.state → Step st f reply new.state)
@@ -63,6 +87,7 @@ frame_left (Frame.ReadFrom a) policy c d = refl
 frame_left (Frame.WriteTo a bytes) policy c d = refl
 frame_left (Frame.SetStatic f to) policy c d = refl
 frame_left (Frame.SetNew a to) policy c d = refl
+frame_left (Frame.Get what a) policy c d = refl
 
 -- and in a whole session, of whose frames the opening alone takes the cuts
 assigns_late : (st : State) (policy : Fixed) (cuts : CutList) (names : List Named) (refused : Option Refusal) (new : Seen) (s bit more : ℕ) → 18 < bit → 18 < more

@@ -469,6 +469,7 @@ fn event_of(frame: &Frame, policy: Fixed, cuts: Cuts) -> Event
         Frame::WriteTo(to, bytes) => Event::WriteTo(*to, copy_of(bytes), policy, cuts),
         Frame::SetStatic(fixed, new) => Event::SetStatic(*fixed, *new, policy, cuts),
         Frame::SetNew(old, new) => Event::SetNew(*old, *new, policy, cuts),
+        Frame::Get(what, from) => Event::Get(*what, *from, policy, cuts),
     }
 }
 

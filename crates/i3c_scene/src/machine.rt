@@ -133,6 +133,7 @@ impl Scene {
             Frame::Reset => 27,
             Frame::SendList => 18 + usize::from(self.still.list_bits()),
             Frame::ReadFrom(_) => 171,
+            Frame::Get(..) => 90,
             Frame::WriteTo(_, bytes) => 27 + 9 * bytes.len(),
         }
     }

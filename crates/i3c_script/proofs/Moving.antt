@@ -32,7 +32,7 @@ use Rattle.i3c_script.specs.declared.telling.Subject.{Subject}
 use Rattle.i3c_script.specs.declared.tenures.Tenure.{Tenure}
 use Rattle.i3c_script.specs.declared.wires.TheConstants.{SYMBOLS}
 use Rattle.i3c_script.specs.Asking.{slot_meant}
-use Rattle.i3c_script.specs.Printed.{subject_of}
+use Rattle.i3c_script.specs.Printed.{frame_subject, subject_of}
 use Rattle.i3c_script.specs.Assigning.{Moves, cuts_left}
 use Rattle.i3c_script.specs.Obeying.{Answers, AnswersIn, IsRefused}
 use Rattle.i3c_script.specs.Ran.{Ran, ran_of}
@@ -121,7 +121,7 @@ pub in_slot : (old new : Ran) (names : Names) (name : Name) (event : ℕ → Eve
 in_slot old new names name event slot before after result is told =
     subst (λ r. Prints (λ said refused. MatchResult r (λ s. Answers old names (event s) said refused new) (λ why. (new ≡ old) × IsRefused why said refused)) before after result) is told
 
--- each frame under the role carries cuts, and its text has nothing of the event
+-- each frame under the role carries cuts, and its text has of the event what it has of the frame
 carries_cuts : (frame : Frame) (policy : Fixed) (cuts : CutList) → is_some (cuts_in (event_of frame policy cuts)) ≡ true
 carries_cuts Frame.Serve policy cuts = refl
 carries_cuts Frame.Reset policy cuts = refl
@@ -132,17 +132,19 @@ carries_cuts (Frame.ReadFrom a) policy cuts = refl
 carries_cuts (Frame.WriteTo a bytes) policy cuts = refl
 carries_cuts (Frame.SetStatic f new) policy cuts = refl
 carries_cuts (Frame.SetNew a new) policy cuts = refl
+carries_cuts (Frame.Get what a) policy cuts = refl
 
-no_subject : (frame : Frame) (policy : Fixed) (cuts : CutList) → Subject.Nothing ≡ subject_of (event_of frame policy cuts)
-no_subject Frame.Serve policy cuts = refl
-no_subject Frame.Reset policy cuts = refl
-no_subject Frame.SendList policy cuts = refl
-no_subject (Frame.Enec to kinds) policy cuts = refl
-no_subject (Frame.Disec to kinds) policy cuts = refl
-no_subject (Frame.ReadFrom a) policy cuts = refl
-no_subject (Frame.WriteTo a bytes) policy cuts = refl
-no_subject (Frame.SetStatic f new) policy cuts = refl
-no_subject (Frame.SetNew a new) policy cuts = refl
+one_subject : (frame : Frame) (policy : Fixed) (cuts : CutList) → frame_subject frame ≡ subject_of (event_of frame policy cuts)
+one_subject Frame.Serve policy cuts = refl
+one_subject Frame.Reset policy cuts = refl
+one_subject Frame.SendList policy cuts = refl
+one_subject (Frame.Enec to kinds) policy cuts = refl
+one_subject (Frame.Disec to kinds) policy cuts = refl
+one_subject (Frame.ReadFrom a) policy cuts = refl
+one_subject (Frame.WriteTo a bytes) policy cuts = refl
+one_subject (Frame.SetStatic f new) policy cuts = refl
+one_subject (Frame.SetNew a new) policy cuts = refl
+one_subject (Frame.Get what a) policy cuts = refl
 
 -- and hands no role over
 abbrev is_handover : Event → Bool
@@ -159,6 +161,7 @@ no_handover (Frame.ReadFrom a) policy cuts = refl
 no_handover (Frame.WriteTo a bytes) policy cuts = refl
 no_handover (Frame.SetStatic f new) policy cuts = refl
 no_handover (Frame.SetNew a new) policy cuts = refl
+no_handover (Frame.Get what a) policy cuts = refl
 
 unhanded : (old new : State) (frame : Frame) (policy : Fixed) (cuts : CutList) (reply : Reply) → Step old (event_of frame policy cuts) reply new → is_handed reply ≡ false
 unhanded old new frame policy cuts reply step = go (is_handed reply) refl
@@ -171,7 +174,7 @@ unhanded old new frame policy cuts reply step = go (is_handed reply) refl
 
 -- a frame under the role
 pub sent : (old new : State) (policy : Fixed) (cuts left : CutList) (symbols later : List Symbol) (ended : List Tenure) (names : Names) (frame : Frame) (reply : Reply) (before after : List ℕ) (result : Result (Unit {0}) Stop)
-    → left ≡ no_cuts → Step old (event_of frame policy cuts) reply new → Tells note symbols later (IsWire old (event_of frame policy cuts) reply new) → Prints (IsTold names Subject.Nothing reply) before after result
+    → left ≡ no_cuts → Step old (event_of frame policy cuts) reply new → Tells note symbols later (IsWire old (event_of frame policy cuts) reply new) → Prints (IsTold names (frame_subject frame) reply) before after result
     → Prints (λ said refused. Answers (ran_of old policy cuts symbols ended) names (event_of frame policy cuts) said refused (ran_of new policy left later ended)) before after result
 sent old new policy cuts left symbols later ended names frame reply before after result none step wire told =
     answered (ran_of old policy cuts symbols ended) (ran_of new policy left later ended) names (event_of frame policy cuts) reply before after result
@@ -179,7 +182,7 @@ sent old new policy cuts left symbols later ended names frame reply before after
     (subst (λ rest. Moves (ran_of old policy cuts symbols ended) (event_of frame policy cuts) reply (ran_of new policy rest later (ended_by reply old.active (length new.records) ended)))
     (all_taken (event_of frame policy cuts) cuts (carries_cuts frame policy cuts) ∙ sym none)
     (moved old new policy cuts symbols later ended (event_of frame policy cuts) reply step wire)))
-    (subst (λ subject. Prints (IsTold names subject reply) before after result) (no_subject frame policy cuts) told)
+    (subst (λ subject. Prints (IsTold names subject reply) before after result) (one_subject frame policy cuts) told)
 
 -- a line that sends nothing and takes no cuts, in the slot that its name means
 pub quietly : (old new : State) (policy : Fixed) (cuts : CutList) (symbols : List Symbol) (ended : List Tenure) (names : Names) (name : Name) (event : ℕ → Event) (slot : ℕ) (reply : Reply) (before after : List ℕ) (result : Result (Unit {0}) Stop)

@@ -14,6 +14,7 @@ use Rattle.i3c_base.specs.Serve.{IsFirstRequest, drives}
 use Rattle.i3c_base.specs.State.{Device, State, device_at}
 use Rattle.i3c_frame.specs.declared.symbols.Symbol.{Symbol}
 use Rattle.i3c_frame.specs.Texts.{text_of}
+use Rattle.i3c_step.specs.declared.events.Command.{Command as Frame}
 use Rattle.i3c_step.specs.declared.events.Event.{Event}
 use Rattle.i3c_step.specs.declared.replies.Framed.{Framed}
 use Rattle.i3c_step.specs.declared.replies.Reply.{Reply}
@@ -21,6 +22,7 @@ use Rattle.i3c_bus.specs.Readings.{address_of}
 use Rattle.i3c_lines.specs.declared.names.Name.{Name}
 use Rattle.i3c_lines.specs.declared.names.Names.{Names}
 use Rattle.i3c_text.specs.Hex.{byte_text, bytes_text, hex_text}
+use Rattle.i3c_lines.specs.Data.{told_word}
 use Rattle.i3c_lines.specs.Naming.{legacy_names, letters, slot_names}
 use Rattle.i3c_lines.specs.Refusing.{refusal_text}
 use Rattle.i3c_script.specs.declared.faults.Stop.{Stop}
@@ -55,16 +57,23 @@ request_text Served.Torn = served_text Served.Torn
 request_text Served.Joining = served_text Served.Joining
 request_text (Served.WantsRole a) = served_text (Served.WantsRole a)
 
+-- the word before bytes that were read: that of the datum that was asked for, or of a private read
+abbrev pub read_word : Subject → List ℕ
+read_word (Subject.Told what) = told_word what
+read_word (Subject.Attached slot) = codes "bytes"
+read_word (Subject.HandedTo to) = codes "bytes"
+read_word Subject.Nothing = codes "bytes"
+
 -- the answer to a frame's own part
-abbrev pub answer_text : Answer → List ℕ
-answer_text Answer.Done = codes "done" ++ 10 ∷ []
-answer_text (Answer.Bytes bytes) = codes "bytes " ++ (bytes_text bytes ++ 10 ∷ [])
-answer_text (Answer.NoAnswer a) = []
-answer_text Answer.NoEnd = []
+abbrev pub answer_text : Subject → Answer → List ℕ
+answer_text subject Answer.Done = codes "done" ++ 10 ∷ []
+answer_text subject (Answer.Bytes bytes) = read_word subject ++ (codes " " ++ (bytes_text bytes ++ 10 ∷ []))
+answer_text subject (Answer.NoAnswer a) = []
+answer_text subject Answer.NoEnd = []
 
 -- what a frame served, and its own part
-abbrev pub framed_text : Framed → List ℕ
-framed_text framed = request_text framed.served ++ answer_text framed.answer
+abbrev pub framed_text : Subject → Framed → List ℕ
+framed_text subject framed = request_text framed.served ++ answer_text subject framed.answer
 
 -- what an opening served, and that the session is open
 abbrev pub opened_text : Served → List ℕ
@@ -108,6 +117,7 @@ subject_of (Event.ReadFrom a policy cuts) = Subject.Nothing
 subject_of (Event.WriteTo a bytes policy cuts) = Subject.Nothing
 subject_of (Event.SetStatic f new policy cuts) = Subject.Nothing
 subject_of (Event.SetNew a new policy cuts) = Subject.Nothing
+subject_of (Event.Get what a policy cuts) = Subject.Told what
 subject_of (Event.Serve policy cuts) = Subject.Nothing
 subject_of (Event.Enec to kinds policy cuts) = Subject.Nothing
 subject_of (Event.Disec to kinds policy cuts) = Subject.Nothing
@@ -115,10 +125,16 @@ subject_of (Event.OpenDaa cuts) = Subject.Nothing
 subject_of (Event.Round cuts) = Subject.Nothing
 subject_of Event.EndDaa = Subject.Nothing
 
+-- the part of a frame under the role that its printed reply mentions
+abbrev pub frame_subject : Frame → Subject
+frame_subject (Frame.Get what a) = Subject.Told what
+frame_subject _ = Subject.Nothing
+
 -- the device that was attached, where one was
 abbrev pub attached_text : Names → Subject → List ℕ
 attached_text names (Subject.Attached slot) = named_text (slice_index_or (slot_names names) slot None) slot
 attached_text names (Subject.HandedTo to) = []
+attached_text names (Subject.Told what) = []
 attached_text names Subject.Nothing = []
 
 -- an address that is the active controller's now
@@ -129,6 +145,7 @@ active_text a = codes "active " ++ (byte_text a ++ 10 ∷ [])
 abbrev pub handed_text : Subject → Served → List ℕ
 handed_text (Subject.HandedTo to) served = request_text served ++ active_text to
 handed_text (Subject.Attached slot) served = []
+handed_text (Subject.Told what) served = []
 handed_text Subject.Nothing served = []
 
 -- the number of a raise
@@ -144,7 +161,7 @@ reply_text names subject Reply.Dropped = codes "dropped" ++ 10 ∷ []
 reply_text names subject (Reply.Raised number) = raised_text number
 reply_text names subject Reply.Asked = codes "asked" ++ 10 ∷ []
 reply_text names subject (Reply.Served served) = served_text served
-reply_text names subject (Reply.Framed framed) = framed_text framed
+reply_text names subject (Reply.Framed framed) = framed_text subject framed
 reply_text names subject (Reply.Opened served) = opened_text served
 reply_text names subject (Reply.Handed served) = handed_text subject served
 reply_text names subject (Reply.Round answer) = round_text answer

@@ -8,7 +8,7 @@ use crate::details::show_all;
 use crate::faults::Stop;
 use crate::show::show_bus;
 use crate::telling::{
-    Subject, subject_of, tell, tell_attached, tell_dropped, tell_join, tell_raised, tell_role,
+    frame_subject, subject_of, tell, tell_attached, tell_dropped, tell_join, tell_raised, tell_role,
 };
 use crate::tenures::{Tenure, end_tenure};
 use crate::wires::Wires;
@@ -171,7 +171,7 @@ impl Running {
             .bus
             .command(hand, frame, &mut policy, &mut self.wires, &self.cuts);
         self.cuts.clear();
-        tell(names, Subject::Nothing, &reply, text)
+        tell(names, frame_subject(frame), &reply, text)
     }
 
     // The lines below are kept apart, so that raises and the frames under the role don't pay for the room that they take on

@@ -1,6 +1,6 @@
-ghost use Rattle.std.specs.Prelude.{◌≡◌, [], ◌∷◌, ◌++◌, OnOk};
+ghost use Rattle.std.specs.Prelude.{◌≡◌, [], ◌∷◌, ◌++◌, OnOk, codes};
 ghost use Rattle.std.specs.Fmt.{decimal};
-ghost use Rattle.i3c_script.specs.Printed.{assigned_text, attached_text, field_text, framed_text, handed_text, identity_text, opened_text, raised_text, reply_text, request_text, round_text, served_text, subject_of};
+ghost use Rattle.i3c_script.specs.Printed.{assigned_text, attached_text, field_text, frame_subject, framed_text, handed_text, identity_text, opened_text, raised_text, read_word, reply_text, request_text, round_text, served_text, subject_of};
 ghost use Rattle.i3c_step.specs.Replies.{attached_reply, dropped_reply, joins_reply, raised_reply, role_reply};
 ghost use Rattle.i3c_lines.specs.declared.names.Names.{Names as NamesValue};
 ghost use Rattle.i3c_script.specs.declared.telling.Subject.{Subject as SubjectValue};
@@ -8,10 +8,13 @@ ghost use Rattle.i3c_script.specs.Telling.{IsTold, Prints};
 
 use crate::faults::{Stop, outcome_of};
 use i3c_base::{
-    Addr7, Answer, Identity, JoinRefusal, RaiseRefusal, RoleRefusal, RoundReply, Served, Slot,
+    Addr7, Answer, Datum, Identity, JoinRefusal, RaiseRefusal, RoleRefusal, RoundReply, Served,
+    Slot,
 };
-use i3c_bus::{DropRefusal, Event, Framed, Refusal as BusRefusal, Reply, SlotTaken};
-use i3c_lines::{Names, Refusal};
+use i3c_bus::{
+    Command as Frame, DropRefusal, Event, Framed, Refusal as BusRefusal, Reply, SlotTaken,
+};
+use i3c_lines::{Names, Refusal, told_word};
 use i3c_text::Text;
 use std::alloc::AllocError;
 
@@ -28,6 +31,8 @@ pub(crate) enum Subject {
     Attached(Slot),
     /// The address to which the role was handed over.
     HandedTo(Addr7),
+    /// The datum that was asked for.
+    Told(Datum),
     /// Nothing.
     Nothing,
 }
@@ -39,6 +44,17 @@ pub(crate) fn subject_of(event: &Event) -> Subject
     match event {
         Event::Attach(slot, _) => Subject::Attached(*slot),
         Event::HandOver(to, _) => Subject::HandedTo(*to),
+        Event::Get(what, _, _, _) => Subject::Told(*what),
+        _ => Subject::Nothing,
+    }
+}
+
+/// The part of a frame under the role that its printed reply mentions.
+pub(crate) fn frame_subject(frame: &Frame) -> Subject
+    ensures { result ≡ frame_subject frame.now }
+{
+    match frame {
+        Frame::Get(what, _) => Subject::Told(*what),
         _ => Subject::Nothing,
     }
 }
@@ -145,7 +161,7 @@ fn show_reply(
         Reply::Raised(number) => show_raised(*number, text),
         Reply::Asked => text.push(ASKED),
         Reply::Served(served) => show_served(served, text),
-        Reply::Framed(framed) => show_framed(framed, text),
+        Reply::Framed(framed) => show_framed(subject, framed, text),
         Reply::Opened(served) => show_opened(served, text),
         Reply::Handed(served) => show_handed(subject, served, text),
         Reply::Round(answer) => show_round(answer, text),
@@ -213,18 +229,31 @@ pub(crate) fn show_request(served: &Served, text: &mut Text) -> Result<(), Alloc
 }
 
 /// Prints what a frame served, and what its own part came to, if it was carried out.
-fn show_framed(framed: &Framed, text: &mut Text) -> Result<(), AllocError>
-    ensures { OnOk result (text.new ≡ text.old ++ framed_text framed.now) }
+fn show_framed(subject: Subject, framed: &Framed, text: &mut Text) -> Result<(), AllocError>
+    ensures { OnOk result (text.new ≡ text.old ++ framed_text subject framed.now) }
 {
     show_request(&framed.served, text)?;
     match &framed.answer {
         Answer::Done => text.push(b"done\n"),
         Answer::Bytes(bytes) => {
-            text.push(b"bytes ")?;
-            text.push_bytes(bytes)?;
+            show_read_word(subject, text)?;
+            text.push_bytes(bytes.as_slice())?;
             text.end()
         }
         Answer::NoAnswer(_) | Answer::NoEnd => Ok(()),
+    }
+}
+
+/// Prints the word before bytes that were read, and a space.
+fn show_read_word(subject: Subject, text: &mut Text) -> Result<(), AllocError>
+    ensures { OnOk result (text.new ≡ text.old ++ (read_word subject ++ codes " ")) }
+{
+    match subject {
+        Subject::Told(what) => {
+            text.push(told_word(what).as_bytes())?;
+            text.push(b" ")
+        }
+        Subject::Attached(_) | Subject::HandedTo(_) | Subject::Nothing => text.push(b"bytes "),
     }
 }
 

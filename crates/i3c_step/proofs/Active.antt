@@ -18,14 +18,14 @@ use Rattle.i3c_base.specs.Frames.{Rekinds, handed, list, overwritten, reaches, r
 use Rattle.i3c_base.specs.Round.{Rounds, assigned, hears, opened, unhearing, winner, wins}
 use Rattle.i3c_base.proofs.Lookups.{change_at, drop_off_at, each_at, emptied_at, length-no_devices, set_at, set_in}
 use Rattle.i3c_step.specs.declared.events.Event.{Event}
-use Rattle.i3c_step.specs.declared.events.Event.TheVariants.{Attach, DropOff, Raise, AskJoin, AskRole, Serve, Enec, Disec, Reset, SendList, ReadFrom, WriteTo, SetStatic, SetNew, OpenDaa, Round, EndDaa, HandOver}
+use Rattle.i3c_step.specs.declared.events.Event.TheVariants.{Attach, DropOff, Raise, AskJoin, AskRole, Serve, Enec, Disec, Reset, SendList, ReadFrom, WriteTo, SetStatic, SetNew, Get, OpenDaa, Round, EndDaa, HandOver}
 use Rattle.i3c_step.specs.declared.replies.Reply.{Reply}
 use Rattle.i3c_step.specs.Runs.{IsLegalRun}
 use Rattle.i3c_step.proofs.Handing.{declined, granted}
 use Rattle.i3c_step.proofs.Kept.{run_keeps}
 use Rattle.i3c_step.specs.Step.{Acts, Step, checks, first_refusal, hand_checks, read_checks, target_checks, write_checks, static_checks, new_checks}
 use Rattle.i3c_step.proofs.Steps.{active_left, no_test, step_cases}
-use Rattle.i3c_step.proofs.Transfers.{reads_keep, writes_keep, news_keep, statics_keep}
+use Rattle.i3c_step.proofs.Transfers.{gets_keep, reads_keep, writes_keep, news_keep, statics_keep}
 
 -- the active slot is occupied
 abbrev pub HasActive : State → Type 0
@@ -159,6 +159,9 @@ Active-acts old (SetNew a to policy cuts) reply new free h p =
     Active-frame old policy cuts _ _ _ new
     (λ lost. news_keep (λ mid done. IsSafe lost mid → IsSafe lost done) a to (λ st safe. safe) (Safe-with_new a to lost) h.0.answer lost) h.2
     (λ last. active_left old cuts _ _ _ (new_checks old a to) last free) p
+Active-acts old (Get what a policy cuts) reply new free h p =
+    Active-frame old policy cuts _ _ _ new (λ lost. gets_keep (λ mid done. IsSafe lost mid → IsSafe lost done) (λ st safe. safe) what a h.0.answer lost) h.2
+    (λ last. active_left old cuts _ _ _ (target_checks old (Some a)) last free) p
 Active-acts old (OpenDaa cuts) reply new free h p = Active-frame old _ cuts _ _ _ new Safe-opened h.2 (λ last. active_left old cuts _ _ _ [] last free) p
 Active-acts old (Round cuts) reply new free h p = Active-round old cuts h.0 new h.2 (λ last. active_left old cuts _ _ _ [] last free) p
 Active-acts old (HandOver to cuts) reply new free h p = elim h [

@@ -1,5 +1,5 @@
 -- Over a legal run at most one party answers to an address.
-use Rattle.std.proofs.Common.{◌≡◌, ℕ, List, Option, Some, None, ◌⊎◌, inl, inr, ap, sym, ◌∙◌}
+use Rattle.std.proofs.Common.{◌≡◌, ℕ, List, Some, None, inl, inr, ap, sym, ◌∙◌}
 use Rattle.std.proofs.lemmas.Option.{none-some, same_Some}
 use Rattle.i3c_base.specs.declared.device.Setup.{Setup}
 use Rattle.i3c_base.specs.State.{Board, Device, HasDistinctIdentities, HasUniqueAnswers, IsReachedAt, State, declared_at, device_at, in_slot_of, legacy_at, legacy_target_at}

@@ -19,13 +19,13 @@ use Rattle.i3c_base.specs.Serve.{Frame, Serves, drives, each_driver, emptied, wi
 use Rattle.i3c_base.specs.State.{Device, State, change, device_at, each, has_address, is_the, raised_at}
 use Rattle.i3c_base.proofs.Lookups.{attach_from, change_from, drop_off_from, each_from, emptied_from, length-changed}
 use Rattle.i3c_step.specs.declared.events.Event.{Event}
-use Rattle.i3c_step.specs.declared.events.Event.TheVariants.{Attach, DropOff, Raise, AskJoin, AskRole, Serve, Enec, Disec, Reset, SendList, ReadFrom, WriteTo, SetStatic, SetNew, OpenDaa, Round, EndDaa, HandOver}
+use Rattle.i3c_step.specs.declared.events.Event.TheVariants.{Attach, DropOff, Raise, AskJoin, AskRole, Serve, Enec, Disec, Reset, SendList, ReadFrom, WriteTo, SetStatic, SetNew, Get, OpenDaa, Round, EndDaa, HandOver}
 use Rattle.i3c_step.specs.declared.replies.Reply.{Reply}
 use Rattle.i3c_step.specs.Slots.{HasAttached}
 use Rattle.i3c_step.specs.Step.{Acts, Step}
 use Rattle.i3c_step.proofs.Handing.{IsHandedOver, declined, granted}
 use Rattle.i3c_step.proofs.Steps.{step_cases}
-use Rattle.i3c_step.proofs.Transfers.{news_keep, reads_keep, statics_keep, writes_keep}
+use Rattle.i3c_step.proofs.Transfers.{gets_keep, news_keep, reads_keep, statics_keep, writes_keep}
 
 -- a device with an address hears no session
 abbrev pub IsDeaf : Device → Type 0
@@ -245,6 +245,8 @@ Came-acts old (SetStatic f to policy cuts) reply new h = came old (SetStatic f t
     (Follows-frame old policy cuts _ _ _ new (statics_keep Follows f to Follows-refl (λ i st. Follows-with_static f i to st) h.0.answer) h.2)
 Came-acts old (SetNew a to policy cuts) reply new h = came old (SetNew a to policy cuts) reply new
     (Follows-frame old policy cuts _ _ _ new (news_keep Follows a to Follows-refl (Follows-with_new a to) h.0.answer) h.2)
+Came-acts old (Get what a policy cuts) reply new h = came old (Get what a policy cuts) reply new
+    (Follows-frame old policy cuts _ _ _ new (gets_keep Follows Follows-refl what a h.0.answer) h.2)
 Came-acts old (OpenDaa cuts) reply new h = came old (OpenDaa cuts) reply new
     (Follows-frame old _ cuts _ _ _ new (λ lost mid done e. subst (Follows mid) (sym e) (Follows-opened mid)) h.2)
 Came-acts old (Round cuts) reply new h = came old (Round cuts) reply new (Follows-round old cuts h.0 new h.2)

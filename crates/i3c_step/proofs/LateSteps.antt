@@ -3,19 +3,20 @@ use Rattle.std.proofs.Common.{◌≡◌, ◌⊎◌, ◌∙◌, ◌+◌, ◌≤�
 use Rattle.std.specs.Prelude.{⊤}
 use Rattle.i3c_base.specs.declared.answers.Answer.{Answer}
 use Rattle.i3c_base.specs.declared.answers.RoundReply.{RoundReply}
+use Rattle.i3c_base.specs.declared.datum.Datum.{Datum}
 use Rattle.i3c_base.specs.declared.kinds.Change.{Change}
 use Rattle.i3c_base.specs.declared.requests.Fixed.{Fixed}
 use Rattle.i3c_base.specs.declared.requests.Request.{Request}
 use Rattle.i3c_base.specs.declared.requests.Served.{Served}
 use Rattle.i3c_base.specs.declared.requests.Served.TheVariants.{Quiet, Recorded, Refused, Torn, Joining, WantsRole}
-use Rattle.i3c_base.specs.State.{State, entry_at}
+use Rattle.i3c_base.specs.State.{Entry, State, entry_at}
 use Rattle.i3c_base.specs.Cutting.{CutList, Lost, lost_by}
 use Rattle.i3c_base.specs.Serve.{Frame, IsWordBits, Serves, byte_due, emptied, header_bits, refuse_all}
-use Rattle.i3c_base.specs.Frames.{IsRefusedBits, Reads, Rekinds, SetsNew, SetsStatic, Writes, changed_kinds, kinds_bits, list, list_bits, read_bits, reset, write_bits}
+use Rattle.i3c_base.specs.Frames.{Gets, IsRefusedBits, Reads, Rekinds, SetsNew, SetsStatic, Writes, changed_kinds, get_bits, kinds_bits, list, list_bits, read_bits, reset, write_bits}
 use Rattle.i3c_base.specs.Round.{AllHearersLost, AnyHears, AnyPickable, IsAddressFor, IsBeatenByLost, IsWinner, Rounds, assigned}
 use Rattle.i3c_base.proofs.Verdicts.{refuses}
 use Rattle.i3c_step.specs.declared.events.Event.{Event}
-use Rattle.i3c_step.specs.declared.events.Event.TheVariants.{Attach, DropOff, Raise, AskJoin, AskRole, Serve, Enec, Disec, Reset, SendList, ReadFrom, WriteTo, SetStatic, SetNew, OpenDaa, Round, EndDaa, HandOver}
+use Rattle.i3c_step.specs.declared.events.Event.TheVariants.{Attach, DropOff, Raise, AskJoin, AskRole, Serve, Enec, Disec, Reset, SendList, ReadFrom, WriteTo, SetStatic, SetNew, Get, OpenDaa, Round, EndDaa, HandOver}
 use Rattle.i3c_step.specs.declared.replies.Refusal.{Refusal}
 use Rattle.i3c_step.specs.declared.replies.Reply.{Reply}
 use Rattle.i3c_step.specs.Step.{Acts, Announces, Checks, Step, Transfers, checks, cuts_in, frame_checks, hand_checks, may_want_memory, new_checks, read_checks, static_checks, target_checks, write_checks}
@@ -106,6 +107,12 @@ write_most bytes Answer.Done = omega arith
 write_most bytes Answer.NoEnd = omega arith
 write_most bytes (Answer.Bytes read) = omega arith
 
+get_most : (what : Datum) (entry : Option Entry) (answer : Answer) → get_bits what entry answer ≤ get_bits what entry Answer.NoEnd
+get_most what entry (Answer.NoAnswer b) = omega arith
+get_most what entry Answer.Done = omega arith
+get_most what entry Answer.NoEnd = omega arith
+get_most what entry (Answer.Bytes bytes) = omega arith
+
 declined_most : (st : State) (a bits : ℕ) → IsRefusedBits st a bits → bits ≤ 27
 declined_most st a bits h = elim h [ inl is ↦ omega arith | inr (is, _) ↦ omega arith ]
 
@@ -152,6 +159,8 @@ acts_alike old (SetStatic a to policy cuts) f g reply new alike h =
     transfers_alike old (kinds_bits (Some a)) (kinds_bits (Some a) Answer.Done) (SetsStatic a to) policy (f cuts) (g cuts) reply new alike (kinds_most (Some a)) h
 acts_alike old (SetNew a to policy cuts) f g reply new alike h =
     transfers_alike old (kinds_bits (Some a)) (kinds_bits (Some a) Answer.Done) (SetsNew a to) policy (f cuts) (g cuts) reply new alike (kinds_most (Some a)) h
+acts_alike old (Get what a policy cuts) f g reply new alike h =
+    transfers_alike old (get_bits what (entry_at old a)) (get_bits what (entry_at old a) Answer.NoEnd) (Gets what a) policy (f cuts) (g cuts) reply new alike (get_most what (entry_at old a)) h
 acts_alike old (OpenDaa cuts) f g reply new alike h = (h.0, h.1, refusing_alike old (f cuts) (g cuts) h.0 9 9 _ new alike (omega arith) h.2)
 acts_alike old (HandOver to cuts) f g reply new alike h = elim h [
   | inl x ↦ inl (x.0, x.1, refusing_alike old (f cuts) (g cuts) x.0 27 27 _ new alike (omega arith) x.2)
@@ -182,6 +191,7 @@ checks_alike old (ReadFrom a policy cuts) f g alike = more_checks_alike old _ (f
 checks_alike old (WriteTo a bytes policy cuts) f g alike = more_checks_alike old _ (f cuts) (g cuts) (write_checks old a bytes.items) alike
 checks_alike old (SetStatic a to policy cuts) f g alike = more_checks_alike old _ (f cuts) (g cuts) (static_checks old a to) alike
 checks_alike old (SetNew a to policy cuts) f g alike = more_checks_alike old _ (f cuts) (g cuts) (new_checks old a to) alike
+checks_alike old (Get what a policy cuts) f g alike = more_checks_alike old _ (f cuts) (g cuts) (target_checks old (Some a)) alike
 checks_alike old (OpenDaa cuts) f g alike = frame_checks_alike old _ (f cuts) (g cuts) alike
 checks_alike old (HandOver to cuts) f g alike = more_checks_alike old _ (f cuts) (g cuts) (hand_checks old to) alike
 checks_alike old (Round cuts) f g alike = ap (λ (b : Bool). (not old.in_session, Refusal.NoSession) ∷ (b, Refusal.ActiveStays) ∷ []) (sym alike.active)
@@ -203,6 +213,7 @@ wants_alike (ReadFrom a policy cuts) f g wants = wants
 wants_alike (WriteTo a bytes policy cuts) f g wants = wants
 wants_alike (SetStatic a to policy cuts) f g wants = wants
 wants_alike (SetNew a to policy cuts) f g wants = wants
+wants_alike (Get what a policy cuts) f g wants = wants
 wants_alike (OpenDaa cuts) f g wants = wants
 wants_alike (HandOver to cuts) f g wants = wants
 wants_alike (Round cuts) f g wants = wants
@@ -229,6 +240,7 @@ recut_same (ReadFrom a policy cuts) = refl
 recut_same (WriteTo a bytes policy cuts) = refl
 recut_same (SetStatic a to policy cuts) = refl
 recut_same (SetNew a to policy cuts) = refl
+recut_same (Get what a policy cuts) = refl
 recut_same (OpenDaa cuts) = refl
 recut_same (HandOver to cuts) = refl
 recut_same (Round cuts) = refl
@@ -258,6 +270,7 @@ cuts_in-recut f (ReadFrom a policy cuts) = refl
 cuts_in-recut f (WriteTo a bytes policy cuts) = refl
 cuts_in-recut f (SetStatic a to policy cuts) = refl
 cuts_in-recut f (SetNew a to policy cuts) = refl
+cuts_in-recut f (Get what a policy cuts) = refl
 cuts_in-recut f (OpenDaa cuts) = refl
 cuts_in-recut f (HandOver to cuts) = refl
 cuts_in-recut f (Round cuts) = refl
@@ -278,6 +291,7 @@ most_bits-recut st f (ReadFrom a policy cuts) = refl
 most_bits-recut st f (WriteTo a bytes policy cuts) = refl
 most_bits-recut st f (SetStatic a to policy cuts) = refl
 most_bits-recut st f (SetNew a to policy cuts) = refl
+most_bits-recut st f (Get what a policy cuts) = refl
 most_bits-recut st f (OpenDaa cuts) = refl
 most_bits-recut st f (HandOver to cuts) = refl
 most_bits-recut st f (Round cuts) = refl

@@ -31,3 +31,4 @@ pub mod Handing
 pub mod Holding
 pub mod LateCuts
 pub mod LateSteps
+pub mod Data

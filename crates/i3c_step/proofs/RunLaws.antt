@@ -1,5 +1,5 @@
 -- Runs that go on.
-use Rattle.std.proofs.Common.{◌++◌, List, [], ◌∷◌, Option, subst, refl}
+use Rattle.std.proofs.Common.{◌++◌, List, [], ◌∷◌, subst, refl}
 use Rattle.i3c_base.specs.declared.device.Setup.{Setup}
 use Rattle.i3c_base.specs.State.{Board, IsStart, State}
 use Rattle.i3c_step.specs.declared.events.Event.{Event}

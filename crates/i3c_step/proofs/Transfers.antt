@@ -2,12 +2,13 @@
 use Rattle.std.proofs.lemmas.Bool.{false≢true}
 use Rattle.std.proofs.lemmas.Grind.{same_number_lists}
 use Rattle.std.proofs.lemmas.Option.{none-some, same_Some}
-use Rattle.std.proofs.Common.{◌≡◌, ℕ, ◌<◌, List, Some, ◌⊎◌, inl, inr, sym, refl, ap, ◌∙◌, subst}
+use Rattle.std.proofs.Common.{◌≡◌, ℕ, ◌<◌, List, length, Some, ◌⊎◌, inl, inr, sym, refl, ap, ◌∙◌, subst}
 use Rattle.i3c_base.specs.declared.answers.Answer.{Answer}
+use Rattle.i3c_base.specs.declared.datum.Datum.{Datum}
 use Rattle.i3c_base.specs.declared.identity.Identity.{Identity}
 use Rattle.i3c_base.specs.declared.device.LegacyTarget.{LegacyTarget}
 use Rattle.i3c_base.specs.Cutting.{Lost, nobody}
-use Rattle.i3c_base.specs.Frames.{AllLostAt, AllUnaddressedLostAt, AnyAt, AnyUnaddressedAt, DrivesRegister, IsReadOf, NobodyLeftAt, Reads, SetsNew, SetsStatic, Writes, with_new, with_static, written}
+use Rattle.i3c_base.specs.Frames.{AllLostAt, AllUnaddressedLostAt, AnyAt, AnyUnaddressedAt, DrivesRegister, DrivesTold, Gets, IsReadOf, IsToldAt, NobodyLeftAt, Reads, SetsNew, SetsStatic, Writes, with_new, with_static, written}
 use Rattle.i3c_base.specs.State.{State, legacy_target_at}
 use Rattle.i3c_step.proofs.Uniqueness.{and_unique}
 
@@ -17,6 +18,13 @@ reads_keep R same a (Answer.Bytes bytes) lost mid done h = subst (R mid) (sym h.
 reads_keep R same a (Answer.NoAnswer b) lost mid done h = subst (R mid) (sym h.2) (same mid)
 reads_keep R same a Answer.NoEnd lost mid done h = subst (R mid) (sym h.2) (same mid)
 reads_keep R same a Answer.Done lost mid done h = absurd h
+
+-- and so does a datum that is asked for
+pub gets_keep : (R : State → State → Type 0) → ((st : State) → R st st) → (what : Datum) (a : ℕ) (answer : Answer) (lost : Lost) (mid done : State) → Gets what a answer lost mid done → R mid done
+gets_keep R same what a (Answer.Bytes bytes) lost mid done h = subst (R mid) (sym h.1) (same mid)
+gets_keep R same what a (Answer.NoAnswer b) lost mid done h = subst (R mid) (sym h.2) (same mid)
+gets_keep R same what a Answer.NoEnd lost mid done h = subst (R mid) (sym h.2) (same mid)
+gets_keep R same what a Answer.Done lost mid done h = absurd h
 
 -- a write leaves this, or what the bytes make of it
 pub writes_keep : (R : State → State → Type 0) (a : ℕ) (bytes : List ℕ) → ((st : State) → R st st) → ((st : State) → R st (written a bytes st))
@@ -79,6 +87,27 @@ reads_unique a (Answer.Bytes bytes) Answer.Done mid done last h k = absurd k
 reads_unique a (Answer.NoAnswer b) Answer.Done mid done last h k = absurd k
 reads_unique a Answer.NoEnd other mid done last h k = absurd (nobody_lost mid a h.1 h.0.1)
 reads_unique a Answer.Done other mid done last h k = absurd h
+
+told_unique : (st : State) (what : Datum) (a : ℕ) (bytes others : List ℕ) → IsToldAt st what a nobody bytes → IsToldAt st what a nobody others → bytes ≡ others
+told_unique st what a bytes others h k = same_number_lists bytes others (h.1 ∙ sym k.1) (λ i l.
+    let low : i < length others = subst (λ n. i < n) (h.1 ∙ sym k.1) l in
+    and_unique _ _ (DrivesTold st what a i) (h.3 (λ s d t. refl) i l) (k.3 (λ s d t. refl) i low))
+
+-- where something is told, somebody answers
+told_answers : (st : State) (what : Datum) (a : ℕ) (bytes : List ℕ) → IsToldAt st what a nobody bytes → AllLostAt st a nobody → ⊥
+told_answers st what a bytes h k = nobody_lost st a (h.0.0, h.0.1, h.0.2) k
+
+pub gets_unique : (what : Datum) (a : ℕ) (answer other : Answer) (mid done last : State) → Gets what a answer nobody mid done → Gets what a other nobody mid last → (answer ≡ other) × (done ≡ last)
+gets_unique what a (Answer.Bytes bytes) (Answer.Bytes others) mid done last h k = (ap Answer.Bytes (told_unique mid what a bytes others h.0 k.0), h.1 ∙ sym k.1)
+gets_unique what a (Answer.Bytes bytes) (Answer.NoAnswer b) mid done last h k = absurd (told_answers mid what a bytes h.0 k.1)
+gets_unique what a (Answer.Bytes bytes) Answer.NoEnd mid done last h k = absurd (told_answers mid what a bytes h.0 k.0)
+gets_unique what a (Answer.NoAnswer b) (Answer.Bytes bytes) mid done last h k = absurd (told_answers mid what a bytes k.0 h.1)
+gets_unique what a (Answer.NoAnswer b) (Answer.NoAnswer c) mid done last h k = (ap Answer.NoAnswer (h.0 ∙ sym k.0), h.2 ∙ sym k.2)
+gets_unique what a (Answer.NoAnswer b) Answer.NoEnd mid done last h k = absurd (nobody_lost mid a k.1 k.0)
+gets_unique what a (Answer.Bytes bytes) Answer.Done mid done last h k = absurd k
+gets_unique what a (Answer.NoAnswer b) Answer.Done mid done last h k = absurd k
+gets_unique what a Answer.NoEnd other mid done last h k = absurd (nobody_lost mid a h.1 h.0)
+gets_unique what a Answer.Done other mid done last h k = absurd h
 
 -- where something is written, somebody answers
 write_answers : (mid : State) (a : ℕ) → (((target : LegacyTarget) × (legacy_target_at mid a ≡ Some target)) ⊎ AnyAt mid a) → NobodyLeftAt mid a nobody → ⊥

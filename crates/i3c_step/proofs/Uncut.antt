@@ -5,10 +5,10 @@ use Rattle.i3c_base.specs.declared.requests.Fixed.{Fixed}
 use Rattle.i3c_base.specs.declared.identity.Identity.{Identity}
 use Rattle.i3c_base.specs.declared.answers.RoundReply.{RoundReply}
 use Rattle.i3c_base.specs.declared.requests.Served.{Served}
-use Rattle.i3c_base.specs.State.{State}
+use Rattle.i3c_base.specs.State.{State, entry_at}
 use Rattle.i3c_base.specs.declared.answers.Answer.{Answer}
 use Rattle.i3c_base.specs.Numbers.{KindSet}
-use Rattle.i3c_base.specs.Frames.{AllLostAt, AnyAt, Hands, KeepsRole, Reads, Rekinds, Writes, changed_kinds, handed, read_bits, write_bits, SetsNew, SetsStatic, kinds_bits}
+use Rattle.i3c_base.specs.Frames.{Gets, get_bits, AllLostAt, AnyAt, Hands, KeepsRole, Reads, Rekinds, Writes, changed_kinds, handed, read_bits, write_bits, SetsNew, SetsStatic, kinds_bits}
 use Rattle.i3c_base.specs.Cutting.{CutList, Lost, IsUncut, lost_by}
 use Rattle.i3c_base.specs.Serve.{Frame, Serves, emptied}
 use Rattle.i3c_base.specs.Round.{Rounds, assigned}
@@ -17,13 +17,13 @@ use Rattle.i3c_base.specs.Serve.{refuse_all}
 use Rattle.i3c_base.specs.Round.{AllHearersLost, AnyHears, IsAddressFor, IsBeatenByLost, IsContender}
 use Rattle.i3c_base.specs.declared.kinds.Change.{Change}
 use Rattle.i3c_step.specs.declared.events.Event.{Event}
-use Rattle.i3c_step.specs.declared.events.Event.TheVariants.{Attach, DropOff, Raise, AskJoin, AskRole, Serve, Enec, Disec, Reset, SendList, ReadFrom, WriteTo, SetStatic, SetNew, OpenDaa, Round, EndDaa, HandOver}
+use Rattle.i3c_step.specs.declared.events.Event.TheVariants.{Attach, DropOff, Raise, AskJoin, AskRole, Serve, Enec, Disec, Reset, SendList, ReadFrom, WriteTo, SetStatic, SetNew, Get, OpenDaa, Round, EndDaa, HandOver}
 use Rattle.i3c_step.specs.declared.replies.Refusal.{Refusal}
 use Rattle.i3c_step.specs.declared.replies.Reply.{Reply}
 use Rattle.i3c_step.specs.Step.{Acts, IsShort, RekindsBy, Step, Transfers, checks, cuts_in, first_refusal}
 use Rattle.i3c_base.specs.Cutting.{nobody}
 use Rattle.i3c_step.proofs.Lost.{lost_nobody, unlost}
-use Rattle.i3c_step.proofs.Transfers.{reads_unique, writes_unique, news_unique, statics_unique}
+use Rattle.i3c_step.proofs.Transfers.{gets_unique, reads_unique, writes_unique, news_unique, statics_unique}
 use Rattle.i3c_step.proofs.Uniqueness.{address_unique, serves_unique, winner_unique}
 
 -- two frames agree if their own parts do
@@ -157,6 +157,8 @@ acts_unique old (SetStatic f to policy cuts) reply other new next u h k =
     transfers_unique old (kinds_bits (Some f)) (SetsStatic f to) policy cuts reply other new next u (statics_unique f to) h k
 acts_unique old (SetNew a to policy cuts) reply other new next u h k =
     transfers_unique old (kinds_bits (Some a)) (SetsNew a to) policy cuts reply other new next u (news_unique a to) h k
+acts_unique old (Get what a policy cuts) reply other new next u h k =
+    transfers_unique old (get_bits what (entry_at old a)) (Gets what a) policy cuts reply other new next u (gets_unique what a) h k
 acts_unique old (OpenDaa cuts) reply other new next u h k =
     let r = frames_agree old refuse_all cuts h.0 k.0 _ _ _ _ new next ⊤ u (λ mid done last x y. (tt, x ∙ sym y)) h.2 k.2 in
     (h.1 ∙ (ap Reply.Opened r.0 ∙ sym k.1), r.2)

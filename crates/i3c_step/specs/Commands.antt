@@ -24,3 +24,4 @@ event_of (Command.ReadFrom a) policy cuts = Event.ReadFrom a policy cuts
 event_of (Command.WriteTo a bytes) policy cuts = Event.WriteTo a bytes policy cuts
 event_of (Command.SetStatic f new) policy cuts = Event.SetStatic f new policy cuts
 event_of (Command.SetNew a new) policy cuts = Event.SetNew a new policy cuts
+event_of (Command.Get what a) policy cuts = Event.Get what a policy cuts

@@ -21,4 +21,5 @@ under policy (Event.ReadFrom a other cuts) = Event.ReadFrom a policy cuts
 under policy (Event.WriteTo a bytes other cuts) = Event.WriteTo a bytes policy cuts
 under policy (Event.SetStatic f new other cuts) = Event.SetStatic f new policy cuts
 under policy (Event.SetNew a new other cuts) = Event.SetNew a new policy cuts
+under policy (Event.Get what a other cuts) = Event.Get what a policy cuts
 under policy event = event

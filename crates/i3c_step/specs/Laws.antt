@@ -1,14 +1,20 @@
 -- What holds over every legal run.
-use Rattle.std.specs.Prelude.{◌≡◌, ◌≢◌, ◌<◌, ◌≤◌, ◌↔◌, ℕ, true, List, ◌++◌, count_by, Option, Some, All, Contains}
+use Rattle.std.specs.Prelude.{◌≡◌, ◌≢◌, ◌<◌, ◌≤◌, ◌↔◌, ℕ, true, List, ◌++◌, count_by, Option, Some, All, Contains, [], ◌∷◌, None, option_map}
 use Rattle.i3c_base.specs.declared.range.TheConstants.{SLOTS}
+use Rattle.i3c_base.specs.declared.answers.Answer.{Answer}
+use Rattle.i3c_base.specs.declared.datum.Datum.{Datum}
 use Rattle.i3c_base.specs.declared.device.Setup.{Setup}
+use Rattle.i3c_base.specs.declared.identity.Identity.{Identity}
 use Rattle.i3c_base.specs.declared.requests.Fixed.{Fixed}
 use Rattle.i3c_base.specs.declared.requests.Request.{Request}
 use Rattle.i3c_base.specs.declared.requests.Served.{Served}
 use Rattle.i3c_base.specs.declared.requests.Verdict.{Verdict}
+use Rattle.i3c_base.specs.Cutting.{CutList, IsUncut}
+use Rattle.i3c_base.specs.Frames.{pid_bytes}
 use Rattle.i3c_base.specs.Serve.{IsFirst, verdict}
-use Rattle.i3c_base.specs.State.{Board, Device, HasDistinctIdentities, HasUniqueAnswers, IsPresent, IsStart, State, device_at}
+use Rattle.i3c_base.specs.State.{Board, Device, HasDistinctIdentities, HasUniqueAnswers, IsPresent, IsStart, State, device_at, Entry, entry_at}
 use Rattle.i3c_step.specs.declared.events.Event.{Event}
+use Rattle.i3c_step.specs.declared.replies.Framed.{Framed}
 use Rattle.i3c_step.specs.declared.replies.Reply.{Reply}
 use Rattle.i3c_step.specs.Step.{IsUncutEvent, Step}
 use Rattle.i3c_step.specs.Runs.{IsLegalRun, IsRun}
@@ -20,6 +26,13 @@ use Rattle.i3c_step.specs.Sessions.{IsInSession, IsLastRound, is_round}
 use Rattle.i3c_step.specs.Serving.{policy_of, served_of}
 use Rattle.i3c_step.specs.Slots.{KeepsSlots}
 use Rattle.i3c_step.specs.Stays.{accepted_in_stay, accepted_since_attachment, recorded_in_stay}
+
+-- what an entry of a table says of a datum: of the PID, where the address is kept for an identity
+abbrev pub said_bytes : Datum → Entry → Option (List ℕ)
+said_bytes Datum.Pid e = option_map (λ (i : Identity). pid_bytes i.pid) e.kept
+said_bytes Datum.Bcr e = Some (e.bcr.0 ∷ [])
+said_bytes Datum.Dcr e = Some (e.dcr.0 ∷ [])
+said_bytes _ e = None
 
 -- No two devices answer to one address, legacy targets included, in a state that a legal run leads to
 -- and in which devices present together have distinct identities.
@@ -86,6 +99,14 @@ StepsAreGiven = (old : State) (event : Event) (reply : Reply) (new : State) → 
 abbrev pub StaysBeginByAttachments : Type 0
 StaysBeginByAttachments = (start : State) (h : History) → IsLegal start h
     → (s : ℕ) (d : Device) → device_at (reached start h) s ≡ Some d → accepted_in_stay start h s ≡ accepted_since_attachment h s
+
+-- What GETPID, GETBCR and GETDCR read at an address, where nobody is cut, is what the active controller's table has there: the
+-- PID of the identity that the address is kept for, the BCR and the DCR. So a controller may trust its table.
+abbrev pub DataAreOfTheTable : Type 0
+DataAreOfTheTable = (main : Setup) (board : Board) (events : List Event) (replies : List Reply) (st : State) → IsLegalRun main board events replies st
+    → (what : Datum) (a : ℕ) (policy : Fixed) (cuts : CutList) (framed : Framed) (new : State) (bytes said : List ℕ) (e : Entry)
+    → IsUncut cuts → Step st (Event.Get what a policy cuts) (Reply.Framed framed) new → framed.answer ≡ Answer.Bytes bytes
+    → entry_at st a ≡ Some e → said_bytes what e ≡ Some said → All (λ byte. byte < 256) said → bytes ≡ said
 
 -- Of as many rounds as there are slots, in one session and without cuts, one answers that nobody hears any more, or that no
 -- address is left, whatever else happens between them.

@@ -1,5 +1,5 @@
 -- Whole runs.
-use Rattle.std.specs.Prelude.{◌≡◌, List, [], ◌∷◌, Option}
+use Rattle.std.specs.Prelude.{◌≡◌, List, [], ◌∷◌}
 use Rattle.i3c_base.specs.declared.device.Setup.{Setup}
 use Rattle.i3c_base.specs.State.{Board, IsStart, State}
 use Rattle.i3c_step.specs.declared.events.Event.{Event}

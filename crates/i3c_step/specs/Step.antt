@@ -1,5 +1,5 @@
 -- One step of the bus: what an event may answer and leave.
-use Rattle.std.specs.Prelude.{◌≡◌, ℕ, suc, ◌+◌, ◌-◌, ◌^◌, Bool, true, false, not, ◌&&◌, ◌||◌, ◌==◌, ◌⊎◌, nat_le, nat_lt, List, [], ◌∷◌, ◌++◌, length, Option, Some, None, if◌then◌else◌, is_none, is_some, MatchOption, ⊤}
+use Rattle.std.specs.Prelude.{◌≡◌, ℕ, suc, ◌+◌, ◌-◌, ◌^◌, Bool, true, false, not, ◌&&◌, ◌||◌, ◌==◌, ◌⊎◌, nat_le, nat_lt, List, [], ◌∷◌, ◌++◌, length, Option, Some, None, is_none, is_some, MatchOption, ⊤}
 use Rattle.i3c_base.specs.declared.answers.Answer.{Answer}
 use Rattle.i3c_base.specs.declared.answers.RoundReply.{RoundReply}
 use Rattle.i3c_base.specs.declared.device.TheConstants.{WAITING}
@@ -12,15 +12,15 @@ use Rattle.i3c_base.specs.State.{Entry, State, declared_at, device_at, entry_at,
 use Rattle.i3c_base.specs.Cutting.{CutList, IsUncut, Lost, cut_of}
 use Rattle.i3c_base.specs.Local.{ask_join, ask_role, attach, drop_off, raise}
 use Rattle.i3c_base.specs.Serve.{Frame, header_bits, refuse_all}
-use Rattle.i3c_base.specs.Frames.{Hands, IsRefusedBits, KeepsRole, Reads, Rekinds, SetsNew, SetsStatic, Writes, active_has, changed_kinds, kinds_bits, list, list_bits, read_bits, reset, write_bits}
+use Rattle.i3c_base.specs.Frames.{Gets, Hands, IsRefusedBits, KeepsRole, Reads, Rekinds, SetsNew, SetsStatic, Writes, active_has, changed_kinds, get_bits, kinds_bits, list, list_bits, read_bits, reset, write_bits}
 use Rattle.i3c_base.specs.Refusing.{Tests, first_of, join_tests, renamed, role_tests}
 use Rattle.i3c_base.specs.Round.{Rounds, ended, opened}
 use Rattle.i3c_step.specs.declared.events.Event.{Event}
-use Rattle.i3c_step.specs.declared.events.Event.TheVariants.{Attach, DropOff, Raise, AskJoin, AskRole, Serve, Enec, Disec, Reset, SendList, ReadFrom, WriteTo, SetStatic, SetNew, OpenDaa, Round, EndDaa, HandOver}
+use Rattle.i3c_step.specs.declared.events.Event.TheVariants.{Attach, DropOff, Raise, AskJoin, AskRole, Serve, Enec, Disec, Reset, SendList, ReadFrom, WriteTo, SetStatic, SetNew, Get, OpenDaa, Round, EndDaa, HandOver}
 use Rattle.i3c_step.specs.declared.events.TheConstants.{TRANSFER}
 use Rattle.i3c_step.specs.declared.replies.Framed.{Framed}
 use Rattle.i3c_step.specs.declared.replies.Refusal.{Refusal}
-use Rattle.i3c_step.specs.declared.replies.Refusal.TheVariants.{SessionOpen, NoSession, ActiveStays, SlotTaken, NoDevice, IsActive, NoAddress, HasAddress, NotCapable, ByteMismatch, Masked, Full, ListStale, NoAnswer, TooLong, BadAddress}
+use Rattle.i3c_step.specs.declared.replies.Refusal.TheVariants.{SessionOpen, NoSession, ActiveStays, SlotTaken, NoDevice, IsActive, NoAddress, NotCapable, ByteMismatch, Masked, Full, ListStale, NoAnswer, TooLong, BadAddress}
 use Rattle.i3c_step.specs.declared.replies.Reply.{Reply}
 use Rattle.i3c_step.specs.Replies.{join_refusal, role_refusal}
 
@@ -115,6 +115,7 @@ checks st (ReadFrom a policy cuts) = frame_checks st cuts ++ read_checks st a
 checks st (WriteTo a bytes policy cuts) = frame_checks st cuts ++ write_checks st a bytes.items
 checks st (SetStatic f new policy cuts) = frame_checks st cuts ++ static_checks st f new
 checks st (SetNew a new policy cuts) = frame_checks st cuts ++ new_checks st a new
+checks st (Get what a policy cuts) = frame_checks st cuts ++ target_checks st (Some a)
 checks st (OpenDaa cuts) = frame_checks st cuts
 checks st (HandOver to cuts) = frame_checks st cuts ++ hand_checks st to
 checks st (Round cuts) = (not st.in_session, NoSession) ∷ (cuts_active st cuts, ActiveStays) ∷ []
@@ -131,6 +132,7 @@ may_want_memory (ReadFrom a policy cuts) = true
 may_want_memory (WriteTo a bytes policy cuts) = true
 may_want_memory (SetStatic f new policy cuts) = true
 may_want_memory (SetNew a new policy cuts) = true
+may_want_memory (Get what a policy cuts) = true
 may_want_memory (AskRole s) = false
 may_want_memory (Attach s setup) = false
 may_want_memory (DropOff s) = false
@@ -160,7 +162,7 @@ abbrev pub Announces : State → ℕ → (State → State) → Fixed → CutList
 Announces old bits f policy cuts reply new =
     (served : Served) × (reply ≡ Reply.Framed (record { served = served; answer = Answer.Done })) × Frame old policy cuts served (header_bits served + bits) (Becomes f) new
 
--- a private transfer, or a frame that gives an address, where its answer says how many bits its own part has, and what this
+-- a private transfer, or a frame that gives an address or asks for a datum, where its answer says how many bits its own part has, and what this
 -- part leaves
 abbrev pub Transfers : State → (Answer → ℕ) → (Answer → Lost → State → State → Type 0) → Fixed → CutList → Reply → State → Type 0
 Transfers old bits Own policy cuts reply new =
@@ -192,6 +194,7 @@ Acts old (ReadFrom a policy cuts) reply new = Transfers old read_bits (Reads a) 
 Acts old (WriteTo a bytes policy cuts) reply new = Transfers old (write_bits bytes.items) (Writes a bytes.items) policy cuts reply new
 Acts old (SetStatic f to policy cuts) reply new = Transfers old (kinds_bits (Some f)) (SetsStatic f to) policy cuts reply new
 Acts old (SetNew a to policy cuts) reply new = Transfers old (kinds_bits (Some a)) (SetsNew a to) policy cuts reply new
+Acts old (Get what a policy cuts) reply new = Transfers old (get_bits what (entry_at old a)) (Gets what a) policy cuts reply new
 Acts old (OpenDaa cuts) reply new =
     (served : Served) × (reply ≡ Reply.Opened served) × Frame old refuse_all cuts served (header_bits served + 9) (Becomes opened) new
 Acts old (HandOver to cuts) reply new = IsGranted old to cuts reply new ⊎ IsDeclined old to cuts reply new
@@ -217,6 +220,7 @@ cuts_in (ReadFrom a policy cuts) = Some cuts
 cuts_in (WriteTo a bytes policy cuts) = Some cuts
 cuts_in (SetStatic f new policy cuts) = Some cuts
 cuts_in (SetNew a new policy cuts) = Some cuts
+cuts_in (Get what a policy cuts) = Some cuts
 cuts_in (AskRole s) = None
 cuts_in (OpenDaa cuts) = Some cuts
 cuts_in (HandOver to cuts) = Some cuts

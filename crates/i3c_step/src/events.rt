@@ -1,7 +1,7 @@
 ghost use Rattle.std.specs.Prelude.{◌≡◌};
 
 use arrayvec::ArrayVec;
-use i3c_base::{Addr7, Cuts, Fixed, Kinds, REGISTERS, Setup, Slot};
+use i3c_base::{Addr7, Cuts, Datum, Fixed, Kinds, REGISTERS, Setup, Slot};
 
 /// How many bytes one private write may bring, and one private read gives: as many as there are registers (this
 /// project's choice).
@@ -47,6 +47,8 @@ pub enum Event {
     SetStatic(Addr7, Addr7, Fixed, Cuts),
     /// The devices at the first dynamic address are given the second in its place (SETNEWDA, I3C Basic 5.1.9.3.11).
     SetNew(Addr7, Addr7, Fixed, Cuts),
+    /// The active controller asks the devices at an address for a datum (GETPID and its like, I3C Basic 5.1.9.3).
+    Get(Datum, Addr7, Fixed, Cuts),
     /// The active controller offers its role to a device at an address (GETACCCR, I3C Basic 5.1.9.3.16).
     HandOver(Addr7, Cuts),
     /// The active controller opens a session of dynamic address assignment (ENTDAA, I3C Basic 5.1.4.2).
@@ -78,6 +80,8 @@ pub enum Command {
     SetStatic(Addr7, Addr7),
     /// Gives the devices at a dynamic address another one in its place.
     SetNew(Addr7, Addr7),
+    /// Asks the devices at an address for a datum.
+    Get(Datum, Addr7),
 }
 
 /// The bytes that an event or a command keeps of a write, once more.

@@ -1,4 +1,4 @@
-ghost use Rattle.i3c_step.specs.Laws.{AcceptedInterruptsAreRecorded, AddressesAreUnique, InterruptsAreRecordedOnce, LateCutsAreAlike, LateCutsDoNothing, OneIsActive, RaisesStayInOrder, RunsAreHistories, SessionsEnd, SlotsAreKept, StaysBeginByAttachments, StepsAreGiven, UncutStepsAreDetermined};
+ghost use Rattle.i3c_step.specs.Laws.{AcceptedInterruptsAreRecorded, AddressesAreUnique, DataAreOfTheTable, InterruptsAreRecordedOnce, LateCutsAreAlike, LateCutsDoNothing, OneIsActive, RaisesStayInOrder, RunsAreHistories, SessionsEnd, SlotsAreKept, StaysBeginByAttachments, StepsAreGiven, UncutStepsAreDetermined};
 
 /// Over every legal run: where devices that are present together have distinct identities, no two devices answer to
 /// one address, legacy targets included.
@@ -71,4 +71,10 @@ pub fn stays_begin_by_attachments()
 /// no address is left, whatever else happens between them (I3C Basic 5.1.4.2).
 pub fn sessions_end()
     ensures { SessionsEnd }
+{}
+
+/// Over every legal run: what GETPID, GETBCR and GETDCR read at an address, where nobody is cut, is what the active
+/// controller's table has there.
+pub fn data_are_of_the_table()
+    ensures { DataAreOfTheTable }
 {}

@@ -3,9 +3,11 @@ use Rattle.std.proofs.lemmas.Bool.{false≢true}
 use Rattle.std.proofs.Common.{◌≡◌, ◌∙◌, ◌⊎◌, ◌↔◌, ℕ, ◌+◌, Bool, true, false, not, List, [], ◌∷◌, Some, append_assoc, flat_map, arith, inl, inr, ap, refl, subst}
 use Rattle.std.specs.List.{slice_get}
 use Rattle.i3c_base.specs.declared.answers.Answer.{Answer}
+use Rattle.i3c_base.specs.declared.datum.Datum.{Datum}
 use Rattle.i3c_base.specs.declared.kinds.Change.{Change}
 use Rattle.i3c_base.specs.declared.kinds.Kinds.{Kinds}
 use Rattle.i3c_base.specs.Cutting.{CutList, lost_by}
+use Rattle.i3c_base.specs.Frames.{SomeLeftAt}
 use Rattle.i3c_base.specs.State.{State}
 use Rattle.i3c_word.specs.declared.Word.{Word}
 use Rattle.i3c_frame.specs.declared.symbols.Symbol.{Symbol}
@@ -14,11 +16,13 @@ use Rattle.i3c_events.specs.Telling.{IsKindsWire, IsSettingWire}
 use Rattle.i3c_handoff.specs.declared.outcome.Offer.{Offer}
 use Rattle.i3c_handoff.specs.Offers.{SomeTakes, is_acknowledged}
 use Rattle.i3c_handoff.specs.Telling.{IsOfferWire}
+use Rattle.i3c_xfer.specs.declared.outcome.Get.{Get as Told}
 use Rattle.i3c_xfer.specs.declared.outcome.Read.{Read}
 use Rattle.i3c_xfer.specs.declared.outcome.Write.{Write}
-use Rattle.i3c_xfer.specs.Telling.{IsReadWire, IsWriteWire}
+use Rattle.i3c_xfer.specs.Getting.{is_get_acknowledged}
+use Rattle.i3c_xfer.specs.Telling.{IsGetWire, IsReadWire, IsWriteWire}
 use Rattle.i3c_xfer.specs.Transfers.{AnyAnswers, is_read_acknowledged, is_write_acknowledged}
-use Rattle.i3c_bus.specs.Wire.{IsDeclinedPart, IsReadPart, IsUntaken, IsWritePart}
+use Rattle.i3c_bus.specs.Wire.{IsDeclinedPart, IsGetPart, IsReadPart, IsUntaken, IsWritePart}
 use Rattle.i3c_wave.specs.Clocks.{at_bit}
 use Rattle.i3c_wave.specs.Levels.{bits, bits_of, high, wire_levels}
 use Rattle.i3c_wave.proofs.LevelLaws.{behind_at}
@@ -81,6 +85,17 @@ setting_answered sda wire begun code a to answer own Somebody sent k iff is = el
       let h : IsSettingWire code a to (Answer.NoAnswer a) own = subst (λ x. IsSettingWire code a to x own) none k in
       (false, command_at sda wire begun own h.0 a false false _ sent h.2, nacked answer a Somebody iff none)
 ]
+
+-- of a datum that is asked for
+get_at : (sda : Bool) (wire : List Symbol) (begun : ℕ) (what : Datum) (a : ℕ) (get : Told) (own : List Symbol) → IsSentFrom sda wire (1 + begun) own → IsGetWire what a get own
+    → at_bit (high sda) (wire_levels wire) (begun + 18) ≡ Some (not (is_get_acknowledged get))
+get_at sda wire begun what a Told.Nobody own sent h = command_at sda wire begun own h.0 a true false _ sent (h.4 ∙ ap (λ told. Symbol.Word h.0 ∷ told) h.3)
+get_at sda wire begun what a (Told.Ended bytes) own sent h = command_at sda wire begun own h.0 a true true _ sent (h.4 ∙ ap (λ told. Symbol.Word h.0 ∷ told) h.3)
+get_at sda wire begun what a (Told.Torn bytes) own sent h = command_at sda wire begun own h.0 a true true _ sent (h.4 ∙ ap (λ told. Symbol.Word h.0 ∷ told) h.3)
+
+pub get_answered : (sda : Bool) (old : State) (cuts : CutList) (wire : List Symbol) (begun : ℕ) (what : Datum) (a : ℕ) (answer : Answer) (new : State) (own : List Symbol)
+    → IsSentFrom sda wire (1 + begun) own → IsGetPart old cuts what a answer new begun own → IsAnsweredAt sda wire (begun + 18) (SomeLeftAt old a (lost_by cuts (begun + 18)))
+get_answered sda old cuts wire begun what a answer new own sent h = (is_get_acknowledged h.1, get_at sda wire begun what a h.1 own sent h.6, h.4)
 
 -- of an offer that nobody took
 offer_at : (sda : Bool) (wire : List Symbol) (begun to : ℕ) (offer : Offer) (own : List Symbol) → IsSentFrom sda wire (1 + begun) own → IsUntaken offer → IsOfferWire to offer own

@@ -15,15 +15,15 @@ use Rattle.i3c_frame.specs.declared.symbols.Symbol.{Symbol}
 use Rattle.i3c_handoff.specs.Offers.{SomeTakes}
 use Rattle.i3c_handoff.proofs.OfferLaws.{takes_before}
 use Rattle.i3c_step.specs.declared.events.Event.{Event}
-use Rattle.i3c_step.specs.declared.events.Event.TheVariants.{Attach, DropOff, Raise, AskJoin, AskRole, Serve, Enec, Disec, Reset, SendList, ReadFrom, WriteTo, SetStatic, SetNew, OpenDaa, Round, EndDaa, HandOver}
+use Rattle.i3c_step.specs.declared.events.Event.TheVariants.{Attach, DropOff, Raise, AskJoin, AskRole, Serve, Enec, Disec, Reset, SendList, ReadFrom, WriteTo, SetStatic, SetNew, Get, OpenDaa, Round, EndDaa, HandOver}
 use Rattle.i3c_step.specs.declared.replies.Reply.{Reply}
 use Rattle.i3c_step.specs.Step.{Acts, IsGranted, Step}
 use Rattle.i3c_step.proofs.Steps.{IsIdle, refused, short, step_cases}
 use Rattle.i3c_step.proofs.Uniqueness.{accept≢refuse}
-use Rattle.i3c_bus.specs.Wire.{IsDeclinedPart, IsHandedWire, IsKindsPart, IsListPart, IsNewPart, IsReadPart, IsResetWire, IsStaticPart, IsWritePart}
+use Rattle.i3c_bus.specs.Wire.{IsDeclinedPart, IsGetPart, IsHandedWire, IsKindsPart, IsListPart, IsNewPart, IsReadPart, IsResetWire, IsStaticPart, IsWritePart}
 use Rattle.i3c_wire_laws.specs.Answering.{IsAnsweredAt, IsAnswering}
 use Rattle.i3c_wire_laws.specs.Numbers.{IsNumbered, IsNumberedFrame}
-use Rattle.i3c_wire_laws.proofs.Answered.{command_at, declined_answered, kinds_answered, read_answered, setting_answered, write_answered}
+use Rattle.i3c_wire_laws.proofs.Answered.{command_at, declined_answered, get_answered, kinds_answered, read_answered, setting_answered, write_answered}
 
 -- a command to one address has one of two answers
 rekinds_is : (a : ℕ) (f : KindSet → KindSet) (answer : Answer) (lost : Lost) (mid done : State) → Rekinds (Some a) f answer lost mid done → (answer ≡ Answer.Done) ⊎ (answer ≡ Answer.NoAnswer a)
@@ -96,6 +96,9 @@ acts_answer sda old (SetStatic f to policy cuts) reply new wire h w =
 acts_answer sda old (SetNew a to policy cuts) reply new wire h w =
     let n : IsNumberedFrame sda old cuts h.0.served (IsNewPart old cuts a to h.0.answer) wire = subst (λ r. IsNumbered sda old (SetNew a to policy cuts) r new wire) h.1 w in
     subst (λ r. IsAnswering sda old (SetNew a to policy cuts) r wire) (sym h.1) (n.word, n.due, setting_answered sda wire (n.word + header_bits h.0.served) 0x88 a to h.0.answer n.own _ n.there n.part.0 n.part.1 (new_is a to h.0.answer _ h.2.mid h.2.done h.2.own))
+acts_answer sda old (Get what a policy cuts) reply new wire h w =
+    let n : IsNumberedFrame sda old cuts h.0.served (IsGetPart old cuts what a h.0.answer new) wire = subst (λ r. IsNumbered sda old (Get what a policy cuts) r new wire) h.1 w in
+    subst (λ r. IsAnswering sda old (Get what a policy cuts) r wire) (sym h.1) (n.word, n.due, get_answered sda old cuts wire (n.word + header_bits h.0.served) what a h.0.answer new n.own n.there n.part)
 acts_answer sda old (OpenDaa cuts) reply new wire h w = subst (λ r. IsAnswering sda old (OpenDaa cuts) r wire) (sym h.1) tt
 acts_answer sda old (HandOver to cuts) reply new wire h w = elim h [
   | inl g ↦

@@ -2,6 +2,7 @@
 use Rattle.std.proofs.lemmas.Bool.{and_parts, not-false, or_cases, or_parts, true≢false, false≢true}
 use Rattle.std.proofs.lemmas.List.Elements.{All-cons, All-nil}
 use Rattle.std.proofs.Common.{◌≡◌, ℕ, ◌+◌, ◌<◌, ◌^◌, true, false, ◌||◌, ◌&&◌, List, [], ◌∷◌, All, Option, Some, None, is_none, arith, inl, inr, ap, refl, sym, subst}
+use Rattle.i3c_base.specs.declared.datum.Datum.{Datum}
 use Rattle.i3c_base.specs.declared.device.LegacyTarget.{LegacyTarget}
 use Rattle.i3c_base.specs.declared.identity.Identity.{Identity}
 use Rattle.i3c_base.specs.declared.kinds.Change.{Change}
@@ -17,22 +18,24 @@ use Rattle.i3c_entdaa.specs.declared.outcome.Round.{Round as RoundValue}
 use Rattle.i3c_entdaa.specs.Rounds.{IsRead}
 use Rattle.i3c_handoff.specs.declared.outcome.Offer.{Offer}
 use Rattle.i3c_handoff.specs.Offers.{IsReadAs as IsOfferReadAs}
+use Rattle.i3c_xfer.specs.declared.outcome.Get.{Get as Told}
 use Rattle.i3c_xfer.specs.declared.outcome.Read.{Read}
+use Rattle.i3c_xfer.specs.Getting.{IsToldAs}
 use Rattle.i3c_xfer.specs.Transfers.{IsReadAs}
 use Rattle.i3c_step.specs.declared.events.Event.{Event}
-use Rattle.i3c_step.specs.declared.events.Event.TheVariants.{Attach, DropOff, Raise, AskJoin, AskRole, Serve, Enec, Disec, Reset, SendList, ReadFrom, WriteTo, SetStatic, SetNew, OpenDaa, Round, EndDaa, HandOver}
+use Rattle.i3c_step.specs.declared.events.Event.TheVariants.{Attach, DropOff, Raise, AskJoin, AskRole, Serve, Enec, Disec, Reset, SendList, ReadFrom, WriteTo, SetStatic, SetNew, Get, OpenDaa, Round, EndDaa, HandOver}
 use Rattle.i3c_step.specs.declared.replies.Reply.{Reply}
 use Rattle.i3c_step.specs.Sound.{Addresses, IsSound}
 use Rattle.i3c_step.specs.Step.{Acts, Step, checks, first_refusal, is_kept_for, is_no_controller, is_no_partner, is_no_target, is_pickable}
 use Rattle.i3c_step.proofs.Slots.{records_rekinds}
 use Rattle.i3c_step.proofs.Steps.{IsIdle, no_test, refused, short, step_cases}
-use Rattle.i3c_step.proofs.Transfers.{news_keep, reads_keep, statics_keep, writes_keep}
-use Rattle.i3c_bus.specs.Wire.{IsDeclinedPart, IsKindsPart, IsListPart, IsNewPart, IsOpenWire, IsReadPart, IsResetWire, IsStaticPart, IsWire, IsWritePart}
+use Rattle.i3c_step.proofs.Transfers.{gets_keep, news_keep, reads_keep, statics_keep, writes_keep}
+use Rattle.i3c_bus.specs.Wire.{IsDeclinedPart, IsGetPart, IsKindsPart, IsListPart, IsNewPart, IsOpenWire, IsReadPart, IsResetWire, IsStaticPart, IsWire, IsWritePart}
 use Rattle.i3c_wire_laws.specs.Fitting.{EventFits, Fits, IsByte}
 use Rattle.i3c_wire_laws.proofs.Addressing.{entry_low, kept_low, static_low, usable_low, winner_low}
 use Rattle.i3c_wire_laws.proofs.FrameRanges.{frame_fits, serve_fits}
 use Rattle.i3c_wire_laws.proofs.ListRanges.{list_fits}
-use Rattle.i3c_wire_laws.proofs.OwnRanges.{AreBytes, AreInRange, BytesOfRead, IsSentBy, bytes_from, kinds_fit, offer_fits, ranges_on, read_fits, round_fits, setting_fits, write_fits}
+use Rattle.i3c_wire_laws.proofs.OwnRanges.{AreBytes, AreInRange, BytesOfGet, BytesOfRead, IsSentBy, bytes_from, get_fits, kinds_fit, offer_fits, ranges_on, read_fits, round_fits, setting_fits, write_fits}
 
 -- the address of a command that isn't refused
 target_low : (st : State) (a : ℕ) → Addresses st → is_no_target st a ≡ false → a < 128
@@ -100,6 +103,12 @@ read_bytes st a cuts first (Read.Legacy bytes) fits h = subst AreBytes (sym h.2)
 read_bytes st a cuts first (Read.Ended bytes) fits h = bytes_from bytes h.3
 read_bytes st a cuts first (Read.Torn bytes) fits h = bytes_from bytes h.3
 
+-- those that are told of a datum
+get_bytes : (st : State) (what : Datum) (count a : ℕ) (cuts : CutList) (first : ℕ) (get : Told) → IsToldAs st what count a cuts first get → BytesOfGet get
+get_bytes st what count a cuts first Told.Nobody h = tt
+get_bytes st what count a cuts first (Told.Ended bytes) h = bytes_from bytes h.2
+get_bytes st what count a cuts first (Told.Torn bytes) h = bytes_from bytes h.2
+
 -- an offer that nobody took
 declined_fits : (old : State) (cuts : CutList) (to : ℕ) (new : State) (begun : ℕ) (wire : List Symbol) → to < 128 → IsDeclinedPart old cuts to new begun wire → AreInRange wire
 declined_fits old cuts to new begun wire low h =
@@ -161,6 +170,10 @@ acts_fit old (SetNew a to policy cuts) reply new wire fits brings known free h w
     (λ bits own k. setting_fits 0x88 a to h.0.answer own (omega arith) (target_low old a known (no_test 2 (checks old (SetNew a to policy cuts)) free))
     (pickable_low old to (not-false _ (no_test 3 (checks old (SetNew a to policy cuts)) free))) k.0)
     (subst (λ r. IsWire old (SetNew a to policy cuts) r new wire) h.1 w)
+acts_fit old (Get what a policy cuts) reply new wire fits brings known free h w =
+    frame_fits old policy cuts h.0.served _ _ new (IsGetPart old cuts what a h.0.answer new) wire known h.2 (gets_keep KeepsRecords (λ st. refl) what a h.0.answer)
+    (λ bits own k. get_fits what a k.1 own (target_low old a known (no_test 2 (checks old (Get what a policy cuts)) free)) (get_bytes k.0 what _ a cuts _ k.1 k.5) k.6)
+    (subst (λ r. IsWire old (Get what a policy cuts) r new wire) h.1 w)
 acts_fit old (OpenDaa cuts) reply new wire fits brings known free h w =
     frame_fits old _ cuts h.0 _ _ new (λ bits own. IsOpenWire own) wire known h.2 (λ lost mid done e. ap (λ (st : State). st.records) e) (λ bits own k. open_fits own k)
     (subst (λ r. IsWire old (OpenDaa cuts) r new wire) h.1 w)

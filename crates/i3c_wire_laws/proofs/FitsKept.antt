@@ -21,12 +21,13 @@ use Rattle.i3c_base.specs.State.{Device, Entry, State, change, declared_at, decl
 use Rattle.i3c_base.proofs.Lookups.{attach_from, change_from, changed_at, drop_off_from, each_from, emptied_from, option_map_from, set_from, taken_over_at}
 use Rattle.i3c_base.proofs.StaticLaws.{declared_at_fixed}
 use Rattle.i3c_step.specs.declared.events.Event.{Event}
-use Rattle.i3c_step.specs.declared.events.Event.TheVariants.{Attach, DropOff, Raise, AskJoin, AskRole, Serve, Enec, Disec, Reset, SendList, ReadFrom, WriteTo, SetStatic, SetNew, OpenDaa, Round, EndDaa, HandOver}
+use Rattle.i3c_step.specs.declared.events.Event.TheVariants.{Attach, DropOff, Raise, AskJoin, AskRole, Serve, Enec, Disec, Reset, SendList, ReadFrom, WriteTo, SetStatic, SetNew, Get, OpenDaa, Round, EndDaa, HandOver}
 use Rattle.i3c_step.specs.declared.replies.Reply.{Reply}
 use Rattle.i3c_step.specs.Step.{Acts, Step}
 use Rattle.i3c_step.proofs.Handing.{declined, granted}
 use Rattle.i3c_step.proofs.Maps.{cond_kept_from}
 use Rattle.i3c_step.proofs.Steps.{step_cases}
+use Rattle.i3c_step.proofs.Transfers.{gets_keep}
 use Rattle.i3c_wire_laws.specs.Fitting.{EntryFits, EventFits, Fits, IsByte, TargetFits}
 use Rattle.i3c_wire_laws.proofs.Addressing.{static_low}
 
@@ -265,6 +266,8 @@ fits_acts old (ReadFrom a policy cuts) reply new brings h fits = fits_frame old 
 fits_acts old (WriteTo a bytes policy cuts) reply new brings h fits = fits_frame old policy cuts h.0.served _ _ new (fits_writes a bytes.items brings h.0.answer) h.2 fits
 fits_acts old (SetStatic f to policy cuts) reply new brings h fits = fits_frame old policy cuts h.0.served _ _ new (fits_statics f to h.0.answer) h.2 fits
 fits_acts old (SetNew a to policy cuts) reply new brings h fits = fits_frame old policy cuts h.0.served _ _ new (fits_news a to h.0.answer) h.2 fits
+fits_acts old (Get what a policy cuts) reply new brings h fits =
+    fits_frame old policy cuts h.0.served _ _ new (gets_keep (λ mid done. Fits mid → Fits done) (λ st f. f) what a h.0.answer) h.2 fits
 fits_acts old (OpenDaa cuts) reply new brings h fits =
     fits_frame old _ cuts h.0 _ _ new (λ lost mid done e f. subst Fits (sym e) (fits_devices mid (opened mid) (devices_each _ mid (λ s d. either (is_none d.address) d (record d { hearing = true }) refl) f.devices) refl refl refl f)) h.2 fits
 fits_acts old (HandOver to cuts) reply new brings h fits = elim h [

@@ -3,6 +3,7 @@ use Rattle.std.proofs.lemmas.List.Elements.{All-head, All-tail}
 use Rattle.std.proofs.Common.{◌≡◌, ℕ, ◌*◌, ◌/◌, ◌<◌, ◌≤◌, ◌^◌, Bool, true, false, List, [], ◌∷◌, ◌++◌, All, map, Option, Some, None, arith, refl, sym, subst}
 use Rattle.std.specs.Prelude.{⊤}
 use Rattle.i3c_base.specs.declared.answers.Answer.{Answer}
+use Rattle.i3c_base.specs.declared.datum.Datum.{Datum}
 use Rattle.i3c_base.specs.declared.kinds.Change.{Change}
 use Rattle.i3c_base.specs.declared.kinds.Kinds.{Kinds}
 use Rattle.i3c_base.specs.Numbers.{kind_set}
@@ -17,9 +18,10 @@ use Rattle.i3c_handoff.specs.declared.outcome.Offer.{Offer}
 use Rattle.i3c_handoff.specs.Telling.{IsOfferWire}
 use Rattle.i3c_entdaa.specs.declared.outcome.Round.{Round}
 use Rattle.i3c_entdaa.specs.Telling.{IsRoundWire}
+use Rattle.i3c_xfer.specs.declared.outcome.Get.{Get as Told}
 use Rattle.i3c_xfer.specs.declared.outcome.Read.{Read}
 use Rattle.i3c_xfer.specs.declared.outcome.Write.{Write}
-use Rattle.i3c_xfer.specs.Telling.{AreWritten, IsReadWire, IsWriteWire, IsWrittenWire, IsWrittenWord, answered_wire, read_words, word_of}
+use Rattle.i3c_xfer.specs.Telling.{AreWritten, IsAskingWord, IsGetWire, IsReadWire, IsToldWire, IsWriteWire, IsWrittenWire, IsWrittenWord, answered_wire, read_words, word_of}
 use Rattle.i3c_wire_laws.specs.Fitting.{IsByte}
 
 -- the numbers of each symbol fit, one by one
@@ -141,6 +143,32 @@ read_fits a Read.Nobody wire low are h = subst AreInRange (sym h) (tt, (low, (tt
 read_fits a (Read.Legacy bytes) wire low are h = search (read_by, low, are, h)
 read_fits a (Read.Ended bytes) wire low are h = search (read_by, low, are, h)
 read_fits a (Read.Torn bytes) wire low are h = search (read_by, low, are, h)
+
+-- the code of a datum is a byte
+asking_fits : (what : Datum) (code : Word) → IsAskingWord what code → IsByte code.byte
+asking_fits Datum.WriteLength code h = word_fits code _ h.0 (omega arith)
+asking_fits Datum.ReadLength code h = word_fits code _ h.0 (omega arith)
+asking_fits Datum.Pid code h = word_fits code _ h.0 (omega arith)
+asking_fits Datum.Bcr code h = word_fits code _ h.0 (omega arith)
+asking_fits Datum.Dcr code h = word_fits code _ h.0 (omega arith)
+asking_fits Datum.Status code h = word_fits code _ h.0 (omega arith)
+asking_fits Datum.Speed code h = word_fits code _ h.0 (omega arith)
+asking_fits Datum.Capabilities code h = word_fits code _ h.0 (omega arith)
+
+-- the bytes that are told of a datum
+abbrev pub BytesOfGet : Told → Type 0
+BytesOfGet Told.Nobody = ⊤
+BytesOfGet (Told.Ended bytes) = AreBytes bytes
+BytesOfGet (Told.Torn bytes) = AreBytes bytes
+
+told_fits : (a : ℕ) (get : Told) (told : List Symbol) → a < 128 → BytesOfGet get → IsToldWire a get told → AreInRange told
+told_fits a Told.Nobody told low are h = subst AreInRange (sym h) (tt, (low, (tt, tt)))
+told_fits a (Told.Ended bytes) told low are h = search (read_by, low, are, h)
+told_fits a (Told.Torn bytes) told low are h = search (read_by, low, are, h)
+
+-- a datum that is asked for
+pub get_fits : (what : Datum) (a : ℕ) (get : Told) (wire : List Symbol) → a < 128 → BytesOfGet get → IsGetWire what a get wire → AreInRange wire
+get_fits what a get wire low are h = subst AreInRange (sym h.4) (asking_fits what h.0 h.2, told_fits a get h.1 low are h.3)
 
 -- bytes that are written
 written_bytes : (side : _) (bytes : List ℕ) (words : List Symbol) → AreWritten side bytes words → ((byte : ℕ) (symbol : Symbol) → IsByte byte → IsWrittenWord side byte symbol → IsInRange symbol)

@@ -1,6 +1,7 @@
 -- The own parts of frames, from where a code is awaited on; and rounds.
-use Rattle.std.proofs.Common.{◌≡◌, ◌∙◌, ℕ, ◌==◌, Bool, true, false, List, [], ◌∷◌, ◌++◌, Option, Some, None, map, is_some, ap, refl}
+use Rattle.std.proofs.Common.{◌≡◌, ◌∙◌, ℕ, ◌==◌, Bool, true, false, List, [], ◌∷◌, ◌++◌, Option, Some, None, map, is_some, ap, refl, sym}
 use Rattle.i3c_base.specs.declared.answers.Answer.{Answer}
+use Rattle.i3c_base.specs.declared.datum.Datum.{Datum}
 use Rattle.i3c_base.specs.declared.kinds.Change.{Change}
 use Rattle.i3c_base.specs.declared.kinds.Kinds.{Kinds}
 use Rattle.i3c_base.specs.Cutting.{CutList}
@@ -16,9 +17,10 @@ use Rattle.i3c_handoff.specs.declared.outcome.Offer.{Offer}
 use Rattle.i3c_handoff.specs.Telling.{IsOfferWire}
 use Rattle.i3c_entdaa.specs.declared.outcome.Round.{Round}
 use Rattle.i3c_entdaa.specs.Telling.{IsRoundWire}
+use Rattle.i3c_xfer.specs.declared.outcome.Get.{Get as Told}
 use Rattle.i3c_xfer.specs.declared.outcome.Read.{Read}
 use Rattle.i3c_xfer.specs.declared.outcome.Write.{Write}
-use Rattle.i3c_xfer.specs.Telling.{AreWritten, IsReadWire, IsUnansweredWire, IsWriteWire, IsWrittenWire, IsWrittenWord, answered_wire, read_words, word_of}
+use Rattle.i3c_xfer.specs.Telling.{AreWritten, IsAskingWord, IsGetWire, IsReadWire, IsToldWire, IsUnansweredWire, IsWriteWire, IsWrittenWire, IsWrittenWord, answered_wire, read_words, word_of}
 use Rattle.i3c_xfer.specs.Transfers.{IsReadAs, IsWrittenBy}
 use Rattle.i3c_wave.specs.declared.awaited.Awaited.{Awaited}
 use Rattle.i3c_wave.specs.Awaited.{awaited_behind}
@@ -141,6 +143,36 @@ read_leads legacies st a cuts first (Read.Ended bytes) wire are who h =
 read_leads legacies st a cuts first (Read.Torn bytes) wire are who h =
     let apart : is_in legacies a ≡ false = are.same a ∙ ap is_some who.0 in
     search (devices_answered, apart, h)
+
+-- the code of a datum is not that of an assignment
+asking_code : (what : Datum) (code : Word) → IsAskingWord what code → (code.byte == 7) ≡ false
+asking_code Datum.WriteLength code h = not_seven code _ h.0 refl
+asking_code Datum.ReadLength code h = not_seven code _ h.0 refl
+asking_code Datum.Pid code h = not_seven code _ h.0 refl
+asking_code Datum.Bcr code h = not_seven code _ h.0 refl
+asking_code Datum.Dcr code h = not_seven code _ h.0 refl
+asking_code Datum.Status code h = not_seven code _ h.0 refl
+asking_code Datum.Speed code h = not_seven code _ h.0 refl
+asking_code Datum.Capabilities code h = not_seven code _ h.0 refl
+
+-- what begins with a repeated START may stand behind such a code as it may without one
+behind_code : (legacies : ℕ) (code : Word) (rest told : List Symbol) → (code.byte == 7) ≡ false → told ≡ Repeated ∷ rest → Leads legacies (Some Awaited.Code) told None
+    → Leads legacies (Some Awaited.Code) (Symbol.Word code ∷ told) None
+behind_code legacies code rest told e is h =
+    ap (λ symbols. place_behind legacies (Some Awaited.Code) (Symbol.Word code ∷ symbols)) is
+    ∙ (ap (λ b. place_behind legacies (Some (Awaited.Header b)) rest) e ∙ (sym (ap (place_behind legacies (Some Awaited.Code)) is) ∙ h))
+
+told_leads : (legacies : ℕ) (code : Word) (a : ℕ) (get : Told) (told : List Symbol) → (code.byte == 7) ≡ false → is_in legacies a ≡ false → IsToldWire a get told
+    → Leads legacies (Some Awaited.Code) (Symbol.Word code ∷ told) None
+told_leads legacies code a Told.Nobody told e apart h = behind_code legacies code _ told e h (unanswered legacies a true told h)
+told_leads legacies code a (Told.Ended bytes) told e apart h = behind_code legacies code _ told e h (search (devices_answered, apart, h))
+told_leads legacies code a (Told.Torn bytes) told e apart h = behind_code legacies code _ told e h (search (devices_answered, apart, h))
+
+-- a datum that is asked for
+pub get_leads : (legacies : ℕ) (what : Datum) (a : ℕ) (get : Told) (wire : List Symbol) → is_in legacies a ≡ false → IsGetWire what a get wire
+    → Leads legacies (Some Awaited.Code) wire None
+get_leads legacies what a get wire apart h =
+    ap (place_behind legacies (Some Awaited.Code)) h.4 ∙ told_leads legacies h.0 a get h.1 (asking_code what h.0 h.2) apart h.3
 
 -- bytes that are written to a legacy target
 legacy_written : (legacies : ℕ) (side : _) (bytes : List ℕ) (words : List Symbol) → AreWritten side bytes words

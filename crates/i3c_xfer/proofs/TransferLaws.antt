@@ -1,22 +1,20 @@
 -- Who answers at an address, and what is read there.
 use Rattle.std.proofs.Common.{◌≡◌, ℕ, zero, suc, ◌+◌, ◌-◌, ◌*◌, ◌<◌, ◌≤◌, ◌↔◌, ◌⊎◌, true, false, List, get_or, set, Option, Some, None, is_some, inl, inr, refl, sym, ap, ◌∙◌, subst, arith}
 use Rattle.std.proofs.lemmas.Bool.{both_ways, cases_Bool}
-use Rattle.std.proofs.lemmas.Option.{none-some}
 use Rattle.std.proofs.lemmas.Nat.Bits.{bit_at-lt}
 use Rattle.std.specs.Int.{bit_at}
 use Rattle.i3c_base.specs.declared.answers.Answer.{Answer}
 use Rattle.i3c_base.specs.declared.device.LegacyTarget.{LegacyTarget}
-use Rattle.i3c_base.specs.declared.device.TheConstants.{REGISTERS}
 use Rattle.i3c_base.specs.Cutting.{CutList, Lost, lost_by}
-use Rattle.i3c_base.specs.Frames.{AllLostAt, AnyAt, DrivesRegister, SomeLeftAt, Writes, legacy_written, write_bits, written}
+use Rattle.i3c_base.specs.Frames.{AllLostAt, AnyAt, SomeLeftAt, Writes, legacy_written, write_bits, written}
 use Rattle.i3c_base.specs.Places.{changed}
 use Rattle.i3c_base.specs.Serve.{IsAnd}
 use Rattle.i3c_base.specs.State.{Device, HasDevices, IsTargetAt, State, legacy_target_at}
 use Rattle.i3c_base.proofs.LostLaws.{left_before}
-use Rattle.i3c_device.specs.Reading.{AreReadOf}
+use Rattle.i3c_device.specs.Reading.{AreBytesOf, Driving}
 use Rattle.i3c_device.specs.Walks.{SomeReached, written_at}
 use Rattle.i3c_device.proofs.Targets.{reached_target, target_reached}
-use Rattle.i3c_xfer.specs.Transfers.{AnyAnswers, AreDriven, HasLegacy, IsWrittenBy, PullsLow, is_write_acknowledged, write_answer}
+use Rattle.i3c_xfer.specs.Transfers.{AnyAnswers, AreDrivenBy, HasLegacy, IsWrittenBy, PullsLow, is_write_acknowledged, write_answer}
 use Rattle.i3c_xfer.specs.declared.outcome.Write.{Write}
 
 -- whoever is reached at the address is left there, and the other way round
@@ -50,9 +48,10 @@ some_legacy st a None e t = absurd (both_ways _ refl t)
 some_legacy st a (Some target) e t = (target, e)
 
 -- what the devices drive
-pub driven_there : (st : State) (a : ℕ) (cuts : CutList) (first : ℕ) (devices : List (Option Device)) (active : ℕ) (bytes : List ℕ) → HasDevices st devices active → AreReadOf active a cuts first devices bytes → AreDriven st a cuts first bytes
-driven_there st a cuts first devices active bytes has read k j l m =
-    let here = subst (λ places. AreReadOf st.active a cuts first places bytes) (sym has.0) (subst (λ x. AreReadOf x a cuts first devices bytes) (sym has.1) read) k j l m in (
+pub driven_there : (own : Driving) (count : ℕ) (st : State) (a : ℕ) (cuts : CutList) (first : ℕ) (devices : List (Option Device)) (active : ℕ) (bytes : List ℕ) → HasDevices st devices active
+    → AreBytesOf own count active a cuts first devices bytes → AreDrivenBy own count st a cuts first bytes
+driven_there own count st a cuts first devices active bytes has read k j l m =
+    let here = subst (λ places. AreBytesOf own count st.active a cuts first places bytes) (sym has.0) (subst (λ x. AreBytesOf own count x a cuts first devices bytes) (sym has.1) read) k j l m in (
       λ z. let low = here.0 z in (low.0, low.1, reached_target st a low.0 low.1 low.2 low.3, low.4, low.5),
       λ low. here.1 (low.0, low.1, low.2.0, target_reached st a low.0 low.1 low.2, low.3, low.4),
     )
@@ -65,22 +64,27 @@ zero_or_one (suc (suc n)) l = absurd (omega arith)
 not_both : (b : ℕ) → b ≡ 0 → b ≡ 1 → ⊥
 not_both b z o = omega (arith, z, o)
 
--- which is the AND of their registers where nobody of them is lost by the end
-pub and_there : (st : State) (a : ℕ) (cuts : CutList) (first last : ℕ) (bytes : List ℕ) → first + 143 ≤ last → AreDriven st a cuts first bytes → ((k : ℕ) → k < REGISTERS → get_or bytes k 0 < 256)
-    → ((s : ℕ) (d : Device) → IsTargetAt st a s d → lost_by cuts last s ≡ false) → (k : ℕ) → k < 16 → IsAnd (get_or bytes k 0) (DrivesRegister st a k)
-and_there st a cuts first last bytes late driven small left k l = (
+-- slot s has the address, and v is byte k of what it drives
+abbrev pub DrivesByte : Driving → State → ℕ → ℕ → ℕ → ℕ → Type 0
+DrivesByte own st a k s v = (d : Device) × IsTargetAt st a s d × (v ≡ get_or (own d) k 0)
+
+-- which is the AND of what they drive where nobody of them is lost by the end
+pub and_there : (own : Driving) (count : ℕ) (st : State) (a : ℕ) (cuts : CutList) (first last : ℕ) (bytes : List ℕ) → first + 9 * count ≤ suc last → AreDrivenBy own count st a cuts first bytes
+    → ((k : ℕ) → k < count → get_or bytes k 0 < 256)
+    → ((s : ℕ) (d : Device) → IsTargetAt st a s d → lost_by cuts last s ≡ false) → (k : ℕ) → k < count → IsAnd (get_or bytes k 0) (DrivesByte own st a k)
+and_there own count st a cuts first last bytes late driven small left k l = (
   small k l,
   λ bit m.
       let j : ℕ = 7 - bit in
       let back : 7 - j ≡ bit = omega arith in
-      let here = subst (λ b. (bit_at (get_or bytes k 0) b ≡ 0) ↔ PullsLow st a (lost_by cuts (first + 9 * k + j)) k b) back (driven k j l (omega arith)) in (
+      let here = subst (λ b. (bit_at (get_or bytes k 0) b ≡ 0) ↔ PullsLow own st a (lost_by cuts (first + 9 * k + j)) k b) back (driven k j l (omega arith)) in (
         λ one s v d. elim (zero_or_one (bit_at v bit) (bit_at-lt v bit)) [
           | inl z ↦ absurd (not_both (bit_at (get_or bytes k 0) bit)
               (here.1 (s, d.0, d.1, left_before cuts (first + 9 * k + j) last s (omega arith) (left s d.0 d.1), ap (λ x. bit_at x bit) (sym d.2) ∙ z)) one)
           | inr o ↦ o
         ],
         λ all. elim (zero_or_one (bit_at (get_or bytes k 0) bit) (bit_at-lt (get_or bytes k 0) bit)) [
-          | inl z ↦ let low = here.0 z in absurd (not_both (bit_at (get_or low.1.registers k 0) bit) low.4 (all low.0 (get_or low.1.registers k 0) (low.1, low.2, refl)))
+          | inl z ↦ let low = here.0 z in absurd (not_both (bit_at (get_or (own low.1) k 0) bit) low.4 (all low.0 (get_or (own low.1) k 0) (low.1, low.2, refl)))
           | inr o ↦ o
         ],
       ),

@@ -1,2 +1,3 @@
 pub mod Transfers
 pub mod Telling
+pub mod Getting

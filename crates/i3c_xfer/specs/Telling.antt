@@ -1,9 +1,12 @@
--- What private transfers put on the wire.
+-- What private transfers and codes of data put on the wire.
 use Rattle.std.specs.Prelude.{◌≡◌, ℕ, Bool, true, false, List, [], ◌∷◌, ◌++◌, ⊤}
 use Rattle.i3c_word.specs.declared.Word.{Word}
 use Rattle.i3c_word.specs.Parity.{HasOddParity}
 use Rattle.i3c_frame.specs.declared.symbols.Symbol.{Symbol}
 use Rattle.i3c_frame.specs.declared.symbols.Symbol.TheVariants.{Repeated, Stop, Header, LegacyWord}
+use Rattle.i3c_base.specs.declared.datum.Datum.{Datum}
+use Rattle.i3c_ccc.specs.Codes.{byte_of_datum}
+use Rattle.i3c_xfer.specs.declared.outcome.Get.{Get}
 use Rattle.i3c_xfer.specs.declared.outcome.Read.{Read}
 use Rattle.i3c_xfer.specs.declared.outcome.Write.{Write}
 use Rattle.i3c_xfer.specs.declared.telling.Side.{Side}
@@ -45,6 +48,20 @@ IsReadWire to Read.Nobody wire = IsUnansweredWire to true wire
 IsReadWire to (Read.Legacy bytes) wire = wire ≡ answered_wire to true (read_words Legacy false bytes)
 IsReadWire to (Read.Ended bytes) wire = wire ≡ answered_wire to true (read_words Devices false bytes)
 IsReadWire to (Read.Torn bytes) wire = wire ≡ answered_wire to true (read_words Devices true bytes)
+
+-- the code of a datum as a word, with odd parity
+abbrev pub IsAskingWord : Datum → Word → Type 0
+IsAskingWord what word = (word.byte ≡ byte_of_datum what) × HasOddParity word
+
+-- a datum that is asked for, behind its code: the last T is 0, or 1 where nobody was left to end it
+abbrev pub IsToldWire : ℕ → Get → List Symbol → Type 0
+IsToldWire to Get.Nobody wire = IsUnansweredWire to true wire
+IsToldWire to (Get.Ended bytes) wire = wire ≡ answered_wire to true (read_words Devices false bytes)
+IsToldWire to (Get.Torn bytes) wire = wire ≡ answered_wire to true (read_words Devices true bytes)
+
+-- a datum that is asked for
+abbrev pub IsGetWire : Datum → ℕ → Get → List Symbol → Type 0
+IsGetWire what to get wire = (code : Word) × (told : List Symbol) × IsAskingWord what code × IsToldWire to get told × (wire ≡ Symbol.Word code ∷ told)
 
 -- a write that is acknowledged
 abbrev pub IsWrittenWire : ℕ → Side → List ℕ → List Symbol → Type 0

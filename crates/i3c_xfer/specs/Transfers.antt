@@ -7,6 +7,7 @@ use Rattle.i3c_base.specs.declared.device.TheConstants.{REGISTERS}
 use Rattle.i3c_base.specs.Cutting.{CutList, Lost, lost_by}
 use Rattle.i3c_base.specs.Frames.{SomeLeftAt}
 use Rattle.i3c_base.specs.State.{Device, IsTargetAt, State, legacy_target_at}
+use Rattle.i3c_device.specs.Reading.{Driving, registers_of}
 use Rattle.i3c_xfer.specs.declared.outcome.Read.{Read}
 use Rattle.i3c_xfer.specs.declared.outcome.Write.{Write}
 
@@ -41,15 +42,19 @@ HasLegacy st a = (target : LegacyTarget) × (legacy_target_at st a ≡ Some targ
 abbrev pub AnyAnswers : State → ℕ → Lost → Type 0
 AnyAnswers st a lost = HasLegacy st a ⊎ SomeLeftAt st a lost
 
--- a device at the address that isn't lost has 0 in this bit of register k: it pulls the line low
-abbrev pub PullsLow : State → ℕ → Lost → ℕ → ℕ → Type 0
-PullsLow st a lost k bit = (s : ℕ) × (d : Device) × IsTargetAt st a s d × (lost s ≡ false) × (bit_at (slice_index d.registers k) bit ≡ 0)
+-- a device at the address that isn't lost has 0 in this bit of byte k of what it drives: it pulls the line low
+abbrev pub PullsLow : Driving → State → ℕ → Lost → ℕ → ℕ → Type 0
+PullsLow own st a lost k bit = (s : ℕ) × (d : Device) × IsTargetAt st a s d × (lost s ≡ false) × (bit_at (slice_index (own d) k) bit ≡ 0)
 
--- bytes as devices at the address drive them, the first bit of all at bit `first` of the frame. Each register has eight
+-- so many bytes as devices at the address drive them, the first bit of all at bit `first` of the frame. Each has eight
 -- bits, the most significant first, and a T. A bit is read as 0 exactly where a device pulls the line low
+abbrev pub AreDrivenBy : Driving → ℕ → State → ℕ → CutList → ℕ → List ℕ → Type 0
+AreDrivenBy own count st a cuts first bytes =
+    (k j : ℕ) → k < count → j < 8 → (bit_at (slice_index bytes k) (7 - j) ≡ 0) ↔ PullsLow own st a (lost_by cuts (first + 9 * k + j)) k (7 - j)
+
+-- all registers so
 abbrev pub AreDriven : State → ℕ → CutList → ℕ → List ℕ → Type 0
-AreDriven st a cuts first bytes =
-    (k j : ℕ) → k < REGISTERS → j < 8 → (bit_at (slice_index bytes k) (7 - j) ≡ 0) ↔ PullsLow st a (lost_by cuts (first + 9 * k + j)) k (7 - j)
+AreDriven st a cuts first bytes = AreDrivenBy registers_of REGISTERS st a cuts first bytes
 
 -- whose bytes were read, and how: a legacy target's registers, or where none stands as many as there are, which the devices
 -- drive

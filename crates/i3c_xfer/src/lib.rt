@@ -1,13 +1,15 @@
-//! Private transfers: what becomes of a read and a write to an address, with I3C devices and legacy I2C targets, and how
-//! they are told.
+//! Transfers with an address, with I3C devices and legacy I2C targets: what becomes of a private read or write and of a
+//! datum that is asked for, and how they are told.
 #![tactic(auto)]
 
+mod getting;
 mod outcome;
 mod reading;
 mod telling;
 mod writing;
 
-pub use outcome::{Read, Write, read_bits, write_bits};
+pub use getting::{get, told_count};
+pub use outcome::{Get, Read, Write, get_bits, read_bits, write_bits};
 pub use reading::read;
-pub use telling::{tell_read, tell_write};
+pub use telling::{tell_get, tell_read, tell_write};
 pub use writing::write;

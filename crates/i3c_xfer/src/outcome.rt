@@ -1,12 +1,17 @@
-ghost use Rattle.std.specs.Prelude.{◌≡◌, ◌≤◌, length};
+ghost use Rattle.std.specs.Prelude.{◌≡◌, ◌≤◌, ℕ, Option, length};
+ghost use Rattle.i3c_base.specs.State.{Entry};
+ghost use Rattle.i3c_base.specs.declared.datum.Datum.{Datum as DatumValue};
 ghost use Rattle.i3c_base.specs.declared.device.TheConstants.{REGISTERS as REGISTER_COUNT};
-ghost use Rattle.i3c_base.specs.Frames.{read_bits, write_bits};
+ghost use Rattle.i3c_base.specs.Frames.{get_bits, read_bits, told_length, write_bits};
 
-use i3c_base::{Addr7, Answer, REGISTERS};
+use i3c_base::{Addr7, Answer, Bytes, REGISTERS};
 use i3c_word::{HEADER_BITS, WORD_BITS};
 
 /// How many bits a private transfer has up to its target's acknowledgement: a header.
 pub(crate) const ACK_BITS: u16 = HEADER_BITS;
+
+/// How many bits the code of a datum has up to its target's acknowledgement: a word and a header.
+pub(crate) const ASKED_BITS: u16 = WORD_BITS + HEADER_BITS;
 
 /// How many bits a private read has that is acknowledged: a header, and a word for each register.
 pub(crate) const READ_BITS: u16 = ACK_BITS + WORD_BITS * REGISTERS as u16;
@@ -22,6 +27,17 @@ pub enum Read {
     Ended([u8; REGISTERS]),
     /// These bytes were read, and nobody was left to end them: the last T was read as 1.
     Torn([u8; REGISTERS]),
+}
+
+/// What asking the devices at an address for a datum came to (I3C Basic 5.1.9.3).
+#[derive(Clone, Copy, Debug, PartialEq, Eq)]
+pub enum Get {
+    /// Nobody acknowledged the header.
+    Nobody,
+    /// The bytes of the datum. They ended: the last T was read as 0.
+    Ended(Bytes),
+    /// These bytes were read, and nobody was left to end them: the last T was read as 1.
+    Torn(Bytes),
 }
 
 /// What a private write came to (I3C Basic 5.1.2.2).
@@ -45,8 +61,24 @@ impl Read {
     {
         match self {
             Read::Nobody => Answer::NoAnswer(to),
-            Read::Legacy(bytes) | Read::Ended(bytes) => Answer::Bytes(*bytes),
+            Read::Legacy(bytes) | Read::Ended(bytes) => Answer::Bytes(Bytes::new(bytes)),
             Read::Torn(_) => Answer::NoEnd,
+        }
+    }
+}
+
+impl Get {
+    ghost use Rattle.std.specs.Prelude.{◌≡◌};
+    ghost use Rattle.i3c_xfer.specs.Getting.{get_answer};
+
+    /// The answer of asking this address.
+    pub fn answer(&self, to: Addr7) -> Answer
+        ensures { result ≡ get_answer to self.now }
+    {
+        match self {
+            Get::Nobody => Answer::NoAnswer(to),
+            Get::Ended(bytes) => Answer::Bytes(*bytes),
+            Get::Torn(_) => Answer::NoEnd,
         }
     }
 }
@@ -73,6 +105,18 @@ impl Write {
             Write::Nobody => false,
             Write::Legacy | Write::Devices => true,
         }
+    }
+}
+
+/// The bits of the code of a datum, of which so many bytes are read, with this answer: a word and a header, and after its
+/// ACK a word for each byte.
+pub fn get_bits(count: usize, answer: &Answer) -> u16
+    requires { count ≤ 6 }
+    ensures { (what : DatumValue) (entry : Option Entry) → count ≡ told_length what entry → result ≡ get_bits what entry answer.now }
+{
+    match answer {
+        Answer::NoAnswer(_) => ASKED_BITS,
+        Answer::Done | Answer::Bytes(_) | Answer::NoEnd => ASKED_BITS + WORD_BITS * count as u16,
     }
 }
 

@@ -1,9 +1,10 @@
 ghost use Rattle.std.specs.Prelude.{◌≡◌, true};
 ghost use Rattle.i3c_frame.specs.Taps.{Tells};
-ghost use Rattle.i3c_xfer.specs.Telling.{IsReadWire, IsUnansweredWire, IsWriteWire, IsWrittenWire, IsWrittenWord, answered_wire, read_words, word_of};
+ghost use Rattle.i3c_xfer.specs.Telling.{IsGetWire, IsReadWire, IsUnansweredWire, IsWriteWire, IsWrittenWire, IsWrittenWord, answered_wire, read_words, word_of};
 
-use crate::outcome::{Read, Write};
-use i3c_base::Addr7;
+use crate::outcome::{Get, Read, Write};
+use i3c_base::{Addr7, Datum};
+use i3c_ccc::{Code, byte_of};
 use i3c_frame::{Symbol, Tap};
 use i3c_word::{Word, write_word};
 
@@ -25,6 +26,19 @@ pub fn tell_read<T: Tap>(tap: &mut T, to: Addr7, read: &Read)
         Read::Legacy(bytes) => tell_answered(tap, to, &Side::Legacy, bytes, false),
         Read::Ended(bytes) => tell_answered(tap, to, &Side::Devices, bytes, false),
         Read::Torn(bytes) => tell_answered(tap, to, &Side::Devices, bytes, true),
+    }
+}
+
+/// Tells the code of a datum and what came of it as it came out on the lines: the code, a repeated START, the header, where
+/// that is acknowledged the words, and STOP (I3C Basic 5.1.9.3).
+pub fn tell_get<T: Tap>(tap: &mut T, what: Datum, to: Addr7, get: &Get)
+    ensures { Tells T.note_gives tap.old tap.new (IsGetWire what to get.now) }
+{
+    tap.note(Symbol::Word(write_word(byte_of(Code::Get(what)))));
+    match get {
+        Get::Nobody => tell_unanswered(tap, to, true),
+        Get::Ended(bytes) => tell_answered(tap, to, &Side::Devices, bytes.as_slice(), false),
+        Get::Torn(bytes) => tell_answered(tap, to, &Side::Devices, bytes.as_slice(), true),
     }
 }
 

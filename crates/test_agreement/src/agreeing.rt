@@ -385,6 +385,7 @@ fn past(script: &Script, at: usize, addresses: usize) -> Option<u16> {
         Event::Reset(..) => Some(28),
         Event::SendList(..) => Some((37 + 36 * addresses.min(108)) as u16),
         Event::ReadFrom(..) => Some(172),
+        Event::Get(..) => Some(91),
         Event::WriteTo(_, bytes, ..) => Some((28 + 9 * bytes.len()) as u16),
         Event::OpenDaa(_) => Some(19),
         Event::Round(_) => Some(74),

@@ -56,6 +56,7 @@ pub(crate) fn cuts_of(event: &mut Event) -> Option<&mut Cuts> {
         | Event::WriteTo(_, _, _, cuts)
         | Event::SetStatic(_, _, _, cuts)
         | Event::SetNew(_, _, _, cuts)
+        | Event::Get(_, _, _, cuts)
         | Event::HandOver(_, cuts)
         | Event::OpenDaa(cuts)
         | Event::Round(cuts) => Some(cuts),

@@ -351,6 +351,7 @@ impl Running {
             Frame::WriteTo(at, bytes) => Event::WriteTo(*at, copy_of(bytes), policy, cuts),
             Frame::SetStatic(at, to) => Event::SetStatic(*at, *to, policy, cuts),
             Frame::SetNew(at, to) => Event::SetNew(*at, *to, policy, cuts),
+            Frame::Get(what, at) => Event::Get(*what, *at, policy, cuts),
         }
     }
 

@@ -17,7 +17,8 @@ fn an_event_is_184_bytes(rt: HostRuntime) {
     same(&rt, size_of::<Event>(), 184);
 }
 
-// The largest reply is that of a read: what was served, with a record's number of eight bytes, and sixteen bytes.
+// The largest reply is that of a read: what was served, with a record's number of eight bytes, and sixteen bytes with their
+// number.
 #[test]
 fn a_reply_is_48_bytes(rt: HostRuntime) {
     same(&rt, size_of::<Reply>(), 48);

@@ -4,10 +4,13 @@ use crate::events::MOST_BEGUN;
 use crate::faults::Fault;
 use crate::setting::Setting;
 use crate::taps::Told;
-use crate::told::{Answer, told, told_hex, told_text, told_trace};
-use crate::words::Words;
-use i3c_base::{Addr7, REGISTERS};
-use i3c_xfer::{Read, Write, read, read_bits, tell_read, tell_write, write, write_bits};
+use crate::told::{Answer, told, told_hex, told_list, told_text, told_trace};
+use crate::words::{BITS, DATA, Words};
+use i3c_base::{Addr7, Answer as FrameAnswer, Bytes, REGISTERS};
+use i3c_xfer::{
+    Get, Read, Write, get, get_bits, read, read_bits, tell_get, tell_read, tell_write, told_count,
+    write, write_bits,
+};
 use std::alloc::Global;
 
 /// What a write comes to.
@@ -17,9 +20,12 @@ const WRITES: [(&str, Write); 3] = [
     ("devices", Write::Devices),
 ];
 
-/// The calls on private transfers.
+/// The calls on transfers with an address.
 pub(crate) fn call(setting: &mut Setting, call: &str, words: &mut Words<'_>) -> Answer {
     match call {
+        "get" | "get-answer" | "get-bits" => of_get(setting, call, words),
+        "told-count" => told(setting.alloc, &count_of(words)?),
+        "tell-get" => trace_of_get(setting.alloc, words),
         "read" | "read-answer" | "read-bits" => of_read(setting, call, words),
         "write" | "write-answer" | "write-bits" => of_write(setting, call, words),
         "legacy-registers" => legacy_registers(setting, words),
@@ -36,7 +42,7 @@ fn of_read(setting: &Setting, call: &str, words: &mut Words<'_>) -> Answer {
     let came = came(setting, to)?;
     match call {
         "read" => told_hex(alloc, &came),
-        "read-answer" => told_hex(alloc, &came.answer(to)),
+        "read-answer" => told_answer(alloc, &came.answer(to)),
         _ => told(alloc, &read_bits(&came.answer(to))),
     }
 }
@@ -68,7 +74,7 @@ fn of_write(setting: &mut Setting, call: &str, words: &mut Words<'_>) -> Answer 
     let wrote = wrote(setting, to, &bytes)?;
     match call {
         "write" => told_hex(alloc, &wrote),
-        "write-answer" => told_hex(alloc, &wrote.answer(to)),
+        "write-answer" => told_answer(alloc, &wrote.answer(to)),
         _ => told(alloc, &write_bits(&bytes, &wrote.answer(to))),
     }
 }
@@ -141,4 +147,81 @@ fn trace_of_write(alloc: Global, words: &mut Words<'_>) -> Answer {
     let mut told = Told::begun(alloc);
     tell_write(&mut told, to, &bytes, &wrote);
     told_trace(alloc, &told.symbols)
+}
+
+/// What the own part of a frame answers, with the bytes that were read and no others.
+fn told_answer(alloc: Global, answer: &FrameAnswer) -> Answer {
+    match answer {
+        FrameAnswer::Bytes(bytes) => told_list(alloc, "Bytes", bytes.as_slice()),
+        _ => told_hex(alloc, answer),
+    }
+}
+
+/// A datum that is asked for: what it came to, its answer, or its bits. Behind the address stands whether the interrupts
+/// there have a byte.
+fn of_get(setting: &Setting, call: &str, words: &mut Words<'_>) -> Answer {
+    let alloc = setting.alloc;
+    let what = words.named(&DATA)?;
+    let to = words.address()?;
+    let count = told_count(what, words.named(&BITS)?);
+    let begun = setting.begun;
+    if begun > MOST_BEGUN {
+        return Err(Fault::Unknown);
+    }
+    let came = get(
+        &setting.devices,
+        setting.active,
+        what,
+        count,
+        to,
+        &setting.cuts,
+        begun,
+    );
+    match call {
+        "get" => told_get(alloc, &came),
+        "get-answer" => told_answer(alloc, &came.answer(to)),
+        _ => told(alloc, &get_bits(count, &came.answer(to))),
+    }
+}
+
+/// What asking for a datum came to, with the bytes that were read and no others.
+fn told_get(alloc: Global, came: &Get) -> Answer {
+    match came {
+        Get::Nobody => told_text(alloc, "Nobody"),
+        Get::Ended(bytes) => told_list(alloc, "Ended", bytes.as_slice()),
+        Get::Torn(bytes) => told_list(alloc, "Torn", bytes.as_slice()),
+    }
+}
+
+/// How many bytes a datum has, where interrupts have a byte or have none.
+fn count_of(words: &mut Words<'_>) -> Result<usize, Fault> {
+    let what = words.named(&DATA)?;
+    Ok(told_count(what, words.named(&BITS)?))
+}
+
+/// How a datum is told after the header of its frame.
+fn trace_of_get(alloc: Global, words: &mut Words<'_>) -> Answer {
+    let what = words.named(&DATA)?;
+    let to = words.address()?;
+    let came = get_named(alloc, words)?;
+    let mut told = Told::begun(alloc);
+    tell_get(&mut told, what, to, &came);
+    told_trace(alloc, &told.symbols)
+}
+
+/// What asking for a datum came to.
+fn get_named(alloc: Global, words: &mut Words<'_>) -> Result<Get, Fault> {
+    let name = words.word()?;
+    if name == "nobody" {
+        return Ok(Get::Nobody);
+    }
+    let bytes = words.bytes(alloc)?;
+    if bytes.len() > REGISTERS {
+        return Err(Fault::Unknown);
+    }
+    match name {
+        "ended" => Ok(Get::Ended(Bytes::new(&bytes))),
+        "torn" => Ok(Get::Torn(Bytes::new(&bytes))),
+        _ => Err(Fault::Unknown),
+    }
 }

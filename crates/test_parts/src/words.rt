@@ -1,7 +1,7 @@
 ghost use Rattle.std.specs.Prelude.{IfOk, ◌≤◌};
 
 use crate::faults::Fault;
-use i3c_base::{Addr7, Bcr, Dcr, Identity, Pid, Request, Slot};
+use i3c_base::{Addr7, Bcr, Datum, Dcr, Identity, Pid, Request, Slot};
 use i3c_ccc::Code;
 use i3c_word::{Word, write_word};
 use std::alloc::Global;
@@ -13,7 +13,7 @@ const PID: u64 = 0x0204_0000_0010;
 const DCR: u8 = 0x44;
 
 /// The commands that have no byte after them, as lines and as answers have them.
-const CODES: [(&str, Code); 20] = [
+const CODES: [(&str, Code); 36] = [
     ("enec", Code::Enec),
     ("disec", Code::Disec),
     ("rstdaa", Code::Rstdaa),
@@ -23,6 +23,14 @@ const CODES: [(&str, Code); 20] = [
     ("disec-direct", Code::DisecDirect),
     ("setdasa", Code::Setdasa),
     ("setnewda", Code::Setnewda),
+    ("getpid", Code::Get(Datum::Pid)),
+    ("getbcr", Code::Get(Datum::Bcr)),
+    ("getdcr", Code::Get(Datum::Dcr)),
+    ("getstatus", Code::Get(Datum::Status)),
+    ("getmwl", Code::Get(Datum::WriteLength)),
+    ("getmrl", Code::Get(Datum::ReadLength)),
+    ("getmxds", Code::Get(Datum::Speed)),
+    ("getcaps", Code::Get(Datum::Capabilities)),
     ("getacccr", Code::Getacccr),
     ("Enec", Code::Enec),
     ("Disec", Code::Disec),
@@ -33,7 +41,27 @@ const CODES: [(&str, Code); 20] = [
     ("DisecDirect", Code::DisecDirect),
     ("Setdasa", Code::Setdasa),
     ("Setnewda", Code::Setnewda),
+    ("Get(Pid)", Code::Get(Datum::Pid)),
+    ("Get(Bcr)", Code::Get(Datum::Bcr)),
+    ("Get(Dcr)", Code::Get(Datum::Dcr)),
+    ("Get(Status)", Code::Get(Datum::Status)),
+    ("Get(WriteLength)", Code::Get(Datum::WriteLength)),
+    ("Get(ReadLength)", Code::Get(Datum::ReadLength)),
+    ("Get(Speed)", Code::Get(Datum::Speed)),
+    ("Get(Capabilities)", Code::Get(Datum::Capabilities)),
     ("Getacccr", Code::Getacccr),
+];
+
+/// What a target is asked for, as lines have it.
+pub(crate) const DATA: [(&str, Datum); 8] = [
+    ("pid", Datum::Pid),
+    ("bcr", Datum::Bcr),
+    ("dcr", Datum::Dcr),
+    ("status", Datum::Status),
+    ("mwl", Datum::WriteLength),
+    ("mrl", Datum::ReadLength),
+    ("mxds", Datum::Speed),
+    ("caps", Datum::Capabilities),
 ];
 
 /// The bits, as words.

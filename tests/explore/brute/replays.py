@@ -9,7 +9,8 @@ READ_AT = [f'{address:02X}' for address in range(0x08, 0x12)]
 # the number of the last bit that a frame can have, by docs/BUS.md: a request in its first header takes 18 bits at most, and
 # `serve` and a round have nothing behind theirs. A list has eight entries at most here, and a write four bytes
 LAST_BITS = {'serve': 9, 'enec': 45, 'disec': 45, 'reset': 27, 'list': 9 * (2 + 4 * 8) + 18, 'read': 171, 'write': 63,
-             'setdasa': 45, 'setnewda': 45, 'handover': 45, 'open': 27, 'daa': 27, 'round': 73}
+             'setdasa': 45, 'setnewda': 45, 'getpid': 90, 'getbcr': 45, 'getdcr': 45, 'getstatus': 54, 'getmwl': 54,
+             'getmrl': 63, 'getmxds': 54, 'getcaps': 54, 'handover': 45, 'open': 27, 'daa': 27, 'round': 73}
 
 
 class Failed(Exception):

@@ -144,12 +144,16 @@ def moves(bus):
     return [f'setnewda {bus.address()} {bus.dice.pick(["20", "21", "0C"])}']
 
 
+def asks(bus):
+    return [f'{bus.dice.pick(["getstatus", "getstatus", "getbcr", "getmrl"])} {bus.address()}']
+
+
 def cuts(bus):
     return [f'cut {bus.name()} {bus.dice.below(30)}', bus.dice.pick(['serve', f'enec 01 {bus.address()}', 'list'])]
 
 
 TRACKS = [raises, raises, serves, serves, masks, masks, hands, hands, roles, drops, drops, joins, joins, sessions,
-          assigns, transfers, transfers, policies, resets, moves, cuts]
+          assigns, transfers, transfers, policies, resets, moves, asks, cuts]
 
 
 def track_of(bus):

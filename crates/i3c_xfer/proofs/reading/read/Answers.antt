@@ -1,8 +1,10 @@
 use Rattle.std.proofs.Common.{◌≡◌, ◌+◌, ◌<◌, ◌∙◌, ℕ, None, get_or, length, arith, inr, refl, subst}
 use Rattle.std.proofs.lemmas.Bool.{both_ways}
+use Rattle.i3c_base.specs.declared.device.TheConstants.{REGISTERS}
 use Rattle.i3c_base.specs.Cutting.{lost_by}
 use Rattle.i3c_base.specs.Frames.{SomeLeftAt}
 use Rattle.i3c_base.specs.State.{HasDevices, State, legacy_target_at}
+use Rattle.i3c_device.specs.Reading.{registers_of}
 use Rattle.i3c_xfer.specs.Transfers.{AreDriven}
 use Rattle.i3c_xfer.proofs.TransferLaws.{all_lost, and_there, any_there, driven_there, left_there, legacy_there}
 use Rattle.i3c_xfer.proofs.reading.read.Goals as goal
@@ -21,7 +23,7 @@ driven : (c : After-read-bytes) (st : State) → HasDevices st c.args.devices.no
 driven c st has =
     let next : c.args.begun + 9 + 1 ≡ c.args.begun + 10 = omega arith in
     subst (λ first. AreDriven st c.args.to c.args.cuts.now first c.read-bytes.result) next
-    (driven_there st c.args.to c.args.cuts.now (c.args.begun + 9 + 1) c.args.devices.now c.args.active c.read-bytes.result has c.read-bytes.ensures.read)
+    (driven_there registers_of REGISTERS st c.args.to c.args.cuts.now (c.args.begun + 9 + 1) c.args.devices.now c.args.active c.read-bytes.result has c.read-bytes.ensures.read)
 
 long : (c : After-read-bytes) → length c.read-bytes.result ≡ 16
 long c = c.read-bytes.ensures.long
@@ -47,7 +49,7 @@ returns-then-is_heard-clause-reads c st has e =
         left_there st c.args.to (lost_by c.args.cuts.now (c.args.begun + 153)) c.args.devices.now c.args.active has (c.is_heard-2.ensures.0 c.if-is_heard.true),
         long at.After-read-bytes,
         at.After-read-bytes.read-bytes.ensures.bytes,
-        λ left. and_there st c.args.to c.args.cuts.now (c.args.begun + 10) (c.args.begun + 153) c.read-bytes.result (omega arith) (driven at.After-read-bytes st has) (small at.After-read-bytes) left,
+        λ left. and_there registers_of REGISTERS st c.args.to c.args.cuts.now (c.args.begun + 10) (c.args.begun + 153) c.read-bytes.result (omega arith) (driven at.After-read-bytes st has) (small at.After-read-bytes) left,
       ),
       refl,
     )

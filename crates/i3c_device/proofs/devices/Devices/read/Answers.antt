@@ -1,19 +1,21 @@
 -- One register more, up to the last.
+use Rattle.i3c_base.specs.declared.device.TheConstants.{REGISTERS}
+use Rattle.i3c_device.specs.Reading.{registers_of}
 use Rattle.i3c_device.proofs.ReadLaws.{read_all, read_more, read_small}
-use Rattle.i3c_device.proofs.SeenWalks.{read_seen}
+use Rattle.i3c_device.proofs.SeenWalks.{read_seen, registers_blind}
 use Rattle.i3c_device.proofs.devices.Devices.read.Goals as goal
 
 pub loop-index-preserved : goal.loop-index-preserved
 loop-index-preserved c =
-    read_more c.targets-targets.result c.args.cuts.now c.args.first c.self.inside.occupants c.loop-index.index c.register_of.result c.loop-index.byte-items c.loop-index-test.true c.register_of.type_inv c.loop-index.invariant
-    c.register_of.ensures
+    read_more registers_of REGISTERS c.targets-targets.result c.args.cuts.now c.args.first c.self.inside.occupants c.loop-index.index c.byte_of.result c.loop-index.byte-items c.loop-index-test.true c.byte_of.type_inv c.loop-index.invariant
+    c.byte_of.ensures
 
 pub returns-clause-read : goal.returns-clause-read
 returns-clause-read c =
-    read_seen c.self.inside.enabled c.self.inside.occupants c.args.self.now c.args.active c.args.address c.args.cuts.now c.args.first c.loop-index.byte-items c.self.view_is
-    (read_all c.args.active c.args.address c.targets-targets.result c.self.inside.occupants c.args.cuts.now c.args.first c.loop-index.index c.loop-index.byte-items c.targets-targets.ensures.slots c.targets-targets.ensures.there
+    read_seen registers_of registers_blind c.self.inside.enabled c.self.inside.occupants c.args.self.now REGISTERS c.args.active c.args.address c.args.cuts.now c.args.first c.loop-index.byte-items c.self.view_is
+    (read_all registers_of REGISTERS c.args.active c.args.address c.targets-targets.result c.self.inside.occupants c.args.cuts.now c.args.first c.loop-index.index c.loop-index.byte-items c.targets-targets.ensures.slots c.targets-targets.ensures.there
     c.loop-index-test.false c.loop-index.invariant)
 
 pub returns-clause-bytes : goal.returns-clause-bytes
 returns-clause-bytes c =
-    read_small c.targets-targets.result c.args.cuts.now c.args.first c.self.inside.occupants c.loop-index.index c.loop-index.byte-items c.loop-index-test.false c.loop-index.invariant
+    read_small registers_of REGISTERS c.targets-targets.result c.args.cuts.now c.args.first c.self.inside.occupants c.loop-index.index c.loop-index.byte-items c.loop-index-test.false c.loop-index.invariant

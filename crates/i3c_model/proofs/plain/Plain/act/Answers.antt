@@ -74,3 +74,12 @@ returns-in-SetStatic-clause-chosen c = rw c.in-SetStatic.is c.set_static.ensures
 
 pub returns-in-SetNew-clause-chosen : goal.returns-in-SetNew-clause-chosen
 returns-in-SetNew-clause-chosen c = rw c.in-SetNew.is c.set_new.ensures.chosen
+
+pub returns-in-Get-clause-chosen : goal.returns-in-Get-clause-chosen
+returns-in-Get-clause-chosen c = rw c.in-Get.is c.get_datum.ensures.chosen
+
+pub returns-in-Get-clause-acts : goal.returns-in-Get-clause-acts
+returns-in-Get-clause-acts c = rw c.in-Get.is c.get_datum.ensures.gets
+
+pub returns-in-Get-clause-memory : goal.returns-in-Get-clause-memory
+returns-in-Get-clause-memory c = rw c.in-Get.is c.get_datum.ensures.memory

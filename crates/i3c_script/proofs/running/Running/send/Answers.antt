@@ -1,4 +1,7 @@
 -- The policy that an event carries is asked as itself.
+use Rattle.std.proofs.Common.{subst}
+use Rattle.i3c_script.specs.Printed.{frame_subject}
+use Rattle.i3c_script.specs.Telling.{IsTold, Prints}
 use Rattle.i3c_bus.proofs.Agreeing.{carried_asked}
 use Rattle.i3c_script.proofs.Moving.{sent}
 use Rattle.i3c_script.proofs.running.Running.send.Goals as goal
@@ -7,5 +10,7 @@ pub returns : goal.returns
 returns g c =
     let at = c.self.inside in
     let reply = c.command-reply.result in
+    let told : Prints (IsTold c.args.names.now (frame_subject c.args.frame.now) reply) c.args.text.now c.tell.new.text c.tell.result =
+    subst (λ subject. Prints (IsTold c.args.names.now subject reply) c.args.text.now c.tell.new.text c.tell.result) c.frame_subject.ensures c.tell.ensures in
     let carried = carried_asked c.args.frame.now at.bus c.command-reply.new.self at.policy c.command-reply.new.policy at.cuts reply c.in-Some.hand _ c.command-reply.ensures.asks c.command-reply.ensures.carried in
-    rw (← c.self.view_is) (sent at.bus.state c.command-reply.new.self.state at.policy at.cuts c.clear.new.self at.wires c.command-reply.new.tap at.ended.items c.args.names.now c.args.frame.now reply c.args.text.now c.tell.new.text c.tell.result c.clear.ensures.none carried.step carried.told c.tell.ensures)
+    rw (← c.self.view_is) (sent at.bus.state c.command-reply.new.self.state at.policy at.cuts c.clear.new.self at.wires c.command-reply.new.tap at.ended.items c.args.names.now c.args.frame.now reply c.args.text.now c.tell.new.text c.tell.result c.clear.ensures.none carried.step carried.told told)

@@ -1,0 +1,39 @@
+ghost use Rattle.std.specs.Prelude.{◌≡◌, MatchOption};
+ghost use Rattle.i3c_lines.specs.Data.{told_word};
+ghost use Rattle.i3c_base.specs.declared.datum.Datum.{Datum};
+
+use i3c_base::Datum;
+
+/// The first word of the line that tells a datum (I3C Basic 5.1.9.3). Behind `get` it is the first word of the line that
+/// asks for it.
+pub fn told_word(datum: Datum) -> &'static str
+    ensures { result.now ≡ told_word datum }
+{
+    match datum {
+        Datum::Pid => "pid",
+        Datum::Bcr => "bcr",
+        Datum::Dcr => "dcr",
+        Datum::Status => "status",
+        Datum::WriteLength => "mwl",
+        Datum::ReadLength => "mrl",
+        Datum::Speed => "mxds",
+        Datum::Capabilities => "caps",
+    }
+}
+
+/// The datum that has this word, if one has.
+pub fn datum(word: &[u8]) -> Option<Datum>
+    ensures { MatchOption result ((datum : Datum) → word.now ≡ told_word datum → ⊥) (λ datum. word.now ≡ told_word datum) }
+{
+    match word {
+        b"pid" => Some(Datum::Pid),
+        b"bcr" => Some(Datum::Bcr),
+        b"dcr" => Some(Datum::Dcr),
+        b"status" => Some(Datum::Status),
+        b"mwl" => Some(Datum::WriteLength),
+        b"mrl" => Some(Datum::ReadLength),
+        b"mxds" => Some(Datum::Speed),
+        b"caps" => Some(Datum::Capabilities),
+        _ => None,
+    }
+}
