@@ -1,8 +1,9 @@
 use crate::device::REGISTERS;
+use std::fmt;
 use std::marker::Model;
 
 /// The bytes that one frame read: at most as many as a device has registers.
-#[derive(Clone, Copy, Debug)]
+#[derive(Clone, Copy)]
 pub struct Bytes {
     // the first of these were read; the others are 00
     bytes: [u8; REGISTERS],
@@ -48,6 +49,13 @@ impl Bytes {
         ensures few { length self.now ≤ MOST }
     {
         &self.bytes[..self.count as usize]
+    }
+}
+
+/// A list of the bytes.
+impl fmt::Debug for Bytes {
+    fn fmt<W: fmt::Write>(&self, f: &mut fmt::Formatter<W>) -> fmt::Result {
+        f.debug_list().entries(self.as_slice()).finish()
     }
 }
 

@@ -60,20 +60,6 @@ pub(crate) fn told_lvrs<T: Debug>(alloc: Global, answer: &T) -> Answer {
     bare(alloc, &told_hex(alloc, answer)?, "Lvr(", ")")
 }
 
-/// An answer of this name that has bytes, in hex digits.
-pub(crate) fn told_list(alloc: Global, name: &str, bytes: &[u8]) -> Answer {
-    let mut text = String::new(alloc);
-    write!(text, "{name}([")?;
-    let mut before = "";
-    for byte in bytes {
-        let number = u64::from(*byte);
-        write!(text, "{before}{number:02X}")?;
-        before = ", ";
-    }
-    text.push_str("])")?;
-    Ok(text)
-}
-
 /// A text in which what stands between this beginning and this end stands alone.
 fn bare(alloc: Global, text: &str, begin: &str, end: &str) -> Answer {
     let mut bare = String::new(alloc);

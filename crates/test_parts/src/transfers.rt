@@ -4,9 +4,9 @@ use crate::events::MOST_BEGUN;
 use crate::faults::Fault;
 use crate::setting::Setting;
 use crate::taps::Told;
-use crate::told::{Answer, told, told_hex, told_list, told_text, told_trace};
+use crate::told::{Answer, told, told_hex, told_text, told_trace};
 use crate::words::{BITS, DATA, Words};
-use i3c_base::{Addr7, Answer as FrameAnswer, Bytes, REGISTERS};
+use i3c_base::{Addr7, Bytes, REGISTERS};
 use i3c_xfer::{
     Get, Read, Write, get, get_bits, read, read_bits, tell_get, tell_read, tell_write, told_count,
     write, write_bits,
@@ -42,7 +42,7 @@ fn of_read(setting: &Setting, call: &str, words: &mut Words<'_>) -> Answer {
     let came = came(setting, to)?;
     match call {
         "read" => told_hex(alloc, &came),
-        "read-answer" => told_answer(alloc, &came.answer(to)),
+        "read-answer" => told_hex(alloc, &came.answer(to)),
         _ => told(alloc, &read_bits(&came.answer(to))),
     }
 }
@@ -74,7 +74,7 @@ fn of_write(setting: &mut Setting, call: &str, words: &mut Words<'_>) -> Answer 
     let wrote = wrote(setting, to, &bytes)?;
     match call {
         "write" => told_hex(alloc, &wrote),
-        "write-answer" => told_answer(alloc, &wrote.answer(to)),
+        "write-answer" => told_hex(alloc, &wrote.answer(to)),
         _ => told(alloc, &write_bits(&bytes, &wrote.answer(to))),
     }
 }
@@ -149,14 +149,6 @@ fn trace_of_write(alloc: Global, words: &mut Words<'_>) -> Answer {
     told_trace(alloc, &told.symbols)
 }
 
-/// What the own part of a frame answers, with the bytes that were read and no others.
-fn told_answer(alloc: Global, answer: &FrameAnswer) -> Answer {
-    match answer {
-        FrameAnswer::Bytes(bytes) => told_list(alloc, "Bytes", bytes.as_slice()),
-        _ => told_hex(alloc, answer),
-    }
-}
-
 /// A datum that is asked for: what it came to, its answer, or its bits. Behind the address stands whether the interrupts
 /// there have a byte.
 fn of_get(setting: &Setting, call: &str, words: &mut Words<'_>) -> Answer {
@@ -178,18 +170,9 @@ fn of_get(setting: &Setting, call: &str, words: &mut Words<'_>) -> Answer {
         begun,
     );
     match call {
-        "get" => told_get(alloc, &came),
-        "get-answer" => told_answer(alloc, &came.answer(to)),
+        "get" => told_hex(alloc, &came),
+        "get-answer" => told_hex(alloc, &came.answer(to)),
         _ => told(alloc, &get_bits(count, &came.answer(to))),
-    }
-}
-
-/// What asking for a datum came to, with the bytes that were read and no others.
-fn told_get(alloc: Global, came: &Get) -> Answer {
-    match came {
-        Get::Nobody => told_text(alloc, "Nobody"),
-        Get::Ended(bytes) => told_list(alloc, "Ended", bytes.as_slice()),
-        Get::Torn(bytes) => told_list(alloc, "Torn", bytes.as_slice()),
     }
 }
 
