@@ -15,3 +15,4 @@ pub mod SameLaws
 pub mod AnsweringLaws
 pub mod LeastLaws
 pub mod KeepLaws
+mod RegisterLaws
