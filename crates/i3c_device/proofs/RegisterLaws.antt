@@ -71,14 +71,3 @@ pub record PulledSoFar (old registers : List ℕ) (n : ℕ) (bytes : List ℕ) :
   pub long : length bytes ≡ REGISTERS
   pub pulled : (k : ℕ) → k < n → get_or bytes k 0 ≡ bit_and (get_or old k 0) (get_or registers k 0)
   pub others : (k : ℕ) → n ≤ k → get_or bytes k 0 ≡ get_or old k 0
-
-pub pulled_more : (old registers : List ℕ) (n byte : ℕ) (bytes : List ℕ) → n < REGISTERS → PulledSoFar old registers n bytes → byte ≡ bit_and (get_or bytes n 0) (get_or registers n 0) → PulledSoFar old registers (n + 1) (set bytes n byte)
-pulled_more old registers n byte bytes low h is = record {
-  long = length-set bytes n byte ∙ h.long;
-  pulled = λ k l. elim (cases_eq k n) [
-    | inl e ↦ subst (λ m. get_or (set bytes n byte) m 0 ≡ bit_and (get_or old m 0) (get_or registers m 0)) (sym e)
-        (get_or-set_same bytes n byte 0 (omega (arith, h.long)) ∙ (is ∙ ap (λ b. bit_and b (get_or registers n 0)) (h.others n (omega arith))))
-    | inr ne ↦ get_or-set_other bytes n k byte 0 ne ∙ h.pulled k (omega arith)
-  ];
-  others = λ k l. get_or-set_other bytes n k byte 0 (λ e. absurd (omega (arith, e, l))) ∙ h.others k (omega arith);
-}
