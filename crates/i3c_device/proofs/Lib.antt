@@ -16,3 +16,4 @@ pub mod AnsweringLaws
 pub mod LeastLaws
 pub mod KeepLaws
 mod LengthLaws
+mod RegisterLaws

@@ -124,6 +124,39 @@ byte_more own among left next k cuts start devices byte i driven h low there out
       | inr ne ↦ out s l ∙ (cond-false (s == i) false (has left s) (ne_eqb s i ne) ∙ n)
     ]
 
+-- one slot more, in which nothing stands
+pub byte_same : (own : Driving) (among left next : SlotSet) (k : ℕ) (cuts : CutList) (start : ℕ) (devices : List (Option Device)) (byte i : ℕ) → ByteSoFar own among left k cuts start devices byte
+    → TakesOut i left next → get_or devices i None ≡ None → ByteSoFar own among next k cuts start devices byte
+byte_same own among left next k cuts start devices byte i h out none = record {
+  among_them = λ s l t. h.among_them s l (still s l t);
+  bits = λ j l. (
+    λ z. let old = (h.bits j l).0 z in (old.0, old.1, old.2, taken old.0 old.1 old.3, old.4, old.5),
+    λ some. (h.bits j l).1 (
+      some.0,
+      some.1,
+      some.2,
+      elim (cases_eq some.0 i) [
+        | inl e ↦ absurd (both_ways _ (ap (has_zero own k (7 - j)) (ap (λ s. get_or devices s None) e ∙ none)) some.5)
+        | inr ne ↦ sym (out some.0 some.1 ∙ cond-false (some.0 == i) false (has left some.0) (ne_eqb some.0 i ne)) ∙ some.3
+      ],
+      some.4,
+      some.5,
+    ),
+  );
+}
+  where
+    still : (s : ℕ) → s < SLOTS → has next s ≡ true → has left s ≡ true
+    still s l t = elim (cases_eq s i) [
+      | inl e ↦ absurd (both_ways _ (out s l ∙ cond-true (s == i) false (has left s) (eq-eqb s i e)) t)
+      | inr ne ↦ sym (out s l ∙ cond-false (s == i) false (has left s) (ne_eqb s i ne)) ∙ t
+    ]
+
+    taken : (s : ℕ) → s < SLOTS → has left s ≡ false → has next s ≡ false
+    taken s l n = elim (cases_eq s i) [
+      | inl e ↦ out s l ∙ cond-true (s == i) false (has left s) (eq-eqb s i e)
+      | inr ne ↦ out s l ∙ (cond-false (s == i) false (has left s) (ne_eqb s i ne) ∙ n)
+    ]
+
 pub byte_all : (own : Driving) (among left : SlotSet) (k : ℕ) (cuts : CutList) (start : ℕ) (devices : List (Option Device)) (byte : ℕ) → ByteSoFar own among left k cuts start devices byte
     → ((s : ℕ) → s < SLOTS → has left s ≡ false) → IsByteOf own among k cuts start devices byte
 byte_all own among left k cuts start devices byte h none j l = (

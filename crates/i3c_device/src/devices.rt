@@ -326,6 +326,9 @@ impl Devices {
         ensures bytes { All (λ byte. byte < 256) result }
     {
         let targets = self.occupants.targets(active, address);
+        if cuts.is_empty() {
+            return self.occupants.registers_of(targets);
+        }
         let mut bytes = [0; REGISTERS];
         for (index, byte) in bytes.iter_mut().enumerate() {
             *byte = self.occupants.byte_of(

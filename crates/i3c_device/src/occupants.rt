@@ -1,10 +1,10 @@
 use crate::attached::Attached;
 use crate::kept::Kept;
 use crate::marks::Marks;
-use crate::places::{byte_from, length_in, raise, stands, wishes_interrupt};
+use crate::places::{byte_from, length_in, pull_low, raise, stands, wishes_interrupt};
 use crate::sets::SlotSet;
 use crate::walks::{Driven, SlotUpdate, Sought, happen_in};
-use i3c_base::{Addr7, Cuts, Direction, Length, RaiseRefusal, SLOTS, Slot};
+use i3c_base::{Addr7, Cuts, Direction, Length, REGISTERS, RaiseRefusal, SLOTS, Slot};
 use std::marker::Model;
 
 /// The devices of a bus in their slots, each as if all kinds of its events were enabled.
@@ -31,17 +31,18 @@ impl Model for Occupants {
 impl Occupants {
     ghost use Rattle.i3c_base.specs.declared.device.TheConstants.{REGISTERS as REGISTER_COUNT};
     ghost use Rattle.i3c_base.specs.declared.range.TheConstants.{SLOTS as SLOT_COUNT};
+    ghost use Rattle.i3c_base.specs.Cutting.{CutList, IsUncut};
     ghost use Rattle.i3c_base.specs.Places.{changed};
     ghost use Rattle.i3c_base.specs.State.{Device as DeviceState, no_devices};
     ghost use Rattle.i3c_device.specs.Finding.{within, IsLowestFound, IsNowhere};
     ghost use Rattle.i3c_device.specs.Least.{IsLeastHeard, NobodyHears};
     ghost use Rattle.i3c_device.specs.Marks.{AreMarks};
     ghost use Rattle.i3c_device.specs.Raising.{interrupting_if, next_fault, with_raise};
-    ghost use Rattle.i3c_device.specs.Reading.{AreAt, IsByteOf};
+    ghost use Rattle.i3c_device.specs.Reading.{AreAt, IsByteOf, registers_of};
     ghost use Rattle.i3c_device.specs.Lengths.{IsLeastLength};
     ghost use Rattle.i3c_device.specs.Sets.{has};
     ghost use Rattle.i3c_device.specs.Walks.{AreTakers};
-    ghost use Rattle.std.specs.Prelude.{◌≡◌, ◌<◌, ◌&&◌, ℕ, is_some, length, suc, true, Some, None, option_copied, option_map, slice_index_or, slice_set, MatchOption, MatchResult, OnOk, OnErr};
+    ghost use Rattle.std.specs.Prelude.{◌≡◌, ◌<◌, ◌&&◌, ℕ, All, is_some, length, suc, true, Some, None, option_copied, option_map, slice_index, slice_index_or, slice_set, MatchOption, MatchResult, OnOk, OnErr};
 
     /// Empty slots.
     #[inline(always)]
@@ -208,6 +209,22 @@ impl Occupants {
             byte &= byte_from(driven, &self.places[slot], index, cut, at);
         }
         byte
+    }
+
+    /// All registers of these slots' devices, as the lines give them where nobody is cut.
+    pub fn registers_of(&self, among: SlotSet) -> [u8; REGISTERS]
+        ensures long { length result ≡ REGISTER_COUNT }
+        ensures bytes { All (λ byte. byte < 256) result }
+        ensures each { (k at : ℕ) (cuts : CutList) → k < REGISTER_COUNT → IsUncut cuts → IsByteOf registers_of among k cuts at self.now (slice_index result k) }
+    {
+        let mut bytes = [u8::MAX; REGISTERS];
+        let mut left = among;
+        while let Some(slot) = left.take_lowest() {
+            if let Some(device) = &self.places[slot] {
+                pull_low(&mut bytes, device);
+            }
+        }
+        bytes
     }
 
     /// The lowest of these slots in which what is sought is found.

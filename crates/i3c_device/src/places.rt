@@ -1,4 +1,4 @@
-ghost use Rattle.std.specs.Prelude.{◌≡◌, ◌↔◌, IsTrue, ◌≤◌, ◌<◌, ◌+◌, ◌^◌, ◌&&◌, ℕ, suc, true, false, Some, None, option_map, length, is_none, is_some, MatchResult, OnErr, OnOk};
+ghost use Rattle.std.specs.Prelude.{◌≡◌, ◌↔◌, IsTrue, ◌≤◌, ◌<◌, ◌+◌, ◌^◌, ◌&&◌, ℕ, suc, true, false, Some, None, option_map, length, bit_and, slice_index, is_none, is_some, MatchResult, OnErr, OnOk};
 ghost use Rattle.i3c_base.specs.declared.device.TheConstants.{REGISTERS as REGISTER_COUNT};
 ghost use Rattle.i3c_base.specs.declared.range.TheConstants.{SLOTS as SLOT_COUNT};
 ghost use Rattle.i3c_base.specs.Frames.{limited, readdressed, unaddressed_device};
@@ -16,7 +16,7 @@ ghost use Rattle.i3c_device.specs.Wishing.{wishes_interrupt, wishes_join, wishes
 use crate::answering::NOWHERE;
 use crate::attached::Attached;
 use crate::walks::Driven;
-use i3c_base::{Addr7, Direction, Identity, Length, RaiseRefusal, Request, Slot, Waiting};
+use i3c_base::{Addr7, Direction, Identity, Length, REGISTERS, RaiseRefusal, Request, Slot, Waiting};
 
 /// Whether this device stands here.
 pub(crate) fn stands(device: &Attached, place: &Option<Attached>) -> bool
@@ -263,6 +263,17 @@ pub(crate) fn byte_from<D: Driven>(
     match place {
         Some(device) => driven_from(driven.byte(device, index), cut, at),
         None => u8::MAX,
+    }
+}
+
+/// The bits that are 0 in a device's registers are pulled low in these.
+pub(crate) fn pull_low(bytes: &mut [u8; REGISTERS], device: &Attached)
+    ensures long { length bytes.new ≡ REGISTER_COUNT }
+    ensures each { (k : ℕ) → k < REGISTER_COUNT → slice_index bytes.new k ≡ bit_and (slice_index bytes.old k) (slice_index device.now.registers k) }
+{
+    let registers = device.registers();
+    for index in 0..REGISTERS {
+        bytes[index] &= registers[index];
     }
 }
 

@@ -2,6 +2,7 @@
 use Rattle.i3c_base.specs.declared.device.TheConstants.{REGISTERS}
 use Rattle.i3c_device.specs.Reading.{registers_of}
 use Rattle.i3c_device.proofs.ReadLaws.{read_all, read_more, read_small}
+use Rattle.i3c_device.proofs.RegisterLaws.{registers_read}
 use Rattle.i3c_device.proofs.SeenWalks.{read_seen, registers_blind}
 use Rattle.i3c_device.proofs.devices.Devices.read.Goals as goal
 
@@ -19,3 +20,9 @@ returns-clause-read c =
 pub returns-clause-bytes : goal.returns-clause-bytes
 returns-clause-bytes c =
     read_small registers_of REGISTERS c.targets-targets.result c.args.cuts.now c.args.first c.self.inside.occupants c.loop-index.index c.loop-index.byte-items c.loop-index-test.false c.loop-index.invariant
+
+pub returns-then-is_empty-clause-read : goal.returns-then-is_empty-clause-read
+returns-then-is_empty-clause-read c =
+    read_seen registers_of registers_blind c.self.inside.enabled c.self.inside.occupants c.args.self.now REGISTERS c.args.active c.args.address c.args.cuts.now c.args.first c.registers_of.result c.self.view_is
+    (registers_read c.args.active c.args.address c.targets-targets.result c.self.inside.occupants c.args.cuts.now c.args.first c.registers_of.result c.targets-targets.ensures.slots c.targets-targets.ensures.there
+    (c.is_empty.ensures.uncut.0 c.if-is_empty.true) c.registers_of.ensures.each)
