@@ -1,9 +1,15 @@
 -- The letters of names, and that names stay known.
-use Rattle.std.proofs.Common.{◌≡◌, ◌∙◌, ℕ, zero, suc, ◌+◌, ◌-◌, ◌<◌, ◌≤◌, ◌⊎◌, Bool, true, false, ◌&&◌, T, cond, nat_eq, nat_lt, if◌then◌else◌, eqb, eqb→eq, eq-zero-or-pos, get_or, inl, inr, List, [], ◌∷◌, ◌++◌, All, drop, length, replicate, set, take, Option, Some, IsTrue, ap, arith, refl, sym, subst}
+use Rattle.std.proofs.Common.{◌≡◌, ◌≢◌, ◌∙◌, ℕ, zero, suc, ◌+◌, ◌-◌, ◌<◌, ◌≤◌, ◌⊎◌, Bool, true, false, ◌&&◌, T, cond, nat_eq, nat_lt, if◌then◌else◌, eqb, eqb→eq, eq-zero-or-pos, get_or, inl, inr, List, [], ◌∷◌, ◌++◌, All, drop, length, replicate, set, take, Option, Some, None, IsTrue, ap, arith, refl, sym, subst}
 use Rattle.std.proofs.lemmas.List.{drop-drop, drop-replicate, drop-set-lt, get_or-take, get_or_default, length-take-le, take_more, take_more_set}
+use Rattle.std.specs.Cmp.Lexicographic.{pointwise, same_text}
 use Rattle.std.specs.Option.{IsSome}
+use Rattle.std.specs.Prelude.{MatchOption}
+use Rattle.std.proofs.lemmas.Bool.{true≢false}
 use lib.Ieee.Fits.{and_l, and_r}
+use Rattle.i3c_lines.specs.Naming.{Empties, GivesAlone, GivesSlot, KeepsPlaces, Replaces, is_same, letters, place_named, slot_names}
 use Rattle.i3c_lines.specs.Words.{IsNameLetter}
+use Rattle.i3c_lines.specs.declared.names.Name.{Name}
+use Rattle.i3c_lines.specs.declared.names.Names.{Names}
 use Rattle.i3c_lines.specs.declared.names.Place.{Place}
 use Rattle.i3c_lines.specs.declared.names.TheConstants.{LETTERS}
 
@@ -11,6 +17,46 @@ use Rattle.i3c_lines.specs.declared.names.TheConstants.{LETTERS}
 pub known_after : (is_given : Bool) (place : Place) (before after : Option Place) → after ≡ cond is_given (Some place) before → IsSome before → IsSome after
 known_after true place before after e known = subst IsSome (sym e) refl
 known_after false place before after e known = subst IsSome (sym e) known
+
+-- who is given its own place isn't gone first
+not_gone : (is_name is_had : Bool) (here absent before : Option Place) → is_had ≡ is_name → (if is_name then here else before) ≡ (if is_name then here else (if is_had then absent else before))
+not_gone true is_had here absent before e = refl
+not_gone false is_had here absent before e = sym (ap (λ b. if b then absent else before) e)
+
+-- who had the slot is gone first, unless it stands elsewhere
+pub given_after : (old mid new : Names) (name : Name) (slot : ℕ) → Empties old mid slot (Place.Slot slot) → GivesAlone mid new name (Place.Slot slot) → GivesSlot old new name slot
+given_after old mid new name slot = go (get_or (slot_names old) slot None)
+  where
+    either : (other : Name) → Option Place → Option Place
+    either other place = if is_same name other then Some (Place.Slot slot) else place
+
+    go : (known : Option Name)
+        → MatchOption known (KeepsPlaces old mid)
+        (λ had. (place_named old had ≡ Some (Place.Slot slot) → GivesAlone old mid had Place.Gone) × (place_named old had ≢ Some (Place.Slot slot) → KeepsPlaces old mid))
+        → GivesAlone mid new name (Place.Slot slot)
+        → MatchOption known (GivesAlone old new name (Place.Slot slot))
+        (λ had. (place_named old had ≡ Some (Place.Slot slot) → Replaces old new had name slot) × (place_named old had ≢ Some (Place.Slot slot) → GivesAlone old new name (Place.Slot slot)))
+    go None keeps alone = λ other. alone other ∙ ap (either other) (keeps other)
+    go (Some had) keeps alone = (λ here other. alone other ∙ ap (either other) (keeps.0 here other), λ elsewhere other. alone other ∙ ap (either other) (keeps.1 elsewhere other))
+
+-- the slot's name is this one, if a test says so
+abbrev pub IsTested : Names → ℕ → Name → Bool → Type 0
+IsTested names slot name test = MatchOption (get_or (slot_names names) slot None) (test ≡ false) (λ had. test ≡ is_same had name)
+
+-- a slot is given the name that it has
+pub given_again : (old new : Names) (name : Name) (slot : ℕ) (test : Bool) → test ≡ true → IsTested old slot name test → GivesAlone old new name (Place.Slot slot) → GivesSlot old new name slot
+given_again old new name slot test is = go (get_or (slot_names old) slot None)
+  where
+    go : (known : Option Name) → MatchOption known (test ≡ false) (λ had. test ≡ is_same had name) → GivesAlone old new name (Place.Slot slot)
+        → MatchOption known (GivesAlone old new name (Place.Slot slot))
+        (λ had. (place_named old had ≡ Some (Place.Slot slot) → Replaces old new had name slot) × (place_named old had ≢ Some (Place.Slot slot) → GivesAlone old new name (Place.Slot slot)))
+    go None h alone = absurd (true≢false (sym is ∙ h))
+    go (Some had) h alone =
+        let same : letters had ≡ letters name = same_text (letters had) (letters name) (sym is ∙ h) in
+        let alike = λ (other : Name). ap (λ word. pointwise nat_eq word (letters other)) same in (
+          λ here other. alone other ∙ not_gone (is_same name other) (is_same had other) (Some (Place.Slot slot)) (Some Place.Gone) (place_named old other) (alike other),
+          λ elsewhere. alone,
+        )
 
 -- 1 for a letter, and 0 for any other byte
 abbrev mark_of : ℕ → ℕ

@@ -168,8 +168,8 @@ pub struct Names {
 }
 
 impl Names {
-    ghost use Rattle.std.specs.Prelude.{None, OnOk, Some, option_copied, slice_index_or, slice_set};
-    ghost use Rattle.i3c_lines.specs.Naming.{Empties, GivesAlone, GivesSlot, legacy_names, place_named, slot_named, slot_names};
+    ghost use Rattle.std.specs.Prelude.{MatchOption, None, OnOk, Some, false, option_copied, slice_index_or, slice_set};
+    ghost use Rattle.i3c_lines.specs.Naming.{Empties, GivesAlone, GivesSlot, is_same, legacy_names, place_named, slot_named, slot_names};
     ghost use Rattle.i3c_lines.specs.declared.names.Name.{Name};
 
     /// No names.
@@ -246,10 +246,23 @@ impl Names {
         let index = slot.index();
         let told = Some(*name);
         let place = Place::Slot(slot);
-        self.empty(index, &place)?;
+        if !self.is_in(index, name) {
+            self.empty(index, &place)?;
+        }
         self.places.insert(*name, place)?;
         self.slots[index] = told;
         Ok(())
+    }
+
+    /// Whether the slot of this number was last given this name.
+    fn is_in(&self, number: usize, name: &Name) -> bool
+        requires { number < SLOTS }
+        ensures { MatchOption (slice_index_or (slot_names self.now) number None) (result ≡ false) (λ had. result ≡ is_same had name.now) }
+    {
+        match &self.slots[number] {
+            Some(had) => had == name,
+            None => false,
+        }
     }
 
     /// Whoever stands in the slot of this number is gone, unless the name stands elsewhere now.
