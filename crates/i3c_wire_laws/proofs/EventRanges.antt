@@ -100,8 +100,8 @@ list_part_fits st wire fits known h =
 read_bytes : (st : State) (a : ℕ) (cuts : CutList) (first : ℕ) (read : Read) → Fits st → IsReadAs st a cuts first read → BytesOfRead read
 read_bytes st a cuts first Read.Nobody fits h = tt
 read_bytes st a cuts first (Read.Legacy bytes) fits h = subst AreBytes (sym h.2) (bytes_from h.0.registers (fits.targets a h.0 h.1).registers)
-read_bytes st a cuts first (Read.Ended bytes) fits h = bytes_from bytes h.3
-read_bytes st a cuts first (Read.Torn bytes) fits h = bytes_from bytes h.3
+read_bytes st a cuts first (Read.Ended bytes) fits h = bytes_from bytes h.1.2
+read_bytes st a cuts first (Read.Torn bytes) fits h = bytes_from bytes h.1.2
 
 -- those that are told of a datum
 get_bytes : (st : State) (what : Datum) (count a : ℕ) (cuts : CutList) (first : ℕ) (get : Told) → IsToldAs st what count a cuts first get → BytesOfGet get
