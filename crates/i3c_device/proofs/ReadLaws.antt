@@ -3,7 +3,6 @@ use Rattle.std.proofs.Common.{◌≡◌, ℕ, ◌+◌, ◌-◌, ◌*◌, ◌/◌
 use Rattle.std.proofs.lemmas.Bool.{both_ways, cases_eq, cases_lt, cond-true, cond-false, eq-eqb, eqb-true, le-leb, lt-leb, ne_eqb}
 use Rattle.std.proofs.lemmas.Bool.Decides.{nat_tests}
 use Rattle.std.proofs.lemmas.List.{get_or_default, get_or_past, get_or-set_other, get_or-set_same, get_or-take, length-take-le}
-use Rattle.std.proofs.lemmas.List.Elements.{All-take}
 use Rattle.std.proofs.lemmas.Option.{none-some}
 use Rattle.std.proofs.lemmas.Nat.Bits.{bit_at-lt, bit_at_and, bit_at_ones, bit_at_ones_above, bit_at_or, ones_shr}
 use Rattle.std.specs.Int.{bit_at}
@@ -218,16 +217,21 @@ pub read_small : (own : Driving) (most : ℕ) (slots : SlotSet) (cuts : CutList)
     → ReadSoFar own most slots cuts first devices n bytes → All (λ byte. byte < 256) bytes
 read_small own most slots cuts first devices n bytes past h k d l = subst (λ v. v < 256) (get_or_default bytes k 0 d l) (h.small k (omega (arith, h.long)))
 
--- the first ones of them
-pub read_first : (own : Driving) (most count active a : ℕ) (devices : List (Option Device)) (cuts : CutList) (first : ℕ) (bytes : List ℕ) → count ≤ most → length bytes ≡ most
-    → AreBytesOf own most active a cuts first devices bytes → AreBytesOf own (length (take count bytes)) active a cuts first devices (take count bytes)
-read_first own most count active a devices cuts first bytes few long h k j l m =
-    let counted : length (take count bytes) ≡ count = length-take-le count bytes (omega (arith, few, long)) in
+-- so many of them, where there is room for more
+pub read_counted : (own : Driving) (most count active a : ℕ) (slots : SlotSet) (devices : List (Option Device)) (cuts : CutList) (first n : ℕ) (bytes : List ℕ) → length devices ≡ SLOTS → AreAt active a slots devices
+    → count ≤ n → count ≤ most → ReadSoFar own most slots cuts first devices n bytes → AreBytesOf own (length (take count bytes)) active a cuts first devices (take count bytes)
+read_counted own most count active a slots devices cuts first n bytes long are past few h k j l m =
+    let counted : length (take count bytes) ≡ count = length-take-le count bytes (omega (arith, few, h.long)) in
     let low : k < count = omega (arith, counted, l) in
-    subst (λ b. (bit_at b (7 - j) ≡ 0) ↔ PullsLow own active a (lost_by cuts (first + 9 * k + j)) k (7 - j) devices) (sym (get_or-take count bytes k 0 low)) (h k j (omega arith) m)
+    subst (λ b. (bit_at b (7 - j) ≡ 0) ↔ PullsLow own active a (lost_by cuts (first + 9 * k + j)) k (7 - j) devices) (sym (get_or-take count bytes k 0 low))
+    (byte_read own active a slots devices cuts (first + 9 * k) k (get_or bytes k 0) long are (h.read k (omega arith)) j m)
 
-pub small_first : (count : ℕ) (bytes : List ℕ) → All (λ byte. byte < 256) bytes → All (λ byte. byte < 256) (take count bytes)
-small_first count bytes h = All-take (λ byte. byte < 256) count bytes h
+pub small_counted : (own : Driving) (most count : ℕ) (slots : SlotSet) (cuts : CutList) (first : ℕ) (devices : List (Option Device)) (n : ℕ) (bytes : List ℕ) → count ≤ n → count ≤ most
+    → ReadSoFar own most slots cuts first devices n bytes → All (λ byte. byte < 256) (take count bytes)
+small_counted own most count slots cuts first devices n bytes past few h k d l =
+    let counted : length (take count bytes) ≡ count = length-take-le count bytes (omega (arith, few, h.long)) in
+    let low : k < count = omega (arith, counted, l) in
+    subst (λ v. v < 256) (sym (get_or-take count bytes k 0 low) ∙ get_or_default (take count bytes) k 0 d l) (h.small k (omega arith))
 
 -- a write changes nobody where there is none
 pub write_spares : (active a : ℕ) (bytes : List ℕ) (s : ℕ) (o : Option Device) → in_slot (λ d. true) o ≡ false → written_at active a bytes s o ≡ o

@@ -363,8 +363,8 @@ impl Devices {
         let targets = self.occupants.targets(active, address);
         let told = Told { what };
         let mut bytes = [0; LONGEST];
-        for (index, byte) in bytes.iter_mut().enumerate() {
-            *byte = self.occupants.byte_of(
+        for index in 0..count {
+            bytes[index] = self.occupants.byte_of(
                 &told,
                 targets,
                 index,

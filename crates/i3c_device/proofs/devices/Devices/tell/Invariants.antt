@@ -5,4 +5,4 @@ use Rattle.i3c_device.proofs.devices.Devices.tell.Given as goal
 
 -- the bytes so far are told
 abbrev pub invariant-loop-index : goal.invariant-loop-index
-invariant-loop-index l = ReadSoFar (told_bytes l.fn.what) LONGEST l.targets l.cuts l.first l.self-inside.occupants l.index l.byte-items
+invariant-loop-index l = ReadSoFar (told_bytes l.fn.what) LONGEST l.targets l.cuts l.first l.self-inside.occupants l.index l.bytes
