@@ -579,19 +579,35 @@ enum daskreyf_result daskreyf_list(struct daskreyf *bus)
     return daskreyf_line(bus, "list");
 }
 
-enum daskreyf_result daskreyf_read(struct daskreyf *bus, uint8_t address, uint8_t registers[DASKREYF_REGISTERS])
+/* Takes the bytes of the answer: behind this word from `least` to `most` of them, which are stored: `count` of them. */
+static enum daskreyf_result told_bytes(
+    struct daskreyf *bus, const char *told, uint8_t *bytes, size_t least, size_t most, size_t *count)
 {
-    enum daskreyf_result result = send_line(bus, "read %02X", address);
-    const char *digits = last_line(bus->text) + strlen("bytes ");
+    const char *line = last_line(bus->text);
+    const char *digits = line + strlen(told) + 1;
 
-    if (result != DASKREYF_OK)
-        return result;
-    if (!begins(last_line(bus->text), "bytes ") || strlen(digits) != 2 * DASKREYF_REGISTERS)
+    if (!begins(line, told) || line[strlen(told)] != ' ')
         return broken(bus);
-    for (int i = 0; i < DASKREYF_REGISTERS; i++)
-        if (sscanf(digits + 2 * i, "%2" SCNx8, &registers[i]) != 1)
+    *count = strlen(digits) / 2;
+    if (*count < least || *count > most)
+        return broken(bus);
+    for (size_t i = 0; i < *count; i++)
+        if (sscanf(digits + 2 * i, "%2" SCNx8, &bytes[i]) != 1)
             return broken(bus);
     return DASKREYF_OK;
+}
+
+enum daskreyf_result daskreyf_read(
+    struct daskreyf *bus, uint8_t address, uint8_t registers[DASKREYF_REGISTERS], size_t *count)
+{
+    enum daskreyf_result result = send_line(bus, "read %02X", address);
+    size_t had = 0;
+
+    if (result == DASKREYF_OK)
+        result = told_bytes(bus, "bytes", registers, 1, DASKREYF_REGISTERS, &had);
+    if (result == DASKREYF_OK && count)
+        *count = had;
+    return result;
 }
 
 enum daskreyf_result daskreyf_write(struct daskreyf *bus, uint8_t address, const uint8_t *bytes, size_t count)
@@ -622,21 +638,10 @@ static enum daskreyf_result get_bytes(
     struct daskreyf *bus, const char *word, uint8_t address, uint8_t *bytes, size_t least, size_t most, size_t *count)
 {
     enum daskreyf_result result = send_line(bus, "%s %02X", word, address);
-    const char *told = word + strlen("get");
-    const char *line = last_line(bus->text);
-    const char *digits = line + strlen(told) + 1;
 
     if (result != DASKREYF_OK)
         return result;
-    if (!begins(line, told) || line[strlen(told)] != ' ')
-        return broken(bus);
-    *count = strlen(digits) / 2;
-    if (*count < least || *count > most)
-        return broken(bus);
-    for (size_t i = 0; i < *count; i++)
-        if (sscanf(digits + 2 * i, "%2" SCNx8, &bytes[i]) != 1)
-            return broken(bus);
-    return DASKREYF_OK;
+    return told_bytes(bus, word + strlen("get"), bytes, least, most, count);
 }
 
 /* The same of a datum that has just so many bytes. */
@@ -712,6 +717,23 @@ enum daskreyf_result daskreyf_get_mxds(struct daskreyf *bus, uint8_t address, ui
 enum daskreyf_result daskreyf_get_caps(struct daskreyf *bus, uint8_t address, uint8_t capabilities[2])
 {
     return get_datum(bus, "getcaps", address, capabilities, 2);
+}
+
+static enum daskreyf_result set_length(struct daskreyf *bus, const char *word, uint8_t length, int address)
+{
+    if (address == DASKREYF_ALL)
+        return send_line(bus, "%s %u", word, (unsigned)length);
+    return send_line(bus, "%s %u %02X", word, (unsigned)length, (unsigned)address);
+}
+
+enum daskreyf_result daskreyf_set_mwl(struct daskreyf *bus, uint8_t length, int address)
+{
+    return set_length(bus, "setmwl", length, address);
+}
+
+enum daskreyf_result daskreyf_set_mrl(struct daskreyf *bus, uint8_t length, int address)
+{
+    return set_length(bus, "setmrl", length, address);
 }
 
 enum daskreyf_result daskreyf_handover(struct daskreyf *bus, uint8_t address)

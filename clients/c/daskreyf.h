@@ -19,7 +19,7 @@ enum {
     DASKREYF_NAME = 16,          /* letters of a name at most */
     DASKREYF_NO_BYTE = -1,       /* an interrupt without a mandatory byte */
     DASKREYF_UNADDRESSED = -1,   /* a device without a dynamic address */
-    DASKREYF_ALL = -1            /* ENEC and DISEC to all */
+    DASKREYF_ALL = -1            /* ENEC, DISEC, SETMWL and SETMRL to all */
 };
 
 /* The kinds of events of ENEC and DISEC. [5.1.9.3.1] */
@@ -55,7 +55,7 @@ enum daskreyf_result {
     DASKREYF_NO_ANSWER,        /* nobody at the address acknowledged, or the table has nobody there */
     DASKREYF_BAD_ADDRESS,      /* the address can't be given: it is out of range, somebody's, or a static one */
     DASKREYF_NO_END,           /* the last T of what was read said that more bytes would come */
-    DASKREYF_TOO_LONG,         /* a transfer has sixteen bytes at most */
+    DASKREYF_TOO_LONG,         /* a write has sixteen bytes at most, or the device's maximum length */
     DASKREYF_LIST_STALE,       /* addresses have changed since the last `list` [5.1.9.3.7] */
     DASKREYF_REFUSED,          /* for a reason that isn't known here: daskreyf_why has it */
 
@@ -219,8 +219,12 @@ enum daskreyf_result daskreyf_disec(struct daskreyf *bus, uint8_t kinds, int add
 enum daskreyf_result daskreyf_reset(struct daskreyf *bus); /* RSTDAA [5.1.9.3.3] */
 enum daskreyf_result daskreyf_list(struct daskreyf *bus);  /* DEFTGTS [5.1.9.3.7] */
 
-/* Private transfers with a device or a legacy target. [5.1.2.3] */
-enum daskreyf_result daskreyf_read(struct daskreyf *bus, uint8_t address, uint8_t registers[DASKREYF_REGISTERS]);
+/*
+ * Private transfers with a device or a legacy target. `count` may be NULL: how many registers were read, the first ones. It
+ * is DASKREYF_REGISTERS unless daskreyf_set_mrl has set less. [5.1.2.3]
+ */
+enum daskreyf_result daskreyf_read(
+    struct daskreyf *bus, uint8_t address, uint8_t registers[DASKREYF_REGISTERS], size_t *count);
 enum daskreyf_result daskreyf_write(struct daskreyf *bus, uint8_t address, const uint8_t *bytes, size_t count);
 
 /* Gives a dynamic address to the device at a static one, while it has none, by SETDASA. [5.1.9.3.10] */
@@ -247,6 +251,13 @@ enum daskreyf_result daskreyf_get_mrl(struct daskreyf *bus, uint8_t address, uin
 /* The two bytes of GETMXDS, the limits of its speed, and of GETCAPS, its capabilities. [5.1.9.3.18, 5.1.9.3.19] */
 enum daskreyf_result daskreyf_get_mxds(struct daskreyf *bus, uint8_t address, uint8_t limits[2]);
 enum daskreyf_result daskreyf_get_caps(struct daskreyf *bus, uint8_t address, uint8_t capabilities[2]);
+
+/*
+ * SETMWL and SETMRL: the most bytes of a private write and of a private read, 1 to 16, of the device at an address or of
+ * DASKREYF_ALL. [5.1.9.3.5, 5.1.9.3.6]
+ */
+enum daskreyf_result daskreyf_set_mwl(struct daskreyf *bus, uint8_t length, int address);
+enum daskreyf_result daskreyf_set_mrl(struct daskreyf *bus, uint8_t length, int address);
 
 /* Offers the role to the device at an address, by GETACCCR. [5.1.7] */
 enum daskreyf_result daskreyf_handover(struct daskreyf *bus, uint8_t address);

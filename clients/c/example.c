@@ -88,12 +88,12 @@ int main(int count, char **words)
     expect(bus, daskreyf_raise(bus, "heat", 0x2A, NULL));
     expect(bus, daskreyf_raise(bus, "light", 0x11, NULL));
     serve_all(bus);
-    expect(bus, daskreyf_read(bus, 0x09, registers));
+    expect(bus, daskreyf_read(bus, 0x09, registers, NULL));
     printf("light's rate is %02X\n", registers[0]);
     tell_bus(bus);
     if (daskreyf_serve(bus) == DASKREYF_OK)
         tell_served(bus);
-    if (daskreyf_read(bus, 0x50, registers) != DASKREYF_OK)
+    if (daskreyf_read(bus, 0x50, registers, NULL) != DASKREYF_OK)
         printf("refused: %s\n", daskreyf_why(bus));
     printf("status %d\n", daskreyf_close(bus));
     return 0;

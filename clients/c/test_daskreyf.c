@@ -91,9 +91,10 @@ static void test_transfers(struct daskreyf *bus)
 {
     const uint8_t bytes[DASKREYF_REGISTERS + 1] = {0x12, 0xAB};
     uint8_t registers[DASKREYF_REGISTERS] = {0};
+    size_t count = 0;
 
     CHECK(daskreyf_write(bus, 0x68, bytes, 2) == DASKREYF_OK);
-    CHECK(daskreyf_read(bus, 0x68, registers) == DASKREYF_OK);
+    CHECK(daskreyf_read(bus, 0x68, registers, &count) == DASKREYF_OK && count == DASKREYF_REGISTERS);
     CHECK(registers[0] == 0x12 && registers[1] == 0xAB && registers[2] == 0);
     CHECK(daskreyf_write(bus, 0x68, bytes, 0) == DASKREYF_OK);
     CHECK(daskreyf_write(bus, 0x68, bytes, DASKREYF_REGISTERS) == DASKREYF_OK);
@@ -108,7 +109,7 @@ static void test_a_cut_interrupt(struct daskreyf *bus)
 
     CHECK(daskreyf_raise(bus, "t", 0x2C, NULL) == DASKREYF_OK);
     CHECK(daskreyf_cut(bus, "t", 9) == DASKREYF_OK);
-    CHECK(daskreyf_read(bus, 0x09, registers) == DASKREYF_NO_ANSWER && served->request == DASKREYF_TORN);
+    CHECK(daskreyf_read(bus, 0x09, registers, NULL) == DASKREYF_NO_ANSWER && served->request == DASKREYF_TORN);
     CHECK(daskreyf_show(bus, &state) == DASKREYF_OK && state.device_count == 2 && state.record_count == 1);
 }
 
@@ -221,6 +222,43 @@ static void test_data(const char *program)
     CHECK(daskreyf_close(bus) == 1);
 }
 
+static void test_lengths(const char *program)
+{
+    const uint8_t bytes[DASKREYF_REGISTERS] = {0x11, 0x22, 0x33};
+    struct daskreyf *bus = daskreyf_start(program);
+    struct daskreyf_assigned assigned[1];
+    uint8_t registers[DASKREYF_REGISTERS] = {0};
+    size_t count = 0;
+    uint16_t length = 0;
+    uint8_t interrupt = 0;
+
+    CHECK(bus && daskreyf_legacy(bus, "eep", 0x50, 0x20) == DASKREYF_OK);
+    if (!bus)
+        return;
+    CHECK(daskreyf_main(bus, "hub", &hub) == DASKREYF_OK);
+    CHECK(daskreyf_attach(bus, "t", &target, NULL) == DASKREYF_OK);
+    CHECK(daskreyf_daa(bus, assigned, 1, &count) == DASKREYF_OK && count == 1);
+    CHECK(daskreyf_set_mwl(bus, 3, DASKREYF_ALL) == DASKREYF_OK);
+    CHECK(daskreyf_set_mrl(bus, 2, 0x09) == DASKREYF_OK);
+    CHECK(daskreyf_get_mwl(bus, 0x09, &length) == DASKREYF_OK && length == 3);
+    CHECK(daskreyf_get_mrl(bus, 0x09, &length, &interrupt) == DASKREYF_OK && length == 2 && interrupt == 1);
+    CHECK(daskreyf_write(bus, 0x09, bytes, 4) == DASKREYF_TOO_LONG);
+    CHECK(daskreyf_write(bus, 0x09, bytes, 3) == DASKREYF_OK);
+    CHECK(daskreyf_read(bus, 0x09, registers, &count) == DASKREYF_OK && count == 2);
+    CHECK(registers[0] == 0x11 && registers[1] == 0x22 && registers[2] == 0);
+    CHECK(daskreyf_read(bus, 0x09, registers, NULL) == DASKREYF_OK);
+    CHECK(daskreyf_write(bus, 0x50, bytes, DASKREYF_REGISTERS) == DASKREYF_OK);
+    CHECK(daskreyf_read(bus, 0x50, registers, &count) == DASKREYF_OK && count == DASKREYF_REGISTERS && registers[2] == 0x33);
+    CHECK(daskreyf_set_mwl(bus, 1, 0x50) == DASKREYF_NO_ANSWER && !strcmp(daskreyf_why(bus), "NoAnswer 50"));
+    CHECK(daskreyf_set_mrl(bus, 0, DASKREYF_ALL) == DASKREYF_BAD_LINE);
+    CHECK(daskreyf_set_mrl(bus, 17, 0x09) == DASKREYF_BAD_LINE);
+    CHECK(daskreyf_raise(bus, "t", 0x11, NULL) == DASKREYF_OK);
+    CHECK(daskreyf_set_mrl(bus, 1, DASKREYF_ALL) == DASKREYF_OK);
+    CHECK(daskreyf_served(bus)->request == DASKREYF_RECORDED);
+    CHECK(daskreyf_cut(bus, "t", 18) == DASKREYF_OK && daskreyf_read(bus, 0x09, registers, NULL) == DASKREYF_NO_END);
+    CHECK(daskreyf_close(bus) == 1);
+}
+
 static void test_all_slots(const char *program)
 {
     enum { DEVICES = DASKREYF_SLOTS - 1 };
@@ -278,6 +316,7 @@ int main(int count, char **words)
     CHECK(daskreyf_close(bus) == 1);
     test_static_addresses(program);
     test_data(program);
+    test_lengths(program);
     test_all_slots(program);
     test_the_end(program);
     puts(failures ? "test_daskreyf: FAILED" : "test_daskreyf: ok");

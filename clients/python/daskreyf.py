@@ -320,7 +320,7 @@ class NoEnd(Refused):
 
 
 class TooLong(Refused):
-    """A transfer has sixteen bytes at most."""
+    """A write has sixteen bytes at most, or as many as the maximum length of the device."""
 
 
 class ListStale(Refused):
@@ -481,11 +481,11 @@ class Bus:
         return self.line("list").served
 
     def read(self, address: int) -> bytes:
-        """`read`: the sixteen registers of a device or a legacy target. [5.1.2.3]"""
+        """`read`: the registers of a device or a legacy target, all sixteen or as many as `set_mrl` allows. [5.1.2.3]"""
         return bytes.fromhex(self._own(self.line(f"read {_hex(address, 2)}")).split()[1])
 
     def write(self, address: int, data: bytes) -> Served | None:
-        """`write`: replaces the first registers, by sixteen bytes at most. [5.1.2.3]"""
+        """`write`: replaces the first registers, by sixteen bytes at most, or as `set_mwl` allows. [5.1.2.3]"""
         return self.line(f"write {_hex(address, 2)} {data.hex().upper()}".rstrip()).served
 
     def setdasa(self, fixed: int, address: int) -> Served | None:
@@ -528,6 +528,18 @@ class Bus:
     def get_caps(self, address: int) -> bytes:
         """`getcaps`: its capabilities, as the two bytes of GETCAPS. [5.1.9.3.19]"""
         return self._told("getcaps", address)
+
+    def set_mwl(self, length: int, address: int | None = None) -> Served | None:
+        """`setmwl`: the device at the address, or everybody, takes so many bytes in a write at most. [5.1.9.3.5]"""
+        return self._length("setmwl", length, address)
+
+    def set_mrl(self, length: int, address: int | None = None) -> Served | None:
+        """`setmrl`: the device at the address, or everybody, gives so many bytes to a read at most. [5.1.9.3.6]"""
+        return self._length("setmrl", length, address)
+
+    def _length(self, word: str, length: int, address: int | None) -> Served | None:
+        to = "" if address is None else f" {_hex(address, 2)}"
+        return self.line(f"{word} {_most(length)}{to}").served
 
     def _told(self, word: str, address: int) -> bytes:
         """What a device tells, where it is asked by this word."""
@@ -683,6 +695,12 @@ def _bit(bit: int) -> int:
     if not 0 <= bit <= 65535:
         raise ValueError(f"a bit number is from 0 to 65535, and not {bit}")
     return bit
+
+
+def _most(length: int) -> int:
+    if not 1 <= length <= REGISTERS:
+        raise ValueError(f"a maximum length is from 1 to {REGISTERS}, and not {length}")
+    return length
 
 
 def _address(text: str) -> int | None:

@@ -135,6 +135,30 @@ class LinesTest(unittest.TestCase):
         with self.assertRaises(daskreyf.NoEnd):
             self.bus.get_bcr(0x09)
 
+    def test_maximum_lengths(self) -> None:
+        self.bus.legacy("clock", 0x68, 0x40)
+        with_hub(self.bus)
+        target = with_target(self.bus)
+        self.bus.daa()
+        self.assertIsNone(self.bus.write(0x09, b"\x11\x22\x33"))
+        self.assertIsNone(self.bus.set_mwl(2))
+        self.assertIsNone(self.bus.set_mrl(3, 0x09))
+        self.assertEqual((self.bus.get_mwl(0x09), self.bus.get_mrl(0x09)), (2, ReadLength(3, 1)))
+        with self.assertRaises(daskreyf.TooLong):
+            self.bus.write(0x09, b"\x44\x55\x66")
+        self.assertIsNone(self.bus.write(0x09, b"\x44\x55"))
+        self.assertEqual(self.bus.read(0x09), b"\x44\x55\x33")
+        self.assertIsNone(self.bus.write(0x68, bytes(16)))
+        self.assertEqual(self.bus.read(0x68), bytes(16))
+        with self.assertRaises(daskreyf.NoAnswer) as refused:
+            self.bus.set_mwl(1, 0x50)
+        self.assertEqual(refused.exception.about, "50")
+        target.raise_interrupt(0x11)
+        self.assertEqual(self.bus.set_mrl(1), Record(1, 1, 1, 0x09, 0x11))
+        target.cut(18)
+        with self.assertRaises(daskreyf.NoEnd):
+            self.bus.read(0x09)
+
     def test_sixteen_identities_are_declared(self) -> None:
         for number in range(16):
             self.bus.declare(0x20 + number, number, 0x06, 0x44)
@@ -236,6 +260,8 @@ class FaultsTest(unittest.TestCase):
                 lambda: bus.read(0x100),
                 lambda: bus.read(-1),
                 lambda: with_hub(bus).cut(65536),
+                lambda: bus.set_mwl(0),
+                lambda: bus.set_mrl(17, 0x09),
                 lambda: bus.policy("some"),  # type: ignore[arg-type]
             ):
                 self.assertRaises(ValueError, wrong)

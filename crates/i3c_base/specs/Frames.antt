@@ -1,8 +1,9 @@
 -- The frames' own parts: enabling, reset, list, handover, private transfers, SETDASA, SETNEWDA and the codes GET.., with the
 -- bits that each sends.
-use Rattle.std.specs.Prelude.{◌≡◌, ◌≢◌, ℕ, ◌+◌, ◌*◌, ◌/◌, ◌%◌, ◌^◌, ◌<◌, Bool, true, false, not, ◌&&◌, ◌||◌, ◌==◌, ◌⊎◌, List, [], ◌∷◌, ◌++◌, All, length, drop, slice_index, slice_set, count_by, Option, Some, None, if◌then◌else◌, is_none, is_some, option_map}
+use Rattle.std.specs.Prelude.{◌≡◌, ◌≢◌, ℕ, ◌+◌, ◌*◌, ◌/◌, ◌%◌, ◌^◌, ◌<◌, Bool, true, false, not, ◌&&◌, ◌||◌, ◌==◌, ◌⊎◌, List, [], ◌∷◌, ◌++◌, All, length, drop, slice_index, slice_set, count_by, Option, Some, None, if◌then◌else◌, is_none, is_some, option_map, suc, min}
 use Rattle.i3c_base.specs.declared.answers.Answer.{Answer}
 use Rattle.i3c_base.specs.declared.datum.Datum.{Datum}
+use Rattle.i3c_base.specs.declared.datum.Direction.{Direction}
 use Rattle.i3c_base.specs.declared.device.LegacyTarget.{LegacyTarget}
 use Rattle.i3c_base.specs.declared.device.TheConstants.{REGISTERS}
 use Rattle.i3c_base.specs.State.{Device, Entry, State, IsPresent, IsTargetAt, change, declared_at, device_at, each, entry_at, entry_in, has_address, in_slot, is_the, kept_entry_of, known_in, legacy_target_at, released, taken_over, unkept}
@@ -71,6 +72,28 @@ abbrev pub kinds_bits : Option ℕ → Answer → ℕ
 kinds_bits None answer = 18
 kinds_bits (Some a) (Answer.NoAnswer b) = 18
 kinds_bits (Some a) _ = 27
+
+-- a device with this maximum length
+abbrev pub limited : Direction → ℕ → Device → Device
+limited Direction.Write most d = record d { most_written = most }
+limited Direction.Read most d = record d { most_read = most }
+
+-- SETMWL and SETMRL: whom the command reaches has this maximum length
+abbrev pub with_length : Option ℕ → Direction → ℕ → State → State
+with_length to way most st = each (λ s d. if reaches st to s d then limited way most d else d) st
+
+-- the answers of SETMWL and SETMRL, and what each leaves
+abbrev pub SetsLength : Option ℕ → Direction → ℕ → Answer → Lost → State → State → Type 0
+SetsLength None way most answer lost mid done = (answer ≡ Answer.Done) × (done ≡ with_length None way most mid)
+SetsLength (Some a) way most answer lost mid done =
+    ((answer ≡ Answer.Done) × AnyAt mid a × (done ≡ with_length (Some a) way most mid))
+    ⊎ ((answer ≡ Answer.NoAnswer a) × AllLostAt mid a lost × (done ≡ mid))
+
+-- the bits of SETMWL and SETMRL: three words, or a word, a header and after its ACK two words
+abbrev pub length_bits : Option ℕ → Answer → ℕ
+length_bits None answer = 27
+length_bits (Some a) (Answer.NoAnswer b) = 18
+length_bits (Some a) _ = 36
 
 -- slot s holds device d, which has the static address f and no dynamic one, and isn't the active controller
 abbrev pub IsUnaddressedAt : State → ℕ → ℕ → Device → Type 0
@@ -178,17 +201,35 @@ KeepsRole a lost mid done = ((s : ℕ) → IsWillingAt mid a s → lost s ≡ tr
 abbrev pub IsRefusedBits : State → ℕ → ℕ → Type 0
 IsRefusedBits st a bits = (bits ≡ 18) ⊎ ((bits ≡ 27) × ((s : ℕ) × IsWillingAt st a s))
 
+-- the maximum length of a device's transfers
+abbrev pub length_of : Direction → Device → ℕ
+length_of Direction.Write d = d.most_written
+length_of Direction.Read d = d.most_read
+
+-- the least maximum length in these places, the first of which is slot s, among the devices at an address but the active
+-- controller; no more than there are registers
+abbrev pub least_length_from : ℕ → Direction → ℕ → ℕ → List (Option Device) → ℕ
+least_length_from active way a s [] = REGISTERS
+least_length_from active way a s (None ∷ places) = least_length_from active way a (suc s) places
+least_length_from active way a s (Some d ∷ places) =
+    if not (s == active) && has_address a d then min (length_of way d) (least_length_from active way a (suc s) places) else least_length_from active way a (suc s) places
+
+-- how many bytes a transfer with an address may have: a legacy target's registers, or the least maximum length of the devices there
+abbrev pub transfer_length : State → Direction → ℕ → ℕ
+transfer_length st way a = if is_some (legacy_target_at st a) then REGISTERS else least_length_from st.active way a 0 st.devices
+
 -- slot s has the address, and v in register k
 abbrev pub DrivesRegister : State → ℕ → ℕ → ℕ → ℕ → Type 0
 DrivesRegister st a k s v = (d : Device) × IsTargetAt st a s d × (v ≡ slice_index d.registers k)
 
--- what a read of the address gives: a legacy target's registers; of several devices the AND, any bytes where some are lost
+-- what a read of the address gives: a legacy target's registers; of devices the first ones, as many as each may give: of
+-- several the AND, any bytes where some are lost
 abbrev pub IsReadOf : State → ℕ → Lost → List ℕ → Type 0
 IsReadOf st a lost bytes =
     ((target : LegacyTarget) × (legacy_target_at st a ≡ Some target) × (bytes ≡ target.registers))
-    ⊎ ((legacy_target_at st a ≡ None) × SomeLeftAt st a lost × (length bytes ≡ 16) × All (λ byte. byte < 256) bytes
+    ⊎ ((legacy_target_at st a ≡ None) × SomeLeftAt st a lost × (length bytes ≡ transfer_length st Direction.Read a) × All (λ byte. byte < 256) bytes
     × (((s : ℕ) (d : Device) → IsTargetAt st a s d → lost s ≡ false)
-    → (k : ℕ) → k < 16 → IsAnd (slice_index bytes k) (DrivesRegister st a k)))
+    → (k : ℕ) → k < length bytes → IsAnd (slice_index bytes k) (DrivesRegister st a k)))
 
 -- nobody answers, or the answer breaks off: no legacy target is there, and each device is lost
 abbrev pub NobodyLeftAt : State → ℕ → Lost → Type 0
@@ -201,10 +242,10 @@ Reads a (Answer.NoAnswer b) lost mid done = (b ≡ a) × NobodyLeftAt mid a lost
 Reads a Answer.NoEnd lost mid done = NobodyLeftAt mid a lost × AnyAt mid a × (done ≡ mid)
 Reads a Answer.Done lost mid done = ⊥
 
--- the bits of a read: a header, and after its ACK sixteen words
-abbrev pub read_bits : Answer → ℕ
-read_bits (Answer.NoAnswer b) = 9
-read_bits _ = 153
+-- the bits of a read of so many bytes: a header, and after its ACK a word for each
+abbrev pub read_bits : ℕ → Answer → ℕ
+read_bits count (Answer.NoAnswer b) = 9
+read_bits count _ = 9 + 9 * count
 
 -- registers whose first ones are replaced
 abbrev pub overwritten : List ℕ → List ℕ → List ℕ
@@ -248,8 +289,8 @@ told_bytes Datum.Pid d = pid_bytes d.identity.pid
 told_bytes Datum.Bcr d = d.identity.bcr.0 ∷ []
 told_bytes Datum.Dcr d = d.identity.dcr.0 ∷ []
 told_bytes Datum.Status d = 0 ∷ pending d ∷ []
-told_bytes Datum.WriteLength d = 0 ∷ REGISTERS ∷ []
-told_bytes Datum.ReadLength d = 0 ∷ REGISTERS ∷ 1 ∷ []
+told_bytes Datum.WriteLength d = 0 ∷ d.most_written ∷ []
+told_bytes Datum.ReadLength d = 0 ∷ d.most_read ∷ 1 ∷ []
 told_bytes Datum.Speed d = 0 ∷ 0 ∷ []
 told_bytes Datum.Capabilities d = 0 ∷ 1 ∷ []
 

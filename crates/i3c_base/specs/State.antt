@@ -27,6 +27,8 @@ pub record Device : Type 0 where
   pub role_wish : Bool
   pub hearing : Bool  -- it hears the open session
   pub registers : List ℕ
+  pub most_written : ℕ  -- how many bytes a private write to it may have
+  pub most_read : ℕ  -- how many a private read of it has
 
 -- what the table keeps of an address: the BCR and DCR of who got it, the identity that it is kept for, and the static
 -- address that is declared for who got it
@@ -254,6 +256,8 @@ attached fixed setup = record {
   role_wish = false;
   hearing = false;
   registers = cleared_registers;
+  most_written = REGISTERS;
+  most_read = REGISTERS;
 }
 
 -- the table's entry for an identity with these declarations, which isn't kept

@@ -20,3 +20,12 @@ pub enum Datum {
     /// Its optional capabilities, two bytes (GETCAPS, I3C Basic 5.1.9.3.19).
     Capabilities,
 }
+
+/// Which transfers a maximum length is for.
+#[derive(Clone, Copy, Debug, PartialEq, Eq)]
+pub enum Direction {
+    /// Private writes (SETMWL, I3C Basic 5.1.9.3.5).
+    Write,
+    /// Private reads (SETMRL, I3C Basic 5.1.9.3.6).
+    Read,
+}

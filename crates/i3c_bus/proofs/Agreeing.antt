@@ -152,6 +152,9 @@ step_asked (Command.SetNew a to) old p q cuts reply new asks h =
 step_asked (Command.Get what a) old p q cuts reply new asks h =
     acts_as old (Event.Get what a (given_by reply) cuts) (Event.Get what a p cuts) reply new refl (λ s. s)
     (λ acts. (acts.0, acts.1, frame_as old (given_by reply) p cuts acts.0.served _ _ new (asked_agree old p q reply (Reply.Framed acts.0) (given_for acts.0.served) acts.1 refl (λ d. d) asks) acts.2)) h
+step_asked (Command.SetLength way most to) old p q cuts reply new asks h =
+    acts_as old (Event.SetLength way most to (given_by reply) cuts) (Event.SetLength way most to p cuts) reply new refl (λ s. s)
+    (λ acts. (acts.0, acts.1, frame_as old (given_by reply) p cuts acts.0.served _ _ new (asked_agree old p q reply (Reply.Framed acts.0) (given_for acts.0.served) acts.1 refl (λ d. d) asks) acts.2)) h
 
 -- its wire doesn't depend on the policy
 wire_asked : (command : Command) (f g : Fixed) (cuts : CutList) (old : State) (reply : Reply) (new : State) (Told : (List Symbol → Type 0) → Type 0)
@@ -166,6 +169,7 @@ wire_asked (Command.WriteTo a bytes) f g cuts old reply new Told h = h
 wire_asked (Command.SetStatic fixed to) f g cuts old reply new Told h = h
 wire_asked (Command.SetNew a to) f g cuts old reply new Told h = h
 wire_asked (Command.Get what a) f g cuts old reply new Told h = h
+wire_asked (Command.SetLength way most to) f g cuts old reply new Told h = h
 
 -- a command carried out under what its policy gave is carried out under the policy
 pub carried_asked : (command : Command) (old new : Held) (p q : Fixed) (cuts : CutList) (reply : Reply) (hand : Hand) (Told : (List Symbol → Type 0) → Type 0) → Asks fixed_gives p q old.state reply

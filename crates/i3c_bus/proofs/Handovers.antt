@@ -1,5 +1,5 @@
 -- A role that is offered, and handed over or not.
-use Rattle.std.proofs.Common.{◌≡◌, ℕ, ◌+◌, true, false, ◌∷◌, None, Some, arith, ap, ◌∙◌, refl, sym, subst, ◌↔◌, inl, inr}
+use Rattle.std.proofs.Common.{◌≡◌, ℕ, ◌+◌, true, false, ◌∷◌, None, arith, ap, ◌∙◌, refl, sym, subst, ◌↔◌, inl, inr}
 use Rattle.i3c_base.specs.declared.answers.Answer.{Answer}
 use Rattle.i3c_base.specs.declared.requests.Served.{Served}
 use Rattle.i3c_base.specs.Cutting.{CutList, Lost, lost_by}

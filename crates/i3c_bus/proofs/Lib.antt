@@ -14,6 +14,7 @@ pub mod ToAll
 pub mod Listing
 pub mod Resetting
 pub mod Handovers
+mod Lengths
 pub mod Transfers
 mod Asked
 pub mod RoundsMore

@@ -3,9 +3,10 @@ use Rattle.std.proofs.Common.{◌≡◌, ℕ, Bool, true, false, List, Option, S
 use Rattle.std.proofs.lemmas.Bool.{cond-false, eqb-false, ne_eqb}
 use Rattle.std.proofs.lemmas.Option.{none-some}
 use Rattle.i3c_base.specs.declared.answers.Answer.{Answer}
+use Rattle.i3c_base.specs.declared.datum.Direction.{Direction}
 use Rattle.i3c_base.specs.Covered.{lvrs}
 use Rattle.i3c_base.specs.Cutting.{Lost}
-use Rattle.i3c_base.specs.Frames.{Rekinds, active_has, reaches, rekinded}
+use Rattle.i3c_base.specs.Frames.{Rekinds, active_has, limited, reaches, rekinded, with_length}
 use Rattle.i3c_base.specs.Local.{drop_off}
 use Rattle.i3c_base.specs.Numbers.{KindSet}
 use Rattle.i3c_base.specs.Round.{ended, hears, opened, unhearing}
@@ -15,6 +16,7 @@ use Rattle.i3c_base.proofs.Lookups.{change_at, drop_off_at, each_at, emptied_at,
 use Rattle.i3c_deftgts.specs.declared.entries.Entry.{Entry}
 use Rattle.i3c_deftgts.specs.Entries.{entries_of}
 use Rattle.i3c_step.specs.Sound.{HasActive}
+use Rattle.i3c_step.proofs.Transfers.{limited_by}
 use Rattle.i3c_bus.specs.Whole.{IsCopyOf}
 
 -- the table says the same, and the active controller has the address that it had
@@ -121,3 +123,8 @@ keeps_rekinds (Some a) f answer lost mid done h = elim h [
   | inl e ↦ subst (KeepsList mid) (sym e.2) (keeps_rekinded (Some a) f mid)
   | inr e ↦ subst (KeepsList mid) (sym e.2) (keeps_all mid)
 ]
+
+pub keeps_with_length : (to : Option ℕ) (way : Direction) (most : ℕ) (st : State) → KeepsList st (with_length to way most st)
+keeps_with_length to way most st =
+    keeps_each (λ s d. if reaches st to s d then limited way most d else d) st
+    (λ s d. either_address (reaches st to s d) (limited way most d) d (limited_by (λ (x : Device). x.address ≡ d.address) way most d refl refl))

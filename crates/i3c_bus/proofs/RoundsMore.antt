@@ -1,12 +1,12 @@
 -- Rounds of an assignment, one after another.
-use Rattle.std.proofs.Common.{◌≡◌, ◌≢◌, ◌⊎◌, ◌∙◌, ℕ, ◌+◌, ◌<◌, ◌≤◌, Bool, true, false, not, List, [], ◌∷◌, ◌++◌, length, map, None, Option, Result, Ok, MatchOption, ap, append_assoc, arith, inl, inr, refl, subst, sym}
+use Rattle.std.proofs.Common.{◌≡◌, ◌≢◌, ◌⊎◌, ◌∙◌, ℕ, ◌+◌, ◌<◌, ◌≤◌, Bool, true, false, not, List, [], ◌∷◌, ◌++◌, length, map, Option, Result, Ok, MatchOption, ap, append_assoc, arith, inl, inr, refl, subst, sym}
 use Rattle.std.specs.Option.{is_some}
 use Rattle.std.proofs.lemmas.List.{append-nil, map_push}
 use Rattle.i3c_base.specs.declared.answers.RoundReply.{RoundReply}
 use Rattle.i3c_base.specs.declared.identity.Identity.{Identity}
 use Rattle.i3c_base.specs.declared.range.TheConstants.{SLOTS}
 use Rattle.i3c_base.specs.declared.requests.Served.{Served}
-use Rattle.i3c_base.specs.Cutting.{CutList, cut_of, no_cuts}
+use Rattle.i3c_base.specs.Cutting.{CutList, no_cuts}
 use Rattle.i3c_base.specs.Round.{Rounds}
 use Rattle.i3c_base.specs.State.{Device, State}
 use Rattle.i3c_base.proofs.CutLaws.{none_uncut}

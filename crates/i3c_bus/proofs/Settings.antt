@@ -1,29 +1,25 @@
 -- SETDASA and SETNEWDA as frames: who answers is seen before serving, and what they leave is a whole bus.
 use Rattle.std.proofs.Common.{◌≡◌, ℕ, ◌+◌, ◌++◌, ◌&&◌, ◌||◌, Bool, true, false, not, List, [], ◌∷◌, Option, Some, None, Result, Ok, Err, IsOk, MatchResult, is_none, is_some, option_map, if◌then◌else◌, ◌↔◌, inl, inr, sym, ap, ◌∙◌, subst, refl, get_or}
-use Rattle.std.proofs.lemmas.Bool.{both_ways, false≢true}
+use Rattle.std.proofs.lemmas.Bool.{false≢true}
 use Rattle.i3c_base.specs.declared.answers.Answer.{Answer}
 use Rattle.i3c_base.specs.declared.identity.Identity.{Identity}
 use Rattle.i3c_base.specs.declared.requests.Fixed.{Fixed}
 use Rattle.i3c_base.specs.declared.requests.Request.TheVariants.{Join, Role, Interrupt}
 use Rattle.i3c_base.specs.declared.requests.Served.{Served}
 use Rattle.i3c_base.specs.declared.requests.Served.TheVariants.{Quiet, Recorded, Refused, Torn, Joining, WantsRole}
-use Rattle.i3c_base.specs.Covered.{Table}
 use Rattle.i3c_base.specs.Cutting.{CutList, Lost, lost_by}
-use Rattle.i3c_base.specs.Frames.{AllLostAt, AllUnaddressedLostAt, AnyAt, AnyUnaddressedAt, SetsNew, SetsStatic, SomeLeftAt, SomeUnaddressedLeftAt, active_has, kinds_bits, moved, settled, with_new, with_static}
+use Rattle.i3c_base.specs.Frames.{AllLostAt, AllUnaddressedLostAt, AnyAt, AnyUnaddressedAt, SetsNew, SetsStatic, SomeUnaddressedLeftAt, active_has, kinds_bits, with_new, with_static}
 use Rattle.i3c_base.specs.Serve.{Serves, drives, without_front, without_join, without_role}
 use Rattle.i3c_base.specs.State.{Device, Entry, State, declared_at, declared_in, each, entry_at, entry_in, is_the, is_usable, known_in}
 use Rattle.i3c_base.proofs.Lookups.{each_at, each_from}
-use Rattle.i3c_deftgts.specs.declared.entries.Entry.{Entry as Listed}
 use Rattle.i3c_events.specs.Hearing.{answer_of}
 use Rattle.i3c_events.specs.declared.hearing.NoAnswer.{NoAnswer}
 use Rattle.i3c_frame.specs.declared.symbols.Symbol.{Symbol}
 use Rattle.i3c_step.specs.declared.replies.Refusal.{Refusal}
 use Rattle.i3c_step.specs.Step.{cuts_active, first_refusal, frame_checks, is_kept_for, is_no_target, is_pickable, new_checks, static_checks}
 use Rattle.i3c_step.proofs.Addresses.{IsSettled}
-use Rattle.i3c_step.proofs.Soundness.{sound_with_new, sound_with_static}
 use Rattle.i3c_step.proofs.Transfers.{news_keep, statics_keep}
-use Rattle.i3c_bus.specs.Whole.{IsWhole}
-use Rattle.i3c_bus.specs.Wire.{IsAnswered, IsNewPart, IsStaticPart}
+use Rattle.i3c_bus.specs.Wire.{IsNewPart, IsStaticPart}
 use Rattle.i3c_bus.proofs.Heard.{answered_before}
 use Rattle.i3c_bus.proofs.Transfers.{Leaves}
 

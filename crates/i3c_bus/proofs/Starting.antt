@@ -1,7 +1,6 @@
 -- The start: an address is free for the main controller, and what is made is the start's state.
-use Rattle.std.proofs.Common.{◌≡◌, ℕ, zero, suc, ◌+◌, ◌≤◌, ◌<◌, true, false, List, [], ◌∷◌, get_or, set, map, cond, count_by, Option, Some, None, option_map, is_some, refl, sym, ap, ◌∙◌, arith, replicate}
+use Rattle.std.proofs.Common.{◌≡◌, ℕ, zero, suc, ◌+◌, ◌≤◌, ◌<◌, false, List, [], ◌∷◌, get_or, set, map, cond, count_by, Option, Some, None, option_map, is_some, refl, sym, ap, ◌∙◌, arith, replicate}
 use Rattle.std.proofs.lemmas.List.Sums.{sum_by-cons}
-use Rattle.std.proofs.lemmas.Bool.{false≢true}
 use Rattle.std.proofs.lemmas.Option.{none-some}
 use Rattle.i3c_base.specs.declared.range.TheConstants.{SLOTS}
 use Rattle.i3c_base.specs.declared.device.LegacyTarget.{LegacyTarget}

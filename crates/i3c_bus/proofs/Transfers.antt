@@ -1,8 +1,10 @@
 -- Private transfers, as steps and as what they tell.
-use Rattle.std.proofs.Common.{◌≡◌, ℕ, zero, suc, ◌+◌, ◌-◌, ◌*◌, Bool, true, false, List, [], ◌∷◌, ◌++◌, map, set, get_or, Option, Some, None, option_map, if◌then◌else◌, inl, inr, ◌↔◌, arith, ap, refl, sym, subst, ◌∙◌}
+use Rattle.std.proofs.Common.{◌≡◌, ℕ, zero, suc, ◌+◌, ◌-◌, ◌*◌, ◌≤◌, nat_lt, Bool, true, false, length, List, [], ◌∷◌, ◌++◌, map, set, get_or, Option, Some, None, option_map, if◌then◌else◌, inl, inr, ◌↔◌, arith, ap, refl, sym, subst, ◌∙◌}
+use Rattle.std.proofs.lemmas.Bool.Decides.{nat_tests}
 use Rattle.std.specs.Int.{bit_at}
 use Rattle.std.specs.Prelude.{slice_index, slice_index_or}
 use Rattle.i3c_base.specs.declared.answers.Answer.{Answer}
+use Rattle.i3c_base.specs.declared.datum.Direction.{Direction}
 use Rattle.i3c_base.specs.declared.device.LegacyTarget.{LegacyTarget}
 use Rattle.i3c_base.specs.declared.identity.Lvr.{Lvr}
 use Rattle.i3c_base.specs.declared.requests.Fixed.{Fixed}
@@ -11,7 +13,7 @@ use Rattle.i3c_base.specs.declared.requests.Served.{Served}
 use Rattle.i3c_base.specs.declared.requests.Served.TheVariants.{Quiet, Recorded, Refused, Torn, Joining, WantsRole}
 use Rattle.i3c_base.specs.Covered.{Table, lvrs}
 use Rattle.i3c_base.specs.Cutting.{CutList, Lost, lost_by}
-use Rattle.i3c_base.specs.Frames.{Reads, Writes, legacy_written, overwritten, reaches, written}
+use Rattle.i3c_base.specs.Frames.{Reads, SetsLength, Writes, legacy_written, length_of, overwritten, reaches, transfer_length, written}
 use Rattle.i3c_base.specs.Serve.{Frame, Serves, drives, given_for, header_bits, without_front, without_join, without_role}
 use Rattle.i3c_base.specs.State.{Device, Held, State, device_at, each}
 use Rattle.i3c_base.proofs.Lookups.{each_at, each_from}
@@ -21,7 +23,7 @@ use Rattle.i3c_frame.specs.Taps.{Tells}
 use Rattle.i3c_device.specs.Reading.{registers_of}
 use Rattle.i3c_xfer.specs.declared.outcome.Read.{Read}
 use Rattle.i3c_xfer.specs.declared.outcome.Write.{Write}
-use Rattle.i3c_xfer.specs.Transfers.{AnyAnswers, IsReadAs, IsWrittenBy, PullsLow}
+use Rattle.i3c_xfer.specs.Transfers.{AnyAnswers, AreDriven, IsReadAs, IsWrittenBy, PullsLow}
 use Rattle.i3c_step.specs.declared.events.Event.{Event}
 use Rattle.i3c_step.specs.declared.replies.Refusal.{Refusal}
 use Rattle.i3c_step.specs.declared.replies.Reply.{Reply}
@@ -30,7 +32,7 @@ use Rattle.i3c_step.specs.Step.{Acts, checks, cuts_active, first_refusal, frame_
 use Rattle.i3c_step.proofs.Acting.{acting}
 use Rattle.i3c_step.proofs.Slots.{Stands}
 use Rattle.i3c_step.proofs.Soundness.{sound_written}
-use Rattle.i3c_step.proofs.Transfers.{reads_keep, writes_keep}
+use Rattle.i3c_step.proofs.Transfers.{lengths_keep, reads_keep, writes_keep}
 use Rattle.i3c_bus.specs.declared.tokens.Hand.{Hand}
 use Rattle.i3c_bus.specs.Beginning.{Begins, IsWay, LeavesBy}
 use Rattle.i3c_bus.specs.Calls.{Carries}
@@ -38,42 +40,52 @@ use Rattle.i3c_bus.specs.Hands.{HandFits}
 use Rattle.i3c_bus.specs.Whole.{IsWhole}
 use Rattle.i3c_bus.specs.Wire.{IsFrameWire, IsReadPart, IsWire, IsWritePart}
 use Rattle.i3c_bus.proofs.Framing.{fits_left, frame_by, tells_frame}
+use Rattle.i3c_bus.proofs.Lengths.{length_each, same_length}
 use Rattle.i3c_bus.proofs.Owning.{copied_still, either_address, keeps_each}
 
--- the one state has the other's legacy targets, and devices with the same addresses and registers
+-- the one state has the other's legacy targets, and devices with the same addresses, registers and lengths
 pub record Alike (old new : State) : Type 0 where
   pub legacy : new.legacy ≡ old.legacy
   pub active : new.active ≡ old.active
   pub before : (s : ℕ) (d : Device) → device_at new s ≡ Some d → (x : Device) × (device_at old s ≡ Some x) × (x.address ≡ d.address) × (x.registers ≡ d.registers)
   pub after : (s : ℕ) (d : Device) → device_at old s ≡ Some d → (x : Device) × (device_at new s ≡ Some x) × (x.address ≡ d.address) × (x.registers ≡ d.registers)
+  pub length : (way : Direction) (a : ℕ) → transfer_length new way a ≡ transfer_length old way a
 
-alike_each : (f : ℕ → Device → Device) (st : State) → ((s : ℕ) (d : Device) → ((f s d).address ≡ d.address) × ((f s d).registers ≡ d.registers)) → Alike st (each f st)
+alike_itself : (st : State) → Alike st st
+alike_itself st = record { legacy = refl; active = refl; before = λ s d e. (d, e, refl, refl); after = λ s d e. (d, e, refl, refl); length = λ way a. refl }
+
+-- a device has another's address, registers and lengths
+abbrev IsLike : Device → Device → Type 0
+IsLike e d = (e.address ≡ d.address) × (e.registers ≡ d.registers) × ((way : Direction) → length_of way e ≡ length_of way d)
+
+alike_each : (f : ℕ → Device → Device) (st : State) → ((s : ℕ) (d : Device) → IsLike (f s d) d) → Alike st (each f st)
 alike_each f st keeps = record {
   legacy = refl;
   active = refl;
   before = λ s d there. let x = each_from f st s d there in
       (x.0, x.1, sym (keeps s x.0).0 ∙ ap (λ (e : Device). e.address) x.2, sym (keeps s x.0).1 ∙ ap (λ (e : Device). e.registers) x.2);
   after = λ s d there. (f s d, each_at f st s ∙ ap (option_map (f s)) there, (keeps s d).0, (keeps s d).1);
+  length = λ way a. length_each f st way a (λ s d. ((keeps s d).0, (keeps s d).2 way));
 }
 
-keeps_if : (b : Bool) (d e : Device) → e.address ≡ d.address → e.registers ≡ d.registers → ((if b then e else d).address ≡ d.address) × ((if b then e else d).registers ≡ d.registers)
-keeps_if true d e h k = (h, k)
-keeps_if false d e h k = (refl, refl)
+keeps_if : (b : Bool) (d e : Device) → e.address ≡ d.address → e.registers ≡ d.registers → e.most_written ≡ d.most_written → e.most_read ≡ d.most_read → IsLike (if b then e else d) d
+keeps_if true d e h k w r = (h, k, λ way. same_length way e d w r)
+keeps_if false d e h k w r = (refl, refl, λ way. refl)
 
 -- serving leaves it so
 pub alike_serves : (st : State) (policy : Fixed) (lost : Lost) (served : Served) (new : State) → Serves st policy lost served new → Alike st new
-alike_serves st policy lost Quiet new h = subst (Alike st) (sym h.1) (record { legacy = refl; active = refl; before = λ s d e. (d, e, refl, refl); after = λ s d e. (d, e, refl, refl) })
-alike_serves st policy lost Refused new h = subst (Alike st) (sym h.1) (record { legacy = refl; active = refl; before = λ s d e. (d, e, refl, refl); after = λ s d e. (d, e, refl, refl) })
+alike_serves st policy lost Quiet new h = subst (Alike st) (sym h.1) (alike_itself st)
+alike_serves st policy lost Refused new h = subst (Alike st) (sym h.1) (alike_itself st)
 alike_serves st policy lost Joining new h =
-    subst (Alike st) (sym h.2) (alike_each (λ s d. if drives st Join s then without_join d else d) st (λ s d. keeps_if (drives st Join s) d (without_join d) refl refl))
+    subst (Alike st) (sym h.2) (alike_each (λ s d. if drives st Join s then without_join d else d) st (λ s d. keeps_if (drives st Join s) d (without_join d) refl refl refl refl))
 alike_serves st policy lost (WantsRole a) new h =
-    subst (Alike st) (sym h.2) (alike_each (λ s d. if drives st (Role a) s then without_role d else d) st (λ s d. keeps_if (drives st (Role a) s) d (without_role d) refl refl))
+    subst (Alike st) (sym h.2) (alike_each (λ s d. if drives st (Role a) s then without_role d else d) st (λ s d. keeps_if (drives st (Role a) s) d (without_role d) refl refl refl refl))
 alike_serves st policy lost (Recorded place) new h =
     let f : ℕ → Device → Device = λ s d. if drives st (Interrupt h.at) s then without_front d else d in
-    let alike = alike_each f st (λ s d. keeps_if (drives st (Interrupt h.at) s) d (without_front d) refl refl) in
-    subst (Alike st) (sym h.left) (record { legacy = refl; active = refl; before = alike.before; after = alike.after })
+    let alike = alike_each f st (λ s d. keeps_if (drives st (Interrupt h.at) s) d (without_front d) refl refl refl refl) in
+    subst (Alike st) (sym h.left) (record { legacy = refl; active = refl; before = alike.before; after = alike.after; length = alike.length })
 alike_serves st policy lost Torn new h =
-    subst (Alike st) (sym h.left) (alike_each (λ s d. if drives st (Interrupt h.at) s then without_front d else d) st (λ s d. keeps_if (drives st (Interrupt h.at) s) d (without_front d) refl refl))
+    subst (Alike st) (sym h.left) (alike_each (λ s d. if drives st (Interrupt h.at) s then without_front d else d) st (λ s d. keeps_if (drives st (Interrupt h.at) s) d (without_front d) refl refl refl refl))
 
 -- so the same devices pull the lines low, and the same answer
 pulls_alike : (old new : State) (a : ℕ) (lost : Lost) (k bit : ℕ) → Alike old new → PullsLow registers_of new a lost k bit ↔ PullsLow registers_of old a lost k bit
@@ -102,21 +114,18 @@ answers_alike old new a lost alike = (
   ],
 )
 
+driven_alike : (old new : State) (a : ℕ) (cuts : CutList) (first : ℕ) (bytes : List ℕ) → Alike old new → AreDriven new a cuts first bytes → AreDriven old a cuts first bytes
+driven_alike old new a cuts first bytes alike h = (
+  λ k j l m. let same = pulls_alike old new a (lost_by cuts (first + 9 * k + j)) k (7 - j) alike in (λ e. same.0 ((h.0 k j l m).0 e), λ p. (h.0 k j l m).1 (same.1 p)),
+  h.1 ∙ alike.length Direction.Read a,
+  h.2,
+)
+
 read_alike : (old new : State) (a : ℕ) (cuts : CutList) (first : ℕ) (read : Read) → Alike old new → IsReadAs new a cuts first read → IsReadAs old a cuts first read
 read_alike old new a cuts first Read.Nobody alike h = h
 read_alike old new a cuts first (Read.Legacy bytes) alike h = (h.0, legacy_alike old new a (Some h.0) alike h.1, h.2)
-read_alike old new a cuts first (Read.Ended bytes) alike h = (
-  legacy_alike old new a None alike h.0,
-  λ k j l m. let same = pulls_alike old new a (lost_by cuts (first + 9 * k + j)) k (7 - j) alike in (λ e. same.0 ((h.1 k j l m).0 e), λ p. (h.1 k j l m).1 (same.1 p)),
-  h.2,
-  h.3,
-)
-read_alike old new a cuts first (Read.Torn bytes) alike h = (
-  legacy_alike old new a None alike h.0,
-  λ k j l m. let same = pulls_alike old new a (lost_by cuts (first + 9 * k + j)) k (7 - j) alike in (λ e. same.0 ((h.1 k j l m).0 e), λ p. (h.1 k j l m).1 (same.1 p)),
-  h.2,
-  h.3,
-)
+read_alike old new a cuts first (Read.Ended bytes) alike h = (legacy_alike old new a None alike h.0, driven_alike old new a cuts first bytes alike h.1)
+read_alike old new a cuts first (Read.Torn bytes) alike h = (legacy_alike old new a None alike h.0, driven_alike old new a cuts first bytes alike h.1)
 
 written_alike : (old new : State) (a : ℕ) (write : Write) → Alike old new → IsWrittenBy new a write → IsWrittenBy old a write
 written_alike old new a Write.Nobody alike h = legacy_alike old new a None alike h
@@ -135,6 +144,13 @@ write_before old mid cuts a bytes answer begun wire alike h =
     let same = answers_alike old mid a (lost_by cuts (begun + 9)) alike in
     (h.0, h.1, (λ e. same.0 (h.2.0 e), λ l. h.2.1 (same.1 l)), written_alike old mid a h.0 alike h.3, h.4)
 
+not_less : (m n : ℕ) → n ≤ m → nat_lt m n ≡ false
+not_less m n h = grind (arith, nat_tests)
+
+-- no more bytes than a transfer may have
+pub not_too_long : (st : State) (a : ℕ) (bytes : List ℕ) (most : ℕ) → most ≡ transfer_length st Direction.Write a → length bytes ≤ most → is_too_long st a bytes ≡ false
+not_too_long st a bytes most is few = not_less (transfer_length st Direction.Write a) (length bytes) (subst (λ (n : ℕ). length bytes ≤ n) is few)
+
 -- a transfer that isn't refused
 pub read_free : (st : State) (cuts : CutList) (a : ℕ) → st.in_session ≡ false → cuts_active st cuts ≡ false → is_no_partner st a ≡ false → first_refusal (frame_checks st cuts ++ read_checks st a) ≡ None
 read_free st cuts a closed left there =
@@ -142,11 +158,11 @@ read_free st cuts a closed left there =
     ∙ (ap (λ b. first_refusal ((b, Refusal.ActiveStays) ∷ (is_no_partner st a, Refusal.NoAnswer a) ∷ [])) left
     ∙ ap (λ b. first_refusal ((b, Refusal.NoAnswer a) ∷ [])) there)
 
-pub write_free : (st : State) (cuts : CutList) (a : ℕ) (bytes : List ℕ) → st.in_session ≡ false → cuts_active st cuts ≡ false → is_too_long bytes ≡ false → is_no_partner st a ≡ false
+pub write_free : (st : State) (cuts : CutList) (a : ℕ) (bytes : List ℕ) → st.in_session ≡ false → cuts_active st cuts ≡ false → is_too_long st a bytes ≡ false → is_no_partner st a ≡ false
     → first_refusal (frame_checks st cuts ++ write_checks st a bytes) ≡ None
 write_free st cuts a bytes closed left short there =
-    ap (λ b. first_refusal ((b, Refusal.SessionOpen) ∷ (cuts_active st cuts, Refusal.ActiveStays) ∷ (is_too_long bytes, Refusal.TooLong) ∷ (is_no_partner st a, Refusal.NoAnswer a) ∷ [])) closed
-    ∙ (ap (λ b. first_refusal ((b, Refusal.ActiveStays) ∷ (is_too_long bytes, Refusal.TooLong) ∷ (is_no_partner st a, Refusal.NoAnswer a) ∷ [])) left
+    ap (λ b. first_refusal ((b, Refusal.SessionOpen) ∷ (cuts_active st cuts, Refusal.ActiveStays) ∷ (is_too_long st a bytes, Refusal.TooLong) ∷ (is_no_partner st a, Refusal.NoAnswer a) ∷ [])) closed
+    ∙ (ap (λ b. first_refusal ((b, Refusal.ActiveStays) ∷ (is_too_long st a bytes, Refusal.TooLong) ∷ (is_no_partner st a, Refusal.NoAnswer a) ∷ [])) left
     ∙ (ap (λ b. first_refusal ((b, Refusal.TooLong) ∷ (is_no_partner st a, Refusal.NoAnswer a) ∷ [])) short
     ∙ ap (λ b. first_refusal ((b, Refusal.NoAnswer a) ∷ [])) there))
 
@@ -159,6 +175,9 @@ reads_leave a answer lost mid done h = reads_keep Leaves (λ st. (refl, (refl, r
 
 pub writes_leave : (a : ℕ) (bytes : List ℕ) (answer : Answer) (lost : Lost) (mid done : State) → Writes a bytes answer lost mid done → Leaves mid done
 writes_leave a bytes answer lost mid done h = writes_keep Leaves a bytes (λ st. (refl, (refl, refl))) (λ st. (refl, (refl, refl))) answer lost mid done h
+
+pub lengths_leave : (to : Option ℕ) (way : Direction) (most : ℕ) (answer : Answer) (lost : Lost) (mid done : State) → SetsLength to way most answer lost mid done → Leaves mid done
+lengths_leave to way most answer lost mid done h = lengths_keep Leaves to way most (λ st. (refl, (refl, refl))) (λ st. (refl, (refl, refl))) answer lost mid done h
 
 -- a frame with an own part that leaves records, active controller and session
 pub transferred : {T : Type 0} (gives : T → Symbol → T → Type 0) (tap first last : T) (old mid new : Held) (event : Event) (cuts : CutList) (served : Served) (answer : Answer) (word begun bits holder : ℕ)

@@ -3,6 +3,7 @@ use Rattle.std.specs.Prelude.{◌≡◌, ◌↔◌, ℕ, ◌+◌, Bool, true, fa
 use Rattle.i3c_base.specs.declared.answers.Answer.{Answer}
 use Rattle.i3c_base.specs.declared.answers.RoundReply.{RoundReply}
 use Rattle.i3c_base.specs.declared.datum.Datum.{Datum}
+use Rattle.i3c_base.specs.declared.datum.Direction.{Direction}
 use Rattle.i3c_base.specs.declared.kinds.Change.{Change}
 use Rattle.i3c_base.specs.declared.kinds.Kinds.{Kinds}
 use Rattle.i3c_base.specs.declared.requests.Record.{Record}
@@ -20,7 +21,7 @@ use Rattle.i3c_deftgts.specs.Layout.{Carry, list_bytes}
 use Rattle.i3c_entdaa.specs.declared.outcome.Round.{Round}
 use Rattle.i3c_entdaa.specs.Rounds.{IsAcknowledged, IsRead, reply_of}
 use Rattle.i3c_entdaa.specs.Telling.{IsRoundWire}
-use Rattle.i3c_events.specs.Telling.{IsKindsWire, IsSettingWire, IsWord}
+use Rattle.i3c_events.specs.Telling.{IsKindsWire, IsLengthWire, IsSettingWire, IsWord}
 use Rattle.i3c_handoff.specs.declared.outcome.Offer.{Offer}
 use Rattle.i3c_handoff.specs.Offers.{IsReadAs, SomeTakes, is_acknowledged, offer_bits}
 use Rattle.i3c_handoff.specs.Telling.{IsOfferWire}
@@ -35,7 +36,7 @@ use Rattle.i3c_xfer.specs.Transfers.{AnyAnswers, IsReadAs as IsDataAs, IsWritten
 use Rattle.i3c_frame.specs.declared.symbols.Symbol.{Symbol}
 use Rattle.i3c_frame.specs.declared.symbols.Symbol.TheVariants.{Start, Repeated, Stop, Header}
 use Rattle.i3c_step.specs.declared.events.Event.{Event}
-use Rattle.i3c_step.specs.declared.events.Event.TheVariants.{Enec, Disec, Reset, SendList, ReadFrom, WriteTo, SetStatic, SetNew, Get, HandOver}
+use Rattle.i3c_step.specs.declared.events.Event.TheVariants.{Enec, Disec, Reset, SendList, ReadFrom, WriteTo, SetStatic, SetNew, Get, SetLength, HandOver}
 use Rattle.i3c_step.specs.declared.replies.Reply.{Reply}
 use Rattle.i3c_step.specs.Step.{cuts_in}
 use Rattle.i3c_bus.specs.Whole.{the_table}
@@ -99,6 +100,10 @@ IsStaticPart old cuts f to answer begun wire = IsSettingWire 0x87 f to answer wi
 -- SETNEWDA, the code 88, after so many bits
 abbrev pub IsNewPart : State → CutList → ℕ → ℕ → Answer → ℕ → List Symbol → Type 0
 IsNewPart old cuts a to answer begun wire = IsSettingWire 0x88 a to answer wire × IsAnswered old cuts (Some a) begun answer
+
+-- SETMWL or SETMRL after so many bits
+abbrev pub IsLengthPart : State → CutList → Direction → Option ℕ → ℕ → Answer → ℕ → List Symbol → Type 0
+IsLengthPart old cuts way to most answer begun wire = IsLengthWire way to most answer wire × IsAnswered old cuts to begun answer
 
 -- RSTDAA: the code 06
 abbrev pub IsResetWire : List Symbol → Type 0
@@ -184,6 +189,7 @@ IsOwnWire old cuts (WriteTo a bytes policy others) answer new begun wire = IsWri
 IsOwnWire old cuts (SetStatic f to policy others) answer new begun wire = IsStaticPart old cuts f to answer begun wire
 IsOwnWire old cuts (SetNew a to policy others) answer new begun wire = IsNewPart old cuts a to answer begun wire
 IsOwnWire old cuts (Get what a policy others) answer new begun wire = IsGetPart old cuts what a answer new begun wire
+IsOwnWire old cuts (SetLength way most to policy others) answer new begun wire = IsLengthPart old cuts way to most answer begun wire
 IsOwnWire old cuts (HandOver to others) answer new begun wire = IsDeclinedPart old cuts to new begun wire
 IsOwnWire old cuts _ answer new begun wire = ⊥
 

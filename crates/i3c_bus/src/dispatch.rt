@@ -67,6 +67,10 @@ impl Bus {
             Event::Get(what, from, policy, cuts) => {
                 self.send(hand, Command::Get(*what, *from), *policy, tap, cuts)
             }
+            Event::SetLength(way, most, to, policy, cuts) => {
+                let command = Command::SetLength(*way, *most, *to);
+                self.send(hand, command, *policy, tap, cuts)
+            }
             Event::HandOver(to, cuts) => self.step_hand(hand, *to, tap, cuts),
             Event::OpenDaa(cuts) => self.step_open(hand, tap, cuts),
             Event::Round(cuts) => self.step_round(hand, tap, cuts),

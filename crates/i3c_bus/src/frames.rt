@@ -143,6 +143,9 @@ impl Bus {
             Command::Get(what, from) => {
                 Reply::from(self.get(role, *what, *from, policy, tap, cuts))
             }
+            Command::SetLength(way, most, to) => {
+                Reply::from(self.set_length(role, *way, *most, *to, policy, tap, cuts))
+            }
         }
     }
 

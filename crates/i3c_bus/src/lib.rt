@@ -11,6 +11,7 @@ mod dispatch;
 mod frames;
 mod getting;
 mod handing;
+mod limiting;
 mod runs;
 mod sessions;
 mod setting;
@@ -22,7 +23,9 @@ mod wishes;
 
 pub use assigning::Assignment;
 pub use bus::{Bus, Records};
-pub use i3c_base::{Answer, Bytes, Datum, JoinRefusal, RaiseRefusal, Request, RoundReply, Served};
+pub use i3c_base::{
+    Answer, Bytes, Datum, Direction, JoinRefusal, Length, RaiseRefusal, Request, RoundReply, Served,
+};
 pub use i3c_device::SlotSet;
 pub use i3c_handoff::Role;
 pub use i3c_ibi::{Fixed, Policy, Record, Verdict};

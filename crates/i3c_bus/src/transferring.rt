@@ -1,15 +1,16 @@
 use crate::bus::Bus;
 use arrayvec::ArrayVec;
-use i3c_base::{Addr7, Answer, Cuts};
+use i3c_base::{Addr7, Answer, Cuts, Direction, Length};
 use i3c_frame::Tap;
 use i3c_handoff::Role;
 use i3c_ibi::Policy;
-use i3c_step::{Framed, Reply, TRANSFER, TargetFault, WRITE_KEPT, WriteFault};
-use i3c_xfer::{read, read_bits, tell_read, tell_write, write, write_bits};
+use i3c_step::{Framed, Reply, TargetFault, WRITE_KEPT, WriteFault};
+use i3c_xfer::{read, tell_read, tell_write, transfer_length, write, write_bits};
 
 impl Bus {
     ghost use Rattle.std.specs.Prelude.{◌≡◌, ◌+◌, ◌≤◌, false, length, take};
-    ghost use Rattle.i3c_base.specs.Frames.{Reads, Writes, read_bits, write_bits};
+    ghost use Rattle.i3c_base.specs.declared.datum.Direction.{Direction as DirectionValue};
+    ghost use Rattle.i3c_base.specs.Frames.{Reads, Writes, read_bits, transfer_length, write_bits};
     ghost use Rattle.i3c_frame.specs.Taps.{Tells};
     ghost use Rattle.i3c_step.specs.Giving.{given_by};
     ghost use Rattle.i3c_step.specs.Replies.{framed_reply, wrote_reply};
@@ -23,9 +24,10 @@ impl Bus {
     ghost use Rattle.i3c_bus.specs.Wire.{IsReadPart, IsWritePart};
     ghost use Rattle.i3c_bus.specs.declared.tokens.Hand.{Hand};
 
-    /// Reads all registers of the devices, or of the legacy target, at an address (private read, I3C Basic 5.1.2.2). It
-    /// serves the first request before. It answers `NoAnswer` without a frame where the table has no row at the address or
-    /// it is the active controller's own, and no legacy target stands there.
+    /// Reads the first registers of the devices, as many as their maximum lengths allow, or all of the legacy target, at an
+    /// address (private read, I3C Basic 5.1.2.2, 5.1.9.3.6). It serves the first request before. It answers `NoAnswer`
+    /// without a frame where the table has no row at the address or it is the active controller's own, and no legacy target
+    /// stands there.
     #[inline(never)]
     pub fn read<P: Policy, T: Tap>(
         &mut self,
@@ -55,9 +57,9 @@ impl Bus {
         })
     }
 
-    /// Writes up to sixteen bytes into the first registers of the devices, or of the legacy target, at an address (private
-    /// write, I3C Basic 5.1.2.2). It serves the first request before. More bytes are `TooLong`; `NoAnswer` without a frame
-    /// is as for `read`.
+    /// Writes bytes into the first registers of the devices, as many as their maximum lengths allow, or up to sixteen of the
+    /// legacy target, at an address (private write, I3C Basic 5.1.2.2, 5.1.9.3.5). It serves the first request before. More
+    /// bytes are `TooLong`; `NoAnswer` without a frame is as for `read`.
     pub fn write<P: Policy, T: Tap>(
         &mut self,
         role: &Role,
@@ -75,7 +77,8 @@ impl Bus {
         if self.cuts_active(cuts) {
             return Err(WriteFault::ActiveStays);
         }
-        if bytes.len() > TRANSFER {
+        let most = self.transfer_length(to, Direction::Write).get();
+        if bytes.len() > most as usize {
             return Err(WriteFault::TooLong);
         }
         if self.is_no_partner(to) {
@@ -113,7 +116,7 @@ impl Bus {
     fn read_part<T: Tap>(&mut self, from: Addr7, tap: &mut T, cuts: &Cuts, begun: u16) -> Answer
         requires few { begun ≤ 18 }
         requires left { cuts_active self.old.state cuts.now ≡ false }
-        ensures reads { LeavesBy cuts.now (begun + read_bits result) (Reads from result) self.old.state self.new.state }
+        ensures reads { LeavesBy cuts.now (begun + read_bits (transfer_length self.old.state DirectionValue.Read from) result) (Reads from result) self.old.state self.new.state }
         ensures told { Tells T.note_gives tap.old tap.new (IsReadPart self.old.state cuts.now from result begun) }
         ensures room { self.new.room ≡ self.old.room }
     {
@@ -121,7 +124,7 @@ impl Bus {
         let read = read(&self.devices, &self.legacy, active, from, cuts, begun);
         tell_read(tap, from, &read);
         let answer = read.answer(from);
-        self.drop_lost(cuts, begun + read_bits(&answer));
+        self.drop_lost(cuts, begun + read.bits());
         answer
     }
 
@@ -149,6 +152,14 @@ impl Bus {
         let answer = written.answer(to);
         self.drop_lost(cuts, begun + write_bits(bytes, &answer));
         answer
+    }
+
+    /// How many bytes a transfer with an address may have: a legacy target's registers, or the least maximum length of the
+    /// devices there (I3C Basic 5.1.9.3.5, 5.1.9.3.6).
+    fn transfer_length(&self, address: Addr7, way: Direction) -> Length
+        ensures { result ≡ transfer_length self.now.state way address }
+    {
+        transfer_length(&self.devices, &self.legacy, self.active(), address, way)
     }
 
     /// Whether nobody is there for a transfer with an address: no legacy target, and no device of the table but the active

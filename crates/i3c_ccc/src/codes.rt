@@ -1,7 +1,7 @@
 ghost use Rattle.std.specs.Prelude.{◌≡◌};
 ghost use Rattle.i3c_ccc.specs.Codes.{IsCodeOf, byte_of_code, byte_of_datum};
 
-use i3c_base::Datum;
+use i3c_base::{Datum, Direction};
 
 /// A common command code (I3C Basic 5.1.9.3).
 #[derive(Clone, Copy, Debug, PartialEq, Eq)]
@@ -16,6 +16,8 @@ pub enum Code {
     Entdaa,
     /// Define list of targets: `08`.
     Deftgts,
+    /// Set the maximum length of writes (SETMWL) or of reads (SETMRL), broadcast: `09`, `0A`.
+    SetLength(Direction),
     /// Enable events, direct: `80`.
     EnecDirect,
     /// Disable events, direct: `81`.
@@ -24,6 +26,8 @@ pub enum Code {
     Setdasa,
     /// Set new dynamic address, direct: `88`.
     Setnewda,
+    /// Set the maximum length of writes (SETMWL) or of reads (SETMRL), direct: `89`, `8A`.
+    SetLengthDirect(Direction),
     /// A target is asked for a datum: `8B` to `90`, `94` and `95`.
     Get(Datum),
     /// Get accept controller role: `91`.
@@ -42,10 +46,14 @@ pub fn code_of(byte: u8) -> Code
         0x06 => Code::Rstdaa,
         0x07 => Code::Entdaa,
         0x08 => Code::Deftgts,
+        0x09 => Code::SetLength(Direction::Write),
+        0x0A => Code::SetLength(Direction::Read),
         0x80 => Code::EnecDirect,
         0x81 => Code::DisecDirect,
         0x87 => Code::Setdasa,
         0x88 => Code::Setnewda,
+        0x89 => Code::SetLengthDirect(Direction::Write),
+        0x8A => Code::SetLengthDirect(Direction::Read),
         0x8B => Code::Get(Datum::WriteLength),
         0x8C => Code::Get(Datum::ReadLength),
         0x8D => Code::Get(Datum::Pid),
@@ -69,10 +77,14 @@ pub fn byte_of(code: Code) -> u8
         Code::Rstdaa => 0x06,
         Code::Entdaa => 0x07,
         Code::Deftgts => 0x08,
+        Code::SetLength(Direction::Write) => 0x09,
+        Code::SetLength(Direction::Read) => 0x0A,
         Code::EnecDirect => 0x80,
         Code::DisecDirect => 0x81,
         Code::Setdasa => 0x87,
         Code::Setnewda => 0x88,
+        Code::SetLengthDirect(Direction::Write) => 0x89,
+        Code::SetLengthDirect(Direction::Read) => 0x8A,
         Code::Get(what) => byte_of_datum(what),
         Code::Getacccr => 0x91,
         Code::Other(byte) => byte,

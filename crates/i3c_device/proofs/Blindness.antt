@@ -2,7 +2,8 @@
 use Rattle.std.proofs.Common.{◌≡◌, ℕ, Bool, true, false, if◌then◌else◌, List, Option, Some, None, is_none, option_map, refl}
 use Rattle.i3c_base.specs.declared.requests.Request.{Request}
 use Rattle.i3c_base.specs.declared.requests.Request.TheVariants.{Interrupt, Join, Role}
-use Rattle.i3c_base.specs.Frames.{overwritten, readdressed, unaddressed_device}
+use Rattle.i3c_base.specs.declared.datum.Direction.{Direction}
+use Rattle.i3c_base.specs.Frames.{overwritten, readdressed, unaddressed_device, limited}
 use Rattle.i3c_base.specs.Round.{hears, unhearing, winner}
 use Rattle.i3c_base.specs.Serve.{without_role}
 use Rattle.i3c_device.specs.Enabling.{under}
@@ -59,6 +60,11 @@ blind_won a kinds s (Some d) = refl
 pub blind_readdress : (a : ℕ) → IsBlind (λ s place. option_map (readdressed a) place)
 blind_readdress a kinds s None = refl
 blind_readdress a kinds s (Some d) = refl
+
+pub blind_limit : (way : Direction) (most : ℕ) → IsBlind (λ s place. option_map (limited way most) place)
+blind_limit way most kinds s None = refl
+blind_limit Direction.Write most kinds s (Some d) = refl
+blind_limit Direction.Read most kinds s (Some d) = refl
 
 pub blind_write : (active a : ℕ) (bytes : List ℕ) → IsBlind (written_at active a bytes)
 blind_write active a bytes kinds s None = refl

@@ -15,4 +15,5 @@ pub mod SameLaws
 pub mod AnsweringLaws
 pub mod LeastLaws
 pub mod KeepLaws
+mod LengthLaws
 mod RegisterLaws

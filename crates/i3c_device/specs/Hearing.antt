@@ -6,7 +6,7 @@ use Rattle.i3c_base.specs.Round.{hears}
 use Rattle.i3c_base.specs.Frames.{unaddressed_device, with_kinds, without_kinds}
 use Rattle.i3c_word.specs.declared.Word.{Word}
 use Rattle.i3c_ccc.specs.declared.codes.Code.{Code}
-use Rattle.i3c_ccc.specs.declared.codes.Code.TheVariants.{Enec, Disec, Rstdaa, Entdaa, Deftgts, EnecDirect, DisecDirect, Setdasa, Setnewda, Get, Getacccr, Other}
+use Rattle.i3c_ccc.specs.declared.codes.Code.TheVariants.{Enec, Disec, Rstdaa, Entdaa, Deftgts, SetLength, EnecDirect, DisecDirect, Setdasa, Setnewda, SetLengthDirect, Get, Getacccr, Other}
 
 -- the kinds that a command's byte names: the first word's, none where there is no word
 abbrev pub named_kinds : List Word → KindSet
@@ -31,8 +31,10 @@ heard DisecDirect words d = disabled (named_kinds words) d
 heard Entdaa words d = hears d
 heard Rstdaa words d = unaddressed_device d
 heard Deftgts words d = d
+heard (SetLength way) words d = d
 heard Setdasa words d = d
 heard Setnewda words d = d
+heard (SetLengthDirect way) words d = d
 heard (Get what) words d = d
 heard Getacccr words d = d
 heard (Other byte) words d = d

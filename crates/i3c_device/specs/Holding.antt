@@ -1,7 +1,10 @@
 -- What is asked of whatever stands in a slot.
 use Rattle.std.specs.Prelude.{ℕ, length, Option, Some, None, slice_get}
+use Rattle.i3c_base.specs.declared.datum.Direction.{Direction}
+use Rattle.i3c_base.specs.declared.device.TheConstants.{REGISTERS}
 use Rattle.i3c_base.specs.declared.device.Waiting.{Waiting}
 use Rattle.i3c_base.specs.declared.identity.Identity.{Identity}
+use Rattle.i3c_base.specs.Frames.{length_of}
 use Rattle.i3c_base.specs.State.{Device}
 use Rattle.i3c_device.specs.Raising.{front_byte}
 
@@ -14,6 +17,11 @@ identity_in (Some d) = Some d.identity
 abbrev pub address_in : Option Device → Option ℕ
 address_in None = None
 address_in (Some d) = d.address
+
+-- its maximum length of writes or reads; as many bytes as there are registers where nothing stands
+abbrev pub length_in : Direction → Option Device → ℕ
+length_in way None = REGISTERS
+length_in way (Some d) = length_of way d
 
 -- how many of its interrupts wait
 abbrev pub waiting_in : Option Device → ℕ

@@ -13,3 +13,4 @@ pub mod Reading
 pub mod Answering
 pub mod Least
 pub mod Keeping
+pub mod Lengths

@@ -4,7 +4,8 @@ use Rattle.i3c_base.specs.declared.identity.Identity.{Identity}
 use Rattle.i3c_base.specs.declared.range.TheConstants.{SLOTS}
 use Rattle.i3c_base.specs.declared.requests.Request.{Request}
 use Rattle.i3c_base.specs.Cutting.{Lost}
-use Rattle.i3c_base.specs.Frames.{overwritten, readdressed, takes_static}
+use Rattle.i3c_base.specs.declared.datum.Direction.{Direction}
+use Rattle.i3c_base.specs.Frames.{overwritten, readdressed, takes_static, limited}
 use Rattle.i3c_base.specs.Numbers.{KindSet, number_of}
 use Rattle.i3c_base.specs.Round.{winner, wins}
 use Rattle.i3c_base.specs.Serve.{asks, rank, without}
@@ -107,6 +108,10 @@ hears_as number place = in_slot (λ d. d.hearing && number_of d.identity == numb
 -- it after the devices in these slots took this address
 abbrev pub taken_at : SlotSet → ℕ → ℕ → Option Device → Option Device
 taken_at winners a s place = if has winners s then option_map (winner a) place else place
+
+-- those in these slots after their maximum length was set
+abbrev pub limited_at : SlotSet → Direction → ℕ → ℕ → Option Device → Option Device
+limited_at slots way most s place = if has slots s then option_map (limited way most) place else place
 
 -- it after the devices in these slots got another dynamic address
 abbrev pub readdressed_at : SlotSet → ℕ → ℕ → Option Device → Option Device

@@ -4,7 +4,10 @@ ghost use Rattle.i3c_base.specs.Frames.{pid_bytes};
 use crate::answering::NOWHERE;
 use crate::queues::{are_same, copied, copy_from};
 use arrayvec::ArrayVec;
-use i3c_base::{Addr7, Datum, Identity, REGISTERS, RaiseRefusal, Request, Setup, WAITING, Waiting};
+use i3c_base::{
+    Addr7, Datum, Direction, Identity, Length, REGISTERS, RaiseRefusal, Request, Setup, WAITING,
+    Waiting,
+};
 use i3c_header::key;
 use std::marker::Model;
 
@@ -23,6 +26,8 @@ pub(crate) struct Attached {
     role_wish: bool,
     hearing: bool,
     registers: [u8; REGISTERS],
+    most_written: Length,
+    most_read: Length,
 }
 
 impl Model for Attached {
@@ -42,6 +47,8 @@ impl Model for Attached {
       role_wish = d.role_wish;
       hearing = d.hearing;
       registers = d.registers;
+      most_written = d.most_written;
+      most_read = d.most_read;
     } };
 
     ghost invariant = { λ d. IsDynamic d.address };
@@ -51,7 +58,7 @@ impl Attached {
     ghost use Rattle.std.specs.Prelude.{◌≡◌, ◌≤◌, ◌↔◌, IsTrue, is_none, suc, length, slice_get, MatchOption, MatchResult, OnErr, OnOk, Some, None, true};
     ghost use Rattle.i3c_base.specs.declared.device.TheConstants.{REGISTERS as REGISTER_COUNT};
     ghost use Rattle.i3c_base.specs.Filling.{filled_up};
-    ghost use Rattle.i3c_base.specs.Frames.{overwritten, pending, readdressed, told_bytes, unaddressed_device};
+    ghost use Rattle.i3c_base.specs.Frames.{length_of, limited, overwritten, pending, readdressed, told_bytes, unaddressed_device};
     ghost use Rattle.i3c_device.specs.declared.attached.TheConstants.{LONGEST as MOST_TOLD};
     ghost use Rattle.i3c_base.specs.State.{attached};
     ghost use Rattle.i3c_base.specs.Serve.{without_front, without_join, without_role};
@@ -75,6 +82,8 @@ impl Attached {
             role_wish: false,
             hearing: false,
             registers: [0; REGISTERS],
+            most_written: Length::most(),
+            most_read: Length::most(),
         }
     }
 
@@ -92,6 +101,8 @@ impl Attached {
             role_wish: self.role_wish,
             hearing: self.hearing,
             registers: self.registers,
+            most_written: self.most_written,
+            most_read: self.most_read,
         }
     }
 
@@ -108,6 +119,8 @@ impl Attached {
         self.role_wish = other.role_wish;
         self.hearing = other.hearing;
         self.registers = other.registers;
+        self.most_written = other.most_written;
+        self.most_read = other.most_read;
     }
 
     /// Whether the other device is the same: clauses see no difference between the two.
@@ -133,11 +146,14 @@ impl Attached {
             && self.hearing == other.hearing
     }
 
-    /// Whether the other device has the same waiting interrupts and the same registers.
+    /// Whether the other device has the same waiting interrupts, the same registers and the same lengths.
     fn has_same_data(&self, other: &Attached) -> bool
-        ensures { IsTrue result ↔ ((self.now.waiting ≡ other.now.waiting) × (self.now.registers ≡ other.now.registers)) }
+        ensures { IsTrue result ↔ ((self.now.waiting ≡ other.now.waiting) × (self.now.registers ≡ other.now.registers) × (self.now.most_written ≡ other.now.most_written) × (self.now.most_read ≡ other.now.most_read)) }
     {
-        are_same(&self.waiting, &other.waiting) && self.registers == other.registers
+        are_same(&self.waiting, &other.waiting)
+            && self.registers == other.registers
+            && self.most_written == other.most_written
+            && self.most_read == other.most_read
     }
 
     /// What the device is.
@@ -198,10 +214,30 @@ impl Attached {
             Datum::Bcr => [self.identity.bcr.0, 0, 0, 0, 0, 0],
             Datum::Dcr => [self.identity.dcr.0, 0, 0, 0, 0, 0],
             Datum::Status => [0, self.pending(), 0, 0, 0, 0],
-            Datum::WriteLength => [0, REGISTERS as u8, 0, 0, 0, 0],
-            Datum::ReadLength => [0, REGISTERS as u8, 1, 0, 0, 0],
+            Datum::WriteLength => [0, self.most_written.get(), 0, 0, 0, 0],
+            Datum::ReadLength => [0, self.most_read.get(), 1, 0, 0, 0],
             Datum::Speed => [0; LONGEST],
             Datum::Capabilities => [0, 1, 0, 0, 0, 0],
+        }
+    }
+
+    /// How many bytes a private write to it may have, or a private read of it has (I3C Basic 5.1.9.3.5, 5.1.9.3.6).
+    pub fn length(&self, way: Direction) -> Length
+        ensures { result ≡ length_of way self.now }
+    {
+        match way {
+            Direction::Write => self.most_written,
+            Direction::Read => self.most_read,
+        }
+    }
+
+    /// SETMWL and SETMRL set this length (I3C Basic 5.1.9.3.5, 5.1.9.3.6).
+    pub fn limit(&mut self, way: Direction, most: Length)
+        ensures { self.new ≡ limited way most self.old }
+    {
+        match way {
+            Direction::Write => self.most_written = most,
+            Direction::Read => self.most_read = most,
         }
     }
 

@@ -69,8 +69,10 @@ impl Device {
             Code::Entdaa => self.attached.hear_opening(),
             Code::Rstdaa => self.attached.lose_address(),
             Code::Deftgts
+            | Code::SetLength(_)
             | Code::Setdasa
             | Code::Setnewda
+            | Code::SetLengthDirect(_)
             | Code::Get(_)
             | Code::Getacccr
             | Code::Other(_) => {}

@@ -8,13 +8,13 @@ use crate::places::{address_in, byte_in, front_in, identity_in, waiting_in};
 use crate::resting::Resting;
 use crate::sets::{SlotSet, lost_slots};
 use crate::walks::{
-    Accepted, Ended, FrontLost, JoinWished, Lost, Opened, Readdressed, Registers, Reset, RoleLost,
-    RoleWished, SlotUpdate, Told, Willing, Won, Written,
+    Accepted, Ended, FrontLost, JoinWished, Limited, Lost, Opened, Readdressed, Registers, Reset,
+    RoleLost, RoleWished, SlotUpdate, Told, Willing, Won, Written,
 };
 use arrayvec::ArrayVec;
 use i3c_base::{
-    Addr7, Bytes, Change, Cuts, Datum, Identity, Kinds, REGISTERS, RaiseRefusal, Request, SLOTS,
-    Slot, Waiting,
+    Addr7, Bytes, Change, Cuts, Datum, Direction, Identity, Kinds, Length, REGISTERS, RaiseRefusal,
+    Request, SLOTS, Slot, Waiting,
 };
 use i3c_ccc::Code;
 use i3c_header::arbitrate;
@@ -45,10 +45,10 @@ impl Devices {
     ghost use Rattle.i3c_base.specs.declared.device.TheConstants.{REGISTERS as REGISTER_COUNT};
     ghost use Rattle.i3c_base.specs.declared.range.TheConstants.{SLOTS as SLOT_COUNT};
     ghost use Rattle.i3c_base.specs.Cutting.{lost_by};
-    ghost use Rattle.i3c_base.specs.Frames.{changed_kinds};
+    ghost use Rattle.i3c_base.specs.Frames.{changed_kinds, least_length_from};
     ghost use Rattle.i3c_base.specs.Places.{changed};
     ghost use Rattle.i3c_device.specs.Holding.{address_in, byte_in, front_in, identity_in, waiting_in};
-    ghost use Rattle.i3c_device.specs.Walks.{accepted_at, heard_at, left_at, readdressed_at, taken_at, AreDrivers, AreHearers, AreReached, AreTakers, AreWillingLost, IsFirstDriven, IsLowestWilling, NobodyDrives, SomeReached, rekinded_at, written_at};
+    ghost use Rattle.i3c_device.specs.Walks.{accepted_at, heard_at, left_at, limited_at, readdressed_at, taken_at, AreDrivers, AreHearers, AreReached, AreTakers, AreWillingLost, IsFirstDriven, IsLowestWilling, NobodyDrives, SomeReached, rekinded_at, written_at};
     ghost use Rattle.i3c_device.specs.Least.{IsLeastHeard, NobodyHears};
     ghost use Rattle.i3c_device.specs.Reading.{AreReadOf, AreToldOf, IsByteOf};
     ghost use Rattle.i3c_device.specs.Sets.{has};
@@ -411,8 +411,10 @@ impl Devices {
             Code::Entdaa => self.occupants.each(reached, &Opened),
             Code::Rstdaa => self.occupants.each(reached, &Reset),
             Code::Deftgts
+            | Code::SetLength(_)
             | Code::Setdasa
             | Code::Setnewda
+            | Code::SetLengthDirect(_)
             | Code::Get(_)
             | Code::Getacccr
             | Code::Other(_) => {}
@@ -479,6 +481,22 @@ impl Devices {
         ensures { self.new ≡ changed (readdressed_at slots address) self.old }
     {
         self.occupants.each(slots, &Readdressed { address });
+    }
+
+    /// The devices in these slots have this maximum length (SETMWL and SETMRL, I3C Basic 5.1.9.3.5 and 5.1.9.3.6).
+    pub fn limit(&mut self, slots: SlotSet, way: Direction, most: Length)
+        ensures { self.new ≡ changed (limited_at slots way most) self.old }
+    {
+        self.occupants.each(slots, &Limited { way, most });
+    }
+
+    /// The least maximum length of the devices at an address, but the active controller: 16 at most (I3C Basic 5.1.9.3.5,
+    /// 5.1.9.3.6).
+    pub fn least_length(&self, active: Slot, address: Addr7, way: Direction) -> Length
+        ensures { result ≡ least_length_from active way address 0 self.now }
+    {
+        let targets = self.occupants.targets(active, address);
+        self.occupants.least_length(targets, way)
     }
 
     /// A frame ends: the devices lost by this bit are gone.

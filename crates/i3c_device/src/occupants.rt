@@ -1,10 +1,10 @@
 use crate::attached::Attached;
 use crate::kept::Kept;
 use crate::marks::Marks;
-use crate::places::{byte_from, pull_low, raise, stands, wishes_interrupt};
+use crate::places::{byte_from, length_in, pull_low, raise, stands, wishes_interrupt};
 use crate::sets::SlotSet;
 use crate::walks::{Driven, SlotUpdate, Sought, happen_in};
-use i3c_base::{Addr7, Cuts, REGISTERS, RaiseRefusal, SLOTS, Slot};
+use i3c_base::{Addr7, Cuts, Direction, Length, REGISTERS, RaiseRefusal, SLOTS, Slot};
 use std::marker::Model;
 
 /// The devices of a bus in their slots, each as if all kinds of its events were enabled.
@@ -39,6 +39,7 @@ impl Occupants {
     ghost use Rattle.i3c_device.specs.Marks.{AreMarks};
     ghost use Rattle.i3c_device.specs.Raising.{interrupting_if, next_fault, with_raise};
     ghost use Rattle.i3c_device.specs.Reading.{AreAt, IsByteOf, registers_of};
+    ghost use Rattle.i3c_device.specs.Lengths.{IsLeastLength};
     ghost use Rattle.i3c_device.specs.Sets.{has};
     ghost use Rattle.i3c_device.specs.Walks.{AreTakers};
     ghost use Rattle.std.specs.Prelude.{◌≡◌, ◌<◌, ◌&&◌, ℕ, All, is_some, length, suc, true, Some, None, option_copied, option_map, slice_index, slice_index_or, slice_set, MatchOption, MatchResult, OnOk, OnErr};
@@ -151,6 +152,21 @@ impl Occupants {
     {
         let there = self.marks.answering.at(address);
         there.without(self.marks.unaddressed).but(active)
+    }
+
+    /// The least maximum length of these slots' devices, 16 at most.
+    pub fn least_length(&self, among: SlotSet, way: Direction) -> Length
+        ensures { IsLeastLength among way self.now result }
+    {
+        let mut least = Length::most();
+        let mut left = among;
+        while let Some(index) = left.take_lowest() {
+            let length = length_in(&self.places[index], way);
+            if length < least {
+                least = length;
+            }
+        }
+        least
     }
 
     /// The slots of the devices that take SETDASA at this static address. The active controller is none of them.

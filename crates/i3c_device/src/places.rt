@@ -1,12 +1,12 @@
 ghost use Rattle.std.specs.Prelude.{◌≡◌, ◌↔◌, IsTrue, ◌≤◌, ◌<◌, ◌+◌, ◌^◌, ◌&&◌, ℕ, suc, true, false, Some, None, option_map, length, bit_and, slice_index, is_none, is_some, MatchResult, OnErr, OnOk};
 ghost use Rattle.i3c_base.specs.declared.device.TheConstants.{REGISTERS as REGISTER_COUNT};
 ghost use Rattle.i3c_base.specs.declared.range.TheConstants.{SLOTS as SLOT_COUNT};
-ghost use Rattle.i3c_base.specs.Frames.{readdressed, unaddressed_device};
+ghost use Rattle.i3c_base.specs.Frames.{limited, readdressed, unaddressed_device};
 ghost use Rattle.i3c_base.specs.Round.{hears, unhearing, winner};
 ghost use Rattle.i3c_base.specs.Serve.{without_front, without_role};
 ghost use Rattle.i3c_base.specs.State.{Device as DeviceState, in_slot};
 ghost use Rattle.i3c_device.specs.Addressing.{IsDynamicIn};
-ghost use Rattle.i3c_device.specs.Holding.{address_in, byte_in, front_in, identity_in, waiting_in};
+ghost use Rattle.i3c_device.specs.Holding.{length_in, address_in, byte_in, front_in, identity_in, waiting_in};
 ghost use Rattle.i3c_device.specs.Marks.{answer_in, key_in};
 ghost use Rattle.i3c_device.specs.Raising.{interrupting_if, next_fault, wishing_join, wishing_role, with_raise};
 ghost use Rattle.i3c_device.specs.Reading.{IsByteFrom, IsDrivenFrom};
@@ -16,7 +16,7 @@ ghost use Rattle.i3c_device.specs.Wishing.{wishes_interrupt, wishes_join, wishes
 use crate::answering::NOWHERE;
 use crate::attached::Attached;
 use crate::walks::Driven;
-use i3c_base::{Addr7, Identity, REGISTERS, RaiseRefusal, Request, Slot, Waiting};
+use i3c_base::{Addr7, Direction, Identity, Length, REGISTERS, RaiseRefusal, Request, Slot, Waiting};
 
 /// Whether this device stands here.
 pub(crate) fn stands(device: &Attached, place: &Option<Attached>) -> bool
@@ -377,6 +377,25 @@ pub(crate) fn answer_in(place: &Option<Attached>) -> u8
     match place {
         Some(device) => device.answer(),
         None => NOWHERE,
+    }
+}
+
+/// A maximum length is set: the device here has it.
+pub(crate) fn limit(place: &mut Option<Attached>, way: Direction, most: Length)
+    ensures { place.new ≡ option_map (limited way most) place.old }
+{
+    if let Some(device) = place {
+        device.limit(way, most);
+    }
+}
+
+/// The maximum length of the device here; 16 where there is none.
+pub(crate) fn length_in(place: &Option<Attached>, way: Direction) -> Length
+    ensures { result ≡ length_in way place.now }
+{
+    match place {
+        Some(device) => device.length(way),
+        None => Length::most(),
     }
 }
 

@@ -1,7 +1,7 @@
 ghost use Rattle.std.specs.Prelude.{◌≡◌, ◌≤◌, ◌<◌, ℕ, Bool, List, Option, None, false, length, option_map, slice_index, slice_index_or, slice_set};
 ghost use Rattle.i3c_base.specs.declared.device.TheConstants.{REGISTERS as REGISTER_COUNT};
 ghost use Rattle.i3c_base.specs.declared.range.TheConstants.{SLOTS as SLOT_COUNT};
-ghost use Rattle.i3c_base.specs.Frames.{readdressed, told_bytes, unaddressed_device};
+ghost use Rattle.i3c_base.specs.Frames.{limited, readdressed, told_bytes, unaddressed_device};
 ghost use Rattle.i3c_base.specs.Round.{hears, unhearing, winner};
 ghost use Rattle.i3c_base.specs.Serve.{without_front, without_role};
 ghost use Rattle.i3c_base.specs.State.{Device as DeviceState};
@@ -14,10 +14,10 @@ ghost use Rattle.i3c_device.specs.Walks.{taken_from, willing_at, written_at};
 use crate::attached::Attached;
 use crate::marks::Marks;
 use crate::places::{
-    accept, is_willing, lose_front, lose_role_wish, open, reaches, readdress, reset, silence, win,
-    wish_join, wish_role, wishes_interrupt, write,
+    accept, is_willing, limit, lose_front, lose_role_wish, open, reaches, readdress, reset,
+    silence, win, wish_join, wish_role, wishes_interrupt, write,
 };
-use i3c_base::{Addr7, Datum, Request, Slot};
+use i3c_base::{Addr7, Datum, Direction, Length, Request, Slot};
 
 /// What happens to whatever stands in some slots.
 pub(crate) trait SlotUpdate {
@@ -245,6 +245,25 @@ impl SlotUpdate for Readdressed {
 
     fn happen(&self, place: &mut Option<Attached>, _index: usize) {
         readdress(place, self.address);
+    }
+}
+
+/// This maximum length was set.
+#[derive(Drop)]
+pub(crate) struct Limited {
+    pub way: Direction,
+    pub most: Length,
+}
+
+impl SlotUpdate for Limited {
+    ghost after = { λ h s place. option_map (limited h.way h.most) place };
+
+    fn concerns(&self, _place: &Option<Attached>, _index: usize) -> bool {
+        true
+    }
+
+    fn happen(&self, place: &mut Option<Attached>, _index: usize) {
+        limit(place, self.way, self.most);
     }
 }
 

@@ -1,12 +1,13 @@
 -- Who hears the command, and what it leaves.
 use Rattle.std.proofs.Common.{◌≡◌, ℕ, Bool, true, false, if◌then◌else◌, List, Option, Some, None, option_map, inl, inr, refl, sym, ◌∙◌, subst}
 use Rattle.i3c_base.specs.declared.answers.Answer.{Answer}
+use Rattle.i3c_base.specs.declared.datum.Direction.{Direction}
 use Rattle.i3c_base.specs.Cutting.{Lost}
 use Rattle.i3c_base.specs.Numbers.{KindSet}
 use Rattle.i3c_base.specs.Places.{changed}
 use Rattle.i3c_base.specs.State.{Device, HasDevices, State}
-use Rattle.i3c_base.specs.Frames.{AllLostAt, AllUnaddressedLostAt, AnyAt, AnyUnaddressedAt, Rekinds, SomeLeftAt, SomeUnaddressedLeftAt, reaches, rekinded}
-use Rattle.i3c_device.specs.Walks.{SomeReached, SomeTakes, rekinded_at}
+use Rattle.i3c_base.specs.Frames.{AllLostAt, AllUnaddressedLostAt, AnyAt, AnyUnaddressedAt, Rekinds, SetsLength, limited, with_length, SomeLeftAt, SomeUnaddressedLeftAt, reaches, rekinded}
+use Rattle.i3c_device.specs.Walks.{SomeReached, SomeTakes, reaches_at, rekinded_at}
 use Rattle.i3c_device.proofs.Targets.{reached_target, taker_unaddressed, target_reached, unaddressed_taker}
 
 -- whoever is reached at an address is a target there that is left, and the other way round
@@ -86,3 +87,28 @@ all_unaddressed_lost st f lost none s d h = go (lost s) refl
 -- some of them are there
 pub any_unaddressed : (st : State) (f : ℕ) (lost : Lost) → SomeUnaddressedLeftAt st f lost → AnyUnaddressedAt st f
 any_unaddressed st f lost h = (h.0, h.1, h.2)
+
+-- what a device has after a maximum length was set
+length_all : (to : Option ℕ) (way : Direction) (most : ℕ) (st : State) (devices more : List (Option Device)) (active : ℕ) → HasDevices st devices active
+    → more ≡ changed (λ s place. option_map (λ d. if reaches_at active to s d then limited way most d else d) place) devices → record st { devices = more } ≡ with_length to way most st
+length_all to way most st devices more active has m = go to (m ∙ (λ t. changed (λ s place. option_map (λ d. if reaches_at (sym has.1 t) to s d then limited way most d else d) place) (sym has.0 t)))
+  where
+    go : (o : Option ℕ) → more ≡ changed (λ s place. option_map (λ d. if reaches_at st.active o s d then limited way most d else d) place) st.devices → record st { devices = more } ≡ with_length o way most st
+    go None e = λ t. record st { devices = e t }
+    go (Some a) e = λ t. record st { devices = e t }
+
+-- it was carried out
+pub length_set : (to : Option ℕ) (way : Direction) (most : ℕ) (st : State) (lost : Lost) (devices more : List (Option Device)) (active : ℕ) → HasDevices st devices active
+    → more ≡ changed (λ s place. option_map (λ d. if reaches_at active to s d then limited way most d else d) place) devices → ((a : ℕ) → to ≡ Some a → AnyAt st a)
+    → SetsLength to way most Answer.Done lost st (record st { devices = more })
+length_set to way most st lost devices more active has m any = go to (length_all to way most st devices more active has m) any
+  where
+    go : (o : Option ℕ) → record st { devices = more } ≡ with_length o way most st → ((a : ℕ) → o ≡ Some a → AnyAt st a) → SetsLength o way most Answer.Done lost st (record st { devices = more })
+    go None all any = (refl, all)
+    go (Some at) all any = inl (refl, any at refl, all)
+
+pub length_unset : (to : Option ℕ) (at : ℕ) (way : Direction) (most : ℕ) (st : State) (lost : Option ℕ → Lost) (devices : List (Option Device)) (active : ℕ) → HasDevices st devices active → to ≡ Some at
+    → ¬ SomeLeftAt st at (lost (Some at)) → SetsLength to way most (Answer.NoAnswer at) (lost to) st (record st { devices = devices })
+length_unset to at way most st lost devices active has e none =
+    subst (λ o. SetsLength o way most (Answer.NoAnswer at) (lost o) st (record st { devices = devices })) (sym e)
+    (inr (refl, all_lost st at (lost (Some at)) none, λ t. record st { devices = sym has.0 t }))

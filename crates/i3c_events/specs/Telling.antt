@@ -1,6 +1,7 @@
--- What ENEC, DISEC, SETDASA and SETNEWDA put on the wire.
+-- What ENEC, DISEC, SETDASA, SETNEWDA, SETMWL and SETMRL put on the wire.
 use Rattle.std.specs.Prelude.{◌≡◌, ℕ, ◌*◌, true, false, List, [], ◌∷◌, Option, Some, None}
 use Rattle.i3c_base.specs.declared.answers.Answer.{Answer}
+use Rattle.i3c_base.specs.declared.datum.Direction.{Direction}
 use Rattle.i3c_base.specs.declared.kinds.Change.{Change}
 use Rattle.i3c_base.specs.declared.kinds.Kinds.{Kinds}
 use Rattle.i3c_base.specs.Numbers.{kind_set}
@@ -8,7 +9,7 @@ use Rattle.i3c_word.specs.declared.Word.{Word}
 use Rattle.i3c_word.specs.Parity.{HasOddParity}
 use Rattle.i3c_frame.specs.declared.symbols.Symbol.{Symbol}
 use Rattle.i3c_frame.specs.declared.symbols.Symbol.TheVariants.{Repeated, Stop, Header}
-use Rattle.i3c_events.specs.Words.{code_byte, kinds_byte}
+use Rattle.i3c_events.specs.Words.{code_byte, kinds_byte, length_code_byte}
 
 -- the byte as a word, with odd parity
 abbrev pub IsWord : ℕ → Word → Type 0
@@ -35,3 +36,15 @@ IsSettingWire code target new (Answer.NoAnswer a) wire = IsUnsetWire code target
 IsSettingWire code target new answer wire =
     (word : Word) × (byte : Word) × IsWord code word × IsWord (2 * new) byte
     × (wire ≡ Symbol.Word word ∷ Repeated ∷ Header target false true ∷ Symbol.Word byte ∷ Stop ∷ [])
+
+-- SETMWL or SETMRL: to all, the code and the length in two words; to one address, the code, a header, and where it was
+-- acknowledged the two words
+abbrev pub IsLengthWire : Direction → Option ℕ → ℕ → Answer → List Symbol → Type 0
+IsLengthWire way None most answer wire =
+    (code : Word) × (upper : Word) × (lower : Word) × IsWord (length_code_byte way None) code × IsWord 0 upper × IsWord most lower
+    × (wire ≡ Symbol.Word code ∷ Symbol.Word upper ∷ Symbol.Word lower ∷ Stop ∷ [])
+IsLengthWire way (Some a) most (Answer.NoAnswer b) wire =
+    (code : Word) × IsWord (length_code_byte way (Some a)) code × (wire ≡ Symbol.Word code ∷ Repeated ∷ Header a false false ∷ Stop ∷ [])
+IsLengthWire way (Some a) most answer wire =
+    (code : Word) × (upper : Word) × (lower : Word) × IsWord (length_code_byte way (Some a)) code × IsWord 0 upper × IsWord most lower
+    × (wire ≡ Symbol.Word code ∷ Repeated ∷ Header a false true ∷ Symbol.Word upper ∷ Symbol.Word lower ∷ Stop ∷ [])

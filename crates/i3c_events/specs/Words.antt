@@ -1,5 +1,6 @@
--- ENEC, DISEC, SETDASA and SETNEWDA as words.
+-- ENEC, DISEC, SETDASA, SETNEWDA, SETMWL and SETMRL as words.
 use Rattle.std.specs.Prelude.{ℕ, ◌+◌, ◌*◌, Option, Some, None}
+use Rattle.i3c_base.specs.declared.datum.Direction.{Direction}
 use Rattle.i3c_base.specs.Numbers.{KindSet}
 use Rattle.i3c_word.specs.Parity.{bit_of}
 use Rattle.i3c_ccc.specs.declared.codes.Code.{Code}
@@ -30,3 +31,10 @@ kinds_byte kinds = bit_of kinds.interrupt + 2 * bit_of kinds.role + 8 * bit_of k
 abbrev pub setting_byte : Setting → ℕ
 setting_byte Setting.Static = 0x87
 setting_byte Setting.New = 0x88
+
+-- the byte of the code that sets a maximum length, broadcast or to one address
+abbrev pub length_code_byte : Direction → Option ℕ → ℕ
+length_code_byte Direction.Write None = 0x09
+length_code_byte Direction.Read None = 0x0A
+length_code_byte Direction.Write (Some a) = 0x89
+length_code_byte Direction.Read (Some a) = 0x8A

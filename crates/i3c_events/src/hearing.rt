@@ -1,10 +1,10 @@
 ghost use Rattle.std.specs.Prelude.{◌≡◌, ◌+◌, ◌≤◌, ◌↔◌, ℕ, IsOk, Some};
 ghost use Rattle.i3c_base.specs.Cutting.{lost_by};
 ghost use Rattle.i3c_base.specs.State.{HasDevices, State};
-ghost use Rattle.i3c_base.specs.Frames.{Rekinds, SomeLeftAt, changed_kinds, kinds_bits};
+ghost use Rattle.i3c_base.specs.Frames.{Rekinds, SetsLength, SomeLeftAt, changed_kinds, kinds_bits, length_bits};
 ghost use Rattle.i3c_events.specs.Hearing.{answer_of};
 
-use i3c_base::{Addr7, Answer, Change, Cuts, Kinds, Slot};
+use i3c_base::{Addr7, Answer, Change, Cuts, Direction, Kinds, Length, Slot};
 use i3c_device::Devices;
 use i3c_word::{HEADER_BITS, WORD_BITS};
 use thiserror::Error;
@@ -43,6 +43,45 @@ pub fn hear_kinds(
     }
     devices.change_kinds(reached, change, kinds);
     Ok(())
+}
+
+/// SETMWL or SETMRL, after so many bits of its frame in which these devices are cut: those whom it reaches have this maximum
+/// length, all but the active controller, or those of them at one address (I3C Basic 5.1.9.3.5, 5.1.9.3.6). Where none of
+/// those is left at the acknowledgement, nothing changes.
+pub fn hear_length(
+    devices: &mut Devices,
+    active: Slot,
+    to: Option<Addr7>,
+    way: Direction,
+    most: Length,
+    cuts: &Cuts,
+    begun: u16,
+) -> Result<(), NoAnswer>
+    requires { begun ≤ 18 }
+    ensures sets { (st : State) → HasDevices st devices.old active
+        → SetsLength to way most (answer_of result) (lost_by cuts.now (begun + length_bits to (answer_of result))) st (record st { devices = devices.new }) }
+    ensures answered { (st : State) (a : ℕ) → HasDevices st devices.old active → to ≡ Some a → IsOk result ↔ SomeLeftAt st a (lost_by cuts.now (begun + 18)) }
+{
+    let reached = devices.reached(active, &to);
+    if let Some(at) = to {
+        if !reached.outlasts(cuts, begun + ACK_BITS) {
+            return Err(NoAnswer(at));
+        }
+    }
+    devices.limit(reached, way, most);
+    Ok(())
+}
+
+/// The bits of SETMWL and SETMRL: three words, or a word, a header and after its ACK two words (I3C Basic 5.1.9.3.5,
+/// 5.1.9.3.6).
+pub fn length_bits(to: &Option<Addr7>, answer: &Answer) -> u16
+    ensures { result ≡ length_bits to.now answer.now }
+{
+    match (to, answer) {
+        (Some(_), Answer::NoAnswer(_)) => ACK_BITS,
+        (Some(_), _) => ACK_BITS + 2 * WORD_BITS,
+        (None, _) => 3 * WORD_BITS,
+    }
 }
 
 /// The bits of ENEC and DISEC: two words, or a word, a header and after its ACK a word (I3C Basic 5.1.9.3.1).

@@ -2,10 +2,10 @@ ghost use Rattle.std.specs.Prelude.{◌≡◌, ◌*◌, ◌∷◌, []};
 ghost use Rattle.i3c_base.specs.Numbers.{kind_set};
 ghost use Rattle.i3c_word.specs.Parity.{HasOddParity};
 ghost use Rattle.i3c_device.specs.Hearing.{named_kinds};
-ghost use Rattle.i3c_events.specs.Words.{code_byte, command, kinds_byte, setting_byte};
+ghost use Rattle.i3c_events.specs.Words.{code_byte, command, kinds_byte, length_code_byte, setting_byte};
 
 use bitflags::Flags;
-use i3c_base::{Addr7, Change, Kinds};
+use i3c_base::{Addr7, Change, Direction, Kinds, Length};
 use i3c_ccc::{Code, byte_of};
 use i3c_word::{Word, write_word};
 
@@ -69,4 +69,24 @@ pub fn address_word(address: Addr7) -> Word
     ensures odd { HasOddParity result }
 {
     write_word(2 * address.get())
+}
+
+/// The word of the code that sets a maximum length: broadcast `09` (SETMWL) or `0A` (SETMRL), to one address `89` or `8A`
+/// (I3C Basic 5.1.9.3).
+pub fn length_code(way: Direction, to: Option<Addr7>) -> Word
+    ensures byte { result.byte ≡ length_code_byte way to }
+    ensures odd { HasOddParity result }
+{
+    match to {
+        None => write_word(byte_of(Code::SetLength(way))),
+        Some(_) => write_word(byte_of(Code::SetLengthDirect(way))),
+    }
+}
+
+/// The lower word of a maximum length; the upper one is `00` (I3C Basic 5.1.9.3.5, 5.1.9.3.6).
+pub fn length_word(most: Length) -> Word
+    ensures byte { result.byte ≡ most }
+    ensures odd { HasOddParity result }
+{
+    write_word(most.get())
 }

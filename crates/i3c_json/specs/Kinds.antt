@@ -22,9 +22,13 @@ is_served line =
 abbrev pub is_assigned : List ℕ → Bool
 is_assigned line = (length line == 30) && begins line (codes "assigned ")
 
--- `bytes` and sixteen bytes in hex digits
+-- a space, and one word behind it
+abbrev pub is_one_word : List ℕ → Bool
+is_one_word rest = begins rest (codes " ") && not (list_any (λ byte. byte == 32) (drop 1 rest))
+
+-- `bytes` and one word: the line of a device that is called `bytes` has more words
 abbrev pub is_bytes : List ℕ → Bool
-is_bytes line = (length line == 38) && begins line (codes "bytes ")
+is_bytes line = begins line (codes "bytes") && is_one_word (drop 5 line)
 
 -- `active ADDR`
 abbrev pub is_active : List ℕ → Bool
@@ -33,10 +37,6 @@ is_active line = (length line == 9) && begins line (codes "active ")
 -- the data that a controller asks for
 abbrev pub all_data : List Datum
 all_data = Datum.Pid ∷ Datum.Bcr ∷ Datum.Dcr ∷ Datum.Status ∷ Datum.WriteLength ∷ Datum.ReadLength ∷ Datum.Speed ∷ Datum.Capabilities ∷ []
-
--- a space, and one word behind it
-abbrev pub is_one_word : List ℕ → Bool
-is_one_word rest = begins rest (codes " ") && not (list_any (λ byte. byte == 32) (drop 1 rest))
 
 -- the line tells this datum, by its word and one more: the line of a device that is called so has more words
 abbrev pub tells : List ℕ → Datum → Bool

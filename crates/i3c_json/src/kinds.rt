@@ -10,8 +10,8 @@ const RECORDED_LENGTH: usize = 9;
 /// How long the line `assigned ADDR PID BCR DCR` is.
 const ASSIGNED_LENGTH: usize = 30;
 
-/// How long the line `bytes` with sixteen registers is.
-const BYTES_LENGTH: usize = 38;
+/// How long the word `bytes` is.
+const BYTES_LENGTH: usize = 5;
 
 /// How long the line `active ADDR` is.
 const ACTIVE_LENGTH: usize = 9;
@@ -82,11 +82,11 @@ fn is_assigned(line: &[u8]) -> bool
     line.len() == ASSIGNED_LENGTH && begins(line, b"assigned ")
 }
 
-/// Whether it has the registers that were read.
+/// Whether it has the registers that were read. The line of a device that is called `bytes` has more words.
 fn is_bytes(line: &[u8]) -> bool
     ensures { result ≡ is_bytes line.now }
 {
-    line.len() == BYTES_LENGTH && begins(line, b"bytes ")
+    begins(line, b"bytes") && is_one_word(behind(line, BYTES_LENGTH))
 }
 
 /// Whether it has the address of the active controller.

@@ -2,18 +2,21 @@
 use Rattle.std.proofs.Common.{◌≡◌, ◌∙◌, ℕ, ◌<◌, true, false, inl, inr, List, [], ◌∷◌, Option, Some, None, length, take, codes, ap, refl, sym, subst}
 use Rattle.std.proofs.lemmas.Bool.{false≢true}
 use Rattle.std.specs.Option.{IfSome, IsSome}
+use Rattle.std.specs.Str.Parse.{digits_value}
 use Rattle.arrayvec.specs.ArrayVec.{ArrayVec}
+use Rattle.i3c_base.specs.declared.datum.Direction.{Direction}
 use Rattle.i3c_base.specs.declared.device.Setup.{Setup}
 use Rattle.i3c_base.specs.declared.identity.Identity.{Identity}
 use Rattle.i3c_base.specs.declared.kinds.Kinds.{Kinds}
 use Rattle.i3c_base.specs.declared.requests.Fixed.{Fixed}
 use Rattle.i3c_lines.specs.declared.command.Command.{Command}
 use Rattle.i3c_lines.specs.declared.names.Name.{Name}
-use Rattle.i3c_lines.specs.Forms.{AreAddress, AreAddresses, AreByte, AreDeclared, AreDevice, AreKinds, AreWritten, IsForm, IsNamed, IsPolicy, WritesAddress, tokens}
+use Rattle.i3c_lines.specs.Data.{length_word}
+use Rattle.i3c_lines.specs.Forms.{AreAddress, AreAddresses, AreByte, AreDeclared, AreDevice, AreKinds, AreLength, AreWritten, IsForm, IsNamed, IsPolicy, WritesAddress, tokens}
 use Rattle.i3c_lines.specs.Parsing.{AreKept, AreNamed, Reads, joined}
 use Rattle.i3c_lines.specs.Words.{AreBytes, IsHex, pair_values}
 use Rattle.i3c_lines.proofs.LineLaws.{line_is, one_word, word_left}
-use Rattle.i3c_lines.proofs.Meanings.{as_meant, first_of, hex, identity_of, kinds_of, named, number_of, policy_of, rest_of, setup_of, written_of}
+use Rattle.i3c_lines.proofs.Meanings.{as_meant, first_of, hex, identity_of, kinds_of, lengths_meant, named, number_of, policy_of, rest_of, setup_of, written_of}
 use Rattle.i3c_lines.proofs.SplitLaws.{pairs_no_space, take_joined}
 
 pub drop_args : (rest : List (List ℕ)) (command : Command) → IsForm (codes "drop" ∷ rest) command → (name : Name) × AreNamed rest name
@@ -62,6 +65,11 @@ pub disec_args : (rest : List (List ℕ)) (command : Command) → IsForm (codes 
 disec_args rest command form =
     let f = as_meant (codes "disec" ∷ rest) command form in
     (number_of (rest_of rest), kinds_of (first_of rest), subst (λ ws. AreKinds ws (number_of (rest_of rest)) (kinds_of (first_of rest))) (sym (ap rest_of f.1)) f.2)
+
+pub length_args : (way : Direction) (rest : List (List ℕ)) (command : Command) → IsForm (length_word way ∷ rest) command → (most : ℕ) × (to : Option ℕ) × AreLength rest most to
+length_args way rest command form =
+    let f = subst (λ c. IsForm (length_word way ∷ rest) c) (lengths_meant way rest) (as_meant (length_word way ∷ rest) command form) in
+    (digits_value 10 (first_of rest), number_of (rest_of rest), subst (λ ws. AreLength ws (digits_value 10 (first_of rest)) (number_of (rest_of rest))) (sym (ap rest_of f.1)) f.2)
 
 pub raise_args : (rest : List (List ℕ)) (command : Command) → IsForm (codes "raise" ∷ rest) command
     → (name : Name) × (byte : Option ℕ) × (word : List ℕ) × (more : List (List ℕ)) × (rest ≡ word ∷ more) × IsNamed word name × AreByte more byte

@@ -2,13 +2,14 @@
 use Rattle.std.proofs.Common.{◌≡◌, ◌∙◌, ◌⊎◌, ℕ, Bool, true, false, cond, inl, inr, List, [], ◌∷◌, ◌++◌, Option, Some, None, codes, drop, take, ap, arith, refl, sym, subst}
 use Rattle.std.specs.List.{slice_get}
 use Rattle.i3c_base.specs.declared.datum.Datum.{Datum}
+use Rattle.i3c_base.specs.declared.datum.Direction.{Direction}
 use Rattle.i3c_step.specs.declared.events.Command.{Command as Frame}
 use Rattle.i3c_lines.specs.declared.command.Command.{Command}
 use Rattle.i3c_lines.specs.Data.{datum_word, told_word}
 use Rattle.i3c_lines.specs.Forms.{AreAsked, IsForm, WritesAddress, tokens, with_first}
 use Rattle.i3c_lines.specs.Parsing.{Becomes, BecomesOther, IsOther}
 use Rattle.i3c_lines.proofs.LineLaws.{line_is, line_of, some_word}
-use Rattle.i3c_lines.proofs.Meanings.{are_same, as_meant, first_of, hex, datum_of, identity_of, kinds_of, meant, meant_is, named, number_of, rest_of, shown_by, written_of}
+use Rattle.i3c_lines.proofs.Meanings.{are_same, as_meant, first_of, hex, datum_of, identity_of, kinds_of, length_of, meant, meant_is, named, number_of, rest_of, shown_by, written_of}
 
 abbrev tail_of : List ℕ → List ℕ
 tail_of [] = []
@@ -82,9 +83,23 @@ shown : (word : List ℕ) (words : List (List ℕ)) → IsForm (word ∷ words) 
 shown word [] e = inl e
 shown word (next ∷ words) e = inr e
 
+-- the lines that set a maximum length, or `show`
+lengthened : (tail word : List ℕ) (words : List (List ℕ)) → tokens (115 ∷ tail) ≡ (115 ∷ word) ∷ words
+    → IsForm ((115 ∷ word) ∷ words) (cond (are_same word (codes "etmwl")) (length_of Direction.Write words) (cond (are_same word (codes "etmrl")) (length_of Direction.Read words) Command.Show))
+    → (tail ≡ codes "how") ⊎ GoesOn tail (codes "etmwl") ⊎ GoesOn tail (codes "etmrl")
+lengthened tail word words e form =
+    elim (either (are_same word (codes "etmwl")) (length_of Direction.Write words) _ _ form) [
+      | inl is ↦ inr (inl (goes_on 115 tail (codes "etmwl") is.2.0 is.2.1 (e ∙ is.1 ∙ ap (λ ws. codes "setmwl" ∷ ws) is.2.2)))
+      | inr other ↦
+          elim (either (are_same word (codes "etmrl")) (length_of Direction.Read words) Command.Show _ other) [
+            | inl is ↦ inr (inr (goes_on 115 tail (codes "etmrl") is.2.0 is.2.1 (e ∙ is.1 ∙ ap (λ ws. codes "setmrl" ∷ ws) is.2.2)))
+            | inr is ↦ inl (alone 115 tail (codes "how") (e ∙ is))
+          ]
+    ]
+
 -- behind `s`
 pub only_s : (tail : List ℕ) (command : Command) → IsForm (tokens (115 ∷ tail)) command → (tail ≡ codes "erve") ⊎ (tail ≡ codes "how") ⊎ (tail ≡ codes "ymbols") ⊎ (tail ≡ codes "how all")
-    ⊎ GoesOn tail (codes "etdasa") ⊎ GoesOn tail (codes "etnewda")
+    ⊎ GoesOn tail (codes "etdasa") ⊎ GoesOn tail (codes "etnewda") ⊎ GoesOn tail (codes "etmwl") ⊎ GoesOn tail (codes "etmrl")
 only_s tail command form =
     let (word, words, e, here) = begun 115 tail command refl form in
     elim (either (are_same word (codes "erve")) (Command.Frame Frame.Serve) _ _ here) [
@@ -103,9 +118,13 @@ only_s tail command form =
                       elim (either (are_same word (codes "etdasa")) (Command.Frame (Frame.SetStatic (hex (first_of words)) (hex (first_of (rest_of words))))) _ _ fourth) [
                         | inl is ↦ inr (inr (inr (inr (inl (goes_on 115 tail (codes "etdasa") is.2.0 (is.2.1 ∷ []) (e ∙ is.1 ∙ ap (λ ws. codes "setdasa" ∷ ws) is.2.2))))))
                         | inr fifth ↦
-                            elim (either (are_same word (codes "etnewda")) (Command.Frame (Frame.SetNew (hex (first_of words)) (hex (first_of (rest_of words))))) Command.Show _ fifth) [
-                              | inl is ↦ inr (inr (inr (inr (inr (goes_on 115 tail (codes "etnewda") is.2.0 (is.2.1 ∷ []) (e ∙ is.1 ∙ ap (λ ws. codes "setnewda" ∷ ws) is.2.2))))))
-                              | inr is ↦ inr (inl (alone 115 tail (codes "how") (e ∙ is)))
+                            elim (either (are_same word (codes "etnewda")) (Command.Frame (Frame.SetNew (hex (first_of words)) (hex (first_of (rest_of words))))) _ _ fifth) [
+                              | inl is ↦ inr (inr (inr (inr (inr (inl (goes_on 115 tail (codes "etnewda") is.2.0 (is.2.1 ∷ []) (e ∙ is.1 ∙ ap (λ ws. codes "setnewda" ∷ ws) is.2.2)))))))
+                              | inr sixth ↦
+                                  elim (lengthened tail word words e sixth) [
+                                    | inl show ↦ inr (inl show)
+                                    | inr length ↦ inr (inr (inr (inr (inr (inr length)))))
+                                  ]
                             ]
                       ]
                 ]

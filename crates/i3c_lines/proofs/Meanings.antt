@@ -9,6 +9,7 @@ use mathlib.Core.List.{is_set}
 use native.Mathlib.Bridge.{le_prop}
 use native.Mathlib.Nat.{ℕ_set}
 use Rattle.i3c_base.specs.declared.datum.Datum.{Datum}
+use Rattle.i3c_base.specs.declared.datum.Direction.{Direction}
 use Rattle.i3c_base.specs.declared.device.Setup.{Setup}
 use Rattle.i3c_base.specs.declared.identity.Identity.{Identity}
 use Rattle.i3c_base.specs.declared.kinds.Kinds.{Kinds}
@@ -18,7 +19,7 @@ use Rattle.i3c_step.specs.declared.events.Command.{Command as Frame}
 use Rattle.i3c_lines.specs.declared.command.Command.{Command}
 use Rattle.i3c_lines.specs.declared.names.Name.{Name}
 use Rattle.i3c_lines.specs.Forms.{AreAddress, AreByte, AreWritten, IsForm, IsFrameForm, IsNamed, IsPolicy, WritesIdentity, WritesKinds, willing_words}
-use Rattle.i3c_lines.specs.Data.{told_word}
+use Rattle.i3c_lines.specs.Data.{length_word, told_word}
 use Rattle.i3c_lines.specs.Naming.{letters}
 use Rattle.i3c_lines.specs.Policies.{each_kind, interrupts_alone, joins_alone, roles_alone}
 use Rattle.i3c_lines.specs.Words.{pair_values}
@@ -110,6 +111,10 @@ datum_of word = cond (are_same word (codes "pid")) Datum.Pid
     (cond (are_same word (codes "mrl")) Datum.ReadLength
     (cond (are_same word (codes "mxds")) Datum.Speed Datum.Capabilities))))))
 
+-- the command that sets a maximum length
+abbrev pub length_of : Direction → List (List ℕ) → Command
+length_of way args = Command.Frame (Frame.SetLength way (digits_value 10 (first_of args)) (number_of (rest_of args)))
+
 -- the command that begins with this word, if it begins with one's
 abbrev pub meant_by : List ℕ → List (List ℕ) → Command
 meant_by word args =
@@ -140,7 +145,9 @@ meant_by word args =
     (cond (are_same word (codes "policy")) (Command.Policy (policy_of (first_of args)))
     (cond (are_same word (codes "cut")) (Command.Cut (named (first_of args)) (digits_value 10 (first_of (rest_of args))))
     (cond (are_same word (codes "frames")) (Command.Frames (digits_value 10 (first_of args)))
-    (cond (are_same (take 3 word) (codes "get")) (Command.Frame (Frame.Get (datum_of (drop 3 word)) (hex (first_of args)))) Command.Show)))))))))))))))))))))))))))
+    (cond (are_same (take 3 word) (codes "get")) (Command.Frame (Frame.Get (datum_of (drop 3 word)) (hex (first_of args))))
+    (cond (are_same word (codes "setmwl")) (length_of Direction.Write args)
+    (cond (are_same word (codes "setmrl")) (length_of Direction.Read args) Command.Show)))))))))))))))))))))))))))))
 
 -- the command that these words can be at most
 abbrev pub meant : List (List ℕ) → Command
@@ -190,6 +197,11 @@ setup_is word pid bcr dcr words name setup e is =
 kinds_is : (word : List ℕ) (kinds : Kinds) → WritesKinds word kinds → kinds_of word ≡ kinds
 kinds_is word kinds is = λ i. record { 0 = sym is.1 i }
 
+-- the words behind a first one that sets a maximum length
+pub lengths_meant : (way : Direction) (rest : List (List ℕ)) → meant (length_word way ∷ rest) ≡ length_of way rest
+lengths_meant Direction.Write rest = refl
+lengths_meant Direction.Read rest = refl
+
 frame_is : (words : List (List ℕ)) (frame : Frame) → IsFrameForm words frame → meant words ≡ Command.Frame frame
 frame_is words Frame.Serve e = ap meant e
 frame_is words (Frame.Enec to kinds) (rest, e, (word, more, e', kept, at)) =
@@ -206,6 +218,8 @@ frame_is words (Frame.SetStatic at to) (rest, e, (one, other, e', first, second)
 frame_is words (Frame.SetNew at to) (rest, e, (one, other, e', first, second)) =
     ap meant (e ∙ ap (λ ws. codes "setnewda" ∷ ws) e') ∙ (λ i. Command.Frame (Frame.SetNew (sym first.0.1 i) (sym second.0.1 i)))
 frame_is words (Frame.Get what at) (word, e, is) = ap meant e ∙ (λ i. Command.Frame (Frame.Get (datum_is what i) (sym is.0.1 i)))
+frame_is words (Frame.SetLength way most to) (rest, e, (word, more, e', is, at)) =
+    ap meant (e ∙ ap (λ ws. length_word way ∷ ws) e') ∙ lengths_meant way (word ∷ more) ∙ (λ i. Command.Frame (Frame.SetLength way (sym is.0.0.1 i) (address_is more to at i)))
 
 -- words are no other command's than the one that they mean
 pub meant_is : (words : List (List ℕ)) (command : Command) → IsForm words command → meant words ≡ command

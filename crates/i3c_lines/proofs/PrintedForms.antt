@@ -4,6 +4,7 @@ use Rattle.std.proofs.lemmas.List.{take_all}
 use Rattle.std.proofs.lemmas.Nat.{and_le_r}
 use Rattle.std.specs.Fmt.{decimal}
 use Rattle.i3c_base.specs.declared.datum.Datum.{Datum}
+use Rattle.i3c_base.specs.declared.datum.Direction.{Direction}
 use Rattle.i3c_base.specs.declared.device.Setup.{Setup}
 use Rattle.i3c_base.specs.declared.identity.Identity.{Identity}
 use Rattle.i3c_base.specs.declared.kinds.Kinds.{Kinds}
@@ -12,9 +13,9 @@ use Rattle.i3c_base.specs.Numbers.{IsInRange}
 use Rattle.i3c_step.specs.declared.events.Command.{Command as Frame}
 use Rattle.i3c_lines.specs.declared.command.Command.{Command}
 use Rattle.i3c_lines.specs.declared.names.Name.{Name}
-use Rattle.i3c_lines.specs.Forms.{AreAddress, AreAddresses, AreByte, AreDeclared, AreDevice, AreKinds, AreWritten, IsCommand, IsForm, IsPolicy, tokens, willing_words}
+use Rattle.i3c_lines.specs.Forms.{AreAddress, AreAddresses, AreByte, AreDeclared, AreDevice, AreKinds, AreLength, AreWritten, IsCommand, IsForm, IsPolicy, tokens, willing_words}
 use Rattle.i3c_text.specs.Hex.{byte_text, bytes_text, hex_text}
-use Rattle.i3c_lines.specs.Data.{datum_word}
+use Rattle.i3c_lines.specs.Data.{datum_word, length_word}
 use Rattle.i3c_lines.specs.Naming.{letters}
 use Rattle.i3c_lines.specs.Printing.{AreKnown, HasLine, IsWithin, IsNamable, byte_words, command_text, command_words, device_words, identity_words, spaced, verdicts_word, written_words}
 use Rattle.i3c_lines.proofs.Meanings.{as_meant}
@@ -112,6 +113,16 @@ datum_fits Datum.ReadLength = (plain (codes "getmrl") tt, omega arith)
 datum_fits Datum.Speed = (plain (codes "getmxds") tt, omega arith)
 datum_fits Datum.Capabilities = (plain (codes "getcaps") tt, omega arith)
 
+lengths_fit : (way : Direction) → HasNoSpace (length_word way) × (length (length_word way) ≤ 6)
+lengths_fit Direction.Write = (plain (codes "setmwl") tt, omega arith)
+lengths_fit Direction.Read = (plain (codes "setmrl") tt, omega arith)
+
+length_fits : (most : ℕ) (to : Option ℕ) → 0 < most → most ≤ 16 → IsWithin 128 to → Fit (AreLength (decimal most ∷ byte_words to) most to) (decimal most ∷ byte_words to) 9
+length_fits most to some few h =
+    let digits = decimal_writes most (omega (arith, few)) in
+    let at = address_fits to h in
+    ((decimal most, byte_words to, refl, ((digits.0, some), few), at.0), (digits.1, at.1), omega (arith, digits.2, at.2))
+
 -- a command's words have its form, none has a space, and they are short
 abbrev Prints : Command → Type 0
 Prints command = Fit (IsForm (command_words command) command) (command_words command) 60
@@ -133,6 +144,10 @@ frame_prints (Frame.Get what at) h =
     let small : at < 256 = omega (arith, h) in
     let fit = datum_fits what in
     ((byte_text at, refl, (byte_writes at small, h)), (fit.0, (byte_apart at small, tt)), omega (arith, fit.1))
+frame_prints (Frame.SetLength way most to) h =
+    let word = lengths_fit way in
+    let fit = length_fits most to h.0 h.1 h.2 in
+    ((decimal most ∷ byte_words to, refl, fit.0), (word.0, fit.1), omega (arith, word.1, fit.2))
 
 prints : (command : Command) → HasLine command → Prints command
 prints (Command.Legacy name address lvr) h =

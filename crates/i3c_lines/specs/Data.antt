@@ -1,6 +1,7 @@
--- The words of the data that a controller asks for.
+-- The words of the data that a controller asks for, and of the lengths that it sets.
 use Rattle.std.specs.Prelude.{ℕ, List, ◌++◌, codes}
 use Rattle.i3c_base.specs.declared.datum.Datum.{Datum}
+use Rattle.i3c_base.specs.declared.datum.Direction.{Direction}
 
 -- the first word of the line that tells a datum
 abbrev pub told_word : Datum → List ℕ
@@ -16,3 +17,8 @@ told_word Datum.Capabilities = codes "caps"
 -- the first word of the line that asks for it
 abbrev pub datum_word : Datum → List ℕ
 datum_word what = codes "get" ++ told_word what
+
+-- the first word of the line that sets the maximum length of writes or of reads
+abbrev pub length_word : Direction → List ℕ
+length_word Direction.Write = codes "setmwl"
+length_word Direction.Read = codes "setmrl"

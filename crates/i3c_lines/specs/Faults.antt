@@ -1,5 +1,5 @@
 -- Why a line has no form.
-use Rattle.std.specs.Prelude.{⊤, ◌≡◌, ℕ, ◌-◌, ◌<◌, List, ◌∷◌, Some, codes, length, slice_get, ◌==◌, true}
+use Rattle.std.specs.Prelude.{⊤, ◌≡◌, ℕ, ◌-◌, ◌<◌, ◌≤◌, List, ◌∷◌, Some, codes, length, slice_get, ◌==◌, true}
 use Rattle.std.specs.List.{list_any}
 use Rattle.std.specs.Str.Parse.{digits_value}
 use Rattle.i3c_base.specs.declared.requests.Fixed.{Fixed}
@@ -22,6 +22,7 @@ IsField Field.Byte word = IsHex 2 word
 IsField Field.Bytes word = (0 < length word) × AreBytes word
 IsField Field.Bit word = IsDecimal word × (digits_value 10 word < 65536)
 IsField Field.Count word = IsDecimal word × (digits_value 10 word < 65536) × (0 < digits_value 10 word)
+IsField Field.Length word = IsDecimal word × (digits_value 10 word < 65536) × (0 < digits_value 10 word) × (digits_value 10 word ≤ 16)
 IsField Field.Policy word = (policy : Fixed) × IsPolicy word policy
 IsField Field.Decline word = word ≡ codes "decline"
 IsField Field.All word = word ≡ codes "all"

@@ -10,7 +10,7 @@ use Rattle.i3c_base.specs.declared.requests.Verdict.TheVariants.{Accept, Refuse}
 use Rattle.i3c_step.specs.declared.events.Command.{Command as Frame}
 use Rattle.i3c_lines.specs.declared.command.Command.{Command}
 use Rattle.i3c_lines.specs.declared.names.Name.{Name}
-use Rattle.i3c_lines.specs.Data.{datum_word, told_word}
+use Rattle.i3c_lines.specs.Data.{datum_word, length_word, told_word}
 use Rattle.i3c_lines.specs.Naming.{letters}
 use Rattle.i3c_lines.specs.Policies.{each_kind, interrupts_alone, joins_alone, roles_alone}
 use Rattle.i3c_lines.specs.Words.{AreBytes, IsDecimal, IsHex, IsName, pair_values}
@@ -49,6 +49,10 @@ WritesBit word bit = IsDecimal word × (bit ≡ digits_value 10 word) × (bit < 
 abbrev pub WritesCount : List ℕ → ℕ → Type 0
 WritesCount word count = WritesBit word count × (0 < count)
 
+-- the same, and 16 at most
+abbrev pub WritesLength : List ℕ → ℕ → Type 0
+WritesLength word most = WritesCount word most × (most ≤ 16)
+
 -- three words that are an identity
 abbrev pub WritesIdentity : List ℕ → List ℕ → List ℕ → Identity → Type 0
 WritesIdentity pid bcr dcr identity = Writes 12 pid identity.pid × Writes 2 bcr identity.bcr.0 × Writes 2 dcr identity.dcr.0
@@ -76,6 +80,10 @@ AreAddress words (Some address) = (word : List ℕ) × (words ≡ word ∷ []) �
 -- `BYTE [ADDR]`
 abbrev pub AreKinds : List (List ℕ) → Option ℕ → Kinds → Type 0
 AreKinds words to kinds = (word : List ℕ) × (rest : List (List ℕ)) × (words ≡ word ∷ rest) × WritesKinds word kinds × AreAddress rest to
+
+-- `N [ADDR]`
+abbrev pub AreLength : List (List ℕ) → ℕ → Option ℕ → Type 0
+AreLength words most to = (word : List ℕ) × (rest : List (List ℕ)) × (words ≡ word ∷ rest) × WritesLength word most × AreAddress rest to
 
 -- `ADDR ADDR`
 abbrev pub AreAddresses : List (List ℕ) → ℕ → ℕ → Type 0
@@ -111,6 +119,7 @@ IsFrameForm words (Frame.WriteTo at bytes) = (word : List ℕ) × (rest : List (
 IsFrameForm words (Frame.SetStatic at to) = (rest : List (List ℕ)) × (words ≡ codes "setdasa" ∷ rest) × AreAddresses rest at to
 IsFrameForm words (Frame.SetNew at to) = (rest : List (List ℕ)) × (words ≡ codes "setnewda" ∷ rest) × AreAddresses rest at to
 IsFrameForm words (Frame.Get what at) = (word : List ℕ) × (words ≡ datum_word what ∷ word ∷ []) × WritesAddress word at
+IsFrameForm words (Frame.SetLength way most to) = (rest : List (List ℕ)) × (words ≡ length_word way ∷ rest) × AreLength rest most to
 
 -- these words are this command's line
 abbrev pub IsForm : List (List ℕ) → Command → Type 0

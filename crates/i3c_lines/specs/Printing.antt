@@ -12,7 +12,7 @@ use Rattle.i3c_lines.specs.declared.command.Command.{Command}
 use Rattle.i3c_lines.specs.declared.names.Name.{Name}
 use Rattle.i3c_lines.specs.Forms.{IsPolicy, willing_words}
 use Rattle.i3c_text.specs.Hex.{byte_text, bytes_text, hex_text}
-use Rattle.i3c_lines.specs.Data.{datum_word}
+use Rattle.i3c_lines.specs.Data.{datum_word, length_word}
 use Rattle.i3c_lines.specs.Naming.{letters}
 use Rattle.i3c_lines.specs.Words.{IsName}
 
@@ -67,6 +67,7 @@ frame_words (Frame.WriteTo at bytes) = codes "write" ∷ byte_text at ∷ writte
 frame_words (Frame.SetStatic at to) = codes "setdasa" ∷ byte_text at ∷ byte_text to ∷ []
 frame_words (Frame.SetNew at to) = codes "setnewda" ∷ byte_text at ∷ byte_text to ∷ []
 frame_words (Frame.Get what at) = datum_word what ∷ byte_text at ∷ []
+frame_words (Frame.SetLength way most to) = length_word way ∷ decimal most ∷ byte_words to
 
 -- the words of a command's line
 abbrev pub command_words : Command → List (List ℕ)
@@ -120,6 +121,7 @@ FrameHasLine (Frame.WriteTo at bytes) = (at < 128) × (length bytes.items ≤ 17
 FrameHasLine (Frame.SetStatic at to) = (at < 128) × (to < 128)
 FrameHasLine (Frame.SetNew at to) = (at < 128) × (to < 128)
 FrameHasLine (Frame.Get what at) = at < 128
+FrameHasLine (Frame.SetLength way most to) = (0 < most) × (most ≤ 16) × IsWithin 128 to
 
 -- a command that a line can ask for: its names have letters, its numbers are in range, and its policy has a word
 abbrev pub HasLine : Command → Type 0

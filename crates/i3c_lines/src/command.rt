@@ -1,5 +1,6 @@
 ghost use Rattle.std.specs.Prelude.{◌≡◌, ◌∷◌, Some, codes, option_copied};
-ghost use Rattle.i3c_lines.specs.Forms.{AreAddress, AreAddresses, AreAsked, AreByte, AreDeclared, AreDevice, AreKinds, IsForm, IsNamed, Writes, tokens};
+ghost use Rattle.i3c_lines.specs.Forms.{AreAddress, AreAddresses, AreAsked, AreByte, AreDeclared, AreDevice, AreKinds, AreLength, IsForm, IsNamed, Writes, tokens};
+ghost use Rattle.i3c_lines.specs.Data.{length_word};
 ghost use Rattle.i3c_lines.specs.Parsing.{AreKept, AreNamed, AreWilling, Becomes, BecomesOther, IsOtherForm, Reads, TakesIdentity, TakesWord, left_words, words_of};
 
 use crate::data::datum;
@@ -7,7 +8,7 @@ use crate::names::Name;
 use crate::policies::policy;
 use crate::tokens::{self, Tokens, after, is_word};
 use arrayvec::ArrayVec;
-use i3c_base::{Addr7, Bcr, Datum, Dcr, Fixed, Identity, Kinds, Lvr, Setup};
+use i3c_base::{Addr7, Bcr, Datum, Dcr, Direction, Fixed, Identity, Kinds, Length, Lvr, Setup};
 use i3c_step::{Command as Frame, WRITE_KEPT};
 
 // Words behind their first letters. Letters that are compared at once take fewer steps than one by one.
@@ -30,6 +31,10 @@ const SYMBOLS: &[u8] = b"ymbols";
 const SETDASA: &[u8] = b"etdasa ";
 
 const SETNEWDA: &[u8] = b"etnewda ";
+
+const SETMWL: &[u8] = b"etmwl ";
+
+const SETMRL: &[u8] = b"etmrl ";
 
 const ENEC: &[u8] = b"nec ";
 
@@ -112,8 +117,8 @@ pub enum Command {
         name: Name,
     },
     /// A line that sends a frame under the role: `serve`, `enec BYTE [ADDR]`, `disec BYTE [ADDR]`, `reset`, `list`,
-    /// `read ADDR`, `write ADDR [BYTES]`, `setdasa ADDR NEW`, `setnewda OLD NEW`, or `getpid ADDR` and its like. Of more
-    /// bytes than may be written one more is kept.
+    /// `read ADDR`, `write ADDR [BYTES]`, `setdasa ADDR NEW`, `setnewda OLD NEW`, `getpid ADDR` and its like,
+    /// `setmwl N [ADDR]` or `setmrl N [ADDR]`. Of more bytes than may be written one more is kept.
     Frame(Frame),
     /// `handover ADDR`: the role is offered to the device at an address.
     HandOver {
@@ -224,6 +229,12 @@ impl Command {
         }
         if let Some(line) = after(tail, SETNEWDA) {
             return self.read_setnewda::<K>(line);
+        }
+        if let Some(line) = after(tail, SETMWL) {
+            return self.read_length(Direction::Write, line);
+        }
+        if let Some(line) = after(tail, SETMRL) {
+            return self.read_length(Direction::Read, line);
         }
         None
     }
@@ -363,6 +374,17 @@ impl Command {
     {
         let (at, to) = parse_addresses(line)?;
         *self = Command::Frame(Frame::SetNew(at, to));
+        Some(())
+    }
+
+    /// Becomes SETMWL or SETMRL, by the words behind its first: a length, and an address if one is given.
+    // kept apart, so that no other line pays for it
+    #[inline(never)]
+    fn read_length(&mut self, way: Direction, line: &[u8]) -> Option<()>
+        ensures { Becomes (length_word way ∷ tokens line.now) result self.old self.new }
+    {
+        let (most, to) = parse_length(&mut Tokens::of(line))?;
+        *self = Command::Frame(Frame::SetLength(way, most, to));
         Some(())
     }
 
@@ -610,6 +632,27 @@ fn parse_asked(words: &mut Tokens<'_>) -> Option<(Datum, Addr7)>
     let at = tokens::address(words.next()?)?;
     words.end()?;
     Some((what, at))
+}
+
+/// The words of `setmwl` and of `setmrl`: a length, and an address if one is given.
+fn parse_length(words: &mut Tokens<'_>) -> Option<(Length, Option<Addr7>)>
+    ensures { Reads (λ words parts. AreLength words parts.0 parts.1) (left_words words.old) result }
+{
+    let most = tokens::length(words.next()?)?;
+    let to = parse_last_address(words)?;
+    Some((most, to))
+}
+
+/// The last word, which is an address, if there is one.
+fn parse_last_address(words: &mut Tokens<'_>) -> Option<Option<Addr7>>
+    ensures { Reads AreAddress (left_words words.old) result }
+{
+    let Some(word) = words.next() else {
+        return Some(None);
+    };
+    let at = tokens::address(word)?;
+    words.end()?;
+    Some(Some(at))
 }
 
 /// The last words of `raise`: a byte, if one is given.

@@ -1,8 +1,8 @@
 ghost use Rattle.std.specs.Prelude.{◌≡◌, MatchOption};
-ghost use Rattle.i3c_lines.specs.Data.{told_word};
+ghost use Rattle.i3c_lines.specs.Data.{length_word, told_word};
 ghost use Rattle.i3c_base.specs.declared.datum.Datum.{Datum};
 
-use i3c_base::Datum;
+use i3c_base::{Datum, Direction};
 
 /// The first word of the line that tells a datum (I3C Basic 5.1.9.3). Behind `get` it is the first word of the line that
 /// asks for it.
@@ -35,5 +35,15 @@ pub fn datum(word: &[u8]) -> Option<Datum>
         b"mxds" => Some(Datum::Speed),
         b"caps" => Some(Datum::Capabilities),
         _ => None,
+    }
+}
+
+/// The first word of the line that sets the maximum length of writes or of reads (I3C Basic 5.1.9.3.5, 5.1.9.3.6).
+pub fn length_word(way: Direction) -> &'static str
+    ensures { result.now ≡ length_word way }
+{
+    match way {
+        Direction::Write => "setmwl",
+        Direction::Read => "setmrl",
     }
 }

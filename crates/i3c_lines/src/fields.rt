@@ -37,6 +37,8 @@ pub enum Field {
     Bit,
     /// How many frames.
     Count,
+    /// How many bytes a transfer may have.
+    Length,
     /// The word that asks for all of the bus.
     All,
     /// The name of a policy.
@@ -60,6 +62,7 @@ impl Field {
             Field::Bytes => !word.is_empty() && tokens::bytes(word).is_some(),
             Field::Bit => tokens::bit(word).is_some(),
             Field::Count => tokens::count(word).is_some(),
+            Field::Length => tokens::length(word).is_some(),
             Field::Policy => policy(word).is_some(),
             Field::Decline => is_word(word, DECLINE),
             Field::All => is_word(word, ALL),
@@ -80,7 +83,7 @@ impl Field {
             Field::Byte => "BYTE",
             Field::Bytes => "BYTES",
             Field::Bit => "BIT",
-            Field::Count => "N",
+            Field::Count | Field::Length => "N",
             Field::Policy => "POLICY",
             Field::Decline | Field::All => "",
         }
@@ -98,6 +101,7 @@ impl Field {
             Field::Bytes => "two hexadecimal digits in capitals for each byte",
             Field::Bit => "decimal digits, up to 65535",
             Field::Count => "decimal digits, 1 to 65535",
+            Field::Length => "decimal digits, 1 to 16",
             Field::Policy => "all, none, joins, roles or interrupts",
             Field::Decline => "'decline' or nothing",
             Field::All => "'all' or nothing",
@@ -116,8 +120,13 @@ impl Field {
             | Field::New
             | Field::Byte
             | Field::Bytes => true,
-            Field::Name | Field::Bit | Field::Count | Field::Policy | Field::Decline | Field::All =>
-                false,
+            Field::Name
+            | Field::Bit
+            | Field::Count
+            | Field::Length
+            | Field::Policy
+            | Field::Decline
+            | Field::All => false,
         }
     }
 }

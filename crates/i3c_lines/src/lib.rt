@@ -2,7 +2,7 @@
 //!
 //! `tokens` reads one word, `command` a line of text, `line` a line of bytes, which may come in pieces. `names` keeps what the names of a script
 //! stand for, and `namings` which names a command gives and means. `policies` are the words that name a policy,
-//! and `data` those of what a controller asks for.
+//! and `data` those of what a controller asks for, and of the lengths that it sets.
 //! `form_faults` says why a line has no form, by the `fields` and the `shapes` of the commands. `laws` are theorems over all
 //! lines.
 #![tactic(auto)]
@@ -22,7 +22,7 @@ mod shapes;
 pub mod tokens;
 
 pub use command::Command;
-pub use data::{datum, told_word};
+pub use data::{datum, length_word, told_word};
 pub use fields::Field;
 pub use form_faults::{FormFault, form_fault, push_quoted};
 pub use laws::{

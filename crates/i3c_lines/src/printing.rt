@@ -2,15 +2,15 @@ ghost use Rattle.std.specs.Prelude.{◌≡◌, [], ◌∷◌, ◌++◌, OnOk, co
 ghost use Rattle.std.specs.Fmt.{decimal};
 ghost use Rattle.i3c_lines.specs.Forms.{willing_words};
 ghost use Rattle.i3c_text.specs.Hex.{byte_text, hex_text};
-ghost use Rattle.i3c_lines.specs.Data.{datum_word};
+ghost use Rattle.i3c_lines.specs.Data.{datum_word, length_word};
 ghost use Rattle.i3c_lines.specs.Naming.{letters};
 ghost use Rattle.i3c_lines.specs.Printing.{behind, byte_words, command_text, device_words, frame_words, identity_words, spaced, verdicts_word, written_words};
 
 use crate::command::Command;
-use crate::data::told_word;
+use crate::data::{length_word, told_word};
 use crate::names::Name;
 use bitflags::Flags;
-use i3c_base::{Addr7, Datum, Fixed, Identity, Kinds, Lvr, Pid, Setup, Verdict};
+use i3c_base::{Addr7, Datum, Direction, Fixed, Identity, Kinds, Length, Lvr, Pid, Setup, Verdict};
 use i3c_step::Command as Frame;
 use i3c_text::Text;
 use std::alloc::AllocError;
@@ -157,6 +157,7 @@ fn push_frame(text: &mut Text, frame: &Frame) -> Result<(), AllocError>
         Frame::SetStatic(at, to) => push_setting(text, b"setdasa", *at, *to),
         Frame::SetNew(at, to) => push_setting(text, b"setnewda", *at, *to),
         Frame::Get(what, at) => push_get(text, *what, *at),
+        Frame::SetLength(way, most, to) => push_length(text, *way, *most, *to),
     }
 }
 
@@ -203,6 +204,24 @@ fn push_get(text: &mut Text, what: Datum, at: Addr7) -> Result<(), AllocError>
 {
     text.push(b"get")?;
     push_addressed(text, told_word(what).as_bytes(), at)
+}
+
+/// Appends a maximum length, and an address if there is one.
+fn push_length(
+    text: &mut Text,
+    way: Direction,
+    most: Length,
+    to: Option<Addr7>,
+) -> Result<(), AllocError>
+    ensures { OnOk result (text.new ≡ text.old ++ spaced (length_word way ∷ decimal most ∷ byte_words to)) }
+{
+    text.push(length_word(way).as_bytes())?;
+    text.push(b" ")?;
+    text.push_decimal(u64::from(most.get()))?;
+    match to {
+        None => Ok(()),
+        Some(to) => push_byte(text, to.get()),
+    }
 }
 
 /// Appends a policy's line.

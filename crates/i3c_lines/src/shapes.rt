@@ -11,7 +11,7 @@ pub(crate) struct Shape {
 }
 
 /// The commands, in the order of docs/FORMATS.md.
-static SHAPES: [Shape; 35] = [
+static SHAPES: [Shape; 37] = [
     Shape {
         word: "legacy",
         needed: &[Field::Name, Field::Addr, Field::Lvr],
@@ -146,6 +146,16 @@ static SHAPES: [Shape; 35] = [
         word: "getcaps",
         needed: &[Field::Addr],
         further: None,
+    },
+    Shape {
+        word: "setmwl",
+        needed: &[Field::Length],
+        further: Some(Field::Addr),
+    },
+    Shape {
+        word: "setmrl",
+        needed: &[Field::Length],
+        further: Some(Field::Addr),
     },
     Shape {
         word: "handover",

@@ -5,7 +5,7 @@ ghost use Rattle.i3c_lines.specs.Parsing.{joined};
 
 use arrayvec::ArrayVec;
 use bitflags::Flags;
-use i3c_base::{Addr7, Kinds, Pid};
+use i3c_base::{Addr7, Kinds, Length, Pid};
 use i3c_step::WRITE_KEPT;
 use i3c_text::{PID_DIGITS, digit, read_byte, read_digits};
 use std::str;
@@ -202,6 +202,18 @@ pub(crate) fn count(word: &[u8]) -> Option<u16>
         0 => None,
         count => Some(count),
     }
+}
+
+/// A maximum length: decimal digits, 1 to 16, read as a bit is.
+pub(crate) fn length(word: &[u8]) -> Option<Length>
+    ensures form { IsSome result ↔ (IsDecimal word.now × (digits_value BIT_RADIX word.now < 2 ^ 16) × (0 < digits_value BIT_RADIX word.now) × (digits_value BIT_RADIX word.now ≤ 16)) }
+    ensures value { IfSome result (λ n. n ≡ digits_value BIT_RADIX word.now) }
+{
+    let number = bit(word)?;
+    if number > 16 {
+        return None;
+    }
+    Length::new(number as u8).ok()
 }
 
 /// Kinds of events: two hex digits, of which bit 0 names interrupts, bit 1 role requests and bit 3 Hot-Join. Other bits

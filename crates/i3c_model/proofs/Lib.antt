@@ -9,6 +9,7 @@ pub mod Requests
 pub mod Together
 pub mod Readings
 pub mod Framing
+pub mod Lengths
 pub mod Stepping
 pub mod Taking
 pub mod Clearing
@@ -20,3 +21,4 @@ pub mod FirstLaws
 pub mod TableLaws
 pub mod SettingLaws
 pub mod Told
+pub mod LengthLaws

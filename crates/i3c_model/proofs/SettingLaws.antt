@@ -25,30 +25,37 @@ use Rattle.i3c_model.proofs.Transfers.{Stay, Stay-back, all_bare_in, all_in, any
 abbrev pub Sets : ℕ → (State → Type 0) → (State → Lost → Type 0) → (State → State → Type 0) → Answer → Lost → State → State → Type 0
 Sets a Any AllLost Did answer lost mid done = ((answer ≡ Answer.Done) × Any mid × Did mid done) ⊎ ((answer ≡ Answer.NoAnswer a) × AllLost mid lost × (done ≡ mid))
 
-set_most : (a : ℕ) (answer : Answer) → kinds_bits (Some a) answer ≤ 27
-set_most a Answer.Done = omega arith
-set_most a (Answer.NoAnswer b) = omega arith
-set_most a (Answer.Bytes bytes) = omega arith
-set_most a Answer.NoEnd = omega arith
+-- the bits of a frame that ends with its header to an address where nobody acknowledges that
+abbrev pub EndsWithHeader : (Answer → ℕ) → Type 0
+EndsWithHeader bits = ((b : ℕ) → bits (Answer.NoAnswer b) ≡ 18) × ((answer : Answer) → bits answer ≤ bits Answer.Done)
 
-module _ (a : ℕ) (Any : State → Type 0) (AllLost : State → Lost → Type 0) (Did : State → State → Type 0)
+kinds_most : (a : ℕ) (answer : Answer) → kinds_bits (Some a) answer ≤ 27
+kinds_most a Answer.Done = omega arith
+kinds_most a (Answer.NoAnswer b) = omega arith
+kinds_most a (Answer.Bytes bytes) = omega arith
+kinds_most a Answer.NoEnd = omega arith
+
+pub kinds_header : (a : ℕ) → EndsWithHeader (kinds_bits (Some a))
+kinds_header a = (λ b. refl, kinds_most a)
+
+module _ (a : ℕ) (bits : Answer → ℕ) (ends : EndsWithHeader bits) (Any : State → Type 0) (AllLost : State → Lost → Type 0) (Did : State → State → Type 0)
     (any_stays : (st new : State) → Stay st new → Any st → Any new) (all_stays : (st new : State) (lost : Lost) → Stay st new → AllLost st lost → AllLost new lost) where
   -- what may be answered is what the frame's own part does, after serving
   pub sets_of : (old mid done : State) (cuts : CutList) (begin : ℕ) (answer : Answer) → Stay old mid → ((answer ≡ Answer.Done) × Any old) ⊎ ((answer ≡ Answer.NoAnswer a) × AllLost old (lost_by cuts (begin + 18)))
-      → (answer ≡ Answer.Done → Did mid done) → (¬ (answer ≡ Answer.Done) → done ≡ mid) → Sets a Any AllLost Did answer (lost_by cuts (begin + kinds_bits (Some a) answer)) mid done
+      → (answer ≡ Answer.Done → Did mid done) → (¬ (answer ≡ Answer.Done) → done ≡ mid) → Sets a Any AllLost Did answer (lost_by cuts (begin + bits answer)) mid done
   sets_of old mid done cuts begin answer stay may did did_not = elim may [
     | inl h ↦ inl (h.0, any_stays old mid stay h.1, did h.0)
     | inr h ↦ inr (
       h.0,
-      subst (λ x. AllLost mid (lost_by cuts (begin + kinds_bits (Some a) x))) (sym h.0) (all_stays old mid (lost_by cuts (begin + 18)) stay h.1),
+      subst (λ x. AllLost mid (lost_by cuts (begin + bits x))) (sym h.0) (subst (λ n. AllLost mid (lost_by cuts (begin + n))) (sym (ends.0 a)) (all_stays old mid (lost_by cuts (begin + 18)) stay h.1)),
       did_not (λ e. done≢no_answer a (sym e ∙ h.0)),
     )
   ]
 
   module _ (old : State) where
     silent_set : (mid done : State) (answer : Answer) (cuts : CutList) (begin : ℕ) → of_answer answer ≡ Some Silent → Stay old mid
-        → Sets a Any AllLost Did answer (lost_by cuts (begin + kinds_bits (Some a) answer)) mid done → AllLost old (lost_by cuts (begin + 18))
-    silent_set mid done (Answer.NoAnswer b) cuts begin e h own = elim own [ inl x ↦ absurd (done≢no_answer b (sym x.0)) | inr x ↦ all_stays mid old (lost_by cuts (begin + 18)) (Stay-back old mid h) x.1 ]
+        → Sets a Any AllLost Did answer (lost_by cuts (begin + bits answer)) mid done → AllLost old (lost_by cuts (begin + 18))
+    silent_set mid done (Answer.NoAnswer b) cuts begin e h own = elim own [ inl x ↦ absurd (done≢no_answer b (sym x.0)) | inr x ↦ all_stays mid old (lost_by cuts (begin + 18)) (Stay-back old mid h) (subst (λ n. AllLost mid (lost_by cuts (begin + n))) (ends.0 b) x.1) ]
     silent_set mid done Answer.Done cuts begin e h own = cc
     silent_set mid done (Answer.Bytes bytes) cuts begin e h own = cc
     silent_set mid done Answer.NoEnd cuts begin e h own = cc
@@ -65,8 +72,8 @@ module _ (a : ℕ) (Any : State → Type 0) (AllLost : State → Lost → Type 0
     heard_set mid done (Answer.NoAnswer b) lost e h own = cc
     heard_set mid done Answer.NoEnd lost e h own = cc
 
-    set_absent : (mid done : State) (other : Answer) (lost : Lost) → Stay old mid → ¬ Any old → Sets a Any AllLost Did other lost mid done → kinds_bits (Some a) other ≤ 18
-    set_absent mid done (Answer.NoAnswer b) lost h none own = omega arith
+    set_absent : (mid done : State) (other : Answer) (lost : Lost) → Stay old mid → ¬ Any old → Sets a Any AllLost Did other lost mid done → bits other ≤ 18
+    set_absent mid done (Answer.NoAnswer b) lost h none own = (let few = ends.0 b in omega (arith, few))
     set_absent mid done Answer.Done lost h none own = absurd (none (heard_set mid done Answer.Done lost refl h own))
     set_absent mid done (Answer.Bytes bytes) lost h none own = absurd (elim own [ inl x ↦ bytes≢done bytes x.0 | inr x ↦ bytes≢no_answer bytes a x.0 ])
     set_absent mid done Answer.NoEnd lost h none own = absurd (never_lost_set mid done Answer.NoEnd lost refl own)
@@ -78,24 +85,24 @@ module _ (a : ℕ) (Any : State → Type 0) (AllLost : State → Lost → Type 0
       Own = Sets a Any AllLost Did
 
       abbrev SetComes : Reply → State → Type 0
-      SetComes = Transfers old (kinds_bits (Some a)) Own policy cuts
+      SetComes = Transfers old bits Own policy cuts
 
-      pub sets_follow : (answer : Answer) → ServesAsChosen old policy (lost_by cuts (word + header + kinds_bits (Some a) answer)) choice served
-          → Frame old policy cuts served (header_bits served + kinds_bits (Some a) answer) (Sets a Any AllLost Did answer) new
+      pub sets_follow : (answer : Answer) → ServesAsChosen old policy (lost_by cuts (word + header + bits answer)) choice served
+          → Frame old policy cuts served (header_bits served + bits answer) (Sets a Any AllLost Did answer) new
           → (answer ≡ Answer.Done → choice ≡ Silent → ¬ AllLost old (lost_by cuts (word + header + 18))) → (¬ (answer ≡ Answer.Done) → ¬ (choice ≡ Silent) → ¬ Any old)
-          → Follows (Transfers old (kinds_bits (Some a)) (Sets a Any AllLost Did) policy cuts) choice (Reply.Framed (record { served = served; answer = answer }))
-      sets_follow Answer.Done served_as frame left none = transfer_follows old (kinds_bits (Some a)) Own policy cuts choice served Answer.Done word header new served_as word_sent header_sent frame
-          (λ e other lost mid done stay own. set_most a other)
+          → Follows (Transfers old bits (Sets a Any AllLost Did) policy cuts) choice (Reply.Framed (record { served = served; answer = answer }))
+      sets_follow Answer.Done served_as frame left none = transfer_follows old bits Own policy cuts choice served Answer.Done word header new served_as word_sent header_sent frame
+          (λ e other lost mid done stay own. ends.1 other)
           (λ other_of. taken_heard (MayStandFor SetComes of_own_part) choice
-          (λ c l. let o = other_of Choice.Lost l in never_lost_set o.mid o.done o.answer (lost_by cuts (word + header + kinds_bits (Some a) o.answer)) o.stands o.own)
+          (λ c l. let o = other_of Choice.Lost l in never_lost_set o.mid o.done o.answer (lost_by cuts (word + header + bits o.answer)) o.stands o.own)
           (λ c l. let o = other_of Silent l in left refl c (silent_set o.mid o.done o.answer cuts (word + header) o.stands o.stay o.own)))
-      sets_follow (Answer.NoAnswer b) served_as frame left none = transfer_follows old (kinds_bits (Some a)) Own policy cuts choice served (Answer.NoAnswer b) word header new served_as word_sent header_sent frame
-          (λ e other lost mid done stay own. set_absent mid done other lost stay (nobody (λ s. lost≢silent (sym e ∙ s))) own)
+      sets_follow (Answer.NoAnswer b) served_as frame left none = transfer_follows old bits Own policy cuts choice served (Answer.NoAnswer b) word header new served_as word_sent header_sent frame
+          (λ e other lost mid done stay own. let few = set_absent mid done other lost stay (nobody (λ s. lost≢silent (sym e ∙ s))) own in let header = ends.0 b in omega (arith, few, header))
           (λ other_of. taken_silent (MayStandFor SetComes of_own_part) choice
-          (itself old (kinds_bits (Some a)) Own policy cuts choice served (Answer.NoAnswer b) word header new served_as word_sent header_sent frame Silent refl)
+          (itself old bits Own policy cuts choice served (Answer.NoAnswer b) word header new served_as word_sent header_sent frame Silent refl)
           (λ ne. (
-            (λ l. let o = other_of Heard l in nobody ne (heard_set o.mid o.done o.answer (lost_by cuts (word + header + kinds_bits (Some a) o.answer)) o.stands o.stay o.own)),
-            (λ l. let o = other_of Choice.Lost l in never_lost_set o.mid o.done o.answer (lost_by cuts (word + header + kinds_bits (Some a) o.answer)) o.stands o.own),
+            (λ l. let o = other_of Heard l in nobody ne (heard_set o.mid o.done o.answer (lost_by cuts (word + header + bits o.answer)) o.stands o.stay o.own)),
+            (λ l. let o = other_of Choice.Lost l in never_lost_set o.mid o.done o.answer (lost_by cuts (word + header + bits o.answer)) o.stands o.own),
           )))
         where
           nobody : ¬ (choice ≡ Silent) → ¬ Any old

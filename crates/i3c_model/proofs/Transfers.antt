@@ -1,11 +1,12 @@
 -- What private transfers may answer, and what they leave.
-use Rattle.std.proofs.Common.{◌≡◌, ◌≢◌, ℕ, zero, suc, replicate, ◌+◌, ◌*◌, ◌≤◌, ◌<◌, Bool, true, false, List, length, slice_index, get_or, Some, None, MatchOption, option_map, if◌then◌else◌, ◌⊎◌, inl, inr, sym, refl, ap, ◌∙◌, subst, arith}
+use Rattle.std.proofs.Common.{◌≡◌, ◌≢◌, ℕ, zero, suc, replicate, ◌+◌, ◌*◌, ◌≤◌, ◌<◌, Bool, true, false, List, length, take, slice_index, get_or, Some, None, MatchOption, option_map, if◌then◌else◌, ◌⊎◌, inl, inr, sym, refl, ap, ◌∙◌, subst, arith}
 use Rattle.std.specs.Prelude.{⊤}
 use Rattle.std.specs.Int.Bits.{bit_and}
 use Rattle.std.proofs.lemmas.Bool.{cases_lt, false≢true}
-use Rattle.std.proofs.lemmas.List.{get_or_default, get_or_past}
+use Rattle.std.proofs.lemmas.List.{get_or-take, get_or_default, get_or_past}
 use Rattle.std.proofs.lemmas.Option.{none-some, same_Some}
 use Rattle.i3c_base.specs.declared.answers.Answer.{Answer}
+use Rattle.i3c_base.specs.declared.datum.Direction.{Direction}
 use Rattle.i3c_base.specs.declared.device.LegacyTarget.{LegacyTarget}
 use Rattle.i3c_base.specs.declared.requests.Fixed.{Fixed}
 use Rattle.i3c_base.specs.declared.requests.Request.{Request}
@@ -13,17 +14,18 @@ use Rattle.i3c_base.specs.declared.requests.Request.TheVariants.{Join, Role, Int
 use Rattle.i3c_base.specs.declared.requests.Served.{Served}
 use Rattle.i3c_base.specs.declared.requests.Served.TheVariants.{Quiet, Recorded, Refused, Torn, Joining, WantsRole}
 use Rattle.i3c_base.specs.Cutting.{CutList, Lost, cut_of, lost_by}
-use Rattle.i3c_base.specs.Frames.{AllLostAt, AllUnaddressedLostAt, AnyAt, AnyUnaddressedAt, DrivesRegister, IsReadOf, IsUnaddressedAt, NobodyLeftAt, Reads, SomeLeftAt, Writes, read_bits, write_bits, written}
+use Rattle.i3c_base.specs.Frames.{AllLostAt, AllUnaddressedLostAt, AnyAt, AnyUnaddressedAt, DrivesRegister, IsReadOf, IsUnaddressedAt, NobodyLeftAt, Reads, SomeLeftAt, Writes, length_of, read_bits, transfer_length, write_bits, written}
 use Rattle.i3c_base.specs.Serve.{Frame, IsAnd, IsWordBits, Serves, drives, each_driver, header_bits, without}
 use Rattle.i3c_base.specs.State.{Device, IsTargetAt, State, device_at, legacy_target_at}
 use Rattle.i3c_base.proofs.Lookups.{each_at, each_from}
-use Rattle.i3c_model.specs.Meaning.{DrivesLeft, IsGivenBy, MayRead, MayWrite, NoneGives}
+use Rattle.i3c_model.specs.Meaning.{DrivesLeft, IsGivenBy, MayRead, MayWrite, NoneGives, read_end}
 use Rattle.i3c_step.specs.declared.replies.Framed.{Framed}
 use Rattle.i3c_step.specs.declared.replies.Reply.{Reply}
 use Rattle.i3c_step.specs.Step.{Transfers}
 use Rattle.i3c_model.specs.declared.plain.Choice.{Choice}
 use Rattle.i3c_model.specs.declared.plain.Choice.TheVariants.{Heard, Silent}
 use Rattle.i3c_model.specs.Choosing.{Follows, IsTaken, MayStandFor, ReadsAsChosen, ServesAsChosen, WritesAsChosen, of_answer, of_own_part, of_request, stands_for}
+use Rattle.i3c_model.proofs.Lengths.{transfer_kept}
 use Rattle.i3c_model.proofs.Taking.{follows, later_by, lost≢silent, never_silent, request_taken, taken_heard, taken_lost, taken_silent, torn_from, torn_in, word_unique}
 use Rattle.i3c_model.proofs.Together.{Below, and_alike, and_past, and_start, and_whole, and_with}
 
@@ -35,20 +37,25 @@ Finds st new = (a s : ℕ) (d : Device) → IsTargetAt st a s d → (e : Device)
 abbrev pub FindsBare : State → State → Type 0
 FindsBare st new = (f s : ℕ) (d : Device) → IsUnaddressedAt st f s d → (e : Device) × IsUnaddressedAt new f s e
 
--- all targets stay, with their registers, and all devices without addresses
+-- how many bytes a read of the address gives
+abbrev pub read_count : State → ℕ → ℕ
+read_count st a = transfer_length st Direction.Read a
+
+-- all targets stay, with their registers and how many bytes are read of them, and all devices without addresses
 pub record Stay (old new : State) : Type 0 where
   pub legacy : (a : ℕ) → legacy_target_at new a ≡ legacy_target_at old a
+  pub reads : (a : ℕ) → read_count new a ≡ read_count old a
   pub to : Finds old new
   pub from : Finds new old
   pub bare_to : FindsBare old new
   pub bare_from : FindsBare new old
 
 pub Stay-back : (old new : State) → Stay old new → Stay new old
-Stay-back old new h = record { legacy = λ a. sym (h.legacy a); to = h.from; from = h.to; bare_to = h.bare_from; bare_from = h.bare_to }
+Stay-back old new h = record { legacy = λ a. sym (h.legacy a); reads = λ a. sym (h.reads a); to = h.from; from = h.to; bare_to = h.bare_from; bare_from = h.bare_to }
 
 Stay-same : (old new : State) → new ≡ old → Stay old new
 Stay-same old new e =
-    subst (Stay old) (sym e) (record { legacy = λ a. refl; to = λ a s d t. (d, t, refl); from = λ a s d t. (d, t, refl); bare_to = λ f s d t. (d, t); bare_from = λ f s d t. (d, t) })
+    subst (Stay old) (sym e) (record { legacy = λ a. refl; reads = λ a. refl; to = λ a s d t. (d, t, refl); from = λ a s d t. (d, t, refl); bare_to = λ f s d t. (d, t); bare_from = λ f s d t. (d, t) })
 
 address_without : (b : Bool) (r : Request) (d : Device) → (if b then without r d else d).address ≡ d.address
 address_without true Join d = refl
@@ -68,10 +75,17 @@ registers_without true (Role a) d = refl
 registers_without true (Interrupt a) d = refl
 registers_without false r d = refl
 
+length_without : (b : Bool) (r : Request) (d : Device) → length_of Direction.Read (if b then without r d else d) ≡ length_of Direction.Read d
+length_without true Join d = refl
+length_without true (Role a) d = refl
+length_without true (Interrupt a) d = refl
+length_without false r d = refl
+
 -- the targets of which each driver lost a wish or its front
 Stay-driver : (r : Request) (st new : State) → new.devices ≡ (each_driver r (without r) st).devices → new.legacy ≡ st.legacy → new.active ≡ st.active → Stay st new
 Stay-driver r st new devices legacy active = record {
   legacy = λ a. ap (λ places. get_or places a None) legacy;
+  reads = λ a. transfer_kept Direction.Read a lose st new (λ s d. address_without (drives st r s) r d) (λ s d. length_without (drives st r s) r d) devices legacy active;
   to = λ a s d t. (
     lose s d,
     (at s ∙ (each_at lose st s ∙ ap (option_map (lose s)) t.0), address_without (drives st r s) r d ∙ t.1, λ e. t.2 (e ∙ active)),
@@ -144,7 +158,7 @@ read_in st new a lost bytes h r = elim r [
   | inr x ↦ inr (
     h.legacy a ∙ x.0,
     (let t = h.to a x.1.0 x.1.1 x.1.2 in (x.1.0, t.0, t.1, x.1.3)),
-    x.2,
+    x.2 ∙ sym (h.reads a),
     x.3,
     λ left k l. and_alike (DrivesRegister st a k) (DrivesRegister new a k) (slice_index bytes k) (drives_in st new a k h) (drives_in new st a k (Stay-back st new h))
         (x.4 (λ s d t. let y = h.to a s d t in left s y.0 y.1) k l),
@@ -211,21 +225,26 @@ pub together_all : (st : State) (a : ℕ) (lost : Lost) (n : ℕ) (both : List �
 together_all st a lost n both past h k l =
     and_whole (DrivesLeft st a lost k) n (slice_index both k) (λ s v d. let low = device_low st s d.0.0 d.0.1.0 in omega (arith, low, past)) (h.1 k l)
 
-pub read_left : (st : State) (a : ℕ) (lost : Lost) (bytes : List ℕ) → legacy_target_at st a ≡ None → SomeLeftAt st a lost → length bytes ≡ 16
-    → ((k : ℕ) → k < 16 → IsAnd (slice_index bytes k) (DrivesLeft st a lost k)) → IsReadOf st a lost bytes
+pub read_left : (st : State) (a : ℕ) (lost : Lost) (bytes : List ℕ) → legacy_target_at st a ≡ None → SomeLeftAt st a lost → length bytes ≡ read_count st a
+    → ((k : ℕ) → k < length bytes → IsAnd (slice_index bytes k) (DrivesLeft st a lost k)) → IsReadOf st a lost bytes
 read_left st a lost bytes none some long together = inr (
   none,
   some,
   long,
-  λ k d l. subst (λ byte. byte < 256) (get_or_default bytes k 0 d l) (together k (subst (λ n. k < n) long l)).0,
+  λ k d l. subst (λ byte. byte < 256) (get_or_default bytes k 0 d l) (together k l).0,
   λ left k l. and_alike (DrivesLeft st a lost k) (DrivesRegister st a k) (slice_index bytes k) (λ s v d. d.0) (λ s v d. (d, left s d.0 d.1)) (together k l),
 )
 
+-- the first ones of registers that are together
+pub first_together : (st : State) (a : ℕ) (lost : Lost) (n : ℕ) (registers : List ℕ) → ((k : ℕ) → k < 16 → IsAnd (slice_index registers k) (DrivesLeft st a lost k)) → n ≤ 16
+    → (k : ℕ) → k < n → IsAnd (slice_index (take n registers) k) (DrivesLeft st a lost k)
+first_together st a lost n registers together few k l = subst (λ v. IsAnd v (DrivesLeft st a lost k)) (sym (get_or-take n registers k 0 l)) (together k (omega (arith, l, few)))
+
 -- what may be read, or written, is what the frame's own part does, after serving
-pub reads_of : (st mid done : State) (a : ℕ) (cuts : CutList) (begin : ℕ) (answer : Answer) → Stay st mid → MayRead st a cuts begin answer → done ≡ mid → Reads a answer (lost_by cuts (begin + read_bits answer)) mid done
-reads_of st mid done a cuts begin (Answer.Bytes bytes) h may e = (read_in st mid a (lost_by cuts (begin + 153)) bytes h may, e)
+pub reads_of : (st mid done : State) (a : ℕ) (cuts : CutList) (begin : ℕ) (answer : Answer) → Stay st mid → MayRead st a cuts begin answer → done ≡ mid → Reads a answer (lost_by cuts (begin + read_bits (read_count st a) answer)) mid done
+reads_of st mid done a cuts begin (Answer.Bytes bytes) h may e = (read_in st mid a (lost_by cuts (begin + read_end st a)) bytes h may, e)
 reads_of st mid done a cuts begin (Answer.NoAnswer b) h may e = (may.0, nobody_in st mid a (lost_by cuts (begin + 9)) h may.1, e)
-reads_of st mid done a cuts begin Answer.NoEnd h may e = (nobody_in st mid a (lost_by cuts (begin + 153)) h may.0, any_in st mid a h may.1, e)
+reads_of st mid done a cuts begin Answer.NoEnd h may e = (nobody_in st mid a (lost_by cuts (begin + read_end st a)) h may.0, any_in st mid a h may.1, e)
 reads_of st mid done a cuts begin Answer.Done h may e = absurd may
 
 -- an answer that a write can't have
@@ -326,71 +345,71 @@ module _ (old : State) (bits : Answer → ℕ) (Own : Answer → Lost → State 
           torn_in old policy cuts place word header (bits answer) (bits other) (lost_by cuts (frame.word + (header_bits served + bits answer))) served frame.mid (Own other) l.1 word_sent header_sent frame.serves is ends few
 
 -- the bits of a read are no more than these
-read_most : (answer : Answer) → read_bits answer ≤ 153
-read_most Answer.Done = omega arith
-read_most (Answer.Bytes bytes) = omega arith
-read_most Answer.NoEnd = omega arith
-read_most (Answer.NoAnswer b) = omega arith
+read_most : (count : ℕ) (answer : Answer) → read_bits count answer ≤ 9 + 9 * count
+read_most count Answer.Done = omega arith
+read_most count (Answer.Bytes bytes) = omega arith
+read_most count Answer.NoEnd = omega arith
+read_most count (Answer.NoAnswer b) = omega arith
 
 -- where nobody is there, a read has no answer
-read_absent : (old mid done : State) (a : ℕ) (other : Answer) (lost : Lost) → Stay old mid → ¬ AnyAt old a → legacy_target_at old a ≡ None → Reads a other lost mid done → read_bits other ≤ 9
-read_absent old mid done a (Answer.NoAnswer b) lost h none bare own = omega arith
-read_absent old mid done a (Answer.Bytes bytes) lost h none bare own = absurd (none (any_in mid old a (Stay-back old mid h) (read_any mid a lost bytes own.0 (h.legacy a ∙ bare))))
-read_absent old mid done a Answer.NoEnd lost h none bare own = absurd (none (any_in mid old a (Stay-back old mid h) own.1))
-read_absent old mid done a Answer.Done lost h none bare own = absurd own
+read_absent : (count : ℕ) (old mid done : State) (a : ℕ) (other : Answer) (lost : Lost) → Stay old mid → ¬ AnyAt old a → legacy_target_at old a ≡ None → Reads a other lost mid done → read_bits count other ≤ 9
+read_absent count old mid done a (Answer.NoAnswer b) lost h none bare own = omega arith
+read_absent count old mid done a (Answer.Bytes bytes) lost h none bare own = absurd (none (any_in mid old a (Stay-back old mid h) (read_any mid a lost bytes own.0 (h.legacy a ∙ bare))))
+read_absent count old mid done a Answer.NoEnd lost h none bare own = absurd (none (any_in mid old a (Stay-back old mid h) own.1))
+read_absent count old mid done a Answer.Done lost h none bare own = absurd own
 
 -- what a read by another choice says of the bus before it
-silent_read : (st mid done : State) (a : ℕ) (answer : Answer) (cuts : CutList) (begin : ℕ) → of_answer answer ≡ Some Silent → Stay st mid → Reads a answer (lost_by cuts (begin + read_bits answer)) mid done → NobodyLeftAt st a (lost_by cuts (begin + 9))
+silent_read : (st mid done : State) (a : ℕ) (answer : Answer) (cuts : CutList) (begin : ℕ) → of_answer answer ≡ Some Silent → Stay st mid → Reads a answer (lost_by cuts (begin + read_bits (read_count st a) answer)) mid done → NobodyLeftAt st a (lost_by cuts (begin + 9))
 silent_read st mid done a (Answer.NoAnswer b) cuts begin e h own = nobody_in mid st a (lost_by cuts (begin + 9)) (Stay-back st mid h) own.1
 silent_read st mid done a (Answer.Bytes bytes) cuts begin e h own = cc
 silent_read st mid done a Answer.NoEnd cuts begin e h own = cc
 silent_read st mid done a Answer.Done cuts begin e h own = absurd own
 
-lost_read : (st mid done : State) (a : ℕ) (answer : Answer) (cuts : CutList) (begin : ℕ) → of_answer answer ≡ Some Choice.Lost → Stay st mid → Reads a answer (lost_by cuts (begin + read_bits answer)) mid done
-    → NobodyLeftAt st a (lost_by cuts (begin + 153)) × AnyAt st a
-lost_read st mid done a Answer.NoEnd cuts begin e h own = (nobody_in mid st a (lost_by cuts (begin + 153)) (Stay-back st mid h) own.0, any_in mid st a (Stay-back st mid h) own.1)
+lost_read : (st mid done : State) (a : ℕ) (answer : Answer) (cuts : CutList) (begin : ℕ) → of_answer answer ≡ Some Choice.Lost → Stay st mid → Reads a answer (lost_by cuts (begin + read_bits (read_count st a) answer)) mid done
+    → NobodyLeftAt st a (lost_by cuts (begin + read_end st a)) × AnyAt st a
+lost_read st mid done a Answer.NoEnd cuts begin e h own = (nobody_in mid st a (lost_by cuts (begin + read_end st a)) (Stay-back st mid h) own.0, any_in mid st a (Stay-back st mid h) own.1)
 lost_read st mid done a (Answer.NoAnswer b) cuts begin e h own = cc
 lost_read st mid done a (Answer.Bytes bytes) cuts begin e h own = cc
 lost_read st mid done a Answer.Done cuts begin e h own = absurd own
 
-heard_read : (st mid done : State) (a : ℕ) (answer : Answer) (cuts : CutList) (begin : ℕ) → of_answer answer ≡ Some Heard → Stay st mid → Reads a answer (lost_by cuts (begin + read_bits answer)) mid done
-    → (bytes : List ℕ) × IsReadOf st a (lost_by cuts (begin + 153)) bytes
-heard_read st mid done a (Answer.Bytes bytes) cuts begin e h own = (bytes, read_in mid st a (lost_by cuts (begin + 153)) bytes (Stay-back st mid h) own.0)
+heard_read : (st mid done : State) (a : ℕ) (answer : Answer) (cuts : CutList) (begin : ℕ) → of_answer answer ≡ Some Heard → Stay st mid → Reads a answer (lost_by cuts (begin + read_bits (read_count st a) answer)) mid done
+    → (bytes : List ℕ) × IsReadOf st a (lost_by cuts (begin + read_end st a)) bytes
+heard_read st mid done a (Answer.Bytes bytes) cuts begin e h own = (bytes, read_in mid st a (lost_by cuts (begin + read_end st a)) bytes (Stay-back st mid h) own.0)
 heard_read st mid done a (Answer.NoAnswer b) cuts begin e h own = cc
 heard_read st mid done a Answer.NoEnd cuts begin e h own = cc
 heard_read st mid done a Answer.Done cuts begin e h own = absurd own
 
-nobody_later : (st : State) (a : ℕ) (cuts : CutList) (begin : ℕ) → NobodyLeftAt st a (lost_by cuts (begin + 9)) → NobodyLeftAt st a (lost_by cuts (begin + 153))
-nobody_later st a cuts begin n = (n.0, all_later st a cuts (begin + 9) (begin + 153) (omega arith) n.1)
+nobody_later : (st : State) (a : ℕ) (cuts : CutList) (begin : ℕ) → NobodyLeftAt st a (lost_by cuts (begin + 9)) → NobodyLeftAt st a (lost_by cuts (begin + read_end st a))
+nobody_later st a cuts begin n = (n.0, all_later st a cuts (begin + 9) (begin + read_end st a) (omega arith) n.1)
 
 -- a read follows the choice
 module _ (old : State) (a : ℕ) (policy : Fixed) (cuts : CutList) (choice : Choice) (served : Served) (word header : ℕ) (new : State)
     (word_sent : (lost : Lost) (other : Served) (mid : State) → Serves old policy lost other mid → IsWordBits old other word)
     (header_sent : (lost : Lost) (other : Served) (mid : State) → Serves old policy lost other mid → header ≡ header_bits other) where
   abbrev ReadComes : Reply → State → Type 0
-  ReadComes = Transfers old read_bits (Reads a) policy cuts
+  ReadComes = Transfers old (read_bits (read_count old a)) (Reads a) policy cuts
 
-  pub read_follows : (answer : Answer) → ServesAsChosen old policy (lost_by cuts (word + header + read_bits answer)) choice served
-      → Frame old policy cuts served (header_bits served + read_bits answer) (Reads a answer) new → MayRead old a cuts (word + header) answer → ReadsAsChosen old a cuts (word + header) choice answer
-      → Follows (Transfers old read_bits (Reads a) policy cuts) choice (Reply.Framed (record { served = served; answer = answer }))
-  read_follows (Answer.Bytes bytes) served_as frame may given = transfer_follows old read_bits (Reads a) policy cuts choice served (Answer.Bytes bytes) word header new served_as word_sent header_sent frame
-      (λ e other lost mid done stay own. read_most other)
+  pub read_follows : (answer : Answer) → ServesAsChosen old policy (lost_by cuts (word + header + read_bits (read_count old a) answer)) choice served
+      → Frame old policy cuts served (header_bits served + read_bits (read_count old a) answer) (Reads a answer) new → MayRead old a cuts (word + header) answer → ReadsAsChosen old a cuts (word + header) choice answer
+      → Follows (Transfers old (read_bits (read_count old a)) (Reads a) policy cuts) choice (Reply.Framed (record { served = served; answer = answer }))
+  read_follows (Answer.Bytes bytes) served_as frame may given = transfer_follows old (read_bits (read_count old a)) (Reads a) policy cuts choice served (Answer.Bytes bytes) word header new served_as word_sent header_sent frame
+      (λ e other lost mid done stay own. read_most (read_count old a) other)
       (λ other_of. taken_heard (MayStandFor ReadComes of_own_part) choice
-      (λ c l. let o = other_of Choice.Lost l in read_heard old a (lost_by cuts (word + header + 153)) bytes may (lost_read old o.mid o.done a o.answer cuts (word + header) o.stands o.stay o.own).0)
+      (λ c l. let o = other_of Choice.Lost l in read_heard old a (lost_by cuts (word + header + read_end old a)) bytes may (lost_read old o.mid o.done a o.answer cuts (word + header) o.stands o.stay o.own).0)
       (λ c l. let o = other_of Silent l in
-      read_heard old a (lost_by cuts (word + header + 153)) bytes may (nobody_later old a cuts (word + header) (silent_read old o.mid o.done a o.answer cuts (word + header) o.stands o.stay o.own))))
-  read_follows Answer.NoEnd served_as frame may given = transfer_follows old read_bits (Reads a) policy cuts choice served Answer.NoEnd word header new served_as word_sent header_sent frame
-      (λ e other lost mid done stay own. read_most other)
+      read_heard old a (lost_by cuts (word + header + read_end old a)) bytes may (nobody_later old a cuts (word + header) (silent_read old o.mid o.done a o.answer cuts (word + header) o.stands o.stay o.own))))
+  read_follows Answer.NoEnd served_as frame may given = transfer_follows old (read_bits (read_count old a)) (Reads a) policy cuts choice served Answer.NoEnd word header new served_as word_sent header_sent frame
+      (λ e other lost mid done stay own. read_most (read_count old a) other)
       (λ other_of. taken_lost (MayStandFor ReadComes of_own_part) choice
-      (itself old read_bits (Reads a) policy cuts choice served Answer.NoEnd word header new served_as word_sent header_sent frame Choice.Lost refl)
-      (λ ne l. let o = other_of Heard l in let r = heard_read old o.mid o.done a o.answer cuts (word + header) o.stands o.stay o.own in read_heard old a (lost_by cuts (word + header + 153)) r.0 r.1 may.0)
+      (itself old (read_bits (read_count old a)) (Reads a) policy cuts choice served Answer.NoEnd word header new served_as word_sent header_sent frame Choice.Lost refl)
+      (λ ne l. let o = other_of Heard l in let r = heard_read old o.mid o.done a o.answer cuts (word + header) o.stands o.stay o.own in read_heard old a (lost_by cuts (word + header + read_end old a)) r.0 r.1 may.0)
       (λ e l. let o = other_of Silent l in given e (silent_read old o.mid o.done a o.answer cuts (word + header) o.stands o.stay o.own).1))
-  read_follows (Answer.NoAnswer b) served_as frame may given = transfer_follows old read_bits (Reads a) policy cuts choice served (Answer.NoAnswer b) word header new served_as word_sent header_sent frame
-      (λ e other lost mid done stay own. read_absent old mid done a other lost stay (given (λ s. lost≢silent (sym e ∙ s))) may.1.0 own)
+  read_follows (Answer.NoAnswer b) served_as frame may given = transfer_follows old (read_bits (read_count old a)) (Reads a) policy cuts choice served (Answer.NoAnswer b) word header new served_as word_sent header_sent frame
+      (λ e other lost mid done stay own. read_absent (read_count old a) old mid done a other lost stay (given (λ s. lost≢silent (sym e ∙ s))) may.1.0 own)
       (λ other_of. taken_silent (MayStandFor ReadComes of_own_part) choice
-      (itself old read_bits (Reads a) policy cuts choice served (Answer.NoAnswer b) word header new served_as word_sent header_sent frame Silent refl)
+      (itself old (read_bits (read_count old a)) (Reads a) policy cuts choice served (Answer.NoAnswer b) word header new served_as word_sent header_sent frame Silent refl)
       (λ ne. (
-        (λ l. let o = other_of Heard l in let r = heard_read old o.mid o.done a o.answer cuts (word + header) o.stands o.stay o.own in given ne (read_any old a (lost_by cuts (word + header + 153)) r.0 r.1 may.1.0)),
+        (λ l. let o = other_of Heard l in let r = heard_read old o.mid o.done a o.answer cuts (word + header) o.stands o.stay o.own in given ne (read_any old a (lost_by cuts (word + header + read_end old a)) r.0 r.1 may.1.0)),
         (λ l. let o = other_of Choice.Lost l in given ne (lost_read old o.mid o.done a o.answer cuts (word + header) o.stands o.stay o.own).1),
       )))
   read_follows Answer.Done served_as frame may given = absurd may

@@ -1,15 +1,16 @@
 -- Whom a command means, what it may be answered, who contends in a round, and who takes the role.
-use Rattle.std.specs.Prelude.{◌≡◌, ℕ, ◌+◌, ◌<◌, Bool, true, false, ◌⊎◌, List, Option, Some, None, option_map, if◌then◌else◌}
+use Rattle.std.specs.Prelude.{◌≡◌, ℕ, ◌+◌, ◌*◌, ◌<◌, Bool, true, false, ◌⊎◌, List, [], ◌∷◌, Option, Some, None, option_map, if◌then◌else◌}
 use Rattle.i3c_base.specs.declared.answers.Answer.{Answer}
 use Rattle.i3c_base.specs.declared.datum.Datum.{Datum}
+use Rattle.i3c_base.specs.declared.datum.Direction.{Direction}
 use Rattle.i3c_base.specs.declared.identity.Identity.{Identity}
 use Rattle.i3c_base.specs.declared.device.LegacyTarget.{LegacyTarget}
 use Rattle.i3c_base.specs.Cutting.{CutList, Lost, lost_by}
-use Rattle.i3c_base.specs.Frames.{AllLostAt, AllUnaddressedLostAt, AnyAt, AnyUnaddressedAt, DrivesRegister, DrivesTold, IsReadOf, IsToldAt, IsWillingAt, NobodyLeftAt, overwritten, reaches, readdressed, takes_static, told_bytes}
+use Rattle.i3c_base.specs.Frames.{AllLostAt, AllUnaddressedLostAt, AnyAt, AnyUnaddressedAt, DrivesRegister, DrivesTold, IsReadOf, IsToldAt, IsWillingAt, NobodyLeftAt, least_length_from, overwritten, reaches, readdressed, takes_static, told_bytes, transfer_length}
 use Rattle.i3c_base.specs.Numbers.{IsBelow}
 use Rattle.i3c_base.specs.Places.{changed}
 use Rattle.i3c_base.specs.Round.{IsHearer, winner}
-use Rattle.i3c_base.specs.State.{Device, State, IsTargetAt, has_address, legacy_target_at, unkept}
+use Rattle.i3c_base.specs.State.{Device, State, IsTargetAt, device_at, has_address, legacy_target_at, unkept}
 use Rattle.i3c_model.specs.declared.plain.Choice.{Choice}
 use Rattle.i3c_model.specs.declared.plain.Choice.TheVariants.{Silent}
 
@@ -44,10 +45,14 @@ abbrev pub MayWrite : State → ℕ → Lost → Answer → Type 0
 MayWrite st a lost answer =
     ((answer ≡ Answer.Done) × (((target : LegacyTarget) × (legacy_target_at st a ≡ Some target)) ⊎ AnyAt st a)) ⊎ ((answer ≡ Answer.NoAnswer a) × NobodyLeftAt st a lost)
 
+-- the last bit of a read whose header was acknowledged, counted as those of its own part
+abbrev pub read_end : State → ℕ → ℕ
+read_end st a = 9 + 9 * transfer_length st Direction.Read a
+
 -- and a read, whose own part begins behind a bit
 abbrev pub MayRead : State → ℕ → CutList → ℕ → Answer → Type 0
-MayRead st a cuts begin (Answer.Bytes bytes) = IsReadOf st a (lost_by cuts (begin + 153)) bytes
-MayRead st a cuts begin Answer.NoEnd = NobodyLeftAt st a (lost_by cuts (begin + 153)) × AnyAt st a
+MayRead st a cuts begin (Answer.Bytes bytes) = IsReadOf st a (lost_by cuts (begin + read_end st a)) bytes
+MayRead st a cuts begin Answer.NoEnd = NobodyLeftAt st a (lost_by cuts (begin + read_end st a)) × AnyAt st a
 MayRead st a cuts begin (Answer.NoAnswer b) = (b ≡ a) × NobodyLeftAt st a (lost_by cuts (begin + 9))
 MayRead st a cuts begin Answer.Done = ⊥
 
@@ -83,6 +88,10 @@ Tells st what a lost Answer.Done (Answer.Bytes bytes) = IsToldAt st what a lost 
 Tells st what a lost Answer.Done Answer.NoEnd = AllLostAt st a lost
 Tells st what a lost Answer.Done _ = ⊥
 Tells st what a lost header answer = answer ≡ header
+
+-- the maximum length of the device in slot s, if it isn't the active controller and has the address; else the greatest one
+abbrev pub length_in_slot : State → Direction → ℕ → ℕ → ℕ
+length_in_slot st way a s = least_length_from st.active way a s (device_at st s ∷ [])
 
 -- a device after a write to the address
 abbrev pub overwriting : State → ℕ → List ℕ → ℕ → Device → Device

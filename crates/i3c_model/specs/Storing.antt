@@ -10,7 +10,7 @@ use Rattle.i3c_base.specs.Round.{AnyPickable, IsWinner}
 use Rattle.i3c_base.specs.Serve.{IsFirst, verdict}
 use Rattle.i3c_base.specs.State.{State}
 use Rattle.i3c_step.specs.declared.events.Event.{Event}
-use Rattle.i3c_step.specs.declared.events.Event.TheVariants.{Attach, DropOff, Raise, AskJoin, AskRole, Serve, Enec, Disec, Reset, SendList, ReadFrom, WriteTo, SetStatic, SetNew, Get, OpenDaa, Round, EndDaa, HandOver}
+use Rattle.i3c_step.specs.declared.events.Event.TheVariants.{Attach, DropOff, Raise, AskJoin, AskRole, Serve, Enec, Disec, Reset, SendList, ReadFrom, WriteTo, SetStatic, SetNew, Get, SetLength, OpenDaa, Round, EndDaa, HandOver}
 use Rattle.i3c_step.specs.Step.{checks, first_refusal}
 
 -- an interrupt comes first and is accepted, so a record may be due
@@ -35,6 +35,7 @@ Stores st (WriteTo a bytes policy cuts) = IsRecordDue st policy
 Stores st (SetStatic f new policy cuts) = IsRecordDue st policy ⊎ AnyUnaddressedAt st f
 Stores st (SetNew old new policy cuts) = IsRecordDue st policy ⊎ AnyAt st old
 Stores st (Get what a policy cuts) = IsRecordDue st policy
+Stores st (SetLength way most to policy cuts) = IsRecordDue st policy
 Stores st (Round cuts) = MayAssign st cuts
 Stores st (DropOff s) = ⊥
 Stores st (AskJoin s) = ⊥

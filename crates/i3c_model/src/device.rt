@@ -1,5 +1,5 @@
 ghost use Rattle.std.specs.Prelude.{◌≡◌, ◌≤◌, ◌↔◌, ◌&&◌, ◌++◌, ◌∷◌, [], false, is_none, true, length, slice_get, IfSome, IsTrue, MatchOption, None, OnErr, OnOk, Some, ⊤};
-ghost use Rattle.i3c_base.specs.Frames.{changed_kinds, overwritten, readdressed, unaddressed_device};
+ghost use Rattle.i3c_base.specs.Frames.{changed_kinds, length_of, limited, overwritten, readdressed, unaddressed_device};
 ghost use Rattle.i3c_base.specs.Round.{hears, unhearing, winner};
 ghost use Rattle.i3c_base.specs.Serve.{asks, without, without_role};
 ghost use Rattle.i3c_base.specs.State.{attached, has_address, is_the};
@@ -9,7 +9,9 @@ ghost use Rattle.i3c_model.specs.Meaning.{is_meant};
 use crate::faults::OutOfMemory;
 use crate::kinds::PlainKinds;
 use crate::transferring::overwrite;
-use i3c_base::{Addr7, Bcr, Change, Dcr, Identity, Kinds, REGISTERS, Request, Setup, Waiting};
+use i3c_base::{
+    Addr7, Bcr, Change, Dcr, Direction, Identity, Kinds, Length, REGISTERS, Request, Setup, Waiting,
+};
 use std::alloc::{AllocError, Global};
 use std::marker::Model;
 
@@ -30,6 +32,9 @@ pub(crate) struct PlainDevice {
     // it hears the open session
     hearing: bool,
     registers: [u8; REGISTERS],
+    // the maximum lengths of its writes and of its reads
+    most_written: Length,
+    most_read: Length,
 }
 
 impl Model for PlainDevice {
@@ -48,6 +53,8 @@ impl Model for PlainDevice {
       role_wish = d.role_wish;
       hearing = d.hearing;
       registers = d.registers;
+      most_written = d.most_written;
+      most_read = d.most_read;
     } };
 }
 
@@ -67,6 +74,8 @@ impl PlainDevice {
             role_wish: false,
             hearing: false,
             registers: [0; REGISTERS],
+            most_written: Length::most(),
+            most_read: Length::most(),
         }
     }
 
@@ -267,6 +276,26 @@ impl PlainDevice {
         ensures { self.new ≡ record self.old { registers = overwritten bytes.now self.old.registers } }
     {
         overwrite(&mut self.registers, bytes);
+    }
+
+    // The maximum length of its writes, or of its reads.
+    pub(crate) fn length(&self, way: Direction) -> Length
+        ensures { result ≡ length_of way self.now }
+    {
+        match way {
+            Direction::Write => self.most_written,
+            Direction::Read => self.most_read,
+        }
+    }
+
+    // Its writes, or its reads, have this maximum length from now on.
+    pub(crate) fn limit(&mut self, way: Direction, most: Length)
+        ensures { self.new ≡ limited way most self.old }
+    {
+        match way {
+            Direction::Write => self.most_written = most,
+            Direction::Read => self.most_read = most,
+        }
     }
 
     // A session is opened, which it hears if it has no address.

@@ -4,7 +4,7 @@ ghost use Rattle.i3c_base.specs.Frames.{pending, pid_bytes, told_bytes};
 use crate::device::PlainDevice;
 use crate::faults::OutOfMemory;
 use crate::plain::{Choice, Plain};
-use i3c_base::{Addr7, Answer, Bytes, Cuts, Datum, Fixed, Pid, REGISTERS, Slot};
+use i3c_base::{Addr7, Answer, Bytes, Cuts, Datum, Direction, Fixed, Pid, REGISTERS, Slot};
 use i3c_step::{Framed, Reply};
 
 impl Plain {
@@ -133,14 +133,13 @@ fn told_bytes(what: Datum, device: &PlainDevice) -> Bytes
     ensures { result ≡ told_bytes what device.now }
 {
     let identity = device.identity();
-    let registers = REGISTERS as u8;
     match what {
         Datum::Pid => Bytes::new(&pid_bytes(identity.pid)),
         Datum::Bcr => Bytes::new(&[identity.bcr.0]),
         Datum::Dcr => Bytes::new(&[identity.dcr.0]),
         Datum::Status => Bytes::new(&[0, pending(device)]),
-        Datum::WriteLength => Bytes::new(&[0, registers]),
-        Datum::ReadLength => Bytes::new(&[0, registers, 1]),
+        Datum::WriteLength => Bytes::new(&[0, device.length(Direction::Write).get()]),
+        Datum::ReadLength => Bytes::new(&[0, device.length(Direction::Read).get(), 1]),
         Datum::Speed => Bytes::new(&[0, 0]),
         Datum::Capabilities => Bytes::new(&[0, 1]),
     }

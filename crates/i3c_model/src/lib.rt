@@ -14,6 +14,7 @@ mod getting;
 mod handing;
 mod keeping;
 mod kinds;
+mod limiting;
 mod local;
 mod plain;
 mod reading;

@@ -183,6 +183,9 @@ impl Plain {
             Event::Get(what, at, policy, cuts) => {
                 self.get_datum(*what, *at, policy, cuts, choice)
             }
+            Event::SetLength(way, most, to, policy, cuts) => {
+                self.set_length(*way, *most, to, policy, cuts, choice)
+            }
             Event::HandOver(to, cuts) => Ok(self.hand_over(*to, cuts, choice)),
             Event::OpenDaa(cuts) => Ok(Reply::Opened(self.open_daa(cuts))),
             Event::Round(cuts) => Ok(Reply::Round(self.round(cuts, choice)?)),

@@ -1,6 +1,6 @@
 use crate::plain::Plain;
-use i3c_base::{Addr7, Cuts, Identity, Slot, WAITING};
-use i3c_step::{Event, Refusal, TRANSFER};
+use i3c_base::{Addr7, Cuts, Direction, Identity, Slot, WAITING};
+use i3c_step::{Event, Refusal};
 
 impl Plain {
     ghost use Rattle.std.specs.Prelude.{◌≡◌, ◌++◌, Some};
@@ -32,6 +32,7 @@ impl Plain {
             Event::SetStatic(fixed, new, _, cuts) => self.static_refusal(*fixed, *new, cuts),
             Event::SetNew(old, new, _, cuts) => self.new_refusal(*old, *new, cuts),
             Event::Get(_, at, _, cuts) => self.command_refusal(&Some(*at), cuts),
+            Event::SetLength(_, _, to, _, cuts) => self.command_refusal(to, cuts),
             Event::HandOver(to, cuts) => self.hand_refusal(*to, cuts),
             Event::OpenDaa(cuts) => self.frame_refusal(cuts),
             Event::Round(cuts) => self.round_refusal(cuts),
@@ -188,7 +189,7 @@ impl Plain {
         if let Some(refusal) = self.frame_refusal(cuts) {
             return Some(refusal);
         }
-        if bytes.len() > TRANSFER {
+        if bytes.len() > self.transfer_length(Direction::Write, at) as usize {
             return Some(Refusal::TooLong);
         }
         if self.is_no_partner(at) {

@@ -1,16 +1,17 @@
 ghost use Rattle.std.specs.Prelude.{◌≡◌, ℕ, ◌<◌, ◌≤◌, length, slice_index};
 ghost use Rattle.std.specs.Int.Bits.{bit_and};
-ghost use Rattle.i3c_base.specs.Frames.{overwritten, read_bits, write_bits};
+ghost use Rattle.i3c_base.specs.Frames.{overwritten, write_bits};
 
 use crate::faults::OutOfMemory;
 use crate::plain::{Choice, Plain};
-use i3c_base::{Addr7, Answer, Bytes, Cuts, Fixed, REGISTERS, Slot};
+use i3c_base::{Addr7, Answer, Bytes, Cuts, Direction, Fixed, REGISTERS, Slot};
 use i3c_step::{Framed, Reply};
 
 impl Plain {
     ghost use Rattle.std.specs.Prelude.{◌≡◌, ℕ, ◌+◌, ◌<◌, ◌≤◌, length, slice_index, slice_set, IfOk, OnErr, MatchOption};
+    ghost use Rattle.i3c_base.specs.declared.datum.Direction.{Direction};
     ghost use Rattle.i3c_base.specs.Cutting.{lost_by};
-    ghost use Rattle.i3c_base.specs.Frames.{Reads, Writes, legacy_written, read_bits, write_bits};
+    ghost use Rattle.i3c_base.specs.Frames.{Reads, Writes, legacy_written, read_bits, transfer_length, write_bits};
     ghost use Rattle.i3c_base.specs.Serve.{IsAnd};
     ghost use Rattle.i3c_base.specs.State.{each, legacy_target_at};
     ghost use Rattle.i3c_step.specs.Step.{Transfers};
@@ -18,7 +19,7 @@ impl Plain {
     ghost use Rattle.i3c_model.specs.Meaning.{DrivesLeft, IsGivenBy, MayRead, MayWrite, NoneGives, overwriting};
     ghost use Rattle.i3c_model.specs.Storing.{IsRecordDue};
 
-    // Reads all registers at an address.
+    // Reads the first registers at an address, as many as its reads may give.
     pub(crate) fn read(
         &mut self,
         at: Addr7,
@@ -26,14 +27,14 @@ impl Plain {
         cuts: &Cuts,
         choice: Choice,
     ) -> Result<Reply, OutOfMemory>
-        ensures reads { IfOk result (λ reply. Transfers self.old read_bits (Reads at) policy.now cuts.now reply self.new) }
+        ensures reads { IfOk result (λ reply. Transfers self.old (read_bits (transfer_length self.old Direction.Read at)) (Reads at) policy.now cuts.now reply self.new) }
         ensures unchanged { OnErr result (self.new ≡ self.old) }
         ensures memory { OnErr result (IsRecordDue self.old policy.now) }
-        ensures chosen { IfOk result (Follows (Transfers self.old read_bits (Reads at) policy.now cuts.now) choice) }
+        ensures chosen { IfOk result (Follows (Transfers self.old (read_bits (transfer_length self.old Direction.Read at)) (Reads at) policy.now cuts.now) choice) }
     {
         let begin = self.word_bits(policy) + self.header_bits();
         let answer = self.read_answer(at, cuts, begin, choice);
-        let last = begin + read_bits(&answer);
+        let last = begin + self.read_bits(at, &answer);
         let served = self.serve_first(policy, cuts, last, choice)?;
         self.empty(cuts, last);
         Ok(Reply::Framed(Framed { served, answer }))
@@ -66,6 +67,17 @@ impl Plain {
         Ok(Reply::Framed(Framed { served, answer }))
     }
 
+    // The bits of a read with this answer: a header, and after its ACK a word for each byte.
+    fn read_bits(&self, at: Addr7, answer: &Answer) -> u16
+        ensures same { result ≡ read_bits (transfer_length self.now Direction.Read at) answer.now }
+        ensures few { result ≤ 153 }
+    {
+        match answer {
+            Answer::NoAnswer(_) => 9,
+            _ => 9 + 9 * self.transfer_length(Direction::Read, at) as u16,
+        }
+    }
+
     // The answer of a read whose own part begins behind this bit: a legacy target's registers, or the AND of those that
     // aren't lost by its last bit; where none is left, what an answer without data would be.
     fn read_answer(&self, at: Addr7, cuts: &Cuts, begin: u16, choice: Choice) -> Answer
@@ -76,9 +88,11 @@ impl Plain {
         if let Some(target) = self.target(at) {
             return Answer::Bytes(Bytes::new(&target.registers));
         }
-        let last = begin + READ_END;
+        let last = begin + self.read_bits(at, &Answer::NoEnd);
         if self.is_any_left_at(at, cuts, last) {
-            return Answer::Bytes(Bytes::new(&self.registers_together(at, cuts, last)));
+            let registers = self.registers_together(at, cuts, last);
+            let count = self.transfer_length(Direction::Read, at) as usize;
+            return Answer::Bytes(Bytes::new(&registers[..count]));
         }
         match self.answer_of(&Some(at), cuts, begin + 9, choice) {
             Answer::Done => Answer::NoEnd,
@@ -154,19 +168,6 @@ impl Plain {
         if let Some(target) = self.legacy.get_mut(&at) {
             overwrite(&mut target.registers, bytes);
         }
-    }
-}
-
-// The last bit of a read whose header was acknowledged, counted as those of its own part.
-const READ_END: u16 = 153;
-
-// The bits of a read with this answer: a header, and after its ACK sixteen words.
-fn read_bits(answer: &Answer) -> u16
-    ensures { result ≡ read_bits answer.now }
-{
-    match answer {
-        Answer::NoAnswer(_) => 9,
-        _ => READ_END,
     }
 }
 

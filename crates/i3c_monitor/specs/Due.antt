@@ -34,6 +34,12 @@ byte_in before word = if has_good_t word then Ok word.byte else Err (Fault.Parit
 abbrev pub written_byte : List Symbol → ℕ → Result ℕ Fault
 written_byte symbols before = go_on (due_word symbols before) (byte_in before)
 
+-- the bytes of the two written words that are due, as a length has them
+abbrev pub written_length : List Symbol → ℕ → Result (ℕ × ℕ) Fault
+written_length [] before = Err (Fault.Truncated (before + 1))
+written_length (symbol ∷ rest) before =
+    go_on (written_byte (symbol ∷ rest) before) (λ high. go_on (written_byte rest (before + 1)) (λ low. Ok (high, low)))
+
 -- the words before any other symbol
 abbrev pub words_in : List Symbol → List Word
 words_in (Symbol.Word word ∷ rest) = word ∷ words_in rest

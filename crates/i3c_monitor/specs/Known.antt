@@ -104,6 +104,7 @@ dynamic_in command a = Some a
 abbrev pub present : Decoded → Option ℕ
 present (Decoded.Transfer a read (Some span)) = Some a
 present (Decoded.Get what a (Some span)) = Some a
+present (Decoded.SetLengthDirect way a (Some bytes)) = Some a
 present (Decoded.Single command a (Some byte)) = dynamic_in command a
 present (Decoded.Request (Request.Interrupt a) accepted byte) = Some a
 present (Decoded.Request (Request.Role a) accepted byte) = Some a
@@ -113,6 +114,7 @@ present _ = None
 abbrev pub absent : Decoded → Option ℕ
 absent (Decoded.Transfer a read None) = Some a
 absent (Decoded.Get what a None) = Some a
+absent (Decoded.SetLengthDirect way a None) = Some a
 absent (Decoded.Single Direct.Enec a None) = Some a
 absent (Decoded.Single Direct.Disec a None) = Some a
 absent (Decoded.Single Direct.Setnewda a None) = Some a

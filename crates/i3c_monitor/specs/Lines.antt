@@ -2,6 +2,7 @@
 use Rattle.std.specs.Prelude.{ℕ, Bool, true, false, List, [], ◌∷◌, ◌++◌, codes, drop, take, Option, Some, None}
 use Rattle.std.specs.Fmt.{decimal}
 use Rattle.i3c_base.specs.declared.datum.Datum.{Datum}
+use Rattle.i3c_base.specs.declared.datum.Direction.{Direction}
 use Rattle.i3c_base.specs.declared.requests.Request.{Request}
 use Rattle.i3c_deftgts.specs.declared.faults.ListFault.{ListFault}
 use Rattle.i3c_frame.specs.declared.symbols.Symbol.{Symbol}
@@ -68,6 +69,16 @@ datum_name Datum.ReadLength = codes "GETMRL "
 datum_name Datum.Speed = codes "GETMXDS "
 datum_name Datum.Capabilities = codes "GETCAPS "
 
+-- a code that sets a maximum length
+abbrev pub length_name : Direction → List ℕ
+length_name Direction.Write = codes "SETMWL "
+length_name Direction.Read = codes "SETMRL "
+
+-- the two bytes of a length behind a header, unless nobody answered
+abbrev pub length_text : Option (ℕ × ℕ) → List ℕ
+length_text None = codes " no answer"
+length_text (Some bytes) = words_text (codes " ") bytes.0 ++ words_text (codes " ") bytes.1
+
 -- the direction of a transfer
 abbrev pub transfer_text : Bool → List ℕ
 transfer_text true = codes "read "
@@ -112,6 +123,8 @@ decoded_text trace (Decoded.Other byte) = words_text (codes "Other ") byte
 decoded_text trace (Decoded.Round identity byte taken) = codes "round " ++ (hex_text 16 identity ++ (words_text (codes " ") byte ++ taken_text taken))
 decoded_text trace Decoded.RoundsDone = codes "round done"
 decoded_text trace (Decoded.Single command address byte) = words_text (command_text command) address ++ answer_text byte
+decoded_text trace (Decoded.SetLength way bytes) = words_text (length_name way) bytes.0 ++ words_text (codes " ") bytes.1
+decoded_text trace (Decoded.SetLengthDirect way address bytes) = words_text (length_name way) address ++ length_text bytes
 decoded_text trace (Decoded.Get what address span) = words_text (datum_name what) address ++ bytes_text span trace
 decoded_text trace (Decoded.Transfer address read span) = words_text (transfer_text read) address ++ bytes_text span trace
 decoded_text trace (Decoded.Refused fault) = codes "refused " ++ fault_text fault

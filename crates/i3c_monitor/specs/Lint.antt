@@ -3,6 +3,7 @@ use Rattle.std.specs.Prelude.{ℕ, zero, suc, ◌+◌, ◌/◌, ◌%◌, ◌==�
 use Rattle.std.specs.Option.{option_and_then, option_to_list}
 use Rattle.i3c_base.specs.Sets.{is_in}
 use Rattle.i3c_base.specs.declared.datum.Datum.{Datum}
+use Rattle.i3c_base.specs.declared.datum.Direction.{Direction}
 use Rattle.i3c_ccc.specs.declared.codes.Code.{Code}
 use Rattle.i3c_frame.specs.declared.symbols.Symbol.{Symbol}
 use Rattle.i3c_monitor.specs.declared.decoded.Decoded.{Decoded}
@@ -71,6 +72,7 @@ fault_if wrong frame symbol breach = if wrong then Some (fault_at frame symbol b
 abbrev pub spoken_to : Decoded → Option ℕ
 spoken_to (Decoded.Transfer a read span) = Some a
 spoken_to (Decoded.Get what a span) = Some a
+spoken_to (Decoded.SetLengthDirect way a bytes) = Some a
 spoken_to (Decoded.Single command a byte) = dynamic_in command a
 spoken_to _ = None
 
@@ -167,11 +169,17 @@ defining_bytes Datum.Speed = 1
 defining_bytes Datum.Capabilities = 1
 defining_bytes _ = 0
 
+-- how many words a maximum length takes: two, and of reads a third, which is for interrupts
+abbrev pub length_takes : Direction → ℕ
+length_takes Direction.Write = 2
+length_takes Direction.Read = 3
+
 -- how many words follow a code, unless as many as come
 abbrev pub words_taken : Code → Option ℕ
 words_taken Code.Enec = Some 1
 words_taken Code.Disec = Some 1
 words_taken Code.Deftgts = None
+words_taken (Code.SetLength way) = Some (length_takes way)
 words_taken (Code.Get what) = Some (defining_bytes what)
 words_taken (Code.Other byte) = None
 words_taken _ = Some 0
@@ -181,9 +189,10 @@ abbrev pub code_takes : List Symbol → Option ℕ
 code_takes (Symbol.Word word ∷ rest) = option_map (λ n. n + 1) (words_taken (code_at word.byte))
 code_takes _ = None
 
--- how many follow a header of a command: its byte, or a round's identity and address byte
+-- how many follow a header of a command: its byte, a length, or a round's identity and address byte
 abbrev pub mode_takes : Mode → Bool → Option ℕ
 mode_takes (Mode.Single command) round = Some 1
+mode_takes (Mode.Length way) round = Some (length_takes way)
 mode_takes Mode.Rounds true = Some 2
 mode_takes _ round = None
 

@@ -1,6 +1,7 @@
 -- What a header and the symbols behind it tell, where a frame stands.
 use Rattle.std.specs.Prelude.{ℕ, ◌+◌, Bool, true, false, ◌==◌, ◌&&◌, not, List, [], ◌∷◌, length, Option, Some, None, Result, Ok, Err, if◌then◌else◌}
 use Rattle.i3c_base.specs.declared.datum.Datum.{Datum}
+use Rattle.i3c_base.specs.declared.datum.Direction.{Direction}
 use Rattle.i3c_base.specs.declared.requests.Request.{Request}
 use Rattle.i3c_ccc.specs.declared.codes.Code.{Code}
 use Rattle.i3c_frame.specs.declared.symbols.Symbol.{Symbol}
@@ -11,7 +12,7 @@ use Rattle.i3c_monitor.specs.declared.decoded.Direct.{Direct}
 use Rattle.i3c_monitor.specs.declared.decoded.Fault.{Fault}
 use Rattle.i3c_monitor.specs.declared.decoded.Decoded.{Decoded}
 use Rattle.i3c_monitor.specs.declared.decoded.Span.{Span}
-use Rattle.i3c_monitor.specs.Due.{due_word, entries_told, go_on, written_byte}
+use Rattle.i3c_monitor.specs.Due.{due_word, entries_told, go_on, written_byte, written_length}
 
 -- nothing is told, and the frame stands so
 abbrev pub nothing : Mode → Told
@@ -48,6 +49,12 @@ transfer_of header count before = Decoded.Transfer header.address header.read (s
 abbrev pub get_of : Datum → Header → ℕ → ℕ → Decoded
 get_of what header count before = Decoded.Get what header.address (span_of header count before)
 
+-- a header of a command that sets a maximum length
+abbrev pub length_of : Direction → Header → List Symbol → ℕ → Result Decoded Fault
+length_of way header symbols before =
+    if header.ack then go_on (written_length symbols before) (λ bytes. Ok (Decoded.SetLengthDirect way header.address (Some bytes)))
+    else Ok (Decoded.SetLengthDirect way header.address None)
+
 -- the byte behind a header of a command to single targets: of one that a target sent, T doesn't count
 abbrev pub single_byte : Direct → List Symbol → ℕ → Result ℕ Fault
 single_byte Direct.Enec symbols before = written_byte symbols before
@@ -79,11 +86,13 @@ command_of Code.Disec symbols before = go_on (written_byte symbols before) (λ k
 command_of Code.Rstdaa symbols before = one Mode.Plain Decoded.Rstdaa
 command_of Code.Entdaa symbols before = one Mode.Rounds Decoded.Entdaa
 command_of Code.Deftgts symbols before = go_on (entries_told symbols before) (λ count. one Mode.Plain (Decoded.Deftgts count))
+command_of (Code.SetLength way) symbols before = go_on (written_length symbols before) (λ bytes. one Mode.Plain (Decoded.SetLength way bytes))
 command_of Code.EnecDirect symbols before = Ok (nothing (Mode.Single Direct.Enec))
 command_of Code.DisecDirect symbols before = Ok (nothing (Mode.Single Direct.Disec))
 command_of Code.Setdasa symbols before = Ok (nothing (Mode.Single Direct.Setdasa))
 command_of Code.Setnewda symbols before = Ok (nothing (Mode.Single Direct.Setnewda))
 command_of Code.Getacccr symbols before = Ok (nothing (Mode.Single Direct.Getacccr))
+command_of (Code.SetLengthDirect way) symbols before = Ok (nothing (Mode.Length way))
 command_of (Code.Get what) symbols before = Ok (nothing (Mode.Get what))
 command_of (Code.Other byte) symbols before = one Mode.Skipped (Decoded.Other byte)
 
@@ -95,13 +104,20 @@ asking_at byte =
     else if byte == 0x90 then Code.Get Datum.Status else if byte == 0x94 then Code.Get Datum.Speed
     else if byte == 0x95 then Code.Get Datum.Capabilities else Code.Other byte
 
+-- the code of a byte that sets a maximum length, or asks, or isn't known
+abbrev pub length_at : ℕ → Code
+length_at byte =
+    if byte == 0x09 then Code.SetLength Direction.Write else if byte == 0x0A then Code.SetLength Direction.Read
+    else if byte == 0x89 then Code.SetLengthDirect Direction.Write else if byte == 0x8A then Code.SetLengthDirect Direction.Read
+    else asking_at byte
+
 -- the code of a byte
 abbrev pub code_at : ℕ → Code
 code_at byte =
     if byte == 0x00 then Code.Enec else if byte == 0x01 then Code.Disec else if byte == 0x06 then Code.Rstdaa
     else if byte == 0x07 then Code.Entdaa else if byte == 0x08 then Code.Deftgts else if byte == 0x80 then Code.EnecDirect
     else if byte == 0x81 then Code.DisecDirect else if byte == 0x87 then Code.Setdasa else if byte == 0x88 then Code.Setnewda
-    else if byte == 0x91 then Code.Getacccr else asking_at byte
+    else if byte == 0x91 then Code.Getacccr else length_at byte
 
 -- what follows 7E/W
 abbrev pub code_of : List Symbol → ℕ → Result Told Fault
@@ -113,6 +129,7 @@ abbrev pub other_told : Mode → Header → List Symbol → ℕ → Result Told 
 other_told Mode.First header symbols before = one Mode.Plain (request_of header symbols)
 other_told Mode.Plain header symbols before = one Mode.Plain (transfer_of header (length symbols) before)
 other_told (Mode.Single command) header symbols before = go_on (single_of command header symbols before) (one (Mode.Single command))
+other_told (Mode.Length way) header symbols before = go_on (length_of way header symbols before) (one (Mode.Length way))
 other_told (Mode.Get what) header symbols before = one (Mode.Get what) (get_of what header (length symbols) before)
 other_told Mode.Rounds header symbols before =
     if header.address == 0x7E then go_on (round_of header symbols before) (one Mode.Rounds)

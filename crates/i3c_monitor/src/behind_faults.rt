@@ -1,10 +1,10 @@
 ghost use Rattle.std.specs.Prelude.{true, false, not, ◌&&◌, ◌==◌, ◌≡◌, ◌+◌, ◌<◌, ◌≤◌, drop, length, position};
-ghost use Rattle.i3c_monitor.specs.Lint.{begins_with, belongs, code_takes, defining_bytes, ended_after, ended_fault, fault_at, heads_round, heeded, is_unanswered, is_word, is_wrong_address, mode_takes, parity_fault, stray_fault, surplus_fault, taken_by, unanswered_fault, words_taken};
+ghost use Rattle.i3c_monitor.specs.Lint.{begins_with, belongs, code_takes, defining_bytes, ended_after, ended_fault, fault_at, heads_round, heeded, is_unanswered, is_word, is_wrong_address, length_takes, mode_takes, parity_fault, stray_fault, surplus_fault, taken_by, unanswered_fault, words_taken};
 
 use crate::header::{BROADCAST, Header, Mode};
 use crate::lint::{Spot, begins_with_word, fault_at, fault_if};
 use crate::lint_fault::{Breach, LintFault};
-use i3c_base::Datum;
+use i3c_base::{Datum, Direction};
 use i3c_ccc::{Code, code_of};
 use i3c_frame::Symbol;
 use i3c_word::read_address_byte;
@@ -134,6 +134,8 @@ fn words_taken(code: &Code) -> Option<usize>
         Code::Rstdaa | Code::Entdaa => Some(0),
         Code::EnecDirect | Code::DisecDirect | Code::Getacccr => Some(0),
         Code::Setdasa | Code::Setnewda => Some(0),
+        Code::SetLengthDirect(_) => Some(0),
+        Code::SetLength(way) => Some(length_takes(*way)),
         Code::Get(what) => Some(defining_bytes(*what)),
     }
 }
@@ -149,12 +151,24 @@ fn defining_bytes(what: Datum) -> usize
     }
 }
 
-/// How many symbols follow a header of a command: its byte, or a round's identity and address byte.
+/// How many words a maximum length takes: two, and of reads a third, which is for interrupts (I3C Basic 5.1.9.3.5,
+/// 5.1.9.3.6).
+fn length_takes(way: Direction) -> usize
+    ensures { result ≡ length_takes way }
+{
+    match way {
+        Direction::Write => 2,
+        Direction::Read => 3,
+    }
+}
+
+/// How many symbols follow a header of a command: its byte, a length, or a round's identity and address byte.
 fn mode_takes(mode: &Mode, round: bool) -> Option<usize>
     ensures { result ≡ mode_takes mode.now round }
 {
     match mode {
         Mode::Single(_) => Some(1),
+        Mode::Length(way) => Some(length_takes(*way)),
         Mode::Rounds if round => Some(2),
         _ => None,
     }

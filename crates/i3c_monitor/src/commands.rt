@@ -4,7 +4,7 @@ ghost use Rattle.i3c_monitor.specs.Told.{code_of as code_told, command_of};
 
 use crate::decoded::{Decoded, Direct, Stop};
 use crate::header::{Mode, Told};
-use crate::words::{read_entries, written_byte};
+use crate::words::{read_entries, written_byte, written_length};
 use i3c_ccc::{Code, code_of};
 use i3c_frame::Symbol;
 use std::alloc::Global;
@@ -38,11 +38,16 @@ fn read_command(alloc: Global, code: Code, symbols: &[Symbol], before: usize) ->
             Decoded::Deftgts(read_entries(alloc, symbols, before)?),
             Mode::Plain,
         ),
+        Code::SetLength(way) => (
+            Decoded::SetLength(way, written_length(symbols, before)?),
+            Mode::Plain,
+        ),
         Code::EnecDirect => return Ok(Told::nothing(Mode::Single(Direct::Enec))),
         Code::DisecDirect => return Ok(Told::nothing(Mode::Single(Direct::Disec))),
         Code::Setdasa => return Ok(Told::nothing(Mode::Single(Direct::Setdasa))),
         Code::Setnewda => return Ok(Told::nothing(Mode::Single(Direct::Setnewda))),
         Code::Getacccr => return Ok(Told::nothing(Mode::Single(Direct::Getacccr))),
+        Code::SetLengthDirect(way) => return Ok(Told::nothing(Mode::Length(way))),
         Code::Get(what) => return Ok(Told::nothing(Mode::Get(what))),
         Code::Other(byte) => (Decoded::Other(byte), Mode::Skipped),
     };

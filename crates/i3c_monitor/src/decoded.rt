@@ -2,7 +2,7 @@ ghost use Rattle.std.specs.Prelude.{◌≡◌};
 ghost use Rattle.i3c_monitor.specs.Known.{dynamic_in};
 ghost use Rattle.i3c_monitor.specs.declared.decoded.Stop.TheVariants.{Refused as StopRefused, Memory};
 
-use i3c_base::{Addr7, Datum, Request};
+use i3c_base::{Addr7, Datum, Direction, Request};
 use i3c_deftgts::ListFault;
 use i3c_frame::Symbol;
 use std::alloc::AllocError;
@@ -69,6 +69,8 @@ pub enum Decoded {
     Entdaa,
     /// DEFTGTS, with a list of so many entries (I3C Basic 5.1.9.3.7).
     Deftgts(usize),
+    /// SETMWL or SETMRL to all, with the two bytes of its length (I3C Basic 5.1.9.3.5, 5.1.9.3.6).
+    SetLength(Direction, (u8, u8)),
     /// A code that this engine doesn't use.
     Other(u8),
     /// A round: the identity that was read, the address byte, and whether it was acknowledged (I3C Basic 5.1.4.2).
@@ -85,6 +87,9 @@ pub enum Decoded {
         address: Addr7,
         byte: Option<u8>,
     },
+    /// A header of SETMWL or SETMRL to single targets, and the two bytes behind it: `None` where nobody answered (I3C Basic
+    /// 5.1.9.3.5, 5.1.9.3.6).
+    SetLengthDirect(Direction, Addr7, Option<(u8, u8)>),
     /// A header of a code that asks a target for a datum, and the symbols behind it, of which words are the bytes that it
     /// tells: `None` where nobody answered (I3C Basic 5.1.9.3).
     Get(Datum, Addr7, Option<Span>),
@@ -109,7 +114,9 @@ impl Decoded {
         ensures { result ≡ spoken_to self.now }
     {
         match self {
-            Decoded::Transfer { address, .. } | Decoded::Get(_, address, _) => Some(*address),
+            Decoded::Transfer { address, .. }
+            | Decoded::Get(_, address, _)
+            | Decoded::SetLengthDirect(_, address, _) => Some(*address),
             Decoded::Single {
                 command,
                 address,
@@ -130,6 +137,7 @@ impl Decoded {
                 ..
             }
             | Decoded::Get(_, address, Some(_))
+            | Decoded::SetLengthDirect(_, address, Some(_))
             | Decoded::Request {
                 request: Request::Interrupt(address) | Request::Role(address),
                 ..
@@ -154,6 +162,7 @@ impl Decoded {
                 ..
             }
             | Decoded::Get(_, address, None)
+            | Decoded::SetLengthDirect(_, address, None)
             | Decoded::Single {
                 command: Direct::Enec | Direct::Disec | Direct::Setnewda,
                 address,

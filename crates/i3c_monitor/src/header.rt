@@ -1,12 +1,12 @@
 ghost use Rattle.std.specs.Prelude.{◌≡◌, ◌+◌, ◌<◌, length, IfOk};
 ghost use Rattle.i3c_monitor.specs.Due.{Comes};
 ghost use Rattle.i3c_monitor.specs.Lint.{settled};
-ghost use Rattle.i3c_monitor.specs.Told.{get_of, request_of, round_of, single_byte, single_of, span_of, told, transfer_of};
+ghost use Rattle.i3c_monitor.specs.Told.{get_of, length_of, request_of, round_of, single_byte, single_of, span_of, told, transfer_of};
 
 use crate::commands::read_code;
 use crate::decoded::{Decoded, Direct, Fault, Span, Stop};
-use crate::words::{due_word, written_byte};
-use i3c_base::{Addr7, Datum, Request};
+use crate::words::{due_word, written_byte, written_length};
+use i3c_base::{Addr7, Datum, Direction, Request};
 use i3c_frame::Symbol;
 use std::alloc::{AllocError, Global};
 
@@ -27,6 +27,8 @@ pub(crate) enum Mode {
     Single(Direct),
     /// In a code that asks targets for a datum.
     Get(Datum),
+    /// In a command that sets the maximum length of single targets.
+    Length(Direction),
     /// In the rounds of ENTDAA.
     Rounds,
     /// After a code that isn't known, where nothing is read.
@@ -119,6 +121,10 @@ pub(crate) fn read_header(
         Mode::Get(what) => {
             let decoded = get_of(*what, header, symbols.len(), before);
             Ok(Told::one(decoded, Mode::Get(*what)))
+        }
+        Mode::Length(way) => {
+            let decoded = read_length(*way, header, symbols, before)?;
+            Ok(Told::one(decoded, Mode::Length(*way)))
         }
         Mode::Rounds if is_broadcast => {
             let decoded = read_round(header, symbols, before)?;
@@ -236,6 +242,26 @@ fn single_byte(command: &Direct, symbols: &[Symbol], before: usize) -> Result<u8
         }
         Direct::Getacccr => Ok(due_word(symbols, before)?.byte),
     }
+}
+
+/// A header of SETMWL or SETMRL to single targets, whichever its direction (I3C Basic 5.1.9.3.5, 5.1.9.3.6).
+// kept apart, so that no other header pays for it
+#[inline(never)]
+fn read_length(
+    way: Direction,
+    header: &Header,
+    symbols: &[Symbol],
+    before: usize,
+) -> Result<Decoded, Fault>
+    requires { before + length symbols.now < usize.MAX }
+    ensures { result ≡ length_of way header.now symbols.now before }
+{
+    let bytes = if header.ack {
+        Some(written_length(symbols, before)?)
+    } else {
+        None
+    };
+    Ok(Decoded::SetLengthDirect(way, header.address, bytes))
 }
 
 /// A round of ENTDAA (I3C Basic 5.1.4.2).

@@ -1,9 +1,9 @@
 ghost use Rattle.std.specs.Prelude.{◌≡◌, ◌++◌, OnOk, codes};
-ghost use Rattle.i3c_monitor.specs.Lines.{answer_text, byte_after, byte_of, bytes_text, command_text, data_text, datum_name, fault_text, number_text, request_text, taken_text, transfer_text, verdict_text, words_text};
+ghost use Rattle.i3c_monitor.specs.Lines.{answer_text, byte_after, byte_of, bytes_text, command_text, data_text, datum_name, fault_text, length_name, length_text, number_text, request_text, taken_text, transfer_text, verdict_text, words_text};
 ghost use Rattle.i3c_text.specs.Hex.{hex_text};
 
 use crate::decoded::{Decoded, Direct, Fault, Span};
-use i3c_base::{Addr7, Datum, Request};
+use i3c_base::{Addr7, Datum, Direction, Request};
 use i3c_deftgts::ListFault;
 use i3c_frame::Symbol;
 use i3c_text::Text;
@@ -51,6 +51,10 @@ impl Decoded {
                 address,
                 byte,
             } => push_single(command, *address, *byte, text),
+            Decoded::SetLength(way, bytes) => push_length(*way, *bytes, text),
+            Decoded::SetLengthDirect(way, address, bytes) => {
+                push_length_at(*way, *address, *bytes, text)
+            }
             Decoded::Get(what, address, span) => push_get(*what, *address, span, trace, text),
             Decoded::Transfer {
                 address,
@@ -226,6 +230,52 @@ fn datum_name(what: Datum) -> &'static [u8]
         Datum::ReadLength => b"GETMRL ",
         Datum::Speed => b"GETMXDS ",
         Datum::Capabilities => b"GETCAPS ",
+    }
+}
+
+/// Appends a code that sets the maximum length of all, and its two bytes.
+#[inline(never)]
+fn push_length(way: Direction, bytes: (u8, u8), text: &mut Text) -> Result<(), AllocError>
+    ensures { OnOk result (text.new ≡ text.old ++ (words_text (length_name way) bytes.0 ++ words_text (codes " ") bytes.1)) }
+{
+    push_byte(length_name(way), bytes.0, text)?;
+    push_byte(b" ", bytes.1, text)
+}
+
+/// Appends a code that sets the maximum length of a target, and the two bytes behind its header.
+#[inline(never)]
+fn push_length_at(
+    way: Direction,
+    address: Addr7,
+    bytes: Option<(u8, u8)>,
+    text: &mut Text,
+) -> Result<(), AllocError>
+    ensures { OnOk result (text.new ≡ text.old ++ (words_text (length_name way) address ++ length_text bytes)) }
+{
+    push_address(length_name(way), address, text)?;
+    push_length_bytes(bytes, text)
+}
+
+/// Appends the two bytes of a length behind a header, unless nobody answered.
+fn push_length_bytes(bytes: Option<(u8, u8)>, text: &mut Text) -> Result<(), AllocError>
+    ensures { OnOk result (text.new ≡ text.old ++ length_text bytes) }
+{
+    match bytes {
+        Some((high, low)) => {
+            push_byte(b" ", high, text)?;
+            push_byte(b" ", low, text)
+        }
+        None => text.push(b" no answer"),
+    }
+}
+
+/// The name of a code that sets a maximum length, and a space.
+fn length_name(way: Direction) -> &'static [u8]
+    ensures { result.now ≡ length_name way }
+{
+    match way {
+        Direction::Write => b"SETMWL ",
+        Direction::Read => b"SETMRL ",
     }
 }
 

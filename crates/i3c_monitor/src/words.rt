@@ -1,6 +1,6 @@
 ghost use Rattle.std.specs.Prelude.{◌≡◌, ◌+◌, ◌<◌, IfOk, length};
 ghost use Rattle.i3c_deftgts.specs.Reading.{first_fault};
-ghost use Rattle.i3c_monitor.specs.Due.{Comes, broken, due_word, entries_told, words_in, written_byte};
+ghost use Rattle.i3c_monitor.specs.Due.{Comes, broken, due_word, entries_told, words_in, written_byte, written_length};
 
 use crate::decoded::{Fault, Stop};
 use i3c_deftgts::{ListFault, read_list};
@@ -19,6 +19,20 @@ pub(crate) fn written_byte(symbols: &[Symbol], before: usize) -> Result<u8, Faul
         Ok(byte) => Ok(byte),
         Err(_) => Err(Fault::Parity(before + 1)),
     }
+}
+
+/// The bytes of the two words that a controller writes for a length, the high one first (I3C Basic 5.1.9.3.5,
+/// 5.1.9.3.6). They are due as the first of these symbols.
+pub(crate) fn written_length(symbols: &[Symbol], before: usize) -> Result<(u8, u8), Fault>
+    requires { before + length symbols.now < usize.MAX }
+    ensures { result ≡ written_length symbols.now before }
+{
+    let Some((_, rest)) = symbols.split_first() else {
+        return Err(Fault::Truncated(before + 1));
+    };
+    let high = written_byte(symbols, before)?;
+    let low = written_byte(rest, before + 1)?;
+    Ok((high, low))
 }
 
 /// The word that is due as the first of these symbols, whatever its T bit is.

@@ -25,6 +25,7 @@ event_in (ShortEntry.ReadFrom a policy) = Event.ReadFrom a policy no_cuts
 event_in (ShortEntry.SetStatic f new policy) = Event.SetStatic f new policy no_cuts
 event_in (ShortEntry.SetNew a new policy) = Event.SetNew a new policy no_cuts
 event_in (ShortEntry.Get what a policy) = Event.Get what a policy no_cuts
+event_in (ShortEntry.SetLength way most to policy) = Event.SetLength way most to policy no_cuts
 event_in (ShortEntry.HandOver to) = Event.HandOver to no_cuts
 event_in ShortEntry.OpenDaa = Event.OpenDaa no_cuts
 event_in ShortEntry.Round = Event.Round no_cuts

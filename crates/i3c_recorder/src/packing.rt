@@ -3,7 +3,7 @@ ghost use Rattle.i3c_recorder.specs.Packing.{IsShort, event_in, reply_in};
 
 use crate::entry::Entry;
 use i3c_base::{
-    Addr7, Answer, Bcr, Cuts, Datum, Dcr, Fixed, Identity, Kinds, Pid, RoundReply, Served, Setup,
+    Addr7, Answer, Bcr, Cuts, Datum, Dcr, Direction, Fixed, Identity, Kinds, Length, Pid, RoundReply, Served, Setup,
     Slot,
 };
 use i3c_step::{Event, Framed, Refusal, Reply};
@@ -28,6 +28,7 @@ pub(crate) enum ShortEntry {
     SetStatic(Addr7, Addr7, Fixed),
     SetNew(Addr7, Addr7, Fixed),
     Get(Datum, Addr7, Fixed),
+    SetLength(Direction, Length, Option<Addr7>, Fixed),
     HandOver(Addr7),
     OpenDaa,
     Round,
@@ -107,6 +108,9 @@ fn brief_frame(event: &Event) -> Option<ShortEntry>
         Event::Get(what, from, policy, cuts) if cuts.is_empty() => {
             Some(ShortEntry::Get(*what, *from, *policy))
         }
+        Event::SetLength(way, most, to, policy, cuts) if cuts.is_empty() => {
+            Some(ShortEntry::SetLength(*way, *most, *to, *policy))
+        }
         Event::HandOver(to, cuts) if cuts.is_empty() => Some(ShortEntry::HandOver(*to)),
         Event::OpenDaa(cuts) if cuts.is_empty() => Some(ShortEntry::OpenDaa),
         Event::Round(cuts) if cuts.is_empty() => Some(ShortEntry::Round),
@@ -182,6 +186,9 @@ pub(crate) fn event_in(brief: &ShortEntry) -> Event
         }
         ShortEntry::SetNew(old, new, policy) => Event::SetNew(*old, *new, *policy, cuts),
         ShortEntry::Get(what, from, policy) => Event::Get(*what, *from, *policy, cuts),
+        ShortEntry::SetLength(way, most, to, policy) => {
+            Event::SetLength(*way, *most, *to, *policy, cuts)
+        }
         ShortEntry::HandOver(to) => Event::HandOver(*to, cuts),
         ShortEntry::OpenDaa => Event::OpenDaa(cuts),
         ShortEntry::Round => Event::Round(cuts),
@@ -242,6 +249,9 @@ pub(crate) fn copied(event: &Event) -> Result<Event, AllocError>
             Event::SetNew(*old, *new, *policy, cuts.clone()?)
         }
         Event::Get(what, from, policy, cuts) => Event::Get(*what, *from, *policy, cuts.clone()?),
+        Event::SetLength(way, most, to, policy, cuts) => {
+            Event::SetLength(*way, *most, *to, *policy, cuts.clone()?)
+        }
         Event::HandOver(to, cuts) => Event::HandOver(*to, cuts.clone()?),
         Event::OpenDaa(cuts) => Event::OpenDaa(cuts.clone()?),
         Event::Round(cuts) => Event::Round(cuts.clone()?),

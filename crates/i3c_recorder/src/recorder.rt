@@ -273,5 +273,6 @@ fn event_of(command: Command, policy: Fixed, cuts: Cuts) -> Event
         Command::SetStatic(fixed, new) => Event::SetStatic(fixed, new, policy, cuts),
         Command::SetNew(old, new) => Event::SetNew(old, new, policy, cuts),
         Command::Get(what, from) => Event::Get(what, from, policy, cuts),
+        Command::SetLength(way, most, to) => Event::SetLength(way, most, to, policy, cuts),
     }
 }

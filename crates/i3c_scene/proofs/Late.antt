@@ -1,16 +1,18 @@
 -- Cuts behind the last bit of a line's frame: two of one slot lead to the same.
-use Rattle.std.proofs.Common.{min, Result, Err, Ok, ◌≡◌, ◌∙◌, ℕ, zero, suc, ◌+◌, ◌<◌, ◌≤◌, Bool, true, false, List, Option, None, Some, arith, inl, inr, refl, subst, sym, if◌then◌else◌}
+use Rattle.std.proofs.Common.{min, Result, Err, Ok, ◌≡◌, ◌∙◌, ℕ, zero, suc, ◌+◌, ◌<◌, ◌≤◌, Bool, true, false, not, ◌&&◌, ◌==◌, is_some, List, [], ◌∷◌, Option, None, Some, arith, inl, inr, refl, subst, sym, if◌then◌else◌}
 use Rattle.std.specs.declared.alloc.AllocError.{AllocError}
 use Rattle.std.specs.Prelude.{IfOk}
 use Rattle.std.proofs.Math.Nat.{min-eq_left, min-eq_right}
-use Rattle.std.proofs.lemmas.Bool.Decides.{leb_tells}
+use Rattle.std.proofs.lemmas.Bool.Decides.{leb_tells, nat_tests}
 use Rattle.i3c_base.specs.declared.answers.Answer.{Answer}
 use Rattle.i3c_base.specs.declared.datum.Datum.{Datum}
+use Rattle.i3c_base.specs.declared.datum.Direction.{Direction}
+use Rattle.i3c_base.specs.declared.device.TheConstants.{REGISTERS}
 use Rattle.i3c_base.specs.declared.requests.Fixed.{Fixed}
 use Rattle.i3c_base.specs.Cutting.{CutList}
-use Rattle.i3c_base.specs.Frames.{get_bits, told_length}
+use Rattle.i3c_base.specs.Frames.{get_bits, least_length_from, length_of, told_length, transfer_length}
 use Rattle.i3c_base.specs.Serve.{byte_due}
-use Rattle.i3c_base.specs.State.{Entry, State, entry_at}
+use Rattle.i3c_base.specs.State.{Device, Entry, State, entry_at, has_address, legacy_target_at}
 use Rattle.i3c_step.specs.declared.events.Command.{Command as Frame}
 use Rattle.i3c_step.specs.declared.events.Event.{Event}
 use Rattle.i3c_step.specs.declared.replies.Reply.{Reply}
@@ -55,6 +57,23 @@ told_at_most Datum.Capabilities entry = omega arith
 get_at_most : (what : Datum) (entry : Option Entry) → bits_after_byte (get_bits what entry Answer.NoEnd) ≤ 90
 get_at_most what entry = omega (arith, told_at_most what entry)
 
+-- no transfer has more bytes than there are registers
+least_at_most : (active : ℕ) (way : Direction) (a s : ℕ) (places : List (Option Device)) → least_length_from active way a s places ≤ REGISTERS
+least_at_most active way a s [] = omega arith
+least_at_most active way a s (None ∷ places) = least_at_most active way a (suc s) places
+least_at_most active way a s (Some d ∷ places) = go (not (s == active) && has_address a d) (length_of way d) (least_length_from active way a (suc s) places) (least_at_most active way a (suc s) places)
+  where
+    go : (b : Bool) (own rest : ℕ) → rest ≤ REGISTERS → (if b then min own rest else rest) ≤ REGISTERS
+    go true own rest l = grind (arith, nat_tests)
+    go false own rest l = l
+
+length_at_most : (st : State) (way : Direction) (a : ℕ) → transfer_length st way a ≤ REGISTERS
+length_at_most st way a = go (is_some (legacy_target_at st a)) (least_length_from st.active way a 0 st.devices) (least_at_most st.active way a 0 st.devices)
+  where
+    go : (b : Bool) (least : ℕ) → least ≤ REGISTERS → (if b then REGISTERS else least) ≤ REGISTERS
+    go true least l = omega arith
+    go false least l = l
+
 -- so do they in a frame under the role
 frame_late : (old : State) (frame : Frame) (policy : Fixed) (cuts : CutList) (reply : Reply) (new : State) (s bit more : ℕ) → last_of_frame old frame < bit → last_of_frame old frame < more
     → Step old (event_of frame policy (cut_at cuts s bit)) reply new → Step old (event_of frame policy (cut_at cuts s more)) reply new
@@ -65,12 +84,16 @@ frame_late old (Frame.Disec None kinds) policy cuts reply new s bit more late la
 frame_late old (Frame.Disec (Some a) kinds) policy cuts reply new s bit more late later h = step_late old (Event.Disec (Some a) kinds policy cuts) reply new s bit more late later h
 frame_late old Frame.Reset policy cuts reply new s bit more late later h = step_late old (Event.Reset policy cuts) reply new s bit more late later h
 frame_late old Frame.SendList policy cuts reply new s bit more late later h = step_late old (Event.SendList policy cuts) reply new s bit more late later h
-frame_late old (Frame.ReadFrom a) policy cuts reply new s bit more late later h = step_late old (Event.ReadFrom a policy cuts) reply new s bit more late later h
+frame_late old (Frame.ReadFrom a) policy cuts reply new s bit more late later h =
+    let few = length_at_most old Direction.Read a in step_late old (Event.ReadFrom a policy cuts) reply new s bit more (omega (arith, late, few)) (omega (arith, later, few)) h
 frame_late old (Frame.WriteTo a bytes) policy cuts reply new s bit more late later h = step_late old (Event.WriteTo a bytes policy cuts) reply new s bit more (omega (arith, late)) (omega (arith, later)) h
 frame_late old (Frame.SetStatic f to) policy cuts reply new s bit more late later h = step_late old (Event.SetStatic f to policy cuts) reply new s bit more late later h
 frame_late old (Frame.SetNew a to) policy cuts reply new s bit more late later h = step_late old (Event.SetNew a to policy cuts) reply new s bit more late later h
 frame_late old (Frame.Get what a) policy cuts reply new s bit more late later h =
     let few = get_at_most what (entry_at old a) in step_late old (Event.Get what a policy cuts) reply new s bit more (omega (arith, late, few)) (omega (arith, later, few)) h
+frame_late old (Frame.SetLength way most None) policy cuts reply new s bit more late later h =
+    step_late old (Event.SetLength way most None policy cuts) reply new s bit more (omega (arith, late)) (omega (arith, later)) h
+frame_late old (Frame.SetLength way most (Some a)) policy cuts reply new s bit more late later h = step_late old (Event.SetLength way most (Some a) policy cuts) reply new s bit more late later h
 
 -- a step of events that take the same cuts
 moves_as : (st : State) (policy : Fixed) (c d : CutList) (names : List Named) (e f : Event) (reply : Reply) (new : Seen) → cuts_left e c ≡ cuts_left f d → (Step st e reply new.state → Step st f reply new.state)
@@ -88,6 +111,7 @@ frame_left (Frame.WriteTo a bytes) policy c d = refl
 frame_left (Frame.SetStatic f to) policy c d = refl
 frame_left (Frame.SetNew a to) policy c d = refl
 frame_left (Frame.Get what a) policy c d = refl
+frame_left (Frame.SetLength way most to) policy c d = refl
 
 -- and in a whole session, of whose frames the opening alone takes the cuts
 assigns_late : (st : State) (policy : Fixed) (cuts : CutList) (names : List Named) (refused : Option Refusal) (new : Seen) (s bit more : ℕ) → 18 < bit → 18 < more

@@ -70,6 +70,7 @@ carries_cuts (Frame.WriteTo a bytes) policy cuts = refl
 carries_cuts (Frame.SetStatic f to) policy cuts = refl
 carries_cuts (Frame.SetNew a to) policy cuts = refl
 carries_cuts (Frame.Get what a) policy cuts = refl
+carries_cuts (Frame.SetLength way most to) policy cuts = refl
 
 -- a whole session, or a refusal of its opening, as a line
 pub session_told : {T C : Type 0} (note : T → Symbol → T → Type 0) (before after : T) (st new : State) (policy : Fixed) (cuts : CutList) (names : List Named) (assigned : Result Assignment ActiveStays) (result : Result (Unit {0}) Stop)

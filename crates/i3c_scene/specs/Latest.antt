@@ -18,6 +18,7 @@ last_of_frame st (Frame.WriteTo at bytes) = 27 + 9 * length bytes.items
 last_of_frame st (Frame.SetStatic at to) = 45
 last_of_frame st (Frame.SetNew at to) = 45
 last_of_frame st (Frame.Get what at) = 90
+last_of_frame st (Frame.SetLength way most to) = 54
 
 -- and that of a command's frame; 0 where it sends none
 abbrev pub last_bit : State → Command → ℕ

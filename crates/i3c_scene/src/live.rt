@@ -470,6 +470,7 @@ fn event_of(frame: &Frame, policy: Fixed, cuts: Cuts) -> Event
         Frame::SetStatic(fixed, new) => Event::SetStatic(*fixed, *new, policy, cuts),
         Frame::SetNew(old, new) => Event::SetNew(*old, *new, policy, cuts),
         Frame::Get(what, from) => Event::Get(*what, *from, policy, cuts),
+        Frame::SetLength(way, most, to) => Event::SetLength(*way, *most, *to, policy, cuts),
     }
 }
 

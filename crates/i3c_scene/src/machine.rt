@@ -134,6 +134,7 @@ impl Scene {
             Frame::SendList => 18 + usize::from(self.still.list_bits()),
             Frame::ReadFrom(_) => 171,
             Frame::Get(..) => 90,
+            Frame::SetLength(..) => 54,
             Frame::WriteTo(_, bytes) => 27 + 9 * bytes.len(),
         }
     }

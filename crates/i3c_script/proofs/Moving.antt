@@ -133,6 +133,7 @@ carries_cuts (Frame.WriteTo a bytes) policy cuts = refl
 carries_cuts (Frame.SetStatic f new) policy cuts = refl
 carries_cuts (Frame.SetNew a new) policy cuts = refl
 carries_cuts (Frame.Get what a) policy cuts = refl
+carries_cuts (Frame.SetLength way most to) policy cuts = refl
 
 one_subject : (frame : Frame) (policy : Fixed) (cuts : CutList) → frame_subject frame ≡ subject_of (event_of frame policy cuts)
 one_subject Frame.Serve policy cuts = refl
@@ -145,6 +146,7 @@ one_subject (Frame.WriteTo a bytes) policy cuts = refl
 one_subject (Frame.SetStatic f new) policy cuts = refl
 one_subject (Frame.SetNew a new) policy cuts = refl
 one_subject (Frame.Get what a) policy cuts = refl
+one_subject (Frame.SetLength way most to) policy cuts = refl
 
 -- and hands no role over
 abbrev is_handover : Event → Bool
@@ -162,6 +164,7 @@ no_handover (Frame.WriteTo a bytes) policy cuts = refl
 no_handover (Frame.SetStatic f new) policy cuts = refl
 no_handover (Frame.SetNew a new) policy cuts = refl
 no_handover (Frame.Get what a) policy cuts = refl
+no_handover (Frame.SetLength way most to) policy cuts = refl
 
 unhanded : (old new : State) (frame : Frame) (policy : Fixed) (cuts : CutList) (reply : Reply) → Step old (event_of frame policy cuts) reply new → is_handed reply ≡ false
 unhanded old new frame policy cuts reply step = go (is_handed reply) refl

@@ -118,6 +118,7 @@ subject_of (Event.WriteTo a bytes policy cuts) = Subject.Nothing
 subject_of (Event.SetStatic f new policy cuts) = Subject.Nothing
 subject_of (Event.SetNew a new policy cuts) = Subject.Nothing
 subject_of (Event.Get what a policy cuts) = Subject.Told what
+subject_of (Event.SetLength way most to policy cuts) = Subject.Nothing
 subject_of (Event.Serve policy cuts) = Subject.Nothing
 subject_of (Event.Enec to kinds policy cuts) = Subject.Nothing
 subject_of (Event.Disec to kinds policy cuts) = Subject.Nothing

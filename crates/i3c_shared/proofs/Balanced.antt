@@ -5,7 +5,7 @@ use Rattle.std.specs.Prelude.{Option, Some, None, is_some}
 use Rattle.i3c_base.specs.State.{State}
 use Rattle.i3c_base.specs.declared.device.Waiting.{Waiting}
 use Rattle.i3c_step.specs.declared.events.Event.{Event}
-use Rattle.i3c_step.specs.declared.events.Event.TheVariants.{Attach, DropOff, Raise, AskJoin, AskRole, Serve, Enec, Disec, Reset, SendList, ReadFrom, WriteTo, SetStatic, SetNew, Get, HandOver, OpenDaa, Round, EndDaa}
+use Rattle.i3c_step.specs.declared.events.Event.TheVariants.{Attach, DropOff, Raise, AskJoin, AskRole, Serve, Enec, Disec, Reset, SendList, ReadFrom, WriteTo, SetStatic, SetNew, Get, SetLength, HandOver, OpenDaa, Round, EndDaa}
 use Rattle.i3c_step.specs.declared.replies.Reply.{Reply}
 use Rattle.i3c_step.specs.History.{History, Moment}
 use Rattle.i3c_step.specs.History as history
@@ -71,6 +71,7 @@ part s (WriteTo t bs p c) (Some n) = refl
 part s (SetStatic f t p c) (Some n) = refl
 part s (SetNew f t p c) (Some n) = refl
 part s (Get w t p c) (Some n) = refl
+part s (SetLength w m t p c) (Some n) = refl
 part s (HandOver t c) (Some n) = refl
 part s (OpenDaa c) (Some n) = refl
 part s (Round c) (Some n) = refl

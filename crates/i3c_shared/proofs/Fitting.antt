@@ -6,7 +6,7 @@ use Rattle.std.proofs.lemmas.Option.{none-some}
 use Rattle.rtrb.specs.Ring.{received, known_items, consumer_capacity}
 use Rattle.i3c_base.specs.declared.device.Setup.{Setup}
 use Rattle.i3c_step.specs.declared.events.Event.{Event}
-use Rattle.i3c_step.specs.declared.events.Event.TheVariants.{Attach, DropOff, Raise, AskJoin, AskRole, Serve, Enec, Disec, Reset, SendList, ReadFrom, WriteTo, SetStatic, SetNew, Get, HandOver, OpenDaa, Round, EndDaa}
+use Rattle.i3c_step.specs.declared.events.Event.TheVariants.{Attach, DropOff, Raise, AskJoin, AskRole, Serve, Enec, Disec, Reset, SendList, ReadFrom, WriteTo, SetStatic, SetNew, Get, SetLength, HandOver, OpenDaa, Round, EndDaa}
 use Rattle.i3c_step.specs.declared.replies.Reply.{Reply}
 use Rattle.i3c_step.specs.Stays.{is_attached}
 use Rattle.i3c_recorder.specs.declared.entry.Entry.{Entry}
@@ -130,6 +130,7 @@ event_keeps s bs (WriteTo a bytes policy cuts) r n = rw (and_false (is_attached 
 event_keeps s bs (SetStatic f to policy cuts) r n = rw (and_false (is_attached r), append-nil bs) refl
 event_keeps s bs (SetNew a to policy cuts) r n = rw (and_false (is_attached r), append-nil bs) refl
 event_keeps s bs (Get what a policy cuts) r n = rw (and_false (is_attached r), append-nil bs) refl
+event_keeps s bs (SetLength way most to policy cuts) r n = rw (and_false (is_attached r), append-nil bs) refl
 event_keeps s bs (HandOver to cuts) r n = rw (and_false (is_attached r), append-nil bs) refl
 event_keeps s bs (OpenDaa cuts) r n = rw (and_false (is_attached r), append-nil bs) refl
 event_keeps s bs (Round cuts) r n = rw (and_false (is_attached r), append-nil bs) refl

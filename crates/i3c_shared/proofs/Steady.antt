@@ -7,7 +7,7 @@ use Rattle.i3c_base.specs.State.{State}
 use Rattle.i3c_step.specs.declared.events.Command.{Command}
 use Rattle.i3c_step.specs.declared.events.Command.TheVariants as command
 use Rattle.i3c_step.specs.declared.events.Event.{Event}
-use Rattle.i3c_step.specs.declared.events.Event.TheVariants.{Attach, DropOff, Raise, AskJoin, AskRole, Serve, Enec, Disec, Reset, SendList, ReadFrom, WriteTo, SetStatic, SetNew, Get, HandOver, OpenDaa, Round, EndDaa}
+use Rattle.i3c_step.specs.declared.events.Event.TheVariants.{Attach, DropOff, Raise, AskJoin, AskRole, Serve, Enec, Disec, Reset, SendList, ReadFrom, WriteTo, SetStatic, SetNew, Get, SetLength, HandOver, OpenDaa, Round, EndDaa}
 use Rattle.i3c_step.specs.declared.replies.Reply.{Reply}
 use Rattle.i3c_step.specs.Commands.{event_of}
 use Rattle.i3c_step.specs.Slots.{is_handed, session_after}
@@ -44,6 +44,7 @@ local_acts old (WriteTo a bytes policy cuts) reply new n h = absurd (false≢tru
 local_acts old (SetStatic f to policy cuts) reply new n h = absurd (false≢true (sym n))
 local_acts old (SetNew a to policy cuts) reply new n h = absurd (false≢true (sym n))
 local_acts old (Get what a policy cuts) reply new n h = absurd (false≢true (sym n))
+local_acts old (SetLength way most to policy cuts) reply new n h = absurd (false≢true (sym n))
 local_acts old (HandOver to cuts) reply new n h = absurd (false≢true (sym n))
 local_acts old (OpenDaa cuts) reply new n h = absurd (false≢true (sym n))
 local_acts old (Round cuts) reply new n h = absurd (false≢true (sym n))
@@ -67,6 +68,7 @@ command_acts old (command.WriteTo a bytes) policy cuts reply new h = same_reply 
 command_acts old (command.SetStatic f to) policy cuts reply new h = same_reply reply _ old.in_session h.1 (refl, refl)
 command_acts old (command.SetNew a to) policy cuts reply new h = same_reply reply _ old.in_session h.1 (refl, refl)
 command_acts old (command.Get what a) policy cuts reply new h = same_reply reply _ old.in_session h.1 (refl, refl)
+command_acts old (command.SetLength way most to) policy cuts reply new h = same_reply reply _ old.in_session h.1 (refl, refl)
 
 -- a frame under the role
 pub command_steady : (old : State) (m : Command) (policy : Fixed) (cuts : CutList) (reply : Reply) (new : State) → Step old (event_of m policy cuts) reply new → IsSteady reply old.in_session
@@ -89,3 +91,4 @@ commands_are_frames (command.WriteTo a bytes) policy cuts = refl
 commands_are_frames (command.SetStatic f to) policy cuts = refl
 commands_are_frames (command.SetNew a to) policy cuts = refl
 commands_are_frames (command.Get what a) policy cuts = refl
+commands_are_frames (command.SetLength way most to) policy cuts = refl

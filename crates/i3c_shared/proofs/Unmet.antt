@@ -77,6 +77,8 @@ command_checks old (command.WriteTo a bytes) policy cuts closed = rw closed refl
 command_checks old (command.SetStatic f to) policy cuts closed = rw closed refl
 command_checks old (command.SetNew a to) policy cuts closed = rw closed refl
 command_checks old (command.Get what a) policy cuts closed = rw closed refl
+command_checks old (command.SetLength way most None) policy cuts closed = rw closed refl
+command_checks old (command.SetLength way most (Some a)) policy cuts closed = rw closed refl
 
 command_acts : (old : State) (m : Command) (policy : Fixed) (cuts : CutList) (reply : Reply) (new : State) → Acts old (event_of m policy cuts) reply new → isnt_refused reply ≡ true
 command_acts old command.Serve policy cuts reply new h = ap isnt_refused h.1
@@ -89,6 +91,7 @@ command_acts old (command.WriteTo a bytes) policy cuts reply new h = ap isnt_ref
 command_acts old (command.SetStatic f to) policy cuts reply new h = ap isnt_refused h.1
 command_acts old (command.SetNew a to) policy cuts reply new h = ap isnt_refused h.1
 command_acts old (command.Get what a) policy cuts reply new h = ap isnt_refused h.1
+command_acts old (command.SetLength way most to) policy cuts reply new h = ap isnt_refused h.1
 
 -- a frame under the role finds no open session
 pub command_unmet : (old : State) (m : Command) (policy : Fixed) (cuts : CutList) (reply : Reply) (new : State) → old.in_session ≡ false → Step old (event_of m policy cuts) reply new → reply ≡ Reply.Refused Refusal.SessionOpen → ⊥

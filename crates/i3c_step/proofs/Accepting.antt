@@ -18,12 +18,12 @@ use Rattle.i3c_step.specs.Records.{IsRecordedOrTorn, IsTornOff, RecordsFront}
 use Rattle.i3c_step.specs.Serving.{place_of, policy_of, served_of}
 use Rattle.i3c_step.specs.Step.{Acts, Step}
 use Rattle.i3c_step.specs.declared.events.Event.{Event}
-use Rattle.i3c_step.specs.declared.events.Event.TheVariants.{Attach, DropOff, Raise, AskJoin, AskRole, Serve, Enec, Disec, Reset, SendList, ReadFrom, WriteTo, SetStatic, SetNew, Get, OpenDaa, Round, EndDaa, HandOver}
+use Rattle.i3c_step.specs.declared.events.Event.TheVariants.{Attach, DropOff, Raise, AskJoin, AskRole, Serve, Enec, Disec, Reset, SendList, ReadFrom, WriteTo, SetStatic, SetNew, Get, SetLength, OpenDaa, Round, EndDaa, HandOver}
 use Rattle.i3c_step.specs.declared.replies.Reply.{Reply}
 use Rattle.i3c_step.proofs.Drivers.{accepted_served}
 use Rattle.i3c_step.proofs.Slots.{records_rekinds}
 use Rattle.i3c_step.proofs.Steps.{IsIdle, refused, short, step_cases}
-use Rattle.i3c_step.proofs.Transfers.{gets_keep, reads_keep, writes_keep, news_keep, statics_keep}
+use Rattle.i3c_step.proofs.Transfers.{gets_keep, lengths_keep, reads_keep, writes_keep, news_keep, statics_keep}
 use Rattle.i3c_step.proofs.Uniqueness.{first_unique}
 
 -- an accepted interrupt
@@ -136,6 +136,8 @@ acts_record old (SetNew b t p cuts) reply new policy a acts e h =
     (ap served_of acts.1) policy (same_Some p policy e) h
 acts_record old (Get what b p cuts) reply new policy a acts e h =
     frame_accepts old p cuts acts.0.served _ _ reply new a (gets_keep (λ mid done. done.records ≡ mid.records) (λ st. refl) what b acts.0.answer) acts.2 (ap served_of acts.1) policy (same_Some p policy e) h
+acts_record old (SetLength way most to p cuts) reply new policy a acts e h =
+    frame_accepts old p cuts acts.0.served _ _ reply new a (lengths_keep (λ mid done. done.records ≡ mid.records) to way most (λ st. refl) (λ st. refl) acts.0.answer) acts.2 (ap served_of acts.1) policy (same_Some p policy e) h
 acts_record old (AskRole t) reply new policy a acts e h = absurd (none-some policy e)
 acts_record old (OpenDaa cuts) reply new policy a acts e h =
     frame_accepts old refuse_all cuts acts.0 _ _ reply new a (λ lost mid done k. ap (λ (st : State). st.records) k) acts.2 (ap served_of acts.1) policy (same_Some refuse_all policy e) h

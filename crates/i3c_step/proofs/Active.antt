@@ -14,18 +14,19 @@ use Rattle.i3c_base.specs.Cutting.{CutList, Lost, lost_by}
 use Rattle.i3c_base.specs.Numbers.{KindSet}
 use Rattle.i3c_base.specs.State.{Board, Device, State, IsPresent, IsStart, attached, change, device_at, each, no_devices, raised_at, unaddressed, fixed_of}
 use Rattle.i3c_base.specs.Serve.{Frame, Serves, drives, each_driver, emptied, without_front, without_join, without_role}
-use Rattle.i3c_base.specs.Frames.{Rekinds, handed, list, overwritten, reaches, rekinded, reset, unaddressed_device, written, readdressed, takes_static, with_new, with_static}
+use Rattle.i3c_base.specs.declared.datum.Direction.{Direction}
+use Rattle.i3c_base.specs.Frames.{Rekinds, handed, list, overwritten, reaches, rekinded, reset, unaddressed_device, written, readdressed, takes_static, with_new, with_static, limited, with_length}
 use Rattle.i3c_base.specs.Round.{Rounds, assigned, hears, opened, unhearing, winner, wins}
 use Rattle.i3c_base.proofs.Lookups.{change_at, drop_off_at, each_at, emptied_at, length-no_devices, set_at, set_in}
 use Rattle.i3c_step.specs.declared.events.Event.{Event}
-use Rattle.i3c_step.specs.declared.events.Event.TheVariants.{Attach, DropOff, Raise, AskJoin, AskRole, Serve, Enec, Disec, Reset, SendList, ReadFrom, WriteTo, SetStatic, SetNew, Get, OpenDaa, Round, EndDaa, HandOver}
+use Rattle.i3c_step.specs.declared.events.Event.TheVariants.{Attach, DropOff, Raise, AskJoin, AskRole, Serve, Enec, Disec, Reset, SendList, ReadFrom, WriteTo, SetStatic, SetNew, Get, SetLength, OpenDaa, Round, EndDaa, HandOver}
 use Rattle.i3c_step.specs.declared.replies.Reply.{Reply}
 use Rattle.i3c_step.specs.Runs.{IsLegalRun}
 use Rattle.i3c_step.proofs.Handing.{declined, granted}
 use Rattle.i3c_step.proofs.Kept.{run_keeps}
 use Rattle.i3c_step.specs.Step.{Acts, Step, checks, first_refusal, hand_checks, read_checks, target_checks, write_checks, static_checks, new_checks}
 use Rattle.i3c_step.proofs.Steps.{active_left, no_test, step_cases}
-use Rattle.i3c_step.proofs.Transfers.{gets_keep, reads_keep, writes_keep, news_keep, statics_keep}
+use Rattle.i3c_step.proofs.Transfers.{gets_keep, lengths_keep, limited_by, reads_keep, writes_keep, news_keep, statics_keep}
 
 -- the active slot is occupied
 abbrev pub HasActive : State → Type 0
@@ -96,6 +97,12 @@ Present-written a bytes st s h = Present-each (λ t d. if reaches st (Some a) t 
 Safe-written : (a : ℕ) (bytes : List ℕ) (lost : Lost) (st : State) → IsSafe lost st → IsSafe lost (written a bytes st)
 Safe-written a bytes lost st h = record { present = Present-written a bytes st _ h.present; left = h.left }
 
+pub Present-with_length : (to : Option ℕ) (way : Direction) (most : ℕ) (st : State) (s : ℕ) → IsPresent st s → IsPresent (with_length to way most st) s
+Present-with_length to way most st s h = Present-each (λ t d. if reaches st to t d then limited way most d else d) st s h
+
+Safe-with_length : (to : Option ℕ) (way : Direction) (most : ℕ) (lost : Lost) (st : State) → IsSafe lost st → IsSafe lost (with_length to way most st)
+Safe-with_length to way most lost st h = record { present = Present-with_length to way most st _ h.present; left = h.left }
+
 -- and an address that is given
 pub Present-with_static : (f : ℕ) (i : Identity) (a : ℕ) (st : State) (s : ℕ) → IsPresent st s → IsPresent (with_static f i a st) s
 Present-with_static f i a st s h = Present-each (λ t d. if takes_static st.active f t d then winner a d else d) st s h
@@ -162,6 +169,10 @@ Active-acts old (SetNew a to policy cuts) reply new free h p =
 Active-acts old (Get what a policy cuts) reply new free h p =
     Active-frame old policy cuts _ _ _ new (λ lost. gets_keep (λ mid done. IsSafe lost mid → IsSafe lost done) (λ st safe. safe) what a h.0.answer lost) h.2
     (λ last. active_left old cuts _ _ _ (target_checks old (Some a)) last free) p
+Active-acts old (SetLength way most to policy cuts) reply new free h p =
+    Active-frame old policy cuts _ _ _ new
+    (λ lost. lengths_keep (λ mid done. IsSafe lost mid → IsSafe lost done) to way most (λ st safe. safe) (Safe-with_length to way most lost) h.0.answer lost) h.2
+    (λ last. active_left old cuts _ _ _ (target_checks old to) last free) p
 Active-acts old (OpenDaa cuts) reply new free h p = Active-frame old _ cuts _ _ _ new Safe-opened h.2 (λ last. active_left old cuts _ _ _ [] last free) p
 Active-acts old (Round cuts) reply new free h p = Active-round old cuts h.0 new h.2 (λ last. active_left old cuts _ _ _ [] last free) p
 Active-acts old (HandOver to cuts) reply new free h p = elim h [

@@ -7,7 +7,7 @@ use Rattle.i3c_base.specs.declared.identity.Identity.{Identity}
 use Rattle.i3c_base.specs.declared.identity.Lvr.{Lvr}
 use Rattle.i3c_base.specs.Cutting.{CutList, Lost, lost_by}
 use Rattle.i3c_step.specs.declared.events.Event.{Event}
-use Rattle.i3c_step.specs.declared.events.Event.TheVariants.{Attach, DropOff, Raise, AskJoin, AskRole, Serve, Enec, Disec, Reset, SendList, ReadFrom, WriteTo, SetStatic, SetNew, Get, OpenDaa, Round, EndDaa, HandOver}
+use Rattle.i3c_step.specs.declared.events.Event.TheVariants.{Attach, DropOff, Raise, AskJoin, AskRole, Serve, Enec, Disec, Reset, SendList, ReadFrom, WriteTo, SetStatic, SetNew, Get, SetLength, OpenDaa, Round, EndDaa, HandOver}
 use Rattle.i3c_base.specs.declared.requests.Fixed.{Fixed}
 use Rattle.i3c_base.specs.declared.requests.Request.{Request}
 use Rattle.i3c_step.specs.declared.replies.Reply.{Reply}
@@ -19,7 +19,8 @@ use Rattle.i3c_base.specs.Numbers.{same_identity}
 use Rattle.i3c_base.specs.State.{Board, Device, Entry, IsPickable, IsStart, IsUsable, State, addressed, attached, change, declared_at, declared_in, device_at, each, entry_at, entry_in, entry_of, fixed_of, has_address, in_slot, is_the, is_usable, kept_again, kept_entry_of, kept_of, known_in, legacy_target_at, legacy_target_of, legacy_targets_of, no_devices, no_entries, raised_at, released, unaddressed, unkept}
 use Rattle.i3c_base.specs.declared.range.TheConstants.{ADDRESSES}
 use Rattle.i3c_base.specs.Local.{attach, drop_off, raise}
-use Rattle.i3c_base.specs.Frames.{Rekinds, active_has, handed, legacy_written, list, moved, overwritten, reaches, readdressed, rekinded, released_at, reset, takes_static, unaddressed_device, with_new, with_static, written}
+use Rattle.i3c_base.specs.declared.datum.Direction.{Direction}
+use Rattle.i3c_base.specs.Frames.{Rekinds, active_has, handed, legacy_written, list, moved, overwritten, reaches, readdressed, rekinded, released_at, reset, takes_static, unaddressed_device, with_new, with_static, written, limited, with_length}
 use Rattle.i3c_base.specs.Numbers.{KindSet}
 use Rattle.i3c_base.specs.declared.answers.Answer.{Answer}
 use Rattle.i3c_base.specs.Serve.{Frame, Serves, drives, each_driver, emptied, without_front, without_join, without_role}
@@ -29,7 +30,7 @@ use Rattle.i3c_step.specs.Sound.{Addresses, IsFor}
 use Rattle.i3c_step.proofs.Handing.{declined, granted}
 use Rattle.i3c_step.proofs.Follows.{Follows-serves}
 use Rattle.i3c_step.proofs.Steps.{no_test, step_cases}
-use Rattle.i3c_step.proofs.Transfers.{gets_keep, reads_keep, writes_keep}
+use Rattle.i3c_step.proofs.Transfers.{gets_keep, lengths_keep, limited_by, reads_keep, writes_keep}
 use Rattle.i3c_base.proofs.Lookups.{attach_from, changed_at, length-changed, change_from, drop_off_from, each_from, emptied_from, length-no_entries, length-taken_over, no_devices_at, no_entries_at, option_map_from, set_at, set_from, set_in, taken_over_at}
 use Rattle.i3c_base.proofs.StaticLaws.{declared_at_fixed, is_the-true, kept_again_declared, kept_at_known, same_identity-true}
 use Rattle.i3c_step.proofs.Maps.{cond_kept_from}
@@ -238,6 +239,11 @@ NoneNew-written a bytes st =
       | inl e ↦ e.1 ∙ ap (legacy_written bytes) (ap (legacy_target_at st) (sym e.0) ∙ none)
       | inr e ↦ e ∙ none
     ]) refl
+
+pub NoneNew-with_length : (to : Option ℕ) (way : Direction) (most : ℕ) (st : State) → NoneNew st (with_length to way most st)
+NoneNew-with_length to way most st = NoneNew-each (λ s d. if reaches st to s d then limited way most d else d) st
+    (λ s d. IsSteady-if (reaches st to s d) d (limited way most d)
+    (limited_by (λ x. IsSteady x d) way most d (record { identity = refl; fixed = refl; address = λ b p. p }) (record { identity = refl; fixed = refl; address = λ b p. p })))
 
 pub NoneNew-driver : (r : Request) (f : Device → Device) (st : State) → ((d : Device) → IsSteady (f d) d) → NoneNew st (each_driver r f st)
 NoneNew-driver r f st steady = NoneNew-each (λ s d. if drives st r s then f d else d) st (λ s d. IsSteady-if (drives st r s) d (f d) (steady d))
@@ -762,6 +768,8 @@ Addresses-acts old (SetNew a to policy cuts) reply new free h inv = Addresses-ow
   | inr e ↦ subst Addresses (sym e.2) known
 ]) h.2 inv
 Addresses-acts old (Get what a policy cuts) reply new free h inv = Addresses-frame old policy cuts _ _ _ new (gets_keep NoneNew NoneNew-refl what a h.0.answer) h.2 inv
+Addresses-acts old (SetLength way most to policy cuts) reply new free h inv =
+    Addresses-frame old policy cuts _ _ _ new (lengths_keep NoneNew to way most NoneNew-refl (NoneNew-with_length to way most) h.0.answer) h.2 inv
 Addresses-acts old (OpenDaa cuts) reply new free h inv = Addresses-frame old _ cuts _ _ _ new (NoneNew-becomes opened NoneNew-opened) h.2 inv
 Addresses-acts old (Round cuts) reply new free h inv = Addresses-round old cuts h.0 new h.2 inv
 Addresses-acts old (HandOver to cuts) reply new free h inv = elim h [

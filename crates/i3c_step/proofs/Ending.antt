@@ -18,7 +18,7 @@ use Rattle.i3c_base.specs.Local.{attach, drop_off, raise}
 use Rattle.i3c_base.specs.State.{Board, Device, IsStart, State, attached, change, device_at, in_slot, no_devices, raised_at, fixed_of}
 use Rattle.i3c_base.proofs.Lookups.{change_at, drop_off_from, each_at, each_from, emptied_at, emptied_from, length-no_devices, set_at}
 use Rattle.i3c_step.specs.declared.events.Event.{Event}
-use Rattle.i3c_step.specs.declared.events.Event.TheVariants.{Attach, DropOff, Raise, AskJoin, AskRole, Serve, Enec, Disec, Reset, SendList, ReadFrom, WriteTo, SetStatic, SetNew, Get, OpenDaa, Round, EndDaa, HandOver}
+use Rattle.i3c_step.specs.declared.events.Event.TheVariants.{Attach, DropOff, Raise, AskJoin, AskRole, Serve, Enec, Disec, Reset, SendList, ReadFrom, WriteTo, SetStatic, SetNew, Get, SetLength, OpenDaa, Round, EndDaa, HandOver}
 use Rattle.i3c_step.specs.declared.replies.Reply.{Reply}
 use Rattle.i3c_step.specs.declared.replies.Refusal.{Refusal}
 use Rattle.i3c_step.specs.Runs.{IsLegalRun, IsRun}
@@ -279,6 +279,7 @@ goes old (WriteTo a bytes policy cuts) reply new within busy h = calm_step old (
 goes old (SetStatic f to policy cuts) reply new within busy h = calm_step old (SetStatic f to policy cuts) reply new refl busy (λ free acts. refused old (SetStatic f to policy cuts) busy refl free) h
 goes old (SetNew a to policy cuts) reply new within busy h = calm_step old (SetNew a to policy cuts) reply new refl busy (λ free acts. refused old (SetNew a to policy cuts) busy refl free) h
 goes old (Get what a policy cuts) reply new within busy h = calm_step old (Get what a policy cuts) reply new refl busy (λ free acts. refused old (Get what a policy cuts) busy refl free) h
+goes old (SetLength way most to policy cuts) reply new within busy h = calm_step old (SetLength way most to policy cuts) reply new refl busy (λ free acts. refused old (SetLength way most to policy cuts) busy refl free) h
 goes old (OpenDaa cuts) reply new within busy h = calm_step old (OpenDaa cuts) reply new refl busy (λ free acts. refused old (OpenDaa cuts) busy refl free) h
 goes old (HandOver to cuts) reply new within busy h = calm_step old (HandOver to cuts) reply new refl busy (λ free acts. refused old (HandOver to cuts) busy refl free) h
 

@@ -11,7 +11,8 @@ use Rattle.i3c_base.specs.declared.requests.Request.TheVariants.{Join, Role, Int
 use Rattle.i3c_base.specs.declared.requests.Served.{Served}
 use Rattle.i3c_base.specs.declared.requests.Served.TheVariants.{Quiet, Recorded, Refused, Torn, Joining, WantsRole}
 use Rattle.i3c_base.specs.Cutting.{CutList, Lost, lost_by}
-use Rattle.i3c_base.specs.Frames.{Rekinds, handed, list, overwritten, reaches, readdressed, rekinded, reset, takes_static, unaddressed_device, with_new, with_static, written}
+use Rattle.i3c_base.specs.declared.datum.Direction.{Direction}
+use Rattle.i3c_base.specs.Frames.{Rekinds, handed, list, overwritten, reaches, readdressed, rekinded, reset, takes_static, unaddressed_device, with_new, with_static, written, limited, with_length}
 use Rattle.i3c_base.specs.Local.{drop_off, raise}
 use Rattle.i3c_base.specs.Numbers.{KindSet}
 use Rattle.i3c_base.specs.Round.{Rounds, assigned, ended, hears, opened, unhearing, winner, wins}
@@ -19,13 +20,13 @@ use Rattle.i3c_base.specs.Serve.{Frame, Serves, drives, each_driver, emptied, wi
 use Rattle.i3c_base.specs.State.{Device, State, change, device_at, each, has_address, is_the, raised_at}
 use Rattle.i3c_base.proofs.Lookups.{attach_from, change_from, drop_off_from, each_from, emptied_from, length-changed}
 use Rattle.i3c_step.specs.declared.events.Event.{Event}
-use Rattle.i3c_step.specs.declared.events.Event.TheVariants.{Attach, DropOff, Raise, AskJoin, AskRole, Serve, Enec, Disec, Reset, SendList, ReadFrom, WriteTo, SetStatic, SetNew, Get, OpenDaa, Round, EndDaa, HandOver}
+use Rattle.i3c_step.specs.declared.events.Event.TheVariants.{Attach, DropOff, Raise, AskJoin, AskRole, Serve, Enec, Disec, Reset, SendList, ReadFrom, WriteTo, SetStatic, SetNew, Get, SetLength, OpenDaa, Round, EndDaa, HandOver}
 use Rattle.i3c_step.specs.declared.replies.Reply.{Reply}
 use Rattle.i3c_step.specs.Slots.{HasAttached}
 use Rattle.i3c_step.specs.Step.{Acts, Step}
 use Rattle.i3c_step.proofs.Handing.{IsHandedOver, declined, granted}
 use Rattle.i3c_step.proofs.Steps.{step_cases}
-use Rattle.i3c_step.proofs.Transfers.{gets_keep, news_keep, reads_keep, statics_keep, writes_keep}
+use Rattle.i3c_step.proofs.Transfers.{gets_keep, lengths_keep, limited_by, news_keep, reads_keep, statics_keep, writes_keep}
 
 -- a device with an address hears no session
 abbrev pub IsDeaf : Device → Type 0
@@ -121,6 +122,12 @@ pub Follows-written : (a : ℕ) (bytes : List ℕ) (st : State) → Follows st (
 Follows-written a bytes st =
     let n = Follows-each (λ s d. if reaches st (Some a) s d then record d { registers = overwritten bytes d.registers } else d) st
     (λ s d. later_if _ (reaches st (Some a) s d) d (record d { registers = overwritten bytes d.registers }) (later_same _ d (record d { registers = overwritten bytes d.registers }) refl refl)) in
+    record { devices = n.devices; active = refl; long = n.long }
+
+pub Follows-with_length : (to : Option ℕ) (way : Direction) (most : ℕ) (st : State) → Follows st (with_length to way most st)
+Follows-with_length to way most st =
+    let n = Follows-each (λ s d. if reaches st to s d then limited way most d else d) st
+    (λ s d. later_if _ (reaches st to s d) d (limited way most d) (limited_by (λ x. IsLater (s ≡ st.active) d x) way most d (later_same (s ≡ st.active) d (record d { most_written = most }) refl refl) (later_same (s ≡ st.active) d (record d { most_read = most }) refl refl))) in
     record { devices = n.devices; active = refl; long = n.long }
 
 -- an address that is given takes none away
@@ -247,6 +254,8 @@ Came-acts old (SetNew a to policy cuts) reply new h = came old (SetNew a to poli
     (Follows-frame old policy cuts _ _ _ new (news_keep Follows a to Follows-refl (Follows-with_new a to) h.0.answer) h.2)
 Came-acts old (Get what a policy cuts) reply new h = came old (Get what a policy cuts) reply new
     (Follows-frame old policy cuts _ _ _ new (gets_keep Follows Follows-refl what a h.0.answer) h.2)
+Came-acts old (SetLength way most to policy cuts) reply new h = came old (SetLength way most to policy cuts) reply new
+    (Follows-frame old policy cuts _ _ _ new (lengths_keep Follows to way most Follows-refl (Follows-with_length to way most) h.0.answer) h.2)
 Came-acts old (OpenDaa cuts) reply new h = came old (OpenDaa cuts) reply new
     (Follows-frame old _ cuts _ _ _ new (λ lost mid done e. subst (Follows mid) (sym e) (Follows-opened mid)) h.2)
 Came-acts old (Round cuts) reply new h = came old (Round cuts) reply new (Follows-round old cuts h.0 new h.2)

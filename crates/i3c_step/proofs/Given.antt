@@ -10,7 +10,7 @@ use Rattle.i3c_base.specs.Serve.{Frame, Serves, given_for}
 use Rattle.i3c_base.specs.State.{State, entry_at}
 use Rattle.i3c_base.proofs.Verdicts.{refuses}
 use Rattle.i3c_step.specs.declared.events.Event.{Event}
-use Rattle.i3c_step.specs.declared.events.Event.TheVariants.{Attach, DropOff, Raise, AskJoin, AskRole, Serve, Enec, Disec, Reset, SendList, ReadFrom, WriteTo, SetStatic, SetNew, Get, OpenDaa, Round, EndDaa, HandOver}
+use Rattle.i3c_step.specs.declared.events.Event.TheVariants.{Attach, DropOff, Raise, AskJoin, AskRole, Serve, Enec, Disec, Reset, SendList, ReadFrom, WriteTo, SetStatic, SetNew, Get, SetLength, OpenDaa, Round, EndDaa, HandOver}
 use Rattle.i3c_step.specs.declared.replies.Refusal.{Refusal}
 use Rattle.i3c_step.specs.declared.replies.Reply.{Reply}
 use Rattle.i3c_step.specs.Giving.{given_by, under}
@@ -96,6 +96,8 @@ step_given old (SetStatic f to policy cuts) reply new h = step_like old (SetStat
 step_given old (SetNew a to policy cuts) reply new h = step_like old (SetNew a to policy cuts) (SetNew a to (given_by reply) cuts) reply new refl (λ s. s)
     (λ x. (x.0, x.1, frame_under old policy (given_by reply) cuts x.0.served _ _ new (ap given_by x.1) x.2)) h
 step_given old (Get what a policy cuts) reply new h = step_like old (Get what a policy cuts) (Get what a (given_by reply) cuts) reply new refl (λ s. s)
+    (λ x. (x.0, x.1, frame_under old policy (given_by reply) cuts x.0.served _ _ new (ap given_by x.1) x.2)) h
+step_given old (SetLength way most to policy cuts) reply new h = step_like old (SetLength way most to policy cuts) (SetLength way most to (given_by reply) cuts) reply new refl (λ s. s)
     (λ x. (x.0, x.1, frame_under old policy (given_by reply) cuts x.0.served _ _ new (ap given_by x.1) x.2)) h
 step_given old (AskRole s) reply new h = h
 step_given old (Attach s setup) reply new h = h

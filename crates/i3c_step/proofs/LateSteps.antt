@@ -4,6 +4,7 @@ use Rattle.std.specs.Prelude.{⊤}
 use Rattle.i3c_base.specs.declared.answers.Answer.{Answer}
 use Rattle.i3c_base.specs.declared.answers.RoundReply.{RoundReply}
 use Rattle.i3c_base.specs.declared.datum.Datum.{Datum}
+use Rattle.i3c_base.specs.declared.datum.Direction.{Direction}
 use Rattle.i3c_base.specs.declared.kinds.Change.{Change}
 use Rattle.i3c_base.specs.declared.requests.Fixed.{Fixed}
 use Rattle.i3c_base.specs.declared.requests.Request.{Request}
@@ -12,11 +13,11 @@ use Rattle.i3c_base.specs.declared.requests.Served.TheVariants.{Quiet, Recorded,
 use Rattle.i3c_base.specs.State.{Entry, State, entry_at}
 use Rattle.i3c_base.specs.Cutting.{CutList, Lost, lost_by}
 use Rattle.i3c_base.specs.Serve.{Frame, IsWordBits, Serves, byte_due, emptied, header_bits, refuse_all}
-use Rattle.i3c_base.specs.Frames.{Gets, IsRefusedBits, Reads, Rekinds, SetsNew, SetsStatic, Writes, changed_kinds, get_bits, kinds_bits, list, list_bits, read_bits, reset, write_bits}
+use Rattle.i3c_base.specs.Frames.{Gets, IsRefusedBits, SetsLength, length_bits, transfer_length, Reads, Rekinds, SetsNew, SetsStatic, Writes, changed_kinds, get_bits, kinds_bits, list, list_bits, read_bits, reset, write_bits}
 use Rattle.i3c_base.specs.Round.{AllHearersLost, AnyHears, AnyPickable, IsAddressFor, IsBeatenByLost, IsWinner, Rounds, assigned}
 use Rattle.i3c_base.proofs.Verdicts.{refuses}
 use Rattle.i3c_step.specs.declared.events.Event.{Event}
-use Rattle.i3c_step.specs.declared.events.Event.TheVariants.{Attach, DropOff, Raise, AskJoin, AskRole, Serve, Enec, Disec, Reset, SendList, ReadFrom, WriteTo, SetStatic, SetNew, Get, OpenDaa, Round, EndDaa, HandOver}
+use Rattle.i3c_step.specs.declared.events.Event.TheVariants.{Attach, DropOff, Raise, AskJoin, AskRole, Serve, Enec, Disec, Reset, SendList, ReadFrom, WriteTo, SetStatic, SetNew, Get, SetLength, OpenDaa, Round, EndDaa, HandOver}
 use Rattle.i3c_step.specs.declared.replies.Refusal.{Refusal}
 use Rattle.i3c_step.specs.declared.replies.Reply.{Reply}
 use Rattle.i3c_step.specs.Step.{Acts, Announces, Checks, Step, Transfers, checks, cuts_in, frame_checks, hand_checks, may_want_memory, new_checks, read_checks, static_checks, target_checks, write_checks}
@@ -95,11 +96,18 @@ kinds_most (Some a) Answer.Done = omega arith
 kinds_most (Some a) Answer.NoEnd = omega arith
 kinds_most (Some a) (Answer.Bytes bytes) = omega arith
 
-read_most : (answer : Answer) → read_bits answer ≤ read_bits Answer.NoEnd
-read_most (Answer.NoAnswer b) = omega arith
-read_most Answer.Done = omega arith
-read_most Answer.NoEnd = omega arith
-read_most (Answer.Bytes bytes) = omega arith
+read_most : (count : ℕ) (answer : Answer) → read_bits count answer ≤ read_bits count Answer.NoEnd
+read_most count (Answer.NoAnswer b) = omega arith
+read_most count Answer.Done = omega arith
+read_most count Answer.NoEnd = omega arith
+read_most count (Answer.Bytes bytes) = omega arith
+
+length_most : (to : Option ℕ) (answer : Answer) → length_bits to answer ≤ length_bits to Answer.Done
+length_most None answer = omega arith
+length_most (Some a) (Answer.NoAnswer b) = omega arith
+length_most (Some a) Answer.Done = omega arith
+length_most (Some a) Answer.NoEnd = omega arith
+length_most (Some a) (Answer.Bytes bytes) = omega arith
 
 write_most : (bytes : List ℕ) (answer : Answer) → write_bits bytes answer ≤ write_bits bytes Answer.Done
 write_most bytes (Answer.NoAnswer b) = omega arith
@@ -152,7 +160,8 @@ acts_alike old (Disec to kinds policy cuts) f g reply new alike h =
 acts_alike old (Reset policy cuts) f g reply new alike h = announces_alike old 9 reset policy (f cuts) (g cuts) reply new alike h
 acts_alike old (SendList policy cuts) f g reply new alike h = announces_alike old (list_bits old) list policy (f cuts) (g cuts) reply new alike h
 acts_alike old (ReadFrom a policy cuts) f g reply new alike h =
-    transfers_alike old read_bits (read_bits Answer.NoEnd) (Reads a) policy (f cuts) (g cuts) reply new alike read_most h
+    let count = transfer_length old Direction.Read a in
+    transfers_alike old (read_bits count) (read_bits count Answer.NoEnd) (Reads a) policy (f cuts) (g cuts) reply new alike (read_most count) h
 acts_alike old (WriteTo a bytes policy cuts) f g reply new alike h =
     transfers_alike old (write_bits bytes.items) (write_bits bytes.items Answer.Done) (Writes a bytes.items) policy (f cuts) (g cuts) reply new alike (write_most bytes.items) h
 acts_alike old (SetStatic a to policy cuts) f g reply new alike h =
@@ -161,6 +170,8 @@ acts_alike old (SetNew a to policy cuts) f g reply new alike h =
     transfers_alike old (kinds_bits (Some a)) (kinds_bits (Some a) Answer.Done) (SetsNew a to) policy (f cuts) (g cuts) reply new alike (kinds_most (Some a)) h
 acts_alike old (Get what a policy cuts) f g reply new alike h =
     transfers_alike old (get_bits what (entry_at old a)) (get_bits what (entry_at old a) Answer.NoEnd) (Gets what a) policy (f cuts) (g cuts) reply new alike (get_most what (entry_at old a)) h
+acts_alike old (SetLength way most to policy cuts) f g reply new alike h =
+    transfers_alike old (length_bits to) (length_bits to Answer.Done) (SetsLength to way most) policy (f cuts) (g cuts) reply new alike (length_most to) h
 acts_alike old (OpenDaa cuts) f g reply new alike h = (h.0, h.1, refusing_alike old (f cuts) (g cuts) h.0 9 9 _ new alike (omega arith) h.2)
 acts_alike old (HandOver to cuts) f g reply new alike h = elim h [
   | inl x ↦ inl (x.0, x.1, refusing_alike old (f cuts) (g cuts) x.0 27 27 _ new alike (omega arith) x.2)
@@ -192,6 +203,7 @@ checks_alike old (WriteTo a bytes policy cuts) f g alike = more_checks_alike old
 checks_alike old (SetStatic a to policy cuts) f g alike = more_checks_alike old _ (f cuts) (g cuts) (static_checks old a to) alike
 checks_alike old (SetNew a to policy cuts) f g alike = more_checks_alike old _ (f cuts) (g cuts) (new_checks old a to) alike
 checks_alike old (Get what a policy cuts) f g alike = more_checks_alike old _ (f cuts) (g cuts) (target_checks old (Some a)) alike
+checks_alike old (SetLength way most to policy cuts) f g alike = more_checks_alike old _ (f cuts) (g cuts) (target_checks old to) alike
 checks_alike old (OpenDaa cuts) f g alike = frame_checks_alike old _ (f cuts) (g cuts) alike
 checks_alike old (HandOver to cuts) f g alike = more_checks_alike old _ (f cuts) (g cuts) (hand_checks old to) alike
 checks_alike old (Round cuts) f g alike = ap (λ (b : Bool). (not old.in_session, Refusal.NoSession) ∷ (b, Refusal.ActiveStays) ∷ []) (sym alike.active)
@@ -214,6 +226,7 @@ wants_alike (WriteTo a bytes policy cuts) f g wants = wants
 wants_alike (SetStatic a to policy cuts) f g wants = wants
 wants_alike (SetNew a to policy cuts) f g wants = wants
 wants_alike (Get what a policy cuts) f g wants = wants
+wants_alike (SetLength way most to policy cuts) f g wants = wants
 wants_alike (OpenDaa cuts) f g wants = wants
 wants_alike (HandOver to cuts) f g wants = wants
 wants_alike (Round cuts) f g wants = wants
@@ -241,6 +254,7 @@ recut_same (WriteTo a bytes policy cuts) = refl
 recut_same (SetStatic a to policy cuts) = refl
 recut_same (SetNew a to policy cuts) = refl
 recut_same (Get what a policy cuts) = refl
+recut_same (SetLength way most to policy cuts) = refl
 recut_same (OpenDaa cuts) = refl
 recut_same (HandOver to cuts) = refl
 recut_same (Round cuts) = refl
@@ -271,6 +285,7 @@ cuts_in-recut f (WriteTo a bytes policy cuts) = refl
 cuts_in-recut f (SetStatic a to policy cuts) = refl
 cuts_in-recut f (SetNew a to policy cuts) = refl
 cuts_in-recut f (Get what a policy cuts) = refl
+cuts_in-recut f (SetLength way most to policy cuts) = refl
 cuts_in-recut f (OpenDaa cuts) = refl
 cuts_in-recut f (HandOver to cuts) = refl
 cuts_in-recut f (Round cuts) = refl
@@ -292,6 +307,7 @@ most_bits-recut st f (WriteTo a bytes policy cuts) = refl
 most_bits-recut st f (SetStatic a to policy cuts) = refl
 most_bits-recut st f (SetNew a to policy cuts) = refl
 most_bits-recut st f (Get what a policy cuts) = refl
+most_bits-recut st f (SetLength way most to policy cuts) = refl
 most_bits-recut st f (OpenDaa cuts) = refl
 most_bits-recut st f (HandOver to cuts) = refl
 most_bits-recut st f (Round cuts) = refl

@@ -8,7 +8,7 @@ use Rattle.i3c_base.specs.State.{Device, HasDistinctIdentities, State, device_at
 use Rattle.i3c_base.specs.Local.{raise}
 use Rattle.i3c_base.proofs.Lookups.{change_from, set_in}
 use Rattle.i3c_step.specs.declared.events.Event.{Event}
-use Rattle.i3c_step.specs.declared.events.Event.TheVariants.{Attach, DropOff, Raise, AskJoin, AskRole, Serve, Enec, Disec, Reset, SendList, ReadFrom, WriteTo, SetStatic, SetNew, Get, OpenDaa, Round, EndDaa, HandOver}
+use Rattle.i3c_step.specs.declared.events.Event.TheVariants.{Attach, DropOff, Raise, AskJoin, AskRole, Serve, Enec, Disec, Reset, SendList, ReadFrom, WriteTo, SetStatic, SetNew, Get, SetLength, OpenDaa, Round, EndDaa, HandOver}
 use Rattle.i3c_step.specs.declared.replies.Reply.{Reply}
 use Rattle.i3c_step.specs.Step.{Acts, Step, checks, first_refusal}
 use Rattle.i3c_step.specs.History.{IsAccepted, Moment}
@@ -18,8 +18,8 @@ use Rattle.i3c_step.specs.Stays.{accepted_at, number_raised, raised_as}
 use Rattle.i3c_step.proofs.Fates.{Contains-one, Counts, StepFacts-frame, StepFacts-unserved, Fate, Fate-none, Grows, IsEven, StepFacts}
 use Rattle.i3c_step.proofs.Fronts.{since_none}
 use Rattle.i3c_step.proofs.Steps.{IsIdle, no_test, refused, short, step_cases}
-use Rattle.i3c_step.proofs.Transfers.{gets_keep, reads_keep, writes_keep, news_keep, statics_keep}
-use Rattle.i3c_step.proofs.Unserved.{Unserved, Unserved-ask_join, Unserved-ask_role, Unserved-attach, Unserved-drop_off, Unserved-ended, Unserved-handed, Unserved-list, Unserved-opened, Unserved-rekinds, Unserved-reset, Unserved-round, Unserved-same, Unserved-written, waiting_in, Unserved-with_new, Unserved-with_static}
+use Rattle.i3c_step.proofs.Transfers.{gets_keep, lengths_keep, reads_keep, writes_keep, news_keep, statics_keep}
+use Rattle.i3c_step.proofs.Unserved.{Unserved, Unserved-ask_join, Unserved-ask_role, Unserved-attach, Unserved-drop_off, Unserved-ended, Unserved-handed, Unserved-list, Unserved-opened, Unserved-rekinds, Unserved-reset, Unserved-round, Unserved-same, Unserved-written, waiting_in, Unserved-with_new, Unserved-with_static, Unserved-with_length}
 
 none_from : {A : Type 0} (o : Option A) → is_some o ≡ false → o ≡ None
 none_from None h = refl
@@ -131,6 +131,9 @@ StepFacts-acts old (SetNew a to policy cuts) reply new free h inv distinct even 
     (ap number_raised h.1) (ap recorded_at h.1) inv distinct even
 StepFacts-acts old (Get what a policy cuts) reply new free h inv distinct even =
     StepFacts-frame old _ policy cuts h.0.served _ _ (gets_keep Unserved (λ st. Unserved-same st st refl) what a h.0.answer) h.2 (ap number_raised h.1) (ap recorded_at h.1) inv distinct even
+StepFacts-acts old (SetLength way most to policy cuts) reply new free h inv distinct even =
+    StepFacts-frame old _ policy cuts h.0.served _ _ (lengths_keep Unserved to way most (λ st. Unserved-same st st refl) (Unserved-with_length to way most) h.0.answer) h.2
+    (ap number_raised h.1) (ap recorded_at h.1) inv distinct even
 StepFacts-acts old (OpenDaa cuts) reply new free h inv distinct even =
     StepFacts-frame old _ _ cuts h.0 _ _ (λ lost mid done e. subst (Unserved mid) (sym e) (Unserved-opened mid)) h.2 (ap number_raised h.1) (ap recorded_at h.1) inv distinct even
 StepFacts-acts old (Round cuts) reply new free h inv distinct even = StepFacts-unserved old _ (ap number_raised h.1) (ap recorded_at h.1) (Unserved-round old cuts h.0 new h.2) even

@@ -10,7 +10,7 @@ use Rattle.i3c_base.specs.Round.{Rounds}
 use Rattle.i3c_base.specs.Serve.{Frame, emptied}
 use Rattle.i3c_base.specs.State.{State}
 use Rattle.i3c_step.specs.declared.events.Event.{Event}
-use Rattle.i3c_step.specs.declared.events.Event.TheVariants.{Attach, DropOff, Raise, AskJoin, AskRole, Serve, Enec, Disec, Reset, SendList, ReadFrom, WriteTo, SetStatic, SetNew, Get, OpenDaa, Round, EndDaa, HandOver}
+use Rattle.i3c_step.specs.declared.events.Event.TheVariants.{Attach, DropOff, Raise, AskJoin, AskRole, Serve, Enec, Disec, Reset, SendList, ReadFrom, WriteTo, SetStatic, SetNew, Get, SetLength, OpenDaa, Round, EndDaa, HandOver}
 use Rattle.i3c_step.specs.declared.replies.Reply.{Reply}
 use Rattle.i3c_step.specs.Slots.{HasMoved, KeepsSlots, is_handed, session_after}
 use Rattle.i3c_step.specs.Step.{Acts, Step}
@@ -18,7 +18,7 @@ use Rattle.i3c_step.proofs.Follows.{Came-step}
 use Rattle.i3c_step.proofs.Handing.{declined, granted}
 use Rattle.i3c_step.proofs.Slots.{Stands, Stands-rekinds, Stands-same, Stands-serves, Stands-then}
 use Rattle.i3c_step.proofs.Steps.{IsIdle, refused, short, step_cases}
-use Rattle.i3c_step.proofs.Transfers.{gets_keep, reads_keep, writes_keep, news_keep, statics_keep}
+use Rattle.i3c_step.proofs.Transfers.{gets_keep, lengths_keep, reads_keep, writes_keep, news_keep, statics_keep}
 
 -- the active controller stays, or a granted handover moves it
 abbrev Moves : State → Event → Reply → State → Type 0
@@ -88,6 +88,9 @@ Settles-acts old (SetNew a to policy cuts) reply new h =
 Settles-acts old (Get what a policy cuts) reply new h =
     Settles-stands old (Get what a policy cuts) reply new (ap (λ r. session_after r old.in_session) h.1) (ap is_handed h.1)
     (Stands-frame old policy cuts h.0.served _ _ new (gets_keep Stands (λ st. (refl, refl)) what a h.0.answer) h.2)
+Settles-acts old (SetLength way most to policy cuts) reply new h =
+    Settles-stands old (SetLength way most to policy cuts) reply new (ap (λ r. session_after r old.in_session) h.1) (ap is_handed h.1)
+    (Stands-frame old policy cuts h.0.served _ _ new (lengths_keep Stands to way most (λ st. (refl, refl)) (λ st. (refl, refl)) h.0.answer) h.2)
 Settles-acts old (OpenDaa cuts) reply new h = (
   inl (ap is_handed h.1, ap (λ (st : State). st.active) h.2.left ∙ (ap (λ (st : State). st.active) h.2.own ∙ (Stands-mid old _ cuts h.0 _ _ new h.2).0)),
   ap (λ (st : State). st.in_session) h.2.left ∙ (ap (λ (st : State). st.in_session) h.2.own ∙ sym (ap (λ r. session_after r old.in_session) h.1)),

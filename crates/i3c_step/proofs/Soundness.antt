@@ -18,12 +18,13 @@ use Rattle.i3c_base.specs.State.{Board, Device, State, IsStart, change, device_a
 use Rattle.i3c_base.specs.Cutting.{CutList, Lost, lost_by, nobody}
 use Rattle.i3c_base.specs.Local.{ask_join, ask_role, attach, drop_off, raise}
 use Rattle.i3c_base.specs.Serve.{Frame, Serves, drives, each_driver, emptied, tail, without_front, without_join, without_role}
-use Rattle.i3c_base.specs.Frames.{IsWillingAt, Rekinds, handed, list, overwritten, reaches, rekinded, reset, unaddressed_device, written, active_has, readdressed, takes_static, with_new, with_static}
+use Rattle.i3c_base.specs.declared.datum.Direction.{Direction}
+use Rattle.i3c_base.specs.Frames.{IsWillingAt, Rekinds, handed, list, overwritten, reaches, rekinded, reset, unaddressed_device, written, active_has, readdressed, takes_static, with_new, with_static, limited, with_length}
 use Rattle.i3c_base.specs.Round.{Rounds, assigned, ended, hears, opened, unhearing, winner, wins}
 use Rattle.i3c_base.specs.Numbers.{same_bool}
 use Rattle.i3c_base.proofs.Lookups.{attach_from, change_at, change_from, drop_off_from, each_from, emptied_from}
 use Rattle.i3c_step.specs.declared.events.Event.{Event}
-use Rattle.i3c_step.specs.declared.events.Event.TheVariants.{Attach, DropOff, Raise, AskJoin, AskRole, Serve, Enec, Disec, Reset, SendList, ReadFrom, WriteTo, SetStatic, SetNew, Get, OpenDaa, Round, EndDaa, HandOver}
+use Rattle.i3c_step.specs.declared.events.Event.TheVariants.{Attach, DropOff, Raise, AskJoin, AskRole, Serve, Enec, Disec, Reset, SendList, ReadFrom, WriteTo, SetStatic, SetNew, Get, SetLength, OpenDaa, Round, EndDaa, HandOver}
 use Rattle.i3c_step.specs.declared.replies.Reply.{Reply}
 use Rattle.i3c_step.specs.Step.{Acts, Step, checks, first_refusal, is_kept_for, is_pickable}
 use Rattle.i3c_step.specs.Sound.{IsFitting, IsSound}
@@ -33,7 +34,7 @@ use Rattle.i3c_step.proofs.Follows.{Follows-change, Follows-emptied, Follows-end
 use Rattle.i3c_step.proofs.Handing.{declined, granted}
 use Rattle.i3c_step.proofs.Holding.{active_follows, active_start, active_step}
 use Rattle.i3c_step.proofs.Steps.{no_test, step_cases}
-use Rattle.i3c_step.proofs.Transfers.{gets_keep, reads_keep, writes_keep, news_keep, statics_keep}
+use Rattle.i3c_step.proofs.Transfers.{gets_keep, lengths_keep, limited_by, reads_keep, writes_keep, news_keep, statics_keep}
 
 -- what waits in each device fits it
 abbrev AllFit : State → Type 0
@@ -130,6 +131,10 @@ AllFit-with_new : (old a : ℕ) (st : State) → AllFit st → AllFit (with_new 
 AllFit-with_new old a st = AllFit-each (λ s d. if reaches st (Some old) s d then readdressed a d else d) st
     (λ s d h. Fits-if (reaches st (Some old) s d) d (readdressed a d) h h)
 
+AllFit-with_length : (to : Option ℕ) (way : Direction) (most : ℕ) (st : State) → AllFit st → AllFit (with_length to way most st)
+AllFit-with_length to way most st = AllFit-each (λ s d. if reaches st to s d then limited way most d else d) st
+    (λ s d h. Fits-if (reaches st to s d) d (limited way most d) (limited_by IsFitting way most d h h) h)
+
 AllFit-opened : (st : State) → AllFit st → AllFit (opened st)
 AllFit-opened st = AllFit-each (λ s d. hears d) st (λ s d h. Fits-if (is_none d.address) d (record d { hearing = true }) h h)
 
@@ -188,6 +193,8 @@ AllFit-acts old (SetNew a to policy cuts) reply new free h all =
     AllFit-frame old policy cuts _ _ _ new (λ lost mid done. news_keep (λ st next. AllFit st → AllFit next) a to (λ st fit. fit) (AllFit-with_new a to) h.0.answer lost mid done) h.2 all
 AllFit-acts old (Get what a policy cuts) reply new free h all =
     AllFit-frame old policy cuts _ _ _ new (gets_keep (λ mid done. AllFit mid → AllFit done) (λ st fit. fit) what a h.0.answer) h.2 all
+AllFit-acts old (SetLength way most to policy cuts) reply new free h all =
+    AllFit-frame old policy cuts _ _ _ new (lengths_keep (λ mid done. AllFit mid → AllFit done) to way most (λ st fit. fit) (AllFit-with_length to way most) h.0.answer) h.2 all
 AllFit-acts old (OpenDaa cuts) reply new free h all =
     AllFit-frame old _ cuts _ _ _ new (λ lost mid done e fit. subst AllFit (sym e) (AllFit-opened mid fit)) h.2 all
 AllFit-acts old (Round cuts) reply new free h all = AllFit-round old cuts h.0 new h.2 all

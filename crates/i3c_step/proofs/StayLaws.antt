@@ -4,7 +4,7 @@ use Rattle.std.proofs.lemmas.Option.{none-some}
 use Rattle.std.proofs.Common.{◌≡◌, ℕ, Bool, true, false, ◌&&◌, [], ◌∷◌, ◌++◌, Option, Some, None, is_some, inl, inr, sym, refl, ap, ◌∙◌, subst}
 use Rattle.i3c_base.specs.State.{Device, State, device_at}
 use Rattle.i3c_step.specs.declared.events.Event.{Event}
-use Rattle.i3c_step.specs.declared.events.Event.TheVariants.{Attach, DropOff, Raise, AskJoin, AskRole, Serve, Enec, Disec, Reset, SendList, ReadFrom, WriteTo, SetStatic, SetNew, Get, OpenDaa, Round, EndDaa, HandOver}
+use Rattle.i3c_step.specs.declared.events.Event.TheVariants.{Attach, DropOff, Raise, AskJoin, AskRole, Serve, Enec, Disec, Reset, SendList, ReadFrom, WriteTo, SetStatic, SetNew, Get, SetLength, OpenDaa, Round, EndDaa, HandOver}
 use Rattle.i3c_step.specs.declared.replies.Reply.{Reply}
 use Rattle.i3c_step.specs.History.{History, IsLegal, Moment, reached}
 use Rattle.i3c_step.specs.Slots.{HasAttached}
@@ -58,6 +58,7 @@ into-true (WriteTo a bytes policy cuts) reply s e h = absurd (false≢true h)
 into-true (SetStatic f to policy cuts) reply s e h = absurd (false≢true h)
 into-true (SetNew a to policy cuts) reply s e h = absurd (false≢true h)
 into-true (Get what a policy cuts) reply s e h = absurd (false≢true h)
+into-true (SetLength way most to policy cuts) reply s e h = absurd (false≢true h)
 into-true (OpenDaa cuts) reply s e h = absurd (false≢true h)
 into-true (Round cuts) reply s e h = absurd (false≢true h)
 into-true (HandOver to cuts) reply s e h = absurd (false≢true h)

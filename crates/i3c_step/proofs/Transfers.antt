@@ -2,14 +2,15 @@
 use Rattle.std.proofs.lemmas.Bool.{false≢true}
 use Rattle.std.proofs.lemmas.Grind.{same_number_lists}
 use Rattle.std.proofs.lemmas.Option.{none-some, same_Some}
-use Rattle.std.proofs.Common.{◌≡◌, ℕ, ◌<◌, List, length, Some, ◌⊎◌, inl, inr, sym, refl, ap, ◌∙◌, subst}
+use Rattle.std.proofs.Common.{◌≡◌, ℕ, ◌<◌, List, Option, None, length, Some, ◌⊎◌, inl, inr, sym, refl, ap, ◌∙◌, subst}
 use Rattle.i3c_base.specs.declared.answers.Answer.{Answer}
 use Rattle.i3c_base.specs.declared.datum.Datum.{Datum}
+use Rattle.i3c_base.specs.declared.datum.Direction.{Direction}
 use Rattle.i3c_base.specs.declared.identity.Identity.{Identity}
 use Rattle.i3c_base.specs.declared.device.LegacyTarget.{LegacyTarget}
 use Rattle.i3c_base.specs.Cutting.{Lost, nobody}
-use Rattle.i3c_base.specs.Frames.{AllLostAt, AllUnaddressedLostAt, AnyAt, AnyUnaddressedAt, DrivesRegister, DrivesTold, Gets, IsReadOf, IsToldAt, NobodyLeftAt, Reads, SetsNew, SetsStatic, Writes, with_new, with_static, written}
-use Rattle.i3c_base.specs.State.{State, legacy_target_at}
+use Rattle.i3c_base.specs.Frames.{AllLostAt, AllUnaddressedLostAt, AnyAt, AnyUnaddressedAt, DrivesRegister, DrivesTold, Gets, IsReadOf, IsToldAt, NobodyLeftAt, Reads, SetsLength, SetsNew, SetsStatic, Writes, limited, with_length, with_new, with_static, written}
+use Rattle.i3c_base.specs.State.{Device, State, legacy_target_at}
 use Rattle.i3c_step.proofs.Uniqueness.{and_unique}
 
 -- a read leaves what each state has of itself
@@ -50,6 +51,20 @@ news_keep R old a same changed answer lost mid done h = elim h [
   | inr e ↦ subst (R mid) (sym e.2) (same mid)
 ]
 
+-- what holds of a device with another maximum length
+pub limited_by : (P : Device → Type 0) (way : Direction) (most : ℕ) (d : Device) → P (record d { most_written = most }) → P (record d { most_read = most }) → P (limited way most d)
+limited_by P Direction.Write most d w r = w
+limited_by P Direction.Read most d w r = r
+
+-- and so do SETMWL and SETMRL
+pub lengths_keep : (R : State → State → Type 0) (to : Option ℕ) (way : Direction) (most : ℕ) → ((st : State) → R st st) → ((st : State) → R st (with_length to way most st))
+    → (answer : Answer) (lost : Lost) (mid done : State) → SetsLength to way most answer lost mid done → R mid done
+lengths_keep R None way most same changed answer lost mid done h = subst (R mid) (sym h.1) (changed mid)
+lengths_keep R (Some a) way most same changed answer lost mid done h = elim h [
+  | inl e ↦ subst (R mid) (sym e.2) (changed mid)
+  | inr e ↦ subst (R mid) (sym e.2) (same mid)
+]
+
 -- somebody is there, and nobody is lost
 nobody_lost : (st : State) (a : ℕ) → AnyAt st a → AllLostAt st a nobody → ⊥
 nobody_lost st a any all = false≢true (all any.0 any.1 any.2)
@@ -64,8 +79,8 @@ bytes_unique st a bytes others h k = elim h [
   | inr x ↦ elim k [
     | inl y ↦ absurd (none-some y.0 (sym x.0 ∙ y.1))
     | inr y ↦ same_number_lists bytes others (x.2 ∙ sym y.2) (λ i l.
-        let low : i < 16 = subst (λ n. i < n) x.2 l in
-        and_unique _ _ (DrivesRegister st a i) (x.4 (λ s d t. refl) i low) (y.4 (λ s d t. refl) i low))
+        let low : i < length others = subst (λ n. i < n) (x.2 ∙ sym y.2) l in
+        and_unique _ _ (DrivesRegister st a i) (x.4 (λ s d t. refl) i l) (y.4 (λ s d t. refl) i low))
   ]
 ]
 
@@ -151,4 +166,13 @@ pub news_unique : (old a : ℕ) (answer other : Answer) (mid done last : State) 
 news_unique old a answer other mid done last h k = elim h [
   | inl x ↦ elim k [ inl y ↦ (x.0 ∙ sym y.0, x.2 ∙ sym y.2) | inr y ↦ absurd (nobody_lost mid old x.1 y.1) ]
   | inr x ↦ elim k [ inl y ↦ absurd (nobody_lost mid old y.1 x.1) | inr y ↦ (x.0 ∙ sym y.0, x.2 ∙ sym y.2) ]
+]
+
+-- nor have SETMWL and SETMRL
+pub lengths_unique : (to : Option ℕ) (way : Direction) (most : ℕ) (answer other : Answer) (mid done last : State) → SetsLength to way most answer nobody mid done → SetsLength to way most other nobody mid last
+    → (answer ≡ other) × (done ≡ last)
+lengths_unique None way most answer other mid done last h k = (h.0 ∙ sym k.0, h.1 ∙ sym k.1)
+lengths_unique (Some a) way most answer other mid done last h k = elim h [
+  | inl x ↦ elim k [ inl y ↦ (x.0 ∙ sym y.0, x.2 ∙ sym y.2) | inr y ↦ absurd (nobody_lost mid a x.1 y.1) ]
+  | inr x ↦ elim k [ inl y ↦ absurd (nobody_lost mid a y.1 x.1) | inr y ↦ (x.0 ∙ sym y.0, x.2 ∙ sym y.2) ]
 ]

@@ -8,22 +8,23 @@ use Rattle.i3c_base.specs.declared.requests.Served.{Served}
 use Rattle.i3c_base.specs.State.{State, entry_at}
 use Rattle.i3c_base.specs.declared.answers.Answer.{Answer}
 use Rattle.i3c_base.specs.Numbers.{KindSet}
-use Rattle.i3c_base.specs.Frames.{Gets, get_bits, AllLostAt, AnyAt, Hands, KeepsRole, Reads, Rekinds, Writes, changed_kinds, handed, read_bits, write_bits, SetsNew, SetsStatic, kinds_bits}
+use Rattle.i3c_base.specs.Frames.{Gets, SetsLength, get_bits, length_bits, transfer_length, AllLostAt, AnyAt, Hands, KeepsRole, Reads, Rekinds, Writes, changed_kinds, handed, read_bits, write_bits, SetsNew, SetsStatic, kinds_bits}
 use Rattle.i3c_base.specs.Cutting.{CutList, Lost, IsUncut, lost_by}
 use Rattle.i3c_base.specs.Serve.{Frame, Serves, emptied}
 use Rattle.i3c_base.specs.Round.{Rounds, assigned}
 use Rattle.std.specs.Prelude.{⊤}
 use Rattle.i3c_base.specs.Serve.{refuse_all}
 use Rattle.i3c_base.specs.Round.{AllHearersLost, AnyHears, IsAddressFor, IsBeatenByLost, IsContender}
+use Rattle.i3c_base.specs.declared.datum.Direction.{Direction}
 use Rattle.i3c_base.specs.declared.kinds.Change.{Change}
 use Rattle.i3c_step.specs.declared.events.Event.{Event}
-use Rattle.i3c_step.specs.declared.events.Event.TheVariants.{Attach, DropOff, Raise, AskJoin, AskRole, Serve, Enec, Disec, Reset, SendList, ReadFrom, WriteTo, SetStatic, SetNew, Get, OpenDaa, Round, EndDaa, HandOver}
+use Rattle.i3c_step.specs.declared.events.Event.TheVariants.{Attach, DropOff, Raise, AskJoin, AskRole, Serve, Enec, Disec, Reset, SendList, ReadFrom, WriteTo, SetStatic, SetNew, Get, SetLength, OpenDaa, Round, EndDaa, HandOver}
 use Rattle.i3c_step.specs.declared.replies.Refusal.{Refusal}
 use Rattle.i3c_step.specs.declared.replies.Reply.{Reply}
 use Rattle.i3c_step.specs.Step.{Acts, IsShort, RekindsBy, Step, Transfers, checks, cuts_in, first_refusal}
 use Rattle.i3c_base.specs.Cutting.{nobody}
 use Rattle.i3c_step.proofs.Lost.{lost_nobody, unlost}
-use Rattle.i3c_step.proofs.Transfers.{gets_unique, reads_unique, writes_unique, news_unique, statics_unique}
+use Rattle.i3c_step.proofs.Transfers.{gets_unique, lengths_unique, reads_unique, writes_unique, news_unique, statics_unique}
 use Rattle.i3c_step.proofs.Uniqueness.{address_unique, serves_unique, winner_unique}
 
 -- two frames agree if their own parts do
@@ -150,7 +151,7 @@ acts_unique old (Reset policy cuts) reply other new next u h k =
 acts_unique old (SendList policy cuts) reply other new next u h k =
     let r = frames_agree old policy cuts h.0 k.0 _ _ _ _ new next ⊤ u (λ mid done last x y. (tt, x ∙ sym y)) h.2 k.2 in
     (h.1 ∙ (ap (λ s. Reply.Framed (record { served = s; answer = Answer.Done })) r.0 ∙ sym k.1), r.2)
-acts_unique old (ReadFrom a policy cuts) reply other new next u h k = transfers_unique old read_bits (Reads a) policy cuts reply other new next u (reads_unique a) h k
+acts_unique old (ReadFrom a policy cuts) reply other new next u h k = transfers_unique old (read_bits (transfer_length old Direction.Read a)) (Reads a) policy cuts reply other new next u (reads_unique a) h k
 acts_unique old (WriteTo a bytes policy cuts) reply other new next u h k =
     transfers_unique old (write_bits bytes.items) (Writes a bytes.items) policy cuts reply other new next u (writes_unique a bytes.items) h k
 acts_unique old (SetStatic f to policy cuts) reply other new next u h k =
@@ -159,6 +160,8 @@ acts_unique old (SetNew a to policy cuts) reply other new next u h k =
     transfers_unique old (kinds_bits (Some a)) (SetsNew a to) policy cuts reply other new next u (news_unique a to) h k
 acts_unique old (Get what a policy cuts) reply other new next u h k =
     transfers_unique old (get_bits what (entry_at old a)) (Gets what a) policy cuts reply other new next u (gets_unique what a) h k
+acts_unique old (SetLength way most to policy cuts) reply other new next u h k =
+    transfers_unique old (length_bits to) (SetsLength to way most) policy cuts reply other new next u (lengths_unique to way most) h k
 acts_unique old (OpenDaa cuts) reply other new next u h k =
     let r = frames_agree old refuse_all cuts h.0 k.0 _ _ _ _ new next ⊤ u (λ mid done last x y. (tt, x ∙ sym y)) h.2 k.2 in
     (h.1 ∙ (ap Reply.Opened r.0 ∙ sym k.1), r.2)

@@ -11,8 +11,10 @@ use Rattle.i3c_base.specs.Cutting.{CutList, Lost, lost_by}
 use Rattle.i3c_base.specs.Numbers.{KindSet}
 use Rattle.i3c_base.specs.State.{Device, State, attached, device_at, each, fixed_of}
 use Rattle.i3c_base.specs.Local.{ask_join, ask_role, attach, drop_off}
+use Rattle.i3c_step.proofs.Transfers.{limited_by}
 use Rattle.i3c_base.specs.Serve.{drives, each_driver, emptied, without_role}
-use Rattle.i3c_base.specs.Frames.{Rekinds, handed, list, overwritten, reaches, rekinded, reset, unaddressed_device, written, readdressed, takes_static, with_new, with_static}
+use Rattle.i3c_base.specs.declared.datum.Direction.{Direction}
+use Rattle.i3c_base.specs.Frames.{Rekinds, handed, list, overwritten, reaches, rekinded, reset, unaddressed_device, written, readdressed, takes_static, with_new, with_static, limited, with_length}
 use Rattle.i3c_base.specs.Round.{Rounds, assigned, ended, hears, opened, unhearing, winner, wins}
 use Rattle.i3c_base.proofs.Lookups.{attach_from, change_from, drop_off_from, each_at, emptied_from, length-changed}
 
@@ -140,6 +142,11 @@ Unserved-rekinds (Some a) f answer lost mid done h = elim h [
 pub Unserved-written : (a : ℕ) (bytes : List ℕ) (st : State) → Unserved st (written a bytes st)
 Unserved-written a bytes st = Unserved-each (λ s d. if reaches st (Some a) s d then record d { registers = overwritten bytes d.registers } else d) st _
     (λ s d. waiting-if (reaches st (Some a) s d) (record d { registers = overwritten bytes d.registers }) d refl) refl refl refl
+
+pub Unserved-with_length : (to : Option ℕ) (way : Direction) (most : ℕ) (st : State) → Unserved st (with_length to way most st)
+Unserved-with_length to way most st =
+    Unserved-each (λ s d. if reaches st to s d then limited way most d else d) st (with_length to way most st)
+    (λ s d. waiting-if (reaches st to s d) (limited way most d) d (limited_by (λ x. x.waiting ≡ d.waiting) way most d refl refl)) refl refl refl
 
 pub Unserved-with_static : (f : ℕ) (i : Identity) (a : ℕ) (st : State) → Unserved st (with_static f i a st)
 Unserved-with_static f i a st =

@@ -25,3 +25,4 @@ event_of (Command.WriteTo a bytes) policy cuts = Event.WriteTo a bytes policy cu
 event_of (Command.SetStatic f new) policy cuts = Event.SetStatic f new policy cuts
 event_of (Command.SetNew a new) policy cuts = Event.SetNew a new policy cuts
 event_of (Command.Get what a) policy cuts = Event.Get what a policy cuts
+event_of (Command.SetLength way most to) policy cuts = Event.SetLength way most to policy cuts

@@ -22,4 +22,5 @@ under policy (Event.WriteTo a bytes other cuts) = Event.WriteTo a bytes policy c
 under policy (Event.SetStatic f new other cuts) = Event.SetStatic f new policy cuts
 under policy (Event.SetNew a new other cuts) = Event.SetNew a new policy cuts
 under policy (Event.Get what a other cuts) = Event.Get what a policy cuts
+under policy (Event.SetLength way most to other cuts) = Event.SetLength way most to policy cuts
 under policy event = event

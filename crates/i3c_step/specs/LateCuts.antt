@@ -1,11 +1,12 @@
 -- Cuts behind the last bit of a frame.
 use Rattle.std.specs.Prelude.{ℕ, ◌+◌, Some, slice_set}
 use Rattle.i3c_base.specs.declared.answers.Answer.{Answer}
+use Rattle.i3c_base.specs.declared.datum.Direction.{Direction}
 use Rattle.i3c_base.specs.State.{State, entry_at}
 use Rattle.i3c_base.specs.Cutting.{CutList, cut_of, earlier}
-use Rattle.i3c_base.specs.Frames.{get_bits, kinds_bits, list_bits, read_bits, write_bits}
+use Rattle.i3c_base.specs.Frames.{get_bits, kinds_bits, length_bits, list_bits, read_bits, transfer_length, write_bits}
 use Rattle.i3c_step.specs.declared.events.Event.{Event}
-use Rattle.i3c_step.specs.declared.events.Event.TheVariants.{Serve, Enec, Disec, Reset, SendList, ReadFrom, WriteTo, SetStatic, SetNew, Get, OpenDaa, Round, HandOver}
+use Rattle.i3c_step.specs.declared.events.Event.TheVariants.{Serve, Enec, Disec, Reset, SendList, ReadFrom, WriteTo, SetStatic, SetNew, Get, SetLength, OpenDaa, Round, HandOver}
 
 -- the bits of a frame that refused a request: those of the header 7E/W, and its own
 abbrev pub bits_after_refusal : ℕ → ℕ
@@ -22,11 +23,12 @@ most_bits st (Enec to kinds policy cuts) = bits_after_byte (kinds_bits to Answer
 most_bits st (Disec to kinds policy cuts) = bits_after_byte (kinds_bits to Answer.Done)
 most_bits st (Reset policy cuts) = bits_after_byte 9
 most_bits st (SendList policy cuts) = bits_after_byte (list_bits st)
-most_bits st (ReadFrom a policy cuts) = bits_after_byte (read_bits Answer.NoEnd)
+most_bits st (ReadFrom a policy cuts) = bits_after_byte (read_bits (transfer_length st Direction.Read a) Answer.NoEnd)
 most_bits st (WriteTo a bytes policy cuts) = bits_after_byte (write_bits bytes.items Answer.Done)
 most_bits st (SetStatic f new policy cuts) = bits_after_byte (kinds_bits (Some f) Answer.Done)
 most_bits st (SetNew a new policy cuts) = bits_after_byte (kinds_bits (Some a) Answer.Done)
 most_bits st (Get what a policy cuts) = bits_after_byte (get_bits what (entry_at st a) Answer.NoEnd)
+most_bits st (SetLength way most to policy cuts) = bits_after_byte (length_bits to Answer.Done)
 most_bits st (OpenDaa cuts) = bits_after_refusal 9
 most_bits st (HandOver to cuts) = bits_after_refusal 27
 most_bits st (Round cuts) = 73
@@ -44,6 +46,7 @@ recut f (WriteTo a bytes policy cuts) = WriteTo a bytes policy (f cuts)
 recut f (SetStatic a new policy cuts) = SetStatic a new policy (f cuts)
 recut f (SetNew a new policy cuts) = SetNew a new policy (f cuts)
 recut f (Get what a policy cuts) = Get what a policy (f cuts)
+recut f (SetLength way most to policy cuts) = SetLength way most to policy (f cuts)
 recut f (OpenDaa cuts) = OpenDaa (f cuts)
 recut f (HandOver to cuts) = HandOver to (f cuts)
 recut f (Round cuts) = Round (f cuts)

@@ -1,5 +1,5 @@
 -- What holds over every legal run.
-use Rattle.std.specs.Prelude.{◌≡◌, ◌≢◌, ◌<◌, ◌≤◌, ◌↔◌, ℕ, true, List, ◌++◌, count_by, Option, Some, All, Contains, [], ◌∷◌, None, option_map}
+use Rattle.std.specs.Prelude.{◌≡◌, ◌≢◌, ◌<◌, ◌≤◌, ◌↔◌, ◌+◌, ◌*◌, ℕ, true, List, ◌++◌, count_by, Option, Some, All, Contains, [], ◌∷◌, None, option_map}
 use Rattle.i3c_base.specs.declared.range.TheConstants.{SLOTS}
 use Rattle.i3c_base.specs.declared.answers.Answer.{Answer}
 use Rattle.i3c_base.specs.declared.datum.Datum.{Datum}
@@ -10,7 +10,8 @@ use Rattle.i3c_base.specs.declared.requests.Request.{Request}
 use Rattle.i3c_base.specs.declared.requests.Served.{Served}
 use Rattle.i3c_base.specs.declared.requests.Verdict.{Verdict}
 use Rattle.i3c_base.specs.Cutting.{CutList, IsUncut}
-use Rattle.i3c_base.specs.Frames.{pid_bytes}
+use Rattle.i3c_base.specs.Frames.{pid_bytes, told_bytes}
+use Rattle.i3c_base.specs.Numbers.{IsInRange}
 use Rattle.i3c_base.specs.Serve.{IsFirst, verdict}
 use Rattle.i3c_base.specs.State.{Board, Device, HasDistinctIdentities, HasUniqueAnswers, IsPresent, IsStart, State, device_at, Entry, entry_at}
 use Rattle.i3c_step.specs.declared.events.Event.{Event}
@@ -108,6 +109,16 @@ DataAreOfTheTable = (main : Setup) (board : Board) (events : List Event) (replie
     → (what : Datum) (a : ℕ) (policy : Fixed) (cuts : CutList) (framed : Framed) (new : State) (bytes said : List ℕ) (e : Entry)
     → IsUncut cuts → Step st (Event.Get what a policy cuts) (Reply.Framed framed) new → framed.answer ≡ Answer.Bytes bytes
     → entry_at st a ≡ Some e → said_bytes what e ≡ Some said → All (λ byte. byte < 256) said → bytes ≡ said
+
+-- the number whose bytes these are, the most significant first, behind bytes of this number
+abbrev pub number_behind : ℕ → List ℕ → ℕ
+number_behind before [] = before
+number_behind before (byte ∷ bytes) = number_behind (256 * before + byte) bytes
+
+-- The bytes that GETPID asks for are bytes of one number, which is the PID.
+abbrev pub PidsAreTold : Type 0
+PidsAreTold = (d : Device) → IsInRange d.identity
+    → (number_behind 0 (told_bytes Datum.Pid d) ≡ d.identity.pid) × All (λ byte. byte < 256) (told_bytes Datum.Pid d)
 
 -- Of as many rounds as there are slots, in one session and without cuts, one answers that nobody hears any more, or that no
 -- address is left, whatever else happens between them.

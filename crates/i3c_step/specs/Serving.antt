@@ -35,6 +35,7 @@ policy_of (Event.WriteTo a bytes policy cuts) = Some policy
 policy_of (Event.SetStatic f new policy cuts) = Some policy
 policy_of (Event.SetNew a new policy cuts) = Some policy
 policy_of (Event.Get what a policy cuts) = Some policy
+policy_of (Event.SetLength way most to policy cuts) = Some policy
 policy_of (Event.OpenDaa cuts) = Some refuse_all
 policy_of (Event.HandOver to cuts) = Some refuse_all
 policy_of _ = None

@@ -2,6 +2,7 @@
 use Rattle.std.specs.Prelude.{◌≡◌, ℕ, suc, ◌+◌, ◌-◌, ◌^◌, Bool, true, false, not, ◌&&◌, ◌||◌, ◌==◌, ◌⊎◌, nat_le, nat_lt, List, [], ◌∷◌, ◌++◌, length, Option, Some, None, is_none, is_some, MatchOption, ⊤}
 use Rattle.i3c_base.specs.declared.answers.Answer.{Answer}
 use Rattle.i3c_base.specs.declared.answers.RoundReply.{RoundReply}
+use Rattle.i3c_base.specs.declared.datum.Direction.{Direction}
 use Rattle.i3c_base.specs.declared.device.TheConstants.{WAITING}
 use Rattle.i3c_base.specs.declared.identity.Identity.{Identity}
 use Rattle.i3c_base.specs.declared.requests.Fixed.{Fixed}
@@ -12,11 +13,11 @@ use Rattle.i3c_base.specs.State.{Entry, State, declared_at, device_at, entry_at,
 use Rattle.i3c_base.specs.Cutting.{CutList, IsUncut, Lost, cut_of}
 use Rattle.i3c_base.specs.Local.{ask_join, ask_role, attach, drop_off, raise}
 use Rattle.i3c_base.specs.Serve.{Frame, header_bits, refuse_all}
-use Rattle.i3c_base.specs.Frames.{Gets, Hands, IsRefusedBits, KeepsRole, Reads, Rekinds, SetsNew, SetsStatic, Writes, active_has, changed_kinds, get_bits, kinds_bits, list, list_bits, read_bits, reset, write_bits}
+use Rattle.i3c_base.specs.Frames.{Gets, Hands, SetsLength, length_bits, transfer_length, IsRefusedBits, KeepsRole, Reads, Rekinds, SetsNew, SetsStatic, Writes, active_has, changed_kinds, get_bits, kinds_bits, list, list_bits, read_bits, reset, write_bits}
 use Rattle.i3c_base.specs.Refusing.{Tests, first_of, join_tests, renamed, role_tests}
 use Rattle.i3c_base.specs.Round.{Rounds, ended, opened}
 use Rattle.i3c_step.specs.declared.events.Event.{Event}
-use Rattle.i3c_step.specs.declared.events.Event.TheVariants.{Attach, DropOff, Raise, AskJoin, AskRole, Serve, Enec, Disec, Reset, SendList, ReadFrom, WriteTo, SetStatic, SetNew, Get, OpenDaa, Round, EndDaa, HandOver}
+use Rattle.i3c_step.specs.declared.events.Event.TheVariants.{Attach, DropOff, Raise, AskJoin, AskRole, Serve, Enec, Disec, Reset, SendList, ReadFrom, WriteTo, SetStatic, SetNew, Get, SetLength, OpenDaa, Round, EndDaa, HandOver}
 use Rattle.i3c_step.specs.declared.events.TheConstants.{TRANSFER}
 use Rattle.i3c_step.specs.declared.replies.Framed.{Framed}
 use Rattle.i3c_step.specs.declared.replies.Refusal.{Refusal}
@@ -53,9 +54,9 @@ target_checks st (Some a) = (is_no_target st a, NoAnswer a) ∷ []
 abbrev pub is_no_partner : State → ℕ → Bool
 is_no_partner st a = is_none (legacy_target_at st a) && is_no_target st a
 
--- the bytes are more than a transfer may bring
-abbrev pub is_too_long : List ℕ → Bool
-is_too_long bytes = nat_lt TRANSFER (length bytes)
+-- the bytes are more than a transfer with the address may bring
+abbrev pub is_too_long : State → ℕ → List ℕ → Bool
+is_too_long st a bytes = nat_lt (transfer_length st Direction.Write a) (length bytes)
 
 -- the refusals of a read, after those of each frame
 abbrev pub read_checks : State → ℕ → Checks
@@ -63,7 +64,7 @@ read_checks st a = (is_no_partner st a, NoAnswer a) ∷ []
 
 -- and of a write
 abbrev pub write_checks : State → ℕ → List ℕ → Checks
-write_checks st a bytes = (is_too_long bytes, TooLong) ∷ (is_no_partner st a, NoAnswer a) ∷ []
+write_checks st a bytes = (is_too_long st a bytes, TooLong) ∷ (is_no_partner st a, NoAnswer a) ∷ []
 
 -- the address may be picked on this bus
 abbrev pub is_pickable : State → ℕ → Bool
@@ -116,6 +117,7 @@ checks st (WriteTo a bytes policy cuts) = frame_checks st cuts ++ write_checks s
 checks st (SetStatic f new policy cuts) = frame_checks st cuts ++ static_checks st f new
 checks st (SetNew a new policy cuts) = frame_checks st cuts ++ new_checks st a new
 checks st (Get what a policy cuts) = frame_checks st cuts ++ target_checks st (Some a)
+checks st (SetLength way most to policy cuts) = frame_checks st cuts ++ target_checks st to
 checks st (OpenDaa cuts) = frame_checks st cuts
 checks st (HandOver to cuts) = frame_checks st cuts ++ hand_checks st to
 checks st (Round cuts) = (not st.in_session, NoSession) ∷ (cuts_active st cuts, ActiveStays) ∷ []
@@ -133,6 +135,7 @@ may_want_memory (WriteTo a bytes policy cuts) = true
 may_want_memory (SetStatic f new policy cuts) = true
 may_want_memory (SetNew a new policy cuts) = true
 may_want_memory (Get what a policy cuts) = true
+may_want_memory (SetLength way most to policy cuts) = true
 may_want_memory (AskRole s) = false
 may_want_memory (Attach s setup) = false
 may_want_memory (DropOff s) = false
@@ -190,11 +193,12 @@ Acts old (SendList policy cuts) reply new = Announces old (list_bits old) list p
 Acts old (Serve policy cuts) reply new = (served : Served) × (reply ≡ Reply.Served served) × Frame old policy cuts served 0 Nothing new
 Acts old (Enec to kinds policy cuts) reply new = RekindsBy old to (changed_kinds Change.Enable kinds) policy cuts reply new
 Acts old (Disec to kinds policy cuts) reply new = RekindsBy old to (changed_kinds Change.Disable kinds) policy cuts reply new
-Acts old (ReadFrom a policy cuts) reply new = Transfers old read_bits (Reads a) policy cuts reply new
+Acts old (ReadFrom a policy cuts) reply new = Transfers old (read_bits (transfer_length old Direction.Read a)) (Reads a) policy cuts reply new
 Acts old (WriteTo a bytes policy cuts) reply new = Transfers old (write_bits bytes.items) (Writes a bytes.items) policy cuts reply new
 Acts old (SetStatic f to policy cuts) reply new = Transfers old (kinds_bits (Some f)) (SetsStatic f to) policy cuts reply new
 Acts old (SetNew a to policy cuts) reply new = Transfers old (kinds_bits (Some a)) (SetsNew a to) policy cuts reply new
 Acts old (Get what a policy cuts) reply new = Transfers old (get_bits what (entry_at old a)) (Gets what a) policy cuts reply new
+Acts old (SetLength way most to policy cuts) reply new = Transfers old (length_bits to) (SetsLength to way most) policy cuts reply new
 Acts old (OpenDaa cuts) reply new =
     (served : Served) × (reply ≡ Reply.Opened served) × Frame old refuse_all cuts served (header_bits served + 9) (Becomes opened) new
 Acts old (HandOver to cuts) reply new = IsGranted old to cuts reply new ⊎ IsDeclined old to cuts reply new
@@ -221,6 +225,7 @@ cuts_in (WriteTo a bytes policy cuts) = Some cuts
 cuts_in (SetStatic f new policy cuts) = Some cuts
 cuts_in (SetNew a new policy cuts) = Some cuts
 cuts_in (Get what a policy cuts) = Some cuts
+cuts_in (SetLength way most to policy cuts) = Some cuts
 cuts_in (AskRole s) = None
 cuts_in (OpenDaa cuts) = Some cuts
 cuts_in (HandOver to cuts) = Some cuts

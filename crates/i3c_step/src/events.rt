@@ -1,7 +1,7 @@
 ghost use Rattle.std.specs.Prelude.{◌≡◌};
 
 use arrayvec::ArrayVec;
-use i3c_base::{Addr7, Cuts, Datum, Fixed, Kinds, REGISTERS, Setup, Slot};
+use i3c_base::{Addr7, Cuts, Datum, Direction, Fixed, Kinds, Length, REGISTERS, Setup, Slot};
 
 /// How many bytes one private write may bring, and one private read gives: as many as there are registers (this
 /// project's choice).
@@ -49,6 +49,9 @@ pub enum Event {
     SetNew(Addr7, Addr7, Fixed, Cuts),
     /// The active controller asks the devices at an address for a datum (GETPID and its like, I3C Basic 5.1.9.3).
     Get(Datum, Addr7, Fixed, Cuts),
+    /// The maximum length of writes or of reads is set (SETMWL and SETMRL, I3C Basic 5.1.9.3.5 and 5.1.9.3.6): of the
+    /// devices at an address, or without one of all but the active controller.
+    SetLength(Direction, Length, Option<Addr7>, Fixed, Cuts),
     /// The active controller offers its role to a device at an address (GETACCCR, I3C Basic 5.1.9.3.16).
     HandOver(Addr7, Cuts),
     /// The active controller opens a session of dynamic address assignment (ENTDAA, I3C Basic 5.1.4.2).
@@ -82,6 +85,8 @@ pub enum Command {
     SetNew(Addr7, Addr7),
     /// Asks the devices at an address for a datum.
     Get(Datum, Addr7),
+    /// Sets the maximum length of writes or of reads, of the devices at an address or of all but the active controller.
+    SetLength(Direction, Length, Option<Addr7>),
 }
 
 /// The bytes that an event or a command keeps of a write, once more.

@@ -78,3 +78,9 @@ pub fn sessions_end()
 pub fn data_are_of_the_table()
     ensures { DataAreOfTheTable }
 {}
+
+/// The six bytes that GETPID asks a device for, read as one number with the most significant byte first, are its
+/// provisioned ID (I3C Basic 5.1.9.3.12).
+pub fn pids_are_told()
+    ensures { PidsAreTold }
+{}

@@ -4,6 +4,7 @@ use Rattle.std.proofs.Common.{◌≡◌, ◌∙◌, ◌⊎◌, ◌↔◌, ℕ, �
 use Rattle.std.specs.List.{slice_get}
 use Rattle.i3c_base.specs.declared.answers.Answer.{Answer}
 use Rattle.i3c_base.specs.declared.datum.Datum.{Datum}
+use Rattle.i3c_base.specs.declared.datum.Direction.{Direction}
 use Rattle.i3c_base.specs.declared.kinds.Change.{Change}
 use Rattle.i3c_base.specs.declared.kinds.Kinds.{Kinds}
 use Rattle.i3c_base.specs.Cutting.{CutList, lost_by}
@@ -12,7 +13,7 @@ use Rattle.i3c_base.specs.State.{State}
 use Rattle.i3c_word.specs.declared.Word.{Word}
 use Rattle.i3c_frame.specs.declared.symbols.Symbol.{Symbol}
 use Rattle.i3c_frame.specs.declared.symbols.Symbol.TheVariants.{Repeated, Header}
-use Rattle.i3c_events.specs.Telling.{IsKindsWire, IsSettingWire}
+use Rattle.i3c_events.specs.Telling.{IsKindsWire, IsLengthWire, IsSettingWire}
 use Rattle.i3c_handoff.specs.declared.outcome.Offer.{Offer}
 use Rattle.i3c_handoff.specs.Offers.{SomeTakes, is_acknowledged}
 use Rattle.i3c_handoff.specs.Telling.{IsOfferWire}
@@ -70,6 +71,19 @@ kinds_answered sda wire begun change a kinds answer own Somebody sent k iff is =
       (true, command_at sda wire begun own h.0 a false true _ sent h.4, acked answer Somebody iff done)
   | inr none ↦
       let h : IsKindsWire change (Some a) kinds (Answer.NoAnswer a) own = subst (λ x. IsKindsWire change (Some a) kinds x own) none k in
+      (false, command_at sda wire begun own h.0 a false false _ sent h.2, nacked answer a Somebody iff none)
+]
+
+-- of SETMWL and SETMRL
+pub length_answered : (sda : Bool) (wire : List Symbol) (begun : ℕ) (way : Direction) (a most : ℕ) (answer : Answer) (own : List Symbol) (Somebody : Type 0)
+    → IsSentFrom sda wire (1 + begun) own → IsLengthWire way (Some a) most answer own → (answer ≡ Answer.Done) ↔ Somebody → (answer ≡ Answer.Done) ⊎ (answer ≡ Answer.NoAnswer a)
+    → IsAnsweredAt sda wire (begun + 18) Somebody
+length_answered sda wire begun way a most answer own Somebody sent k iff is = elim is [
+  | inl done ↦
+      let h : IsLengthWire way (Some a) most Answer.Done own = subst (λ x. IsLengthWire way (Some a) most x own) done k in
+      (true, command_at sda wire begun own h.0 a false true _ sent h.6, acked answer Somebody iff done)
+  | inr none ↦
+      let h : IsLengthWire way (Some a) most (Answer.NoAnswer a) own = subst (λ x. IsLengthWire way (Some a) most x own) none k in
       (false, command_at sda wire begun own h.0 a false false _ sent h.2, nacked answer a Somebody iff none)
 ]
 

@@ -1,12 +1,13 @@
 -- The answers of targets in what each event sends.
 use Rattle.std.proofs.Common.{◌≡◌, ◌∙◌, ◌⊎◌, ℕ, ◌+◌, ◌≤◌, Bool, true, List, Some, None, arith, inl, inr, refl, sym, subst}
 use Rattle.i3c_base.specs.declared.answers.Answer.{Answer}
+use Rattle.i3c_base.specs.declared.datum.Direction.{Direction}
 use Rattle.i3c_base.specs.declared.kinds.Change.{Change}
 use Rattle.i3c_base.specs.declared.requests.Request.TheVariants.{Join, Role, Interrupt}
 use Rattle.i3c_base.specs.declared.requests.Served.{Served}
 use Rattle.i3c_base.specs.declared.requests.Served.TheVariants.{Quiet, Recorded, Refused, Torn, Joining, WantsRole}
 use Rattle.i3c_base.specs.Cutting.{CutList, Lost, lost_by}
-use Rattle.i3c_base.specs.Frames.{Hands, Rekinds, SetsNew, SetsStatic}
+use Rattle.i3c_base.specs.Frames.{Hands, Rekinds, SetsLength, SetsNew, SetsStatic}
 use Rattle.i3c_base.specs.Numbers.{KindSet}
 use Rattle.i3c_base.specs.Serve.{IsWordBits, Serves, header_bits, refuse_all}
 use Rattle.i3c_base.specs.State.{State}
@@ -15,15 +16,15 @@ use Rattle.i3c_frame.specs.declared.symbols.Symbol.{Symbol}
 use Rattle.i3c_handoff.specs.Offers.{SomeTakes}
 use Rattle.i3c_handoff.proofs.OfferLaws.{takes_before}
 use Rattle.i3c_step.specs.declared.events.Event.{Event}
-use Rattle.i3c_step.specs.declared.events.Event.TheVariants.{Attach, DropOff, Raise, AskJoin, AskRole, Serve, Enec, Disec, Reset, SendList, ReadFrom, WriteTo, SetStatic, SetNew, Get, OpenDaa, Round, EndDaa, HandOver}
+use Rattle.i3c_step.specs.declared.events.Event.TheVariants.{Attach, DropOff, Raise, AskJoin, AskRole, Serve, Enec, Disec, Reset, SendList, ReadFrom, WriteTo, SetStatic, SetNew, Get, SetLength, OpenDaa, Round, EndDaa, HandOver}
 use Rattle.i3c_step.specs.declared.replies.Reply.{Reply}
 use Rattle.i3c_step.specs.Step.{Acts, IsGranted, Step}
 use Rattle.i3c_step.proofs.Steps.{IsIdle, refused, short, step_cases}
 use Rattle.i3c_step.proofs.Uniqueness.{accept≢refuse}
-use Rattle.i3c_bus.specs.Wire.{IsDeclinedPart, IsGetPart, IsHandedWire, IsKindsPart, IsListPart, IsNewPart, IsReadPart, IsResetWire, IsStaticPart, IsWritePart}
+use Rattle.i3c_bus.specs.Wire.{IsDeclinedPart, IsGetPart, IsHandedWire, IsKindsPart, IsLengthPart, IsListPart, IsNewPart, IsReadPart, IsResetWire, IsStaticPart, IsWritePart}
 use Rattle.i3c_wire_laws.specs.Answering.{IsAnsweredAt, IsAnswering}
 use Rattle.i3c_wire_laws.specs.Numbers.{IsNumbered, IsNumberedFrame}
-use Rattle.i3c_wire_laws.proofs.Answered.{command_at, declined_answered, get_answered, kinds_answered, read_answered, setting_answered, write_answered}
+use Rattle.i3c_wire_laws.proofs.Answered.{command_at, declined_answered, get_answered, kinds_answered, length_answered, read_answered, setting_answered, write_answered}
 
 -- a command to one address has one of two answers
 rekinds_is : (a : ℕ) (f : KindSet → KindSet) (answer : Answer) (lost : Lost) (mid done : State) → Rekinds (Some a) f answer lost mid done → (answer ≡ Answer.Done) ⊎ (answer ≡ Answer.NoAnswer a)
@@ -34,6 +35,9 @@ static_is f to answer lost mid done h = elim h [ inl x ↦ inl x.0 | inr x ↦ i
 
 new_is : (a to : ℕ) (answer : Answer) (lost : Lost) (mid done : State) → SetsNew a to answer lost mid done → (answer ≡ Answer.Done) ⊎ (answer ≡ Answer.NoAnswer a)
 new_is a to answer lost mid done h = elim h [ inl x ↦ inl x.0 | inr x ↦ inr x.0 ]
+
+length_is : (a : ℕ) (way : Direction) (most : ℕ) (answer : Answer) (lost : Lost) (mid done : State) → SetsLength (Some a) way most answer lost mid done → (answer ≡ Answer.Done) ⊎ (answer ≡ Answer.NoAnswer a)
+length_is a way most answer lost mid done h = elim h [ inl x ↦ inl x.0 | inr x ↦ inr x.0 ]
 
 -- a frame that refuses each request serves nothing, and has no mandatory word
 refusing : (st : State) (lost : Lost) (served : Served) (new : State) (bits : ℕ) → Serves st refuse_all lost served new → IsWordBits st served bits → (new ≡ st) × (bits ≡ 0)
@@ -99,6 +103,12 @@ acts_answer sda old (SetNew a to policy cuts) reply new wire h w =
 acts_answer sda old (Get what a policy cuts) reply new wire h w =
     let n : IsNumberedFrame sda old cuts h.0.served (IsGetPart old cuts what a h.0.answer new) wire = subst (λ r. IsNumbered sda old (Get what a policy cuts) r new wire) h.1 w in
     subst (λ r. IsAnswering sda old (Get what a policy cuts) r wire) (sym h.1) (n.word, n.due, get_answered sda old cuts wire (n.word + header_bits h.0.served) what a h.0.answer new n.own n.there n.part)
+acts_answer sda old (SetLength way most None policy cuts) reply new wire h w =
+    let n : IsNumberedFrame sda old cuts h.0.served (IsLengthPart old cuts way None most h.0.answer) wire = subst (λ r. IsNumbered sda old (SetLength way most None policy cuts) r new wire) h.1 w in
+    subst (λ r. IsAnswering sda old (SetLength way most None policy cuts) r wire) (sym h.1) (n.word, n.due, tt)
+acts_answer sda old (SetLength way most (Some a) policy cuts) reply new wire h w =
+    let n : IsNumberedFrame sda old cuts h.0.served (IsLengthPart old cuts way (Some a) most h.0.answer) wire = subst (λ r. IsNumbered sda old (SetLength way most (Some a) policy cuts) r new wire) h.1 w in
+    subst (λ r. IsAnswering sda old (SetLength way most (Some a) policy cuts) r wire) (sym h.1) (n.word, n.due, length_answered sda wire (n.word + header_bits h.0.served) way a most h.0.answer n.own _ n.there n.part.0 n.part.1 (length_is a way most h.0.answer _ h.2.mid h.2.done h.2.own))
 acts_answer sda old (OpenDaa cuts) reply new wire h w = subst (λ r. IsAnswering sda old (OpenDaa cuts) r wire) (sym h.1) tt
 acts_answer sda old (HandOver to cuts) reply new wire h w = elim h [
   | inl g ↦

@@ -4,13 +4,13 @@ use Rattle.i3c_base.specs.State.{State}
 use Rattle.i3c_frame.specs.declared.symbols.Symbol.{Symbol}
 use Rattle.i3c_base.specs.declared.kinds.Change.{Change}
 use Rattle.i3c_step.specs.declared.events.Event.{Event}
-use Rattle.i3c_step.specs.declared.events.Event.TheVariants.{Attach, DropOff, Raise, AskJoin, AskRole, Serve, Enec, Disec, Reset, SendList, ReadFrom, WriteTo, SetStatic, SetNew, Get, OpenDaa, Round, EndDaa, HandOver}
+use Rattle.i3c_step.specs.declared.events.Event.TheVariants.{Attach, DropOff, Raise, AskJoin, AskRole, Serve, Enec, Disec, Reset, SendList, ReadFrom, WriteTo, SetStatic, SetNew, Get, SetLength, OpenDaa, Round, EndDaa, HandOver}
 use Rattle.i3c_step.specs.declared.replies.Reply.{Reply}
 use Rattle.i3c_step.specs.Step.{Acts, Step}
 use Rattle.i3c_step.proofs.Slots.{records_rekinds}
 use Rattle.i3c_step.proofs.Steps.{IsIdle, refused, short, step_cases}
-use Rattle.i3c_step.proofs.Transfers.{gets_keep, news_keep, reads_keep, statics_keep, writes_keep}
-use Rattle.i3c_bus.specs.Wire.{IsDeclinedPart, IsGetPart, IsHandedWire, IsKindsPart, IsListPart, IsNewPart, IsOpenWire, IsReadPart, IsResetWire, IsStaticPart, IsWire, IsWritePart}
+use Rattle.i3c_step.proofs.Transfers.{gets_keep, lengths_keep, news_keep, reads_keep, statics_keep, writes_keep}
+use Rattle.i3c_bus.specs.Wire.{IsDeclinedPart, IsGetPart, IsHandedWire, IsKindsPart, IsLengthPart, IsListPart, IsNewPart, IsOpenWire, IsReadPart, IsResetWire, IsStaticPart, IsWire, IsWritePart}
 use Rattle.i3c_wave.specs.Clocks.{AreOfFrames}
 use Rattle.i3c_wire_laws.specs.Numbers.{IsNumbered}
 use Rattle.i3c_wire_laws.proofs.FrameNumbers.{frame_numbered}
@@ -63,6 +63,10 @@ acts_numbered inside sda old (Get what a policy cuts) reply new wire framed h w 
     subst (λ r. IsNumbered sda old (Get what a policy cuts) r new wire) (sym h.1)
     (frame_numbered inside sda old policy cuts h.0.served _ _ new (IsGetPart old cuts what a h.0.answer new) wire framed h.2 (gets_keep KeepsRecords (λ st. refl) what a h.0.answer)
     (subst (λ r. IsWire old (Get what a policy cuts) r new wire) h.1 w))
+acts_numbered inside sda old (SetLength way most to policy cuts) reply new wire framed h w =
+    subst (λ r. IsNumbered sda old (SetLength way most to policy cuts) r new wire) (sym h.1)
+    (frame_numbered inside sda old policy cuts h.0.served _ _ new (IsLengthPart old cuts way to most h.0.answer) wire framed h.2 (lengths_keep KeepsRecords to way most (λ st. refl) (λ st. refl) h.0.answer)
+    (subst (λ r. IsWire old (SetLength way most to policy cuts) r new wire) h.1 w))
 acts_numbered inside sda old (OpenDaa cuts) reply new wire framed h w =
     subst (λ r. IsNumbered sda old (OpenDaa cuts) r new wire) (sym h.1)
     (frame_numbered inside sda old _ cuts h.0 _ _ new (λ bits own. IsOpenWire own) wire framed h.2 (λ lost mid done e. ap (λ (st : State). st.records) e)

@@ -23,19 +23,19 @@ use Rattle.i3c_xfer.specs.declared.outcome.Read.{Read}
 use Rattle.i3c_xfer.specs.Getting.{IsToldAs}
 use Rattle.i3c_xfer.specs.Transfers.{IsReadAs}
 use Rattle.i3c_step.specs.declared.events.Event.{Event}
-use Rattle.i3c_step.specs.declared.events.Event.TheVariants.{Attach, DropOff, Raise, AskJoin, AskRole, Serve, Enec, Disec, Reset, SendList, ReadFrom, WriteTo, SetStatic, SetNew, Get, OpenDaa, Round, EndDaa, HandOver}
+use Rattle.i3c_step.specs.declared.events.Event.TheVariants.{Attach, DropOff, Raise, AskJoin, AskRole, Serve, Enec, Disec, Reset, SendList, ReadFrom, WriteTo, SetStatic, SetNew, Get, SetLength, OpenDaa, Round, EndDaa, HandOver}
 use Rattle.i3c_step.specs.declared.replies.Reply.{Reply}
 use Rattle.i3c_step.specs.Sound.{Addresses, IsSound}
 use Rattle.i3c_step.specs.Step.{Acts, Step, checks, first_refusal, is_kept_for, is_no_controller, is_no_partner, is_no_target, is_pickable}
 use Rattle.i3c_step.proofs.Slots.{records_rekinds}
 use Rattle.i3c_step.proofs.Steps.{IsIdle, no_test, refused, short, step_cases}
-use Rattle.i3c_step.proofs.Transfers.{gets_keep, news_keep, reads_keep, statics_keep, writes_keep}
-use Rattle.i3c_bus.specs.Wire.{IsDeclinedPart, IsGetPart, IsKindsPart, IsListPart, IsNewPart, IsOpenWire, IsReadPart, IsResetWire, IsStaticPart, IsWire, IsWritePart}
+use Rattle.i3c_step.proofs.Transfers.{gets_keep, lengths_keep, news_keep, reads_keep, statics_keep, writes_keep}
+use Rattle.i3c_bus.specs.Wire.{IsDeclinedPart, IsGetPart, IsKindsPart, IsLengthPart, IsListPart, IsNewPart, IsOpenWire, IsReadPart, IsResetWire, IsStaticPart, IsWire, IsWritePart}
 use Rattle.i3c_wire_laws.specs.Fitting.{EventFits, Fits, IsByte}
 use Rattle.i3c_wire_laws.proofs.Addressing.{entry_low, kept_low, static_low, usable_low, winner_low}
 use Rattle.i3c_wire_laws.proofs.FrameRanges.{frame_fits, serve_fits}
 use Rattle.i3c_wire_laws.proofs.ListRanges.{list_fits}
-use Rattle.i3c_wire_laws.proofs.OwnRanges.{AreBytes, AreInRange, BytesOfGet, BytesOfRead, IsSentBy, bytes_from, get_fits, kinds_fit, offer_fits, ranges_on, read_fits, round_fits, setting_fits, write_fits}
+use Rattle.i3c_wire_laws.proofs.OwnRanges.{AreBytes, AreInRange, BytesOfGet, BytesOfRead, IsSentBy, bytes_from, get_fits, kinds_fit, length_fits, offer_fits, ranges_on, read_fits, round_fits, setting_fits, write_fits}
 
 -- the address of a command that isn't refused
 target_low : (st : State) (a : ℕ) → Addresses st → is_no_target st a ≡ false → a < 128
@@ -100,8 +100,8 @@ list_part_fits st wire fits known h =
 read_bytes : (st : State) (a : ℕ) (cuts : CutList) (first : ℕ) (read : Read) → Fits st → IsReadAs st a cuts first read → BytesOfRead read
 read_bytes st a cuts first Read.Nobody fits h = tt
 read_bytes st a cuts first (Read.Legacy bytes) fits h = subst AreBytes (sym h.2) (bytes_from h.0.registers (fits.targets a h.0 h.1).registers)
-read_bytes st a cuts first (Read.Ended bytes) fits h = bytes_from bytes h.3
-read_bytes st a cuts first (Read.Torn bytes) fits h = bytes_from bytes h.3
+read_bytes st a cuts first (Read.Ended bytes) fits h = bytes_from bytes h.1.2
+read_bytes st a cuts first (Read.Torn bytes) fits h = bytes_from bytes h.1.2
 
 -- those that are told of a datum
 get_bytes : (st : State) (what : Datum) (count a : ℕ) (cuts : CutList) (first : ℕ) (get : Told) → IsToldAs st what count a cuts first get → BytesOfGet get
@@ -174,6 +174,11 @@ acts_fit old (Get what a policy cuts) reply new wire fits brings known free h w 
     frame_fits old policy cuts h.0.served _ _ new (IsGetPart old cuts what a h.0.answer new) wire known h.2 (gets_keep KeepsRecords (λ st. refl) what a h.0.answer)
     (λ bits own k. get_fits what a k.1 own (target_low old a known (no_test 2 (checks old (Get what a policy cuts)) free)) (get_bytes k.0 what _ a cuts _ k.1 k.5) k.6)
     (subst (λ r. IsWire old (Get what a policy cuts) r new wire) h.1 w)
+acts_fit old (SetLength way most to policy cuts) reply new wire fits brings known free h w =
+    frame_fits old policy cuts h.0.served _ _ new (IsLengthPart old cuts way to most h.0.answer) wire known h.2 (lengths_keep KeepsRecords to way most (λ st. refl) (λ st. refl) h.0.answer)
+    (λ bits own k. length_fits way to most h.0.answer own
+    (λ a e. target_low old a known (no_test 2 (checks old (SetLength way most (Some a) policy cuts)) (subst (λ t. first_refusal (checks old (SetLength way most t policy cuts)) ≡ None) e free))) brings k.0)
+    (subst (λ r. IsWire old (SetLength way most to policy cuts) r new wire) h.1 w)
 acts_fit old (OpenDaa cuts) reply new wire fits brings known free h w =
     frame_fits old _ cuts h.0 _ _ new (λ bits own. IsOpenWire own) wire known h.2 (λ lost mid done e. ap (λ (st : State). st.records) e) (λ bits own k. open_fits own k)
     (subst (λ r. IsWire old (OpenDaa cuts) r new wire) h.1 w)

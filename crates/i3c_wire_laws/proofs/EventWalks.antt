@@ -11,18 +11,18 @@ use Rattle.i3c_word.specs.declared.Word.{Word}
 use Rattle.i3c_frame.specs.declared.symbols.Symbol.{Symbol}
 use Rattle.i3c_handoff.specs.declared.outcome.Offer.{Offer}
 use Rattle.i3c_step.specs.declared.events.Event.{Event}
-use Rattle.i3c_step.specs.declared.events.Event.TheVariants.{Attach, DropOff, Raise, AskJoin, AskRole, Serve, Enec, Disec, Reset, SendList, ReadFrom, WriteTo, SetStatic, SetNew, Get, OpenDaa, Round, EndDaa, HandOver}
+use Rattle.i3c_step.specs.declared.events.Event.TheVariants.{Attach, DropOff, Raise, AskJoin, AskRole, Serve, Enec, Disec, Reset, SendList, ReadFrom, WriteTo, SetStatic, SetNew, Get, SetLength, OpenDaa, Round, EndDaa, HandOver}
 use Rattle.i3c_step.specs.declared.replies.Reply.{Reply}
 use Rattle.i3c_step.specs.Slots.{session_after}
 use Rattle.i3c_step.specs.Sound.{Addresses, IsSound}
 use Rattle.i3c_step.specs.Step.{Acts, Step, checks, first_refusal, is_no_controller, is_no_target}
 use Rattle.i3c_step.proofs.SlotLaws.{slots_kept}
 use Rattle.i3c_step.proofs.Steps.{IsIdle, no_test, refused, short, step_cases}
-use Rattle.i3c_bus.specs.Wire.{IsDeclinedPart, IsGetPart, IsKindsPart, IsListPart, IsListWire, IsNewPart, IsOpenWire, IsReadPart, IsResetWire, IsStaticPart, IsWire, IsWritePart}
+use Rattle.i3c_bus.specs.Wire.{IsDeclinedPart, IsGetPart, IsKindsPart, IsLengthPart, IsListPart, IsListWire, IsNewPart, IsOpenWire, IsReadPart, IsResetWire, IsStaticPart, IsWire, IsWritePart}
 use Rattle.i3c_wave.specs.declared.awaited.Awaited.{Awaited}
 use Rattle.i3c_wire_laws.specs.Wires.{AreLegacies, Leads, place_behind, place_in}
 use Rattle.i3c_wire_laws.proofs.FrameWalks.{entry_apart, frame_leads, serve_leads}
-use Rattle.i3c_wire_laws.proofs.OwnWalks.{get_leads, kinds_lead, offer_leads, read_leads, round_leads, setting_leads, write_leads}
+use Rattle.i3c_wire_laws.proofs.OwnWalks.{get_leads, kinds_lead, length_leads, offer_leads, read_leads, round_leads, setting_leads, write_leads}
 use Rattle.i3c_wire_laws.proofs.Walks.{words_stop}
 
 -- the address of a command that isn't refused is no legacy target's
@@ -140,6 +140,12 @@ acts_lead legacies old (Get what a policy cuts) reply new wire are known free h 
     (frame_leads legacies old cuts h.0.served new (IsGetPart old cuts what a h.0.answer new) wire None are known
     (λ bits own k. get_leads legacies what a k.1 own (target_apart legacies old a are known (no_test 2 (checks old (Get what a policy cuts)) free)) k.6)
     (subst (λ r. IsWire old (Get what a policy cuts) r new wire) h.1 w))
+acts_lead legacies old (SetLength way most to policy cuts) reply new wire are known free h session w =
+    closed legacies old.in_session new.in_session wire (no_test 0 (checks old (SetLength way most to policy cuts)) free) (session ∙ ap (λ r. session_after r old.in_session) h.1)
+    (frame_leads legacies old cuts h.0.served new (IsLengthPart old cuts way to most h.0.answer) wire None are known
+    (λ bits own k. length_leads legacies way to most h.0.answer own
+    (λ a e. target_apart legacies old a are known (no_test 2 (checks old (SetLength way most (Some a) policy cuts)) (subst (λ t. first_refusal (checks old (SetLength way most t policy cuts)) ≡ None) e free))) k.0)
+    (subst (λ r. IsWire old (SetLength way most to policy cuts) r new wire) h.1 w))
 acts_lead legacies old (OpenDaa cuts) reply new wire are known free h session w =
     placed legacies false true old.in_session new.in_session wire (no_test 0 (checks old (OpenDaa cuts)) free) (session ∙ ap (λ r. session_after r old.in_session) h.1)
     (frame_leads legacies old cuts h.0 new _ wire (Some (Awaited.Word true)) are known (λ bits own k. open_leads legacies own k) (subst (λ r. IsWire old (OpenDaa cuts) r new wire) h.1 w))

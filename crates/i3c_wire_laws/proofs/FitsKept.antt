@@ -4,6 +4,7 @@ use Rattle.std.proofs.lemmas.Option.{none-some, same_Some}
 use Rattle.std.proofs.Common.{◌≡◌, ◌∙◌, ℕ, ◌==◌, Bool, true, false, List, All, Option, Some, None, length, drop, get_or, set, option_map, if◌then◌else◌, is_none, arith, inl, inr, ap, refl, sym, subst}
 use Rattle.i3c_base.specs.declared.answers.Answer.{Answer}
 use Rattle.i3c_base.specs.declared.answers.RoundReply.{RoundReply}
+use Rattle.i3c_base.specs.declared.datum.Direction.{Direction}
 use Rattle.i3c_base.specs.declared.device.LegacyTarget.{LegacyTarget}
 use Rattle.i3c_base.specs.declared.device.Setup.{Setup}
 use Rattle.i3c_base.specs.declared.identity.Identity.{Identity}
@@ -12,7 +13,7 @@ use Rattle.i3c_base.specs.declared.requests.Request.{Request}
 use Rattle.i3c_base.specs.declared.requests.Served.{Served}
 use Rattle.i3c_base.specs.declared.requests.Served.TheVariants.{Quiet, Recorded, Refused, Torn, Joining, WantsRole}
 use Rattle.i3c_base.specs.Cutting.{CutList, Lost, lost_by}
-use Rattle.i3c_base.specs.Frames.{Rekinds, active_has, handed, legacy_written, list, overwritten, reaches, readdressed, rekinded, released_at, reset, takes_static, unaddressed_device, with_new, with_static, written, Reads, SetsNew, SetsStatic, Writes}
+use Rattle.i3c_base.specs.Frames.{Rekinds, active_has, handed, legacy_written, limited, list, overwritten, reaches, readdressed, rekinded, released_at, reset, takes_static, unaddressed_device, with_length, with_new, with_static, written, Reads, SetsNew, SetsStatic, Writes}
 use Rattle.i3c_base.specs.Local.{attach, drop_off, raise}
 use Rattle.i3c_base.specs.Numbers.{IsInRange, KindSet}
 use Rattle.i3c_base.specs.Round.{Rounds, assigned, ended, opened, unhearing, winner, wins}
@@ -21,13 +22,13 @@ use Rattle.i3c_base.specs.State.{Device, Entry, State, change, declared_at, decl
 use Rattle.i3c_base.proofs.Lookups.{attach_from, change_from, changed_at, drop_off_from, each_from, emptied_from, option_map_from, set_from, taken_over_at}
 use Rattle.i3c_base.proofs.StaticLaws.{declared_at_fixed}
 use Rattle.i3c_step.specs.declared.events.Event.{Event}
-use Rattle.i3c_step.specs.declared.events.Event.TheVariants.{Attach, DropOff, Raise, AskJoin, AskRole, Serve, Enec, Disec, Reset, SendList, ReadFrom, WriteTo, SetStatic, SetNew, Get, OpenDaa, Round, EndDaa, HandOver}
+use Rattle.i3c_step.specs.declared.events.Event.TheVariants.{Attach, DropOff, Raise, AskJoin, AskRole, Serve, Enec, Disec, Reset, SendList, ReadFrom, WriteTo, SetStatic, SetNew, Get, SetLength, OpenDaa, Round, EndDaa, HandOver}
 use Rattle.i3c_step.specs.declared.replies.Reply.{Reply}
 use Rattle.i3c_step.specs.Step.{Acts, Step}
 use Rattle.i3c_step.proofs.Handing.{declined, granted}
 use Rattle.i3c_step.proofs.Maps.{cond_kept_from}
 use Rattle.i3c_step.proofs.Steps.{step_cases}
-use Rattle.i3c_step.proofs.Transfers.{gets_keep}
+use Rattle.i3c_step.proofs.Transfers.{gets_keep, lengths_keep}
 use Rattle.i3c_wire_laws.specs.Fitting.{EntryFits, EventFits, Fits, IsByte, TargetFits}
 use Rattle.i3c_wire_laws.proofs.Addressing.{static_low}
 
@@ -118,6 +119,14 @@ fits_rekinds (Some a) f answer lost mid done h fits = elim h [
   | inl k ↦ subst Fits (sym k.2) (fits_rekinded (Some a) f mid fits)
   | inr k ↦ subst Fits (sym k.2) fits
 ]
+
+-- SETMWL and SETMRL
+limited_same : (way : Direction) (most : ℕ) (d : Device) → (limited way most d).identity ≡ d.identity
+limited_same Direction.Write most d = refl
+limited_same Direction.Read most d = refl
+
+fits_length : (to : Option ℕ) (way : Direction) (most : ℕ) (st : State) → Fits st → Fits (with_length to way most st)
+fits_length to way most st = fits_each _ st (λ s d. either (reaches st to s d) d (limited way most d) (limited_same way most d))
 
 -- an entry more in a table, or one less
 pub given_set : (given : List (Option Entry)) (a : ℕ) (o : Option Entry) → ((e : Entry) → o ≡ Some e → EntryFits e) → GivenFit given → GivenFit (set given a o)
@@ -268,6 +277,8 @@ fits_acts old (SetStatic f to policy cuts) reply new brings h fits = fits_frame 
 fits_acts old (SetNew a to policy cuts) reply new brings h fits = fits_frame old policy cuts h.0.served _ _ new (fits_news a to h.0.answer) h.2 fits
 fits_acts old (Get what a policy cuts) reply new brings h fits =
     fits_frame old policy cuts h.0.served _ _ new (gets_keep (λ mid done. Fits mid → Fits done) (λ st f. f) what a h.0.answer) h.2 fits
+fits_acts old (SetLength way most to policy cuts) reply new brings h fits =
+    fits_frame old policy cuts h.0.served _ _ new (lengths_keep (λ mid done. Fits mid → Fits done) to way most (λ st f. f) (fits_length to way most) h.0.answer) h.2 fits
 fits_acts old (OpenDaa cuts) reply new brings h fits =
     fits_frame old _ cuts h.0 _ _ new (λ lost mid done e f. subst Fits (sym e) (fits_devices mid (opened mid) (devices_each _ mid (λ s d. either (is_none d.address) d (record d { hearing = true }) refl) f.devices) refl refl refl f)) h.2 fits
 fits_acts old (HandOver to cuts) reply new brings h fits = elim h [

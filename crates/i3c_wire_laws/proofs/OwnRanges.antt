@@ -4,6 +4,7 @@ use Rattle.std.proofs.Common.{◌≡◌, ℕ, ◌*◌, ◌/◌, ◌<◌, ◌≤�
 use Rattle.std.specs.Prelude.{⊤}
 use Rattle.i3c_base.specs.declared.answers.Answer.{Answer}
 use Rattle.i3c_base.specs.declared.datum.Datum.{Datum}
+use Rattle.i3c_base.specs.declared.datum.Direction.{Direction}
 use Rattle.i3c_base.specs.declared.kinds.Change.{Change}
 use Rattle.i3c_base.specs.declared.kinds.Kinds.{Kinds}
 use Rattle.i3c_base.specs.Numbers.{kind_set}
@@ -12,8 +13,8 @@ use Rattle.i3c_word.specs.Parity.{HasOddParity, IsAddressByte, bit_of}
 use Rattle.i3c_frame.specs.declared.symbols.Symbol.{Symbol}
 use Rattle.i3c_frame.specs.declared.symbols.Symbol.TheVariants.{Repeated, Stop, Header, LegacyWord}
 use Rattle.i3c_frame.specs.Texts.{IsInRange}
-use Rattle.i3c_events.specs.Words.{code_byte, kinds_byte}
-use Rattle.i3c_events.specs.Telling.{IsKindsWire, IsSettingWire}
+use Rattle.i3c_events.specs.Words.{code_byte, kinds_byte, length_code_byte}
+use Rattle.i3c_events.specs.Telling.{IsKindsWire, IsLengthWire, IsSettingWire}
 use Rattle.i3c_handoff.specs.declared.outcome.Offer.{Offer}
 use Rattle.i3c_handoff.specs.Telling.{IsOfferWire}
 use Rattle.i3c_entdaa.specs.declared.outcome.Round.{Round}
@@ -85,6 +86,28 @@ kinds_fit change (Some a) kinds (Answer.NoAnswer b) wire low h = subst AreInRang
 kinds_fit change (Some a) kinds Answer.Done wire low h = kinds_heard change a kinds h.0 h.1 wire (low a refl) h.2.0 h.3.0 h.4
 kinds_fit change (Some a) kinds (Answer.Bytes bytes) wire low h = kinds_heard change a kinds h.0 h.1 wire (low a refl) h.2.0 h.3.0 h.4
 kinds_fit change (Some a) kinds Answer.NoEnd wire low h = kinds_heard change a kinds h.0 h.1 wire (low a refl) h.2.0 h.3.0 h.4
+
+-- SETMWL and SETMRL
+length_code_small : (way : Direction) (to : Option ℕ) → IsByte (length_code_byte way to)
+length_code_small Direction.Write None = omega arith
+length_code_small Direction.Read None = omega arith
+length_code_small Direction.Write (Some a) = omega arith
+length_code_small Direction.Read (Some a) = omega arith
+
+length_heard : (way : Direction) (a most : ℕ) (code upper lower : Word) (wire : List Symbol) → a < 128 → IsByte most → code.byte ≡ length_code_byte way (Some a) → upper.byte ≡ 0 → lower.byte ≡ most
+    → wire ≡ Symbol.Word code ∷ Repeated ∷ Header a false true ∷ Symbol.Word upper ∷ Symbol.Word lower ∷ Stop ∷ [] → AreInRange wire
+length_heard way a most code upper lower wire low small e f g h =
+    let high = word_fits upper 0 f (omega arith) in
+    subst AreInRange (sym h) (word_fits code _ e (length_code_small way (Some a)), (tt, (low, (high, (word_fits lower most g small, (tt, tt))))))
+
+pub length_fits : (way : Direction) (to : Option ℕ) (most : ℕ) (answer : Answer) (wire : List Symbol) → ((a : ℕ) → to ≡ Some a → a < 128) → IsByte most → IsLengthWire way to most answer wire → AreInRange wire
+length_fits way None most answer wire low small h =
+    let high = word_fits h.1 0 h.4.0 (omega arith) in
+    subst AreInRange (sym h.6) (word_fits h.0 _ h.3.0 (length_code_small way None), (high, (word_fits h.2 most h.5.0 small, (tt, tt))))
+length_fits way (Some a) most (Answer.NoAnswer b) wire low small h = subst AreInRange (sym h.2) (word_fits h.0 _ h.1.0 (length_code_small way (Some a)), (tt, (low a refl, (tt, tt))))
+length_fits way (Some a) most Answer.Done wire low small h = length_heard way a most h.0 h.1 h.2 wire (low a refl) small h.3.0 h.4.0 h.5.0 h.6
+length_fits way (Some a) most (Answer.Bytes bytes) wire low small h = length_heard way a most h.0 h.1 h.2 wire (low a refl) small h.3.0 h.4.0 h.5.0 h.6
+length_fits way (Some a) most Answer.NoEnd wire low small h = length_heard way a most h.0 h.1 h.2 wire (low a refl) small h.3.0 h.4.0 h.5.0 h.6
 
 -- SETDASA and SETNEWDA
 set_heard : (code a to : ℕ) (word byte : Word) (wire : List Symbol) → IsByte code → a < 128 → to < 128 → word.byte ≡ code → byte.byte ≡ 2 * to

@@ -2,6 +2,7 @@
 use Rattle.std.proofs.Common.{◌≡◌, ◌∙◌, ℕ, ◌==◌, Bool, true, false, List, [], ◌∷◌, ◌++◌, Option, Some, None, map, is_some, ap, refl, sym}
 use Rattle.i3c_base.specs.declared.answers.Answer.{Answer}
 use Rattle.i3c_base.specs.declared.datum.Datum.{Datum}
+use Rattle.i3c_base.specs.declared.datum.Direction.{Direction}
 use Rattle.i3c_base.specs.declared.kinds.Change.{Change}
 use Rattle.i3c_base.specs.declared.kinds.Kinds.{Kinds}
 use Rattle.i3c_base.specs.Cutting.{CutList}
@@ -11,8 +12,8 @@ use Rattle.i3c_word.specs.declared.Word.{Word}
 use Rattle.i3c_word.specs.Parity.{HasOddParity}
 use Rattle.i3c_frame.specs.declared.symbols.Symbol.{Symbol}
 use Rattle.i3c_frame.specs.declared.symbols.Symbol.TheVariants.{Repeated, Stop, Header, LegacyWord}
-use Rattle.i3c_events.specs.Words.{code_byte}
-use Rattle.i3c_events.specs.Telling.{IsKindsWire, IsSettingWire}
+use Rattle.i3c_events.specs.Words.{code_byte, length_code_byte}
+use Rattle.i3c_events.specs.Telling.{IsKindsWire, IsLengthWire, IsSettingWire}
 use Rattle.i3c_handoff.specs.declared.outcome.Offer.{Offer}
 use Rattle.i3c_handoff.specs.Telling.{IsOfferWire}
 use Rattle.i3c_entdaa.specs.declared.outcome.Round.{Round}
@@ -63,6 +64,25 @@ kinds_lead legacies change (Some a) kinds (Answer.NoAnswer b) wire apart h =
 kinds_lead legacies change (Some a) kinds Answer.Done wire apart h = kinds_heard legacies change a h.0 h.1 wire h.2.0 (apart a refl) h.4
 kinds_lead legacies change (Some a) kinds (Answer.Bytes bytes) wire apart h = kinds_heard legacies change a h.0 h.1 wire h.2.0 (apart a refl) h.4
 kinds_lead legacies change (Some a) kinds Answer.NoEnd wire apart h = kinds_heard legacies change a h.0 h.1 wire h.2.0 (apart a refl) h.4
+
+-- SETMWL and SETMRL
+direct_length_code : (way : Direction) (a : ℕ) → (length_code_byte way (Some a) == 7) ≡ false
+direct_length_code Direction.Write a = refl
+direct_length_code Direction.Read a = refl
+
+length_heard : (legacies : ℕ) (way : Direction) (a : ℕ) (code upper lower : Word) (wire : List Symbol) → code.byte ≡ length_code_byte way (Some a) → is_in legacies a ≡ false
+    → wire ≡ Symbol.Word code ∷ Repeated ∷ Header a false true ∷ Symbol.Word upper ∷ Symbol.Word lower ∷ Stop ∷ [] → Leads legacies (Some Awaited.Code) wire None
+length_heard legacies way a code upper lower wire e apart h =
+    ap (place_behind legacies (Some Awaited.Code)) h ∙ directed legacies code a false true (upper ∷ lower ∷ []) (not_seven code _ e (direct_length_code way a)) apart
+
+pub length_leads : (legacies : ℕ) (way : Direction) (to : Option ℕ) (most : ℕ) (answer : Answer) (wire : List Symbol) → ((a : ℕ) → to ≡ Some a → is_in legacies a ≡ false)
+    → IsLengthWire way to most answer wire → Leads legacies (Some Awaited.Code) wire None
+length_leads legacies way None most answer wire apart h = ap (place_behind legacies (Some Awaited.Code)) h.6 ∙ words_stop legacies Awaited.Code (h.0 ∷ h.1 ∷ h.2 ∷ []) tt
+length_leads legacies way (Some a) most (Answer.NoAnswer b) wire apart h =
+    ap (place_behind legacies (Some Awaited.Code)) h.2 ∙ unheard legacies h.0 a false (not_seven h.0 _ h.1.0 (direct_length_code way a))
+length_leads legacies way (Some a) most Answer.Done wire apart h = length_heard legacies way a h.0 h.1 h.2 wire h.3.0 (apart a refl) h.6
+length_leads legacies way (Some a) most (Answer.Bytes bytes) wire apart h = length_heard legacies way a h.0 h.1 h.2 wire h.3.0 (apart a refl) h.6
+length_leads legacies way (Some a) most Answer.NoEnd wire apart h = length_heard legacies way a h.0 h.1 h.2 wire h.3.0 (apart a refl) h.6
 
 -- SETDASA and SETNEWDA
 set_heard : (legacies code a : ℕ) (word byte : Word) (wire : List Symbol) → word.byte ≡ code → (code == 7) ≡ false → is_in legacies a ≡ false

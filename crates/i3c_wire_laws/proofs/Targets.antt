@@ -14,12 +14,12 @@ use Rattle.i3c_base.specs.Serve.{Frame, Serves}
 use Rattle.i3c_base.specs.State.{State, legacy_target_at}
 use Rattle.i3c_base.proofs.Lookups.{set_at}
 use Rattle.i3c_step.specs.declared.events.Event.{Event}
-use Rattle.i3c_step.specs.declared.events.Event.TheVariants.{Attach, DropOff, Raise, AskJoin, AskRole, Serve, Enec, Disec, Reset, SendList, ReadFrom, WriteTo, SetStatic, SetNew, Get, OpenDaa, Round, EndDaa, HandOver}
+use Rattle.i3c_step.specs.declared.events.Event.TheVariants.{Attach, DropOff, Raise, AskJoin, AskRole, Serve, Enec, Disec, Reset, SendList, ReadFrom, WriteTo, SetStatic, SetNew, Get, SetLength, OpenDaa, Round, EndDaa, HandOver}
 use Rattle.i3c_step.specs.declared.replies.Reply.{Reply}
 use Rattle.i3c_step.specs.Step.{Acts, Step}
 use Rattle.i3c_step.proofs.Handing.{declined, granted}
 use Rattle.i3c_step.proofs.Steps.{step_cases}
-use Rattle.i3c_step.proofs.Transfers.{gets_keep, news_keep, reads_keep, statics_keep, writes_keep}
+use Rattle.i3c_step.proofs.Transfers.{gets_keep, lengths_keep, news_keep, reads_keep, statics_keep, writes_keep}
 
 -- legacy targets stand at the same addresses
 abbrev pub KeepsTargets : State → State → Type 0
@@ -88,6 +88,8 @@ keeps_acts old (SetStatic f to policy cuts) reply new h =
     keeps_frame old policy cuts h.0.served _ _ new (statics_keep KeepsTargets f to (λ st b. refl) (λ i st b. refl) h.0.answer) h.2
 keeps_acts old (SetNew a to policy cuts) reply new h = keeps_frame old policy cuts h.0.served _ _ new (news_keep KeepsTargets a to (λ st b. refl) (λ st b. refl) h.0.answer) h.2
 keeps_acts old (Get what a policy cuts) reply new h = keeps_frame old policy cuts h.0.served _ _ new (gets_keep KeepsTargets (λ st b. refl) what a h.0.answer) h.2
+keeps_acts old (SetLength way most to policy cuts) reply new h =
+    keeps_frame old policy cuts h.0.served _ _ new (lengths_keep KeepsTargets to way most (λ st b. refl) (λ st b. refl) h.0.answer) h.2
 keeps_acts old (OpenDaa cuts) reply new h = keeps_frame old _ cuts h.0 _ _ new (λ lost mid done e. keeps_same mid done _ e refl) h.2
 keeps_acts old (HandOver to cuts) reply new h = elim h [
   | inl g ↦ keeps_same old new _ (granted old to cuts reply new g).after refl

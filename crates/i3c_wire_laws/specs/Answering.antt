@@ -9,7 +9,7 @@ use Rattle.i3c_handoff.specs.Offers.{SomeTakes}
 use Rattle.i3c_xfer.specs.Transfers.{AnyAnswers}
 use Rattle.i3c_frame.specs.declared.symbols.Symbol.{Symbol}
 use Rattle.i3c_step.specs.declared.events.Event.{Event}
-use Rattle.i3c_step.specs.declared.events.Event.TheVariants.{Enec, Disec, ReadFrom, WriteTo, SetStatic, SetNew, Get, HandOver}
+use Rattle.i3c_step.specs.declared.events.Event.TheVariants.{Enec, Disec, ReadFrom, WriteTo, SetStatic, SetNew, Get, SetLength, HandOver}
 use Rattle.i3c_step.specs.declared.replies.Reply.{Reply}
 use Rattle.i3c_step.specs.Sound.{IsSound}
 use Rattle.i3c_bus.specs.Assigning.{Sends}
@@ -29,6 +29,7 @@ TargetAnswers sda old cuts (Disec (Some a) kinds policy others) begun wire = IsA
 TargetAnswers sda old cuts (SetStatic f to policy others) begun wire = IsAnsweredAt sda wire (begun + 18) (SomeUnaddressedLeftAt old f (lost_by cuts (begun + 18)))
 TargetAnswers sda old cuts (SetNew a to policy others) begun wire = IsAnsweredAt sda wire (begun + 18) (SomeLeftAt old a (lost_by cuts (begun + 18)))
 TargetAnswers sda old cuts (Get what a policy others) begun wire = IsAnsweredAt sda wire (begun + 18) (SomeLeftAt old a (lost_by cuts (begun + 18)))
+TargetAnswers sda old cuts (SetLength way most (Some a) policy others) begun wire = IsAnsweredAt sda wire (begun + 18) (SomeLeftAt old a (lost_by cuts (begun + 18)))
 TargetAnswers sda old cuts (HandOver to others) begun wire = IsAnsweredAt sda wire (begun + 18) (SomeTakes old to (lost_by cuts (begun + 18)))
 TargetAnswers sda old cuts (ReadFrom a policy others) begun wire = IsAnsweredAt sda wire (begun + 9) (AnyAnswers old a (lost_by cuts (begun + 9)))
 TargetAnswers sda old cuts (WriteTo a bytes policy others) begun wire = IsAnsweredAt sda wire (begun + 9) (AnyAnswers old a (lost_by cuts (begun + 9)))

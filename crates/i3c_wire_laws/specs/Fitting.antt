@@ -46,4 +46,5 @@ pub record StartFits (main : Setup) (board : Board) : Type 0 where
 abbrev pub EventFits : Event → Type 0
 EventFits (Event.Attach s setup) = IsInRange setup.identity
 EventFits (Event.WriteTo a bytes policy cuts) = All IsByte bytes.items
+EventFits (Event.SetLength way most to policy cuts) = IsByte most
 EventFits _ = ⊤

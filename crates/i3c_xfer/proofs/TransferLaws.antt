@@ -1,12 +1,16 @@
 -- Who answers at an address, and what is read there.
-use Rattle.std.proofs.Common.{◌≡◌, ℕ, zero, suc, ◌+◌, ◌-◌, ◌*◌, ◌<◌, ◌≤◌, ◌↔◌, ◌⊎◌, true, false, List, get_or, set, Option, Some, None, is_some, inl, inr, refl, sym, ap, ◌∙◌, subst, arith}
+use Rattle.std.proofs.Common.{length-take-le}
+use Rattle.std.proofs.lemmas.List.{get_or-take}
+use Rattle.std.proofs.Common.{◌≡◌, ℕ, zero, suc, ◌+◌, ◌-◌, ◌*◌, ◌<◌, ◌≤◌, ◌↔◌, ◌⊎◌, true, false, if◌then◌else◌, List, length, take, get_or, set, Option, Some, None, is_some, inl, inr, refl, sym, ap, ◌∙◌, subst, arith}
 use Rattle.std.proofs.lemmas.Bool.{both_ways, cases_Bool}
 use Rattle.std.proofs.lemmas.Nat.Bits.{bit_at-lt}
 use Rattle.std.specs.Int.{bit_at}
 use Rattle.i3c_base.specs.declared.answers.Answer.{Answer}
+use Rattle.i3c_base.specs.declared.datum.Direction.{Direction}
 use Rattle.i3c_base.specs.declared.device.LegacyTarget.{LegacyTarget}
+use Rattle.i3c_base.specs.declared.device.TheConstants.{REGISTERS}
 use Rattle.i3c_base.specs.Cutting.{CutList, Lost, lost_by}
-use Rattle.i3c_base.specs.Frames.{AllLostAt, AnyAt, SomeLeftAt, Writes, legacy_written, write_bits, written}
+use Rattle.i3c_base.specs.Frames.{AllLostAt, AnyAt, SomeLeftAt, Writes, least_length_from, legacy_written, transfer_length, write_bits, written}
 use Rattle.i3c_base.specs.Places.{changed}
 use Rattle.i3c_base.specs.Serve.{IsAnd}
 use Rattle.i3c_base.specs.State.{Device, HasDevices, IsTargetAt, State, legacy_target_at}
@@ -118,3 +122,21 @@ pub write_missed : (st new : State) (a : ℕ) (bytes : List ℕ) (w : Write) (cu
 write_missed st new a bytes Write.Nobody cuts begun f none free e = (refl, (free, λ s d is. elim (cases_Bool (lost_by cuts (begun + 9) s)) [ inl gone ↦ gone | inr left ↦ absurd (none (inr (s, d, is, left))) ]), e)
 write_missed st new a bytes Write.Legacy cuts begun f none free e = absurd (both_ways _ f refl)
 write_missed st new a bytes Write.Devices cuts begun f none free e = absurd (both_ways _ f refl)
+
+-- without a legacy target there it is the least of the devices
+pub devices_length : (st : State) (way : Direction) (a : ℕ) (devices : List (Option Device)) (active : ℕ) → HasDevices st devices active → legacy_target_at st a ≡ None
+    → transfer_length st way a ≡ least_length_from active way a 0 devices
+devices_length st way a devices active has none =
+    ap (λ o. if is_some o then REGISTERS else least_length_from st.active way a 0 st.devices) none ∙ (λ t. least_length_from (has.1 t) way a 0 (has.0 t))
+
+-- with one it is that of its registers
+pub target_length : (st : State) (way : Direction) (a : ℕ) (target : LegacyTarget) → legacy_target_at st a ≡ Some target → transfer_length st way a ≡ REGISTERS
+target_length st way a target there = ap (λ o. if is_some o then REGISTERS else least_length_from st.active way a 0 st.devices) there
+
+-- the first ones of bytes that are driven
+pub driven_first : (own : Driving) (most count : ℕ) (st : State) (a : ℕ) (cuts : CutList) (first : ℕ) (bytes : List ℕ) → count ≤ most → length bytes ≡ most
+    → AreDrivenBy own most st a cuts first bytes → AreDrivenBy own (length (take count bytes)) st a cuts first (take count bytes)
+driven_first own most count st a cuts first bytes few long h k j l m =
+    let counted : length (take count bytes) ≡ count = length-take-le count bytes (omega (arith, few, long)) in
+    let low : k < count = omega (arith, counted, l) in
+    subst (λ b. (bit_at b (7 - j) ≡ 0) ↔ PullsLow own st a (lost_by cuts (first + 9 * k + j)) k (7 - j)) (sym (get_or-take count bytes k 0 low)) (h k j (omega arith) m)

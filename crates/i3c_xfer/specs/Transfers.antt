@@ -2,10 +2,10 @@
 use Rattle.std.specs.Prelude.{◌≡◌, ℕ, ◌+◌, ◌-◌, ◌*◌, ◌<◌, ◌↔◌, ◌⊎◌, Bool, true, false, ⊤, List, All, Some, None, length, slice_index}
 use Rattle.std.specs.Int.{bit_at}
 use Rattle.i3c_base.specs.declared.answers.Answer.{Answer}
+use Rattle.i3c_base.specs.declared.datum.Direction.{Direction}
 use Rattle.i3c_base.specs.declared.device.LegacyTarget.{LegacyTarget}
-use Rattle.i3c_base.specs.declared.device.TheConstants.{REGISTERS}
 use Rattle.i3c_base.specs.Cutting.{CutList, Lost, lost_by}
-use Rattle.i3c_base.specs.Frames.{SomeLeftAt}
+use Rattle.i3c_base.specs.Frames.{SomeLeftAt, transfer_length}
 use Rattle.i3c_base.specs.State.{Device, IsTargetAt, State, legacy_target_at}
 use Rattle.i3c_device.specs.Reading.{Driving, registers_of}
 use Rattle.i3c_xfer.specs.declared.outcome.Read.{Read}
@@ -17,6 +17,13 @@ read_answer to Read.Nobody = Answer.NoAnswer to
 read_answer to (Read.Legacy bytes) = Answer.Bytes bytes
 read_answer to (Read.Ended bytes) = Answer.Bytes bytes
 read_answer to (Read.Torn bytes) = Answer.NoEnd
+
+-- its bits: a header, and after its ACK a word for each byte
+abbrev pub bits_of_read : Read → ℕ
+bits_of_read Read.Nobody = 9
+bits_of_read (Read.Legacy bytes) = 153
+bits_of_read (Read.Ended bytes) = 9 + 9 * length bytes
+bits_of_read (Read.Torn bytes) = 9 + 9 * length bytes
 
 -- the answer that a write is
 abbrev pub write_answer : ℕ → Write → Answer
@@ -52,17 +59,16 @@ abbrev pub AreDrivenBy : Driving → ℕ → State → ℕ → CutList → ℕ �
 AreDrivenBy own count st a cuts first bytes =
     (k j : ℕ) → k < count → j < 8 → (bit_at (slice_index bytes k) (7 - j) ≡ 0) ↔ PullsLow own st a (lost_by cuts (first + 9 * k + j)) k (7 - j)
 
--- all registers so
+-- the first registers so, as many as may be read
 abbrev pub AreDriven : State → ℕ → CutList → ℕ → List ℕ → Type 0
-AreDriven st a cuts first bytes = AreDrivenBy registers_of REGISTERS st a cuts first bytes
+AreDriven st a cuts first bytes = AreDrivenBy registers_of (length bytes) st a cuts first bytes × (length bytes ≡ transfer_length st Direction.Read a) × All (λ byte. byte < 256) bytes
 
--- whose bytes were read, and how: a legacy target's registers, or where none stands as many as there are, which the devices
--- drive
+-- whose bytes were read, and how: a legacy target's registers, or where none stands those that the devices drive
 abbrev pub IsReadAs : State → ℕ → CutList → ℕ → Read → Type 0
 IsReadAs st a cuts first Read.Nobody = ⊤
 IsReadAs st a cuts first (Read.Legacy bytes) = (target : LegacyTarget) × (legacy_target_at st a ≡ Some target) × (bytes ≡ target.registers)
-IsReadAs st a cuts first (Read.Ended bytes) = (legacy_target_at st a ≡ None) × AreDriven st a cuts first bytes × (length bytes ≡ REGISTERS) × All (λ byte. byte < 256) bytes
-IsReadAs st a cuts first (Read.Torn bytes) = (legacy_target_at st a ≡ None) × AreDriven st a cuts first bytes × (length bytes ≡ REGISTERS) × All (λ byte. byte < 256) bytes
+IsReadAs st a cuts first (Read.Ended bytes) = (legacy_target_at st a ≡ None) × AreDriven st a cuts first bytes
+IsReadAs st a cuts first (Read.Torn bytes) = (legacy_target_at st a ≡ None) × AreDriven st a cuts first bytes
 
 -- who took the bytes of a write: a legacy target, or where none stands devices
 abbrev pub IsWrittenBy : State → ℕ → Write → Type 0

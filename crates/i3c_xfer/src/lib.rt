@@ -9,7 +9,7 @@ mod telling;
 mod writing;
 
 pub use getting::{get, told_count};
-pub use outcome::{Get, Read, Write, get_bits, read_bits, write_bits};
-pub use reading::read;
+pub use outcome::{Get, Read, Write, get_bits, write_bits};
+pub use reading::{read, transfer_length};
 pub use telling::{tell_get, tell_read, tell_write};
 pub use writing::write;

@@ -2,7 +2,7 @@ ghost use Rattle.std.specs.Prelude.{◌≡◌, ◌≤◌, ℕ, Option, length};
 ghost use Rattle.i3c_base.specs.State.{Entry};
 ghost use Rattle.i3c_base.specs.declared.datum.Datum.{Datum as DatumValue};
 ghost use Rattle.i3c_base.specs.declared.device.TheConstants.{REGISTERS as REGISTER_COUNT};
-ghost use Rattle.i3c_base.specs.Frames.{get_bits, read_bits, told_length, write_bits};
+ghost use Rattle.i3c_base.specs.Frames.{get_bits, told_length, write_bits};
 
 use i3c_base::{Addr7, Answer, Bytes, REGISTERS};
 use i3c_word::{HEADER_BITS, WORD_BITS};
@@ -13,9 +13,6 @@ pub(crate) const ACK_BITS: u16 = HEADER_BITS;
 /// How many bits the code of a datum has up to its target's acknowledgement: a word and a header.
 pub(crate) const ASKED_BITS: u16 = WORD_BITS + HEADER_BITS;
 
-/// How many bits a private read has that is acknowledged: a header, and a word for each register.
-pub(crate) const READ_BITS: u16 = ACK_BITS + WORD_BITS * REGISTERS as u16;
-
 /// What a private read came to (I3C Basic 5.1.2.2).
 #[derive(Clone, Copy, Debug, PartialEq, Eq)]
 pub enum Read {
@@ -23,10 +20,10 @@ pub enum Read {
     Nobody,
     /// The registers of a legacy target.
     Legacy([u8; REGISTERS]),
-    /// The registers of the devices at the address. They ended: the last T was read as 0.
-    Ended([u8; REGISTERS]),
+    /// The first registers of the devices at the address. They ended: the last T was read as 0.
+    Ended(Bytes),
     /// These bytes were read, and nobody was left to end them: the last T was read as 1.
-    Torn([u8; REGISTERS]),
+    Torn(Bytes),
 }
 
 /// What asking the devices at an address for a datum came to (I3C Basic 5.1.9.3).
@@ -53,7 +50,7 @@ pub enum Write {
 
 impl Read {
     ghost use Rattle.std.specs.Prelude.{◌≡◌};
-    ghost use Rattle.i3c_xfer.specs.Transfers.{read_answer};
+    ghost use Rattle.i3c_xfer.specs.Transfers.{bits_of_read, read_answer};
 
     /// The answer of a read from this address.
     pub fn answer(&self, to: Addr7) -> Answer
@@ -61,8 +58,22 @@ impl Read {
     {
         match self {
             Read::Nobody => Answer::NoAnswer(to),
-            Read::Legacy(bytes) | Read::Ended(bytes) => Answer::Bytes(Bytes::new(bytes)),
+            Read::Legacy(bytes) => Answer::Bytes(Bytes::new(bytes)),
+            Read::Ended(bytes) => Answer::Bytes(*bytes),
             Read::Torn(_) => Answer::NoEnd,
+        }
+    }
+
+    /// Its bits: a header, and after its ACK a word for each byte.
+    pub fn bits(&self) -> u16
+        ensures { result ≡ bits_of_read self.now }
+    {
+        match self {
+            Read::Nobody => ACK_BITS,
+            Read::Legacy(_) => ACK_BITS + WORD_BITS * REGISTERS as u16,
+            Read::Ended(bytes) | Read::Torn(bytes) => {
+                ACK_BITS + WORD_BITS * bytes.as_slice().len() as u16
+            }
         }
     }
 }
@@ -117,16 +128,6 @@ pub fn get_bits(count: usize, answer: &Answer) -> u16
     match answer {
         Answer::NoAnswer(_) => ASKED_BITS,
         Answer::Done | Answer::Bytes(_) | Answer::NoEnd => ASKED_BITS + WORD_BITS * count as u16,
-    }
-}
-
-/// The bits of a private read with this answer: a header, and after its ACK sixteen words.
-pub fn read_bits(answer: &Answer) -> u16
-    ensures { result ≡ read_bits answer.now }
-{
-    match answer {
-        Answer::NoAnswer(_) => ACK_BITS,
-        Answer::Done | Answer::Bytes(_) | Answer::NoEnd => READ_BITS,
     }
 }
 

@@ -24,8 +24,8 @@ pub fn tell_read<T: Tap>(tap: &mut T, to: Addr7, read: &Read)
     match read {
         Read::Nobody => tell_unanswered(tap, to, true),
         Read::Legacy(bytes) => tell_answered(tap, to, &Side::Legacy, bytes, false),
-        Read::Ended(bytes) => tell_answered(tap, to, &Side::Devices, bytes, false),
-        Read::Torn(bytes) => tell_answered(tap, to, &Side::Devices, bytes, true),
+        Read::Ended(bytes) => tell_answered(tap, to, &Side::Devices, bytes.as_slice(), false),
+        Read::Torn(bytes) => tell_answered(tap, to, &Side::Devices, bytes.as_slice(), true),
     }
 }
 

@@ -382,6 +382,8 @@ fn past(script: &Script, at: usize, addresses: usize) -> Option<u16> {
         | Event::Disec(Some(_), ..)
         | Event::SetStatic(..)
         | Event::SetNew(..) => Some(46),
+        Event::SetLength(_, _, None, ..) => Some(46),
+        Event::SetLength(_, _, Some(_), ..) => Some(55),
         Event::Reset(..) => Some(28),
         Event::SendList(..) => Some((37 + 36 * addresses.min(108)) as u16),
         Event::ReadFrom(..) => Some(172),

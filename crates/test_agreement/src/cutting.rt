@@ -57,6 +57,7 @@ pub(crate) fn cuts_of(event: &mut Event) -> Option<&mut Cuts> {
         | Event::SetStatic(_, _, _, cuts)
         | Event::SetNew(_, _, _, cuts)
         | Event::Get(_, _, _, cuts)
+        | Event::SetLength(_, _, _, _, cuts)
         | Event::HandOver(_, cuts)
         | Event::OpenDaa(cuts)
         | Event::Round(cuts) => Some(cuts),

@@ -352,6 +352,7 @@ impl Running {
             Frame::SetStatic(at, to) => Event::SetStatic(*at, *to, policy, cuts),
             Frame::SetNew(at, to) => Event::SetNew(*at, *to, policy, cuts),
             Frame::Get(what, at) => Event::Get(*what, *at, policy, cuts),
+            Frame::SetLength(way, most, to) => Event::SetLength(*way, *most, *to, policy, cuts),
         }
     }
 

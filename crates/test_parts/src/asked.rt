@@ -3,7 +3,7 @@ use crate::hand::{self, in_hand};
 use crate::setting::Setting;
 use crate::slots::slots_of;
 use crate::told::{Answer, told, told_hex, told_slots, told_text};
-use crate::words::Words;
+use crate::words::{WAYS, Words};
 use i3c_base::{Addr7, Slot};
 use i3c_device::{Devices, SlotSet};
 use std::alloc::Global;
@@ -33,6 +33,7 @@ fn together(setting: &mut Setting, call: &str, words: &mut Words<'_>) -> Answer 
         "hearers" => told_set(alloc, setting.devices.hearers()),
         "unaddressed-at" => unaddressed_at(setting, words.address()?),
         "read-from" => read_from(setting, words),
+        "least-length" => least_length(setting, words),
         _ => hand::call(setting, call, words),
     }
 }
@@ -126,6 +127,14 @@ fn lowest_willing(setting: &Setting, words: &mut Words<'_>) -> Answer {
 fn unaddressed_at(setting: &Setting, fixed: Addr7) -> Answer {
     let takers = setting.devices.unaddressed_at(setting.active, fixed);
     told_set(setting.alloc, takers)
+}
+
+/// The least maximum length at an address.
+fn least_length(setting: &Setting, words: &mut Words<'_>) -> Answer {
+    let way = words.named(&WAYS)?;
+    let address = words.address()?;
+    let least = setting.devices.least_length(setting.active, address, way);
+    told(setting.alloc, &least.get())
 }
 
 /// What the lines give of the registers at an address.

@@ -1,14 +1,16 @@
 use crate::faults::Fault;
 use crate::setting::Setting;
 use crate::taps::Told;
-use crate::told::{Answer, text_of, told_hex, told_trace, told_word};
-use crate::words::Words;
+use crate::told::{Answer, text_of, told, told_hex, told_trace, told_word};
+use crate::words::{WAYS, Words};
 use bitflags::Flags;
-use i3c_base::{Change, Kinds};
+use i3c_base::{Addr7, Change, Kinds};
 use i3c_events::{
-    NoAnswer, Setting as Sets, address_word, code_word, hear_kinds, hear_new, hear_static,
-    kinds_word, setting_word, tell_setting,
+    NoAnswer, Setting as Sets, address_word, answer_of, code_word, hear_kinds, hear_length,
+    hear_new, hear_static, kinds_word, length_bits, length_code, length_word, setting_word,
+    tell_length, tell_setting,
 };
+use i3c_word::Word;
 use std::alloc::Global;
 
 /// The most bits that may stand before a command: a mandatory byte's word and a header.
@@ -39,8 +41,78 @@ fn set(setting: &mut Setting, call: &str, words: &mut Words<'_>) -> Answer {
         "address-word" => told_word(alloc, address_word(words.address()?)),
         "hear-static" | "hear-new" => readdress(setting, call, words),
         "tell-setting" => trace_of_setting(alloc, words),
+        _ => limit(setting, call, words),
+    }
+}
+
+/// The calls on SETMWL and SETMRL.
+fn limit(setting: &mut Setting, call: &str, words: &mut Words<'_>) -> Answer {
+    let alloc = setting.alloc;
+    match call {
+        "length-code" => told_word(alloc, code_of_length(words)?),
+        "length-word" => told_word(alloc, length_word(words.length()?)),
+        "length-bits" => told(alloc, &bits_of_length(words)?),
+        "hear-length" => relength(setting, words),
+        "tell-length" => trace_of_length(alloc, words),
         _ => Err(Fault::Unknown),
     }
+}
+
+/// The word of the code that sets a maximum length.
+fn code_of_length(words: &mut Words<'_>) -> Result<Word, Fault> {
+    let way = words.named(&WAYS)?;
+    Ok(length_code(way, words.target()?))
+}
+
+/// How many bits SETMWL and SETMRL have.
+fn bits_of_length(words: &mut Words<'_>) -> Result<u16, Fault> {
+    let to = words.target()?;
+    let heard = heard(words, to)?;
+    Ok(length_bits(&to, &answer_of(&heard)))
+}
+
+/// What became of a command: it was `heard`, or at its address by `nobody`.
+fn heard(words: &mut Words<'_>, to: Option<Addr7>) -> Result<Result<(), NoAnswer>, Fault> {
+    match words.word()? {
+        "heard" => Ok(Ok(())),
+        "nobody" => match to {
+            Some(at) => Ok(Err(NoAnswer(at))),
+            None => Err(Fault::Unknown),
+        },
+        _ => Err(Fault::Unknown),
+    }
+}
+
+/// Devices get a maximum length.
+fn relength(setting: &mut Setting, words: &mut Words<'_>) -> Answer {
+    let way = words.named(&WAYS)?;
+    let to = words.target()?;
+    let most = words.length()?;
+    let begun = setting.begun;
+    if begun > MOST_BEGUN {
+        return Err(Fault::Unknown);
+    }
+    let heard = hear_length(
+        &mut setting.devices,
+        setting.active,
+        to,
+        way,
+        most,
+        &setting.cuts,
+        begun,
+    );
+    told_hex(setting.alloc, &heard)
+}
+
+/// How SETMWL or SETMRL is told after the header of its frame.
+fn trace_of_length(alloc: Global, words: &mut Words<'_>) -> Answer {
+    let way = words.named(&WAYS)?;
+    let to = words.target()?;
+    let most = words.length()?;
+    let heard = heard(words, to)?;
+    let mut told = Told::begun(alloc);
+    tell_length(&mut told, way, &to, most, &heard);
+    told_trace(alloc, &told.symbols)
 }
 
 /// A device gets its dynamic address, or another one.

@@ -3,7 +3,7 @@ use crate::faults::Fault;
 use crate::hand::{device_of, in_hand};
 use crate::setting::Setting;
 use crate::told::{Answer, nothing};
-use crate::words::Words;
+use crate::words::{WAYS, Words};
 use i3c_base::{Identity, REGISTERS, SLOTS, Slot};
 use i3c_device::{Device, Devices, SlotSet};
 use i3c_word::{Word, write_word};
@@ -88,6 +88,7 @@ fn happen(setting: &mut Setting, call: &str, words: &mut Words<'_>) -> Answer {
         "command" => return command(setting, words),
         "assign" => return assign(setting, words),
         "readdress" => return readdress(setting, words),
+        "limit" => return limit(setting, words),
         "write-to" => return write_to(setting, words),
         _ => return asked::call(setting, call, words),
     }
@@ -135,6 +136,16 @@ fn readdress(setting: &mut Setting, words: &mut Words<'_>) -> Answer {
     let new = words.usable()?;
     let reached = setting.devices.reached(setting.active, &Some(old));
     setting.devices.readdress(reached, new);
+    nothing(setting.alloc)
+}
+
+/// Those whom it reaches have a maximum length.
+fn limit(setting: &mut Setting, words: &mut Words<'_>) -> Answer {
+    let way = words.named(&WAYS)?;
+    let to = words.target()?;
+    let most = words.length()?;
+    let reached = setting.devices.reached(setting.active, &to);
+    setting.devices.limit(reached, way, most);
     nothing(setting.alloc)
 }
 

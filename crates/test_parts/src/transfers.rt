@@ -5,11 +5,11 @@ use crate::faults::Fault;
 use crate::setting::Setting;
 use crate::taps::Told;
 use crate::told::{Answer, told, told_hex, told_text, told_trace};
-use crate::words::{BITS, DATA, Words};
+use crate::words::{BITS, DATA, WAYS, Words};
 use i3c_base::{Addr7, Bytes, REGISTERS};
 use i3c_xfer::{
-    Get, Read, Write, get, get_bits, read, read_bits, tell_get, tell_read, tell_write, told_count,
-    write, write_bits,
+    Get, Read, Write, get, get_bits, read, tell_get, tell_read, tell_write, told_count,
+    transfer_length, write, write_bits,
 };
 use std::alloc::Global;
 
@@ -28,6 +28,7 @@ pub(crate) fn call(setting: &mut Setting, call: &str, words: &mut Words<'_>) -> 
         "tell-get" => trace_of_get(setting.alloc, words),
         "read" | "read-answer" | "read-bits" => of_read(setting, call, words),
         "write" | "write-answer" | "write-bits" => of_write(setting, call, words),
+        "transfer-length" => told(setting.alloc, &length_of(setting, words)?),
         "legacy-registers" => legacy_registers(setting, words),
         "tell-read" => trace_of_read(setting.alloc, words),
         "tell-write" => trace_of_write(setting.alloc, words),
@@ -43,7 +44,7 @@ fn of_read(setting: &Setting, call: &str, words: &mut Words<'_>) -> Answer {
     match call {
         "read" => told_hex(alloc, &came),
         "read-answer" => told_hex(alloc, &came.answer(to)),
-        _ => told(alloc, &read_bits(&came.answer(to))),
+        _ => told(alloc, &came.bits()),
     }
 }
 
@@ -98,6 +99,14 @@ fn wrote(setting: &mut Setting, to: Addr7, bytes: &[u8]) -> Result<Write, Fault>
     ))
 }
 
+/// How many bytes a transfer with an address may have.
+fn length_of(setting: &Setting, words: &mut Words<'_>) -> Result<u8, Fault> {
+    let way = words.named(&WAYS)?;
+    let to = words.address()?;
+    let most = transfer_length(&setting.devices, &setting.targets, setting.active, to, way);
+    Ok(most.get())
+}
+
 /// The registers of the legacy target at an address, if there is one.
 fn legacy_registers(setting: &Setting, words: &mut Words<'_>) -> Answer {
     match setting.targets.get(words.address()?) {
@@ -109,25 +118,30 @@ fn legacy_registers(setting: &Setting, words: &mut Words<'_>) -> Answer {
 /// How a read is told after the header of its frame.
 fn trace_of_read(alloc: Global, words: &mut Words<'_>) -> Answer {
     let to = words.address()?;
-    let came = read_named(words)?;
+    let came = read_named(alloc, words)?;
     let mut told = Told::begun(alloc);
     tell_read(&mut told, to, &came);
     told_trace(alloc, &told.symbols)
 }
 
 /// What a read came to.
-fn read_named(words: &mut Words<'_>) -> Result<Read, Fault> {
-    let name = words.word()?;
-    if name == "nobody" {
-        return Ok(Read::Nobody);
-    }
-    let registers = registers(words)?;
-    match name {
-        "legacy" => Ok(Read::Legacy(registers)),
-        "ended" => Ok(Read::Ended(registers)),
-        "torn" => Ok(Read::Torn(registers)),
+fn read_named(alloc: Global, words: &mut Words<'_>) -> Result<Read, Fault> {
+    match words.word()? {
+        "nobody" => Ok(Read::Nobody),
+        "legacy" => Ok(Read::Legacy(registers(words)?)),
+        "ended" => Ok(Read::Ended(few(alloc, words)?)),
+        "torn" => Ok(Read::Torn(few(alloc, words)?)),
         _ => Err(Fault::Unknown),
     }
+}
+
+/// The bytes up to the end of the line, no more than there are registers.
+fn few(alloc: Global, words: &mut Words<'_>) -> Result<Bytes, Fault> {
+    let bytes = words.bytes(alloc)?;
+    if bytes.len() > REGISTERS {
+        return Err(Fault::Unknown);
+    }
+    Ok(Bytes::new(&bytes))
 }
 
 /// A byte for each register.
@@ -194,17 +208,10 @@ fn trace_of_get(alloc: Global, words: &mut Words<'_>) -> Answer {
 
 /// What asking for a datum came to.
 fn get_named(alloc: Global, words: &mut Words<'_>) -> Result<Get, Fault> {
-    let name = words.word()?;
-    if name == "nobody" {
-        return Ok(Get::Nobody);
-    }
-    let bytes = words.bytes(alloc)?;
-    if bytes.len() > REGISTERS {
-        return Err(Fault::Unknown);
-    }
-    match name {
-        "ended" => Ok(Get::Ended(Bytes::new(&bytes))),
-        "torn" => Ok(Get::Torn(Bytes::new(&bytes))),
+    match words.word()? {
+        "nobody" => Ok(Get::Nobody),
+        "ended" => Ok(Get::Ended(few(alloc, words)?)),
+        "torn" => Ok(Get::Torn(few(alloc, words)?)),
         _ => Err(Fault::Unknown),
     }
 }

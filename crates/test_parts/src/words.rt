@@ -1,7 +1,7 @@
 ghost use Rattle.std.specs.Prelude.{IfOk, ◌≤◌};
 
 use crate::faults::Fault;
-use i3c_base::{Addr7, Bcr, Datum, Dcr, Identity, Pid, Request, Slot};
+use i3c_base::{Addr7, Bcr, Datum, Dcr, Direction, Identity, Length, Pid, Request, Slot};
 use i3c_ccc::Code;
 use i3c_word::{Word, write_word};
 use std::alloc::Global;
@@ -13,16 +13,20 @@ const PID: u64 = 0x0204_0000_0010;
 const DCR: u8 = 0x44;
 
 /// The commands that have no byte after them, as lines and as answers have them.
-const CODES: [(&str, Code); 36] = [
+const CODES: [(&str, Code); 44] = [
     ("enec", Code::Enec),
     ("disec", Code::Disec),
     ("rstdaa", Code::Rstdaa),
     ("entdaa", Code::Entdaa),
     ("deftgts", Code::Deftgts),
+    ("setmwl", Code::SetLength(Direction::Write)),
+    ("setmrl", Code::SetLength(Direction::Read)),
     ("enec-direct", Code::EnecDirect),
     ("disec-direct", Code::DisecDirect),
     ("setdasa", Code::Setdasa),
     ("setnewda", Code::Setnewda),
+    ("setmwl-direct", Code::SetLengthDirect(Direction::Write)),
+    ("setmrl-direct", Code::SetLengthDirect(Direction::Read)),
     ("getpid", Code::Get(Datum::Pid)),
     ("getbcr", Code::Get(Datum::Bcr)),
     ("getdcr", Code::Get(Datum::Dcr)),
@@ -37,10 +41,14 @@ const CODES: [(&str, Code); 36] = [
     ("Rstdaa", Code::Rstdaa),
     ("Entdaa", Code::Entdaa),
     ("Deftgts", Code::Deftgts),
+    ("SetLength(Write)", Code::SetLength(Direction::Write)),
+    ("SetLength(Read)", Code::SetLength(Direction::Read)),
     ("EnecDirect", Code::EnecDirect),
     ("DisecDirect", Code::DisecDirect),
     ("Setdasa", Code::Setdasa),
     ("Setnewda", Code::Setnewda),
+    ("SetLengthDirect(Write)", Code::SetLengthDirect(Direction::Write)),
+    ("SetLengthDirect(Read)", Code::SetLengthDirect(Direction::Read)),
     ("Get(Pid)", Code::Get(Datum::Pid)),
     ("Get(Bcr)", Code::Get(Datum::Bcr)),
     ("Get(Dcr)", Code::Get(Datum::Dcr)),
@@ -63,6 +71,10 @@ pub(crate) const DATA: [(&str, Datum); 8] = [
     ("mxds", Datum::Speed),
     ("caps", Datum::Capabilities),
 ];
+
+/// Which transfers a maximum length is for, as lines have it.
+pub(crate) const WAYS: [(&str, Direction); 2] =
+    [("write", Direction::Write), ("read", Direction::Read)];
 
 /// The bits, as words.
 pub(crate) const BITS: [(&str, bool); 2] = [("1", true), ("0", false)];
@@ -181,6 +193,11 @@ impl<'a> Words<'a> {
     /// A number of the size of a byte, in decimal digits.
     pub fn small(&mut self) -> Result<u8, Fault> {
         small_of(self.word()?)
+    }
+
+    /// A maximum length, in decimal digits.
+    pub fn length(&mut self) -> Result<Length, Fault> {
+        Length::new(self.small()?).or(Err(Fault::Unknown))
     }
 
     /// A slot, in decimal digits.

@@ -5,7 +5,7 @@ This is a reading of its own, for files that are in order: it refuses nothing.
 from dataclasses import dataclass, field
 
 FRAMES = ('serve', 'enec', 'disec', 'reset', 'list', 'read', 'write', 'setdasa', 'setnewda', 'getpid', 'getbcr', 'getdcr',
-          'getstatus', 'getmwl', 'getmrl', 'getmxds', 'getcaps', 'handover', 'open', 'round', 'daa')
+          'getstatus', 'getmwl', 'getmrl', 'getmxds', 'getcaps', 'setmwl', 'setmrl', 'handover', 'open', 'round', 'daa')
 
 
 @dataclass

@@ -10,7 +10,8 @@ READ_AT = [f'{address:02X}' for address in range(0x08, 0x12)]
 # `serve` and a round have nothing behind theirs. A list has eight entries at most here, and a write four bytes
 LAST_BITS = {'serve': 9, 'enec': 45, 'disec': 45, 'reset': 27, 'list': 9 * (2 + 4 * 8) + 18, 'read': 171, 'write': 63,
              'setdasa': 45, 'setnewda': 45, 'getpid': 90, 'getbcr': 45, 'getdcr': 45, 'getstatus': 54, 'getmwl': 54,
-             'getmrl': 63, 'getmxds': 54, 'getcaps': 54, 'handover': 45, 'open': 27, 'daa': 27, 'round': 73}
+             'getmrl': 63, 'getmxds': 54, 'getcaps': 54, 'setmwl': 54, 'setmrl': 54, 'handover': 45, 'open': 27, 'daa': 27,
+             'round': 73}
 
 
 class Failed(Exception):
@@ -82,11 +83,18 @@ def addresses_of(plan):
     return READ_AT + sorted(set(named) - set(READ_AT))
 
 
+def lengths_of(plan):
+    """Lines that tell maximum lengths, where a line of the file sets one, and by which a read gives all registers again."""
+    if not any(plans.word_of(line) in ('setmwl', 'setmrl') for line in plan.lines):
+        return []
+    return [f'{word} {address}' for address in addresses_of(plan) for word in ('getmwl', 'getmrl')] + ['setmrl 16']
+
+
 def questions(plan):
     """Lines behind an order's end, whose answers tell what `show all` doesn't: the table, which identity each address is kept
-    for, and registers. Those of the active controller are read once another one is active."""
+    for, maximum lengths, and registers. Those of the active controller are read once another one is active."""
     names = names_of(plan)
-    reads = [f'read {address}' for address in addresses_of(plan)]
+    reads = lengths_of(plan) + [f'read {address}' for address in addresses_of(plan)]
     back = [f'drop {name}' for name in names] + list(names.values())
     offers = [f'handover {address}' for address in addresses_of(plan)]
     return ['end', 'policy all', 'serve', 'list', 'frames 1', 'daa', *reads, *back, 'daa', 'list', *offers, *reads]

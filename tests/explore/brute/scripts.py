@@ -148,12 +148,20 @@ def asks(bus):
     return [f'{bus.dice.pick(["getstatus", "getstatus", "getbcr", "getmrl"])} {bus.address()}']
 
 
+def limits(bus):
+    dice = bus.dice
+    to = f' {bus.address()}' if dice.chance(50) else ''
+    address = bus.address()
+    transfer = dice.pick([f'write {address} {dice.byte()}{dice.byte()}', f'read {address}', f'getmrl {address}'])
+    return [f'{dice.pick(["setmwl", "setmrl"])} {1 + dice.below(3)}{to}', transfer][: dice.pick([1, 2, 2])]
+
+
 def cuts(bus):
     return [f'cut {bus.name()} {bus.dice.below(30)}', bus.dice.pick(['serve', f'enec 01 {bus.address()}', 'list'])]
 
 
 TRACKS = [raises, raises, serves, serves, masks, masks, hands, hands, roles, drops, drops, joins, joins, sessions,
-          assigns, transfers, transfers, policies, resets, moves, asks, cuts]
+          assigns, transfers, transfers, policies, resets, moves, asks, limits, cuts]
 
 
 def track_of(bus):

@@ -1,5 +1,5 @@
 -- A device that enters an empty slot leaves a sound bus.
-use Rattle.std.proofs.Common.{◌≡◌, ℕ, List, Option, subst, sym, ap, ◌∙◌, set, Some}
+use Rattle.std.proofs.Common.{◌≡◌, List, Option, subst, sym, ap, ◌∙◌, set, Some}
 use Rattle.i3c_base.specs.State.{Board, Device, attached, fixed_of}
 use Rattle.i3c_bus.specs.Parts.{state_of}
 use Rattle.i3c_step.specs.Sound.{IsSound}

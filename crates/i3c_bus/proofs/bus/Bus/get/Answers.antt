@@ -1,5 +1,5 @@
 -- GETPID and its like are frames with their own part.
-use Rattle.std.proofs.Common.{◌≡◌, ◌∙◌, ◌+◌, refl, subst, sym}
+use Rattle.std.proofs.Common.{◌∙◌, ◌+◌, refl, subst, sym}
 use Rattle.i3c_base.specs.declared.answers.Answer.{Answer}
 use Rattle.i3c_base.specs.declared.requests.Served.{Served}
 use Rattle.i3c_base.specs.Frames.{Gets, get_bits}

@@ -1,5 +1,5 @@
 -- What was told is told.
-use Rattle.std.proofs.Common.{◌≡◌, ◌+◌, ap, subst, sym}
+use Rattle.std.proofs.Common.{◌+◌, subst, sym}
 use Rattle.i3c_base.specs.State.{HasDevices}
 use Rattle.i3c_xfer.specs.Getting.{IsToldAs}
 use Rattle.i3c_bus.proofs.Seen.{has_devices}

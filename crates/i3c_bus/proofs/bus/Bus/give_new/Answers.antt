@@ -1,16 +1,16 @@
 -- Who has the old address has the new one, and the row moves there; or nothing changes.
-use Rattle.std.proofs.Common.{◌≡◌, ◌∙◌, ◌+◌, ◌||◌, ◌↔◌, ℕ, List, Option, Some, true, ap, inl, inr, refl, subst, sym, Result, IsOk, MatchResult, false}
+use Rattle.std.proofs.Common.{◌≡◌, ◌∙◌, ◌+◌, ◌↔◌, ℕ, List, Option, true, ap, refl, subst, sym, Result, IsOk, MatchResult, false}
 use Rattle.std.proofs.lemmas.Bool.{both_ways}
 use Rattle.i3c_base.specs.Covered.{Table}
 use Rattle.i3c_base.specs.Cutting.{lost_by}
 use Rattle.i3c_base.specs.Frames.{AllLostAt, AnyAt, SomeLeftAt, with_new}
-use Rattle.i3c_base.specs.State.{Device, HasDevices, Held, State, entry_at}
+use Rattle.i3c_base.specs.State.{Device, HasDevices, Held, entry_at}
 use Rattle.i3c_entdaa.proofs.RoundLaws.{pickable_there}
 use Rattle.i3c_events.specs.Setting.{with_new_address}
 use Rattle.i3c_events.specs.declared.hearing.NoAnswer.{NoAnswer}
 use Rattle.i3c_step.specs.Sound.{IsSound}
 use Rattle.i3c_step.specs.Step.{is_no_target, is_pickable}
-use Rattle.i3c_step.proofs.Addresses.{IsSettled, pickable_settled}
+use Rattle.i3c_step.proofs.Addresses.{pickable_settled}
 use Rattle.i3c_step.proofs.Soundness.{sound_with_new}
 use Rattle.i3c_bus.specs.Parts.{state_of}
 use Rattle.i3c_bus.specs.Whole.{IsWhole}

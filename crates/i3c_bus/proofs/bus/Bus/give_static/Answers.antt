@@ -4,13 +4,13 @@ use Rattle.std.proofs.lemmas.Bool.{both_ways, or_cases}
 use Rattle.i3c_base.specs.Covered.{Table}
 use Rattle.i3c_base.specs.Cutting.{lost_by}
 use Rattle.i3c_base.specs.Frames.{AllUnaddressedLostAt, AnyUnaddressedAt, SomeUnaddressedLeftAt, with_static}
-use Rattle.i3c_base.specs.State.{Device, HasDevices, Held, State, declared_at}
+use Rattle.i3c_base.specs.State.{Device, HasDevices, Held, declared_at}
 use Rattle.i3c_entdaa.proofs.RoundLaws.{pickable_there}
 use Rattle.i3c_events.specs.Setting.{with_static_address}
 use Rattle.i3c_events.specs.declared.hearing.NoAnswer.{NoAnswer}
 use Rattle.i3c_step.specs.Sound.{IsSound}
 use Rattle.i3c_step.specs.Step.{is_kept_for, is_pickable}
-use Rattle.i3c_step.proofs.Addresses.{IsSettled, pickable_settled}
+use Rattle.i3c_step.proofs.Addresses.{pickable_settled}
 use Rattle.i3c_step.proofs.Soundness.{sound_with_static}
 use Rattle.i3c_bus.specs.Parts.{state_of}
 use Rattle.i3c_bus.specs.Statics.{IsFixedAt}

@@ -1,11 +1,11 @@
 -- Few static addresses leave an address free, and what is made at the pick is a start.
-use Rattle.std.proofs.Common.{rules, ◌≡◌, ◌∙◌, ℕ, List, Option, sym, ap, arith, subst, set, map, option_map, replicate, refl, Some, None, false}
+use Rattle.std.proofs.Common.{rules, ◌≡◌, ◌∙◌, ℕ, List, Option, sym, ap, subst, set, map, option_map, replicate, refl, Some, None, false}
 use Rattle.std.proofs.lemmas.Bool.{both_ways, cond-true}
 use Rattle.i3c_base.specs.Covered.{Table}
 use Rattle.i3c_base.specs.declared.device.LegacyTarget.{LegacyTarget}
 use Rattle.i3c_base.specs.declared.range.TheConstants.{SLOTS}
 use Rattle.i3c_base.specs.Round.{winner}
-use Rattle.i3c_base.specs.State.{Device as DeviceState, Entry, attached, entry_of, fixed_of, is_static, legacy_targets_of, IsPickIn, IsPickableIn, IsStart, no_entries}
+use Rattle.i3c_base.specs.State.{Device as DeviceState, entry_of, fixed_of, is_static, IsPickIn, IsPickableIn, IsStart, no_entries}
 use Rattle.i3c_table.specs.Rows.{HasStatic, static_in}
 use Rattle.i3c_bus.specs.Parts.{state_of}
 use Rattle.i3c_step.proofs.Soundness.{sound_start}

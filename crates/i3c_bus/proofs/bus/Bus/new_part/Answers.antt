@@ -1,5 +1,5 @@
 -- Who has the old address has the new one, and who is cut by then is gone.
-use Rattle.std.proofs.Common.{◌≡◌, ◌∙◌, ◌+◌, ℕ, Some, ap, subst, sym, ◌↔◌}
+use Rattle.std.proofs.Common.{◌∙◌, ◌+◌, ℕ, Some, ap, subst, sym}
 use Rattle.i3c_base.specs.declared.answers.Answer.{Answer}
 use Rattle.i3c_base.specs.Cutting.{lost_by}
 use Rattle.i3c_base.specs.Frames.{SetsNew, kinds_bits}

@@ -1,5 +1,5 @@
 -- SETNEWDA is a frame with its own part.
-use Rattle.std.proofs.Common.{◌≡◌, ◌∙◌, Some, true, false, refl, subst, sym, ap}
+use Rattle.std.proofs.Common.{◌∙◌, Some, refl, sym}
 use Rattle.i3c_base.specs.declared.answers.Answer.{Answer}
 use Rattle.i3c_base.specs.declared.requests.Served.{Served}
 use Rattle.i3c_base.specs.Frames.{SetsNew, kinds_bits}

@@ -1,5 +1,5 @@
 -- SETDASA is a frame with its own part.
-use Rattle.std.proofs.Common.{◌≡◌, ◌∙◌, ◌||◌, IfSome, List, Option, Some, true, false, refl, subst, sym, ap}
+use Rattle.std.proofs.Common.{◌≡◌, ◌∙◌, IfSome, List, Option, Some, refl, subst, sym, ap}
 use Rattle.i3c_base.specs.declared.answers.Answer.{Answer}
 use Rattle.i3c_base.specs.declared.identity.Identity.{Identity}
 use Rattle.i3c_base.specs.declared.requests.Served.{Served}

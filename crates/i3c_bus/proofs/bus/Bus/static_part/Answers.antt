@@ -1,8 +1,8 @@
 -- Who takes SETDASA has the new address, and who is cut by then is gone.
-use Rattle.std.proofs.Common.{◌≡◌, ◌∙◌, ◌+◌, ℕ, Some, ap, subst, sym, ◌↔◌}
+use Rattle.std.proofs.Common.{◌∙◌, ◌+◌, ℕ, Some, ap, subst, sym}
 use Rattle.i3c_base.specs.declared.answers.Answer.{Answer}
 use Rattle.i3c_base.specs.Cutting.{lost_by}
-use Rattle.i3c_base.specs.Frames.{SetsStatic, SomeUnaddressedLeftAt, kinds_bits}
+use Rattle.i3c_base.specs.Frames.{SetsStatic, kinds_bits}
 use Rattle.i3c_base.specs.Serve.{emptied}
 use Rattle.i3c_base.specs.State.{State}
 use Rattle.i3c_bus.specs.Wire.{IsStaticPart}

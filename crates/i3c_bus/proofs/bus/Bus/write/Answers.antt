@@ -1,6 +1,5 @@
 -- A private write is a frame with its own part.
 use Rattle.std.proofs.Common.{◌≡◌, ◌∙◌, ◌≤◌, ℕ, List, false, length, take, arith, refl, subst, sym}
-use Rattle.std.proofs.lemmas.Grind.{common_steps}
 use Rattle.std.proofs.lemmas.List.{take_all}
 use Rattle.i3c_base.specs.declared.answers.Answer.{Answer}
 use Rattle.i3c_base.specs.declared.requests.Served.{Served}
@@ -16,7 +15,7 @@ use Rattle.i3c_bus.specs.declared.tokens.Hand.{Hand}
 use Rattle.i3c_bus.specs.Calls.{Carries}
 use Rattle.i3c_bus.specs.Wire.{IsWritePart}
 use Rattle.i3c_bus.proofs.ToAll.{begun_uncut}
-use Rattle.i3c_bus.proofs.Transfers.{alike_serves, transferred, write_before, write_free, writes_leave}
+use Rattle.i3c_bus.proofs.Transfers.{alike_serves, not_too_long, transferred, write_before, write_free, writes_leave}
 use Rattle.i3c_bus.proofs.bus.Bus.write.Goals as goal
 
 pub write_part-answer-requires-clause-left : goal.write_part-answer-requires-clause-left
@@ -31,9 +30,9 @@ returns-clause-carried g c =
     let served : Served = c.in-Ok.begun.served in
     let answer : Answer = c.write_part-answer.result in
     let begins = c.in-Ok.ensures.begins in
-    let short : length c.args.bytes.now ≤ 16 = omega (arith, c.if-bytes-gt-TRANSFER.false) in
+    let short : length c.args.bytes.now ≤ 16 = omega (arith, c.if-bytes-most.false, c.get-most.ensures.few) in
     let kept : take WRITE_KEPT c.args.bytes.now ≡ c.args.bytes.now = take_all 17 c.args.bytes.now (omega (arith, short)) in
-    let fits : is_too_long c.args.bytes.now ≡ false = grind (arith, common_steps) in
+    let fits : is_too_long old c.args.to bytes ≡ false = not_too_long old c.args.to bytes c.get-most.result (c.get-most.ensures.same ∙ c.transfer_length.ensures) (omega (arith, c.if-bytes-most.false)) in
     let part = c.write_part-answer.ensures.told in
     let told : Tells g.T.Tap.note_gives c.begin_frame.new.tap c.write_part-answer.new.tap (IsWritePart old c.args.cuts.now c.args.to bytes answer c.in-Ok.begun.bits) =
     (part.0, part.1, write_before old mid c.args.cuts.now c.args.to bytes answer c.in-Ok.begun.bits part.0 (alike_serves old (given_for served) _ served mid (begins.1.serves 0)) part.2) in

@@ -1,4 +1,12 @@
+use Rattle.std.proofs.Common.{◌≡◌, None, subst}
+use Rattle.i3c_step.specs.Step.{checks, first_refusal}
+use Rattle.i3c_model.proofs.Lengths.{write_short}
 use Rattle.i3c_model.proofs.plain.Plain.act.Goals as goal
+
+pub write-requires : goal.write-requires
+write-requires c =
+    let none = subst (λ e. first_refusal (checks c.args.self.now e) ≡ None) c.in-WriteTo.is c.requires.allowed in
+    record { short = rw c.as_slice.ensures.value (write_short c.args.self.now c.in-WriteTo.cuts c.in-WriteTo.at c.in-WriteTo.bytes.items none) }
 
 pub returns-in_ok-serve-in-Serve-clause-chosen : goal.returns-in_ok-serve-in-Serve-clause-chosen
 returns-in_ok-serve-in-Serve-clause-chosen c = rw c.in-Serve.is c.in_ok-serve-in-Serve.ensures.chosen
@@ -83,3 +91,12 @@ returns-in-Get-clause-acts c = rw c.in-Get.is c.get_datum.ensures.gets
 
 pub returns-in-Get-clause-memory : goal.returns-in-Get-clause-memory
 returns-in-Get-clause-memory c = rw c.in-Get.is c.get_datum.ensures.memory
+
+pub returns-in-SetLength-clause-chosen : goal.returns-in-SetLength-clause-chosen
+returns-in-SetLength-clause-chosen c = rw c.in-SetLength.is c.set_length.ensures.chosen
+
+pub returns-in-SetLength-clause-acts : goal.returns-in-SetLength-clause-acts
+returns-in-SetLength-clause-acts c = rw c.in-SetLength.is c.set_length.ensures.sets
+
+pub returns-in-SetLength-clause-memory : goal.returns-in-SetLength-clause-memory
+returns-in-SetLength-clause-memory c = rw c.in-SetLength.is c.set_length.ensures.memory

@@ -8,7 +8,7 @@ use Rattle.i3c_step.proofs.Addresses.{settled_served}
 use Rattle.i3c_model.specs.Choosing.{ServesAsChosen}
 use Rattle.i3c_model.specs.Views.{IsTableIf, places_of}
 use Rattle.i3c_model.proofs.Framing.{frame_of}
-use Rattle.i3c_model.proofs.SettingLaws.{AllThereLost, AnyThere, DidNew, answers_left, answers_none, new_did, sets_follow, sets_of, there_lost_stays, there_stays}
+use Rattle.i3c_model.proofs.SettingLaws.{AllThereLost, AnyThere, DidNew, answers_left, answers_none, kinds_header, new_did, sets_follow, sets_of, there_lost_stays, there_stays}
 use Rattle.i3c_model.proofs.Transfers.{Stay-serves}
 use Rattle.i3c_model.proofs.plain.Plain.set_new.Goals.{in-Some, in_default}
 use Rattle.i3c_model.proofs.plain.Plain.set_new.Goals as goal
@@ -39,7 +39,7 @@ returns c =
       | in-Some w ↦ absurd (no_done (subst (IsTableIf answer after) w.in-Some.is known).0)
       | in_default w ↦ w.self-is
     ] in
-    let own = sets_of old (AnyThere old) (AllThereLost old) (DidNew old new) (there_stays old) (there_lost_stays old) was mid done cuts begin answer (Stay-serves was c.args.policy.now (lost_by cuts last) served mid serves)
+    let own = sets_of old (kinds_bits (Some old)) (kinds_header old) (AnyThere old) (AllThereLost old) (DidNew old new) (there_stays old) (there_lost_stays old) was mid done cuts begin answer (Stay-serves was c.args.policy.now (lost_by cuts last) served mid serves)
     c.answer_of-answer.ensures.lawful did did_not in
     let frame : Frame was c.args.policy.now cuts served (header_bits served + kinds_bits (Some old) answer) (SetsNew old new answer) c.empty.new.self =
     frame_of was c.args.policy.now cuts served (header_bits served + kinds_bits (Some old) answer) c.word_bits.result last (SetsNew old new answer) mid done c.empty.new.self
@@ -49,7 +49,7 @@ returns c =
       sets = (record { served = served; answer = answer }, refl, frame);
       unchanged = tt;
       memory = tt;
-      chosen = sets_follow old (AnyThere old) (AllThereLost old) (DidNew old new) (there_stays old) (there_lost_stays old) was c.args.policy.now cuts c.args.choice served c.word_bits.result c.header_bits.result c.empty.new.self
+      chosen = sets_follow old (kinds_bits (Some old)) (kinds_header old) (AnyThere old) (AllThereLost old) (DidNew old new) (there_stays old) (there_lost_stays old) was c.args.policy.now cuts c.args.choice served c.word_bits.result c.header_bits.result c.empty.new.self
           c.word_bits.ensures.sent (c.header_bits.ensures.sent c.args.policy.now) answer
           (subst (λ n. ServesAsChosen was c.args.policy.now (lost_by cuts (begin + n)) c.args.choice served) bits c.in_ok-served.ensures.chosen) frame
           (answers_left was old (lost_by cuts (begin + 18)) c.args.choice answer c.answer_of-answer.ensures.chosen)

@@ -8,7 +8,7 @@ use Rattle.i3c_step.proofs.Addresses.{settled_served}
 use Rattle.i3c_model.specs.Choosing.{ServesAsChosen}
 use Rattle.i3c_model.specs.Views.{IsTableIf, places_of}
 use Rattle.i3c_model.proofs.Framing.{frame_of}
-use Rattle.i3c_model.proofs.SettingLaws.{AllBareLost, AnyBare, DidStatic, bare_lost_stays, bare_stays, sets_follow, sets_of, static_did, takes_left, takes_none}
+use Rattle.i3c_model.proofs.SettingLaws.{AllBareLost, AnyBare, DidStatic, bare_lost_stays, bare_stays, kinds_header, sets_follow, sets_of, static_did, takes_left, takes_none}
 use Rattle.i3c_model.proofs.Transfers.{Stay-serves}
 use Rattle.i3c_model.proofs.plain.Plain.set_static.Goals.{in-Some, in_default}
 use Rattle.i3c_model.proofs.plain.Plain.set_static.Goals as goal
@@ -39,7 +39,7 @@ returns c =
       | in-Some w ↦ absurd (no_done (subst (IsTableIf answer after) w.in-Some.is known.2).0)
       | in_default w ↦ w.self-is
     ] in
-    let own = sets_of f (AnyBare f) (AllBareLost f) (DidStatic f new) (bare_stays f) (bare_lost_stays f) old mid done cuts begin answer (Stay-serves old c.args.policy.now (lost_by cuts last) served mid serves)
+    let own = sets_of f (kinds_bits (Some f)) (kinds_header f) (AnyBare f) (AllBareLost f) (DidStatic f new) (bare_stays f) (bare_lost_stays f) old mid done cuts begin answer (Stay-serves old c.args.policy.now (lost_by cuts last) served mid serves)
     c.static_answer-answer.ensures.lawful did did_not in
     let frame : Frame old c.args.policy.now cuts served (header_bits served + kinds_bits (Some f) answer) (SetsStatic f new answer) c.empty.new.self =
     frame_of old c.args.policy.now cuts served (header_bits served + kinds_bits (Some f) answer) c.word_bits.result last (SetsStatic f new answer) mid done c.empty.new.self
@@ -49,7 +49,7 @@ returns c =
       sets = (record { served = served; answer = answer }, refl, frame);
       unchanged = tt;
       memory = tt;
-      chosen = sets_follow f (AnyBare f) (AllBareLost f) (DidStatic f new) (bare_stays f) (bare_lost_stays f) old c.args.policy.now cuts c.args.choice served c.word_bits.result c.header_bits.result c.empty.new.self
+      chosen = sets_follow f (kinds_bits (Some f)) (kinds_header f) (AnyBare f) (AllBareLost f) (DidStatic f new) (bare_stays f) (bare_lost_stays f) old c.args.policy.now cuts c.args.choice served c.word_bits.result c.header_bits.result c.empty.new.self
           c.word_bits.ensures.sent (c.header_bits.ensures.sent c.args.policy.now) answer
           (subst (λ n. ServesAsChosen old c.args.policy.now (lost_by cuts (begin + n)) c.args.choice served) bits c.in_ok-served.ensures.chosen) frame
           (takes_left old f (lost_by cuts (begin + 18)) c.args.choice answer c.static_answer-answer.ensures.chosen)
