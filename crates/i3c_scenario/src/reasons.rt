@@ -237,7 +237,8 @@ fn bus_reason(command: &Command, why: &BusRefusal) -> &'static str {
         BusRefusal::Full => "eight interrupts wait, or the slot's count is used up",
         BusRefusal::ListStale => "the list of DEFTGTS isn't current; send 'list' first",
         BusRefusal::NoAnswer(_) => no_answer_reason(command),
-        BusRefusal::TooLong => "a write has at most as many bytes as the target takes: 16, or what setmwl has set",
+        BusRefusal::TooLong =>
+            "a write has at most as many bytes as the target takes: 16, or what setmwl has set",
         BusRefusal::BadAddress(_) =>
             "no device may be given this address, or the table has it already",
     }

@@ -47,8 +47,14 @@ const CODES: [(&str, Code); 44] = [
     ("DisecDirect", Code::DisecDirect),
     ("Setdasa", Code::Setdasa),
     ("Setnewda", Code::Setnewda),
-    ("SetLengthDirect(Write)", Code::SetLengthDirect(Direction::Write)),
-    ("SetLengthDirect(Read)", Code::SetLengthDirect(Direction::Read)),
+    (
+        "SetLengthDirect(Write)",
+        Code::SetLengthDirect(Direction::Write),
+    ),
+    (
+        "SetLengthDirect(Read)",
+        Code::SetLengthDirect(Direction::Read),
+    ),
     ("Get(Pid)", Code::Get(Datum::Pid)),
     ("Get(Bcr)", Code::Get(Datum::Bcr)),
     ("Get(Dcr)", Code::Get(Datum::Dcr)),
@@ -73,8 +79,10 @@ pub(crate) const DATA: [(&str, Datum); 8] = [
 ];
 
 /// Which transfers a maximum length is for, as lines have it.
-pub(crate) const WAYS: [(&str, Direction); 2] =
-    [("write", Direction::Write), ("read", Direction::Read)];
+pub(crate) const WAYS: [(&str, Direction); 2] = [
+    ("write", Direction::Write),
+    ("read", Direction::Read),
+];
 
 /// The bits, as words.
 pub(crate) const BITS: [(&str, bool); 2] = [("1", true), ("0", false)];

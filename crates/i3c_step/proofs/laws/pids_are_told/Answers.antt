@@ -18,6 +18,8 @@ digit_small n = omega arith
 
 pub returns : goal.returns
 returns c d fits =
-    let pid = d.identity.pid in
-    (omega (arith, fits.0), all_digits (told_bytes Datum.Pid d)
-        (digit_small (pid / 2 ^ 40), (digit_small (pid / 2 ^ 32), (digit_small (pid / 2 ^ 24), (digit_small (pid / 2 ^ 16), (digit_small (pid / 2 ^ 8), (digit_small pid, tt)))))))
+    let pid = d.identity.pid in (
+      omega (arith, fits.0),
+      all_digits (told_bytes Datum.Pid d)
+          (digit_small (pid / 2 ^ 40), (digit_small (pid / 2 ^ 32), (digit_small (pid / 2 ^ 24), (digit_small (pid / 2 ^ 16), (digit_small (pid / 2 ^ 8), (digit_small pid, tt)))))),
+    )
