@@ -12,4 +12,6 @@ pub use hearing::{NoAnswer, answer_of, hear_kinds, hear_length, kinds_bits, leng
 pub use i3c_base::{Answer, Change, Kinds};
 pub use setting::{hear_new, hear_static};
 pub use telling::{tell_kinds, tell_length, tell_setting};
-pub use words::{Setting, address_word, code_word, kinds_word, length_code, length_word, setting_word};
+pub use words::{
+    Setting, address_word, code_word, kinds_word, length_code, length_word, setting_word,
+};

@@ -3,8 +3,8 @@ ghost use Rattle.i3c_recorder.specs.Packing.{IsShort, event_in, reply_in};
 
 use crate::entry::Entry;
 use i3c_base::{
-    Addr7, Answer, Bcr, Cuts, Datum, Dcr, Direction, Fixed, Identity, Kinds, Length, Pid, RoundReply, Served, Setup,
-    Slot,
+    Addr7, Answer, Bcr, Cuts, Datum, Dcr, Direction, Fixed, Identity, Kinds, Length, Pid,
+    RoundReply, Served, Setup, Slot,
 };
 use i3c_step::{Event, Framed, Refusal, Reply};
 use std::alloc::AllocError;
