@@ -139,27 +139,5 @@ pub record LeastSoFar (among left : SlotSet) (way : Direction) (places : List (O
 pub least_none : (among : SlotSet) (way : Direction) (places : List (Option Device)) → LeastSoFar among among way places REGISTERS
 least_none among way places = record { within = λ s l t. t; few = omega arith; least = λ s l t n. absurd (both_ways _ n t); there = inl refl }
 
--- one slot more, whose length is no less, or is the least now
-pub least_more : (among left next : SlotSet) (way : Direction) (places : List (Option Device)) (n i m : ℕ) → LeastSoFar among left way places n → i < SLOTS → has left i ≡ true → TakesOut i left next
-    → m ≤ n → m ≤ length_in way (get_or places i None) → (m ≡ n) ⊎ (length_in way (get_or places i None) ≡ m) → LeastSoFar among next way places m
-least_more among left next way places n i m h low there out fewer here is = record {
-  within = λ s l t. h.within s l (still s l t);
-  few = omega (arith, fewer, h.few);
-  least = λ s l t gone. elim (cases_eq s i) [
-    | inl e ↦ subst (λ k. m ≤ length_in way (get_or places k None)) (sym e) here
-    | inr ne ↦ let less : n ≤ length_in way (get_or places s None) = h.least s l t (sym (out s l ∙ cond-false (s == i) false (has left s) (ne_eqb s i ne)) ∙ gone) in omega arith
-  ];
-  there = elim is [
-    | inl e ↦ elim h.there [ inl most ↦ inl (e ∙ most) | inr x ↦ inr (x.0, x.1, x.2, x.3 ∙ sym e) ]
-    | inr e ↦ inr (i, low, h.within i low there, e)
-  ];
-}
-  where
-    still : (s : ℕ) → s < SLOTS → has next s ≡ true → has left s ≡ true
-    still s l t = elim (cases_eq s i) [
-      | inl e ↦ absurd (both_ways _ (out s l ∙ cond-true (s == i) false (has left s) (eq-eqb s i e)) t)
-      | inr ne ↦ sym (out s l ∙ cond-false (s == i) false (has left s) (ne_eqb s i ne)) ∙ t
-    ]
-
 pub least_all : (among left : SlotSet) (way : Direction) (places : List (Option Device)) (n : ℕ) → LeastSoFar among left way places n → ((s : ℕ) → s < SLOTS → has left s ≡ false) → IsLeastLength among way places n
 least_all among left way places n h none = record { few = h.few; least = λ s l t. h.least s l t (none s l); there = h.there }

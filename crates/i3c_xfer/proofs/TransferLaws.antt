@@ -129,10 +129,6 @@ pub devices_length : (st : State) (way : Direction) (a : ℕ) (devices : List (O
 devices_length st way a devices active has none =
     ap (λ o. if is_some o then REGISTERS else least_length_from st.active way a 0 st.devices) none ∙ (λ t. least_length_from (has.1 t) way a 0 (has.0 t))
 
--- with one it is that of its registers
-pub target_length : (st : State) (way : Direction) (a : ℕ) (target : LegacyTarget) → legacy_target_at st a ≡ Some target → transfer_length st way a ≡ REGISTERS
-target_length st way a target there = ap (λ o. if is_some o then REGISTERS else least_length_from st.active way a 0 st.devices) there
-
 -- the first ones of bytes that are driven
 pub driven_first : (own : Driving) (most count : ℕ) (st : State) (a : ℕ) (cuts : CutList) (first : ℕ) (bytes : List ℕ) → count ≤ most → length bytes ≡ most
     → AreDrivenBy own most st a cuts first bytes → AreDrivenBy own (length (take count bytes)) st a cuts first (take count bytes)
