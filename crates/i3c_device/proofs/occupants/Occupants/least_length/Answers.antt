@@ -4,7 +4,7 @@ use Rattle.std.proofs.lemmas.List.{get_or_default}
 use Rattle.i3c_base.specs.declared.device.TheConstants.{REGISTERS}
 use Rattle.i3c_device.specs.Holding.{length_in}
 use Rattle.i3c_device.specs.Lengths.{IsLeastLength}
-use Rattle.i3c_device.proofs.LengthLaws.{LeastSoFar, least_all, least_more, least_none}
+use Rattle.i3c_device.proofs.LengthLaws.{LeastSoFar, least_all, least_none}
 use Rattle.i3c_device.proofs.occupants.Occupants.least_length.Goals as goal
 
 pub loop-index-init : goal.loop-index-init
