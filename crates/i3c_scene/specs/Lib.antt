@@ -1,4 +1,5 @@
 pub mod Scenes
 pub mod Going
+pub mod Shown
 pub mod Trying
 pub mod Latest

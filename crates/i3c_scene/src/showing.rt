@@ -1,4 +1,6 @@
-ghost use Rattle.std.specs.Prelude.{◌≡◌};
+ghost use Rattle.std.specs.Prelude.{◌≡◌, ◌++◌, ℕ, List, IfOk, OnOk};
+ghost use Rattle.i3c_lines.specs.Naming.{legacy_names, slot_names};
+ghost use Rattle.i3c_scene.specs.Shown.{IsShown, StandFor, put_legacy, put_slot};
 
 use crate::line::{Expectation, Line};
 use crate::live::Live;
@@ -16,10 +18,12 @@ impl Scene {
     /// # Errors
     ///
     /// There is no memory for it.
-    pub fn show(&self, alloc: Global, text: &mut Text) -> Result<(), AllocError> {
+    pub fn show(&self, alloc: Global, text: &mut Text) -> Result<(), AllocError>
+        ensures { OnOk result ((said : List ℕ) × IsShown self.now said × (text.new ≡ text.old ++ said)) }
+    {
         let names = names_of(alloc, self.known.as_slice())?;
         let live = self.wake(alloc)?;
-        show_bus(&live.bus, &names, text)
+        show_bus(live.bus(), &names, text)
     }
 
     /// Runs a line in a way, as it is tried. Where it breaks an expectation, what is there is appended to the text, and the
@@ -74,14 +78,24 @@ impl Live {
 }
 
 /// The names of a script that stand for these places.
-fn names_of(alloc: Global, known: &[Named]) -> Result<Names, AllocError> {
+fn names_of(alloc: Global, known: &[Named]) -> Result<Names, AllocError>
+    ensures { IfOk result (StandFor known.now) }
+{
     let mut names = Names::new(alloc);
     for named in known {
-        match named.place {
-            Place::Slot(slot) => names.give_slot(&named.name, slot)?,
-            Place::Legacy(address) => names.give_address(&named.name, address)?,
-            Place::Gone => {}
-        }
+        stand(&mut names, named)?;
     }
     Ok(names)
+}
+
+/// A name stands for its place.
+fn stand(names: &mut Names, named: &Named) -> Result<(), AllocError>
+    ensures slots { OnOk result (slot_names names.new ≡ put_slot named.now.place named.now.name (slot_names names.old)) }
+    ensures targets { OnOk result (legacy_names names.new ≡ put_legacy named.now.place named.now.name (legacy_names names.old)) }
+{
+    match named.place {
+        Place::Slot(slot) => names.give_slot(&named.name, slot),
+        Place::Legacy(address) => names.give_address(&named.name, address),
+        Place::Gone => Ok(()),
+    }
 }

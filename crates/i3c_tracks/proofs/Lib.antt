@@ -1,3 +1,5 @@
 mod FileRead
 mod Reading
 mod OnePlan
+mod CourseLaws
+mod EndLaws

@@ -10,6 +10,7 @@ use Rattle.i3c_scene.specs.declared.line.Line.{Line}
 use Rattle.i3c_tracks.specs.declared.course.Run.{Run}
 use Rattle.i3c_tracks.specs.declared.exploring.Answer.{Answer}
 use Rattle.i3c_tracks.specs.declared.refusal.Refusal.{Refusal}
+use Rattle.i3c_tracks.specs.Ends.{TellsEnds}
 use Rattle.i3c_tracks.specs.Planning.{IsPlan}
 use Rattle.i3c_tracks.specs.Telling.{refusal_line, script_text}
 
@@ -24,8 +25,8 @@ abbrev pub IsExplored : List (Vec ℕ) → Part → Answer → Type 0
 IsExplored lines part Answer.Refused = ⊤
 IsExplored lines part answer = (start : Seen) × (blocks : List (Vec (Vec Line))) × IsPlan lines start blocks × IsAnswer start blocks part answer
 
--- what is printed with an answer: the line of a refusal, or a script of the file's lines
-abbrev pub IsPrinted : List (Vec ℕ) → Answer → List ℕ → List ℕ → Type 0
-IsPrinted lines Answer.Holds old new = ⊤
-IsPrinted lines Answer.Refused old new = (refusal : Refusal) × (new ≡ old ++ refusal_line refusal)
-IsPrinted lines Answer.Breaks old new = (before : List ℕ) × (runs : List Run) × (number : ℕ) × (found : List ℕ) × (new ≡ old ++ script_text lines before runs number found)
+-- what is printed with an answer: what all orders of the part lead to, the line of a refusal, or a script of the file's lines
+abbrev pub IsPrinted : List (Vec ℕ) → Part → Answer → List ℕ → List ℕ → Type 0
+IsPrinted lines part Answer.Holds old new = (said : List ℕ) × TellsEnds lines part said × (new ≡ old ++ said)
+IsPrinted lines part Answer.Refused old new = (refusal : Refusal) × (new ≡ old ++ refusal_line refusal)
+IsPrinted lines part Answer.Breaks old new = (before : List ℕ) × (runs : List Run) × (number : ℕ) × (found : List ℕ) × (new ≡ old ++ script_text lines before runs number found)

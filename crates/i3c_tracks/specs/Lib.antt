@@ -3,6 +3,8 @@ pub mod Saying
 pub mod Planning
 pub mod Drafting
 pub mod Telling
+pub mod Courses
+pub mod Ends
 pub mod Answering
 pub mod Taking
 pub mod Laws

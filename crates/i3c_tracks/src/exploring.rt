@@ -48,8 +48,9 @@ pub fn run_explore<R: Read, W: Write>(
     ensures large { result ≡ Err ScriptFault.TooLarge → IfSome (R.remaining reader.old) (λ bytes. 1048576 < length bytes) }
     // of the plan that the file's lines have, every order of the part leads on and breaks no expectation; or one breaks one, and no shorter one of the part
     ensures answer { IfOk result (λ answer. (lines : List (VecValue ℕ)) × AreLines (R.remaining reader.old) lines × IsExplored lines part answer) }
-    // a refusal, or an order that breaks an expectation as a script of the file's lines, went out alone
-    ensures printed { IfOk result (λ answer. (lines : List (VecValue ℕ)) × (said : List ℕ) × AreLines (R.remaining reader.old) lines × IsPrinted lines answer [] said × Appends (W.contents writer.old) (W.contents writer.new) said) }
+    // what went out is a refusal, or an order that breaks an expectation as a script of the file's lines, or what all orders of the part lead to: the ends, each with
+    // an order that leads there, and the numbers of orders
+    ensures printed { IfOk result (λ answer. (lines : List (VecValue ℕ)) × (said : List ℕ) × AreLines (R.remaining reader.old) lines × IsPrinted lines part answer [] said × Appends (W.contents writer.old) (W.contents writer.new) said) }
 {
     let lines = match read_lines(alloc, reader) {
         Ok(lines) => lines,
@@ -111,7 +112,7 @@ fn answered(
     text: &mut Text,
 ) -> Result<Answer, AllocError>
     ensures answer { IfOk result (IsExplored lines.now part) }
-    ensures printed { IfOk result (λ answer. IsPrinted lines.now answer text.old text.new) }
+    ensures printed { IfOk result (λ answer. IsPrinted lines.now part answer text.old text.new) }
 {
     match read_plan(alloc, lines) {
         Ok(plan) => explored(alloc, lines, &plan, limits, part, text),
@@ -142,7 +143,7 @@ fn explored(
     text: &mut Text,
 ) -> Result<Answer, AllocError>
     ensures answer { IfOk result (IsAnswer plan.now.start plan.now.blocks.items part) }
-    ensures printed { IfOk result (λ answer. IsPrinted lines.now answer text.old text.new) }
+    ensures printed { IsPlan lines.now plan.now.start plan.now.blocks.items → IfOk result (λ answer. IsPrinted lines.now part answer text.old text.new) }
 {
     let Some(limits) = limits_left(limits, plan.before.len()) else {
         return refuse_most(text);

@@ -1,4 +1,5 @@
-ghost use Rattle.std.specs.Prelude.{◌≡◌, ◌++◌, [], IfOk, OnOk, false, true, if◌then◌else◌};
+ghost use Rattle.std.specs.Prelude.{◌≡◌, ◌++◌, [], ℕ, List, IfOk, OnOk, false, length, not, true, if◌then◌else◌};
+ghost use Rattle.i3c_tracks.specs.Ends.{AreEndTexts, IsEndText, IsReport, numbers_text};
 ghost use Rattle.i3c_tracks.specs.Telling.{cut_in, cut_text, head_text, like_text, line_at, orders_text, parted_text, parting, short_run_text};
 
 use crate::course::{Run, runs_of};
@@ -19,20 +20,42 @@ pub(crate) fn push_ends(
     plan: &Plan,
     found: &Explored<Scene>,
     text: &mut Text,
-) -> Result<(), AllocError> {
+) -> Result<(), AllocError>
+    ensures { OnOk result ((said : List ℕ) × IsReport lines.now plan.now.blocks.items found.now.ends.items found.now.orders said × (text.new ≡ text.old ++ said)) }
+{
+    let steps = found.steps.saturating_add(plan.before.len() as u64);
+    push_numbers(found.orders, steps, found.ends.len() as u64, text)?;
+    push_each(alloc, lines, plan, &found.ends, text)
+}
+
+/// Appends the numbers of orders, of lines that were run, and of ends.
+fn push_numbers(
+    orders: Option<u64>,
+    steps: u64,
+    ends: u64,
+    text: &mut Text,
+) -> Result<(), AllocError>
+    ensures { OnOk result (text.new ≡ text.old ++ numbers_text orders steps ends) }
+{
     text.push(b"orders ")?;
-    push_orders(found.orders, text)?;
+    push_orders(orders, text)?;
     text.end()?;
-    text.push_numbered(
-        b"steps ",
-        found.steps.saturating_add(plan.before.len() as u64),
-    )?;
-    text.push_numbered(b"ends ", found.ends.len() as u64)?;
-    let counted = !plan.risky;
-    for index in 0..found.ends.len() {
-        let end = &found.ends[index];
-        push_head(index as u64 + 1, end.orders, counted, text)?;
-        push_end(alloc, lines, plan, end, text)?;
+    text.push_numbered(b"steps ", steps)?;
+    text.push_numbered(b"ends ", ends)
+}
+
+/// Appends the ends, one after another.
+fn push_each(
+    alloc: Global,
+    lines: &[Vec<u8>],
+    plan: &Plan,
+    ends: &[Node<Scene>],
+    text: &mut Text,
+) -> Result<(), AllocError>
+    ensures { OnOk result ((said : List ℕ) × AreEndTexts lines.now plan.now.blocks.items plan.now.opened.items (not plan.now.risky) ends.now (length ends.now) said × (text.new ≡ text.old ++ said)) }
+{
+    for index in 0..ends.len() {
+        push_end(alloc, lines, plan, index as u64 + 1, &ends[index], text)?;
     }
     Ok(())
 }
@@ -66,14 +89,18 @@ fn push_head(
     text.end()
 }
 
-/// Appends an end: the bus as it is, and the first order that leads there.
+/// Appends an end: its number, the bus as it is, and the first order that leads there.
 fn push_end(
     alloc: Global,
     lines: &[Vec<u8>],
     plan: &Plan,
+    number: u64,
     end: &Node<Scene>,
     text: &mut Text,
-) -> Result<(), AllocError> {
+) -> Result<(), AllocError>
+    ensures { OnOk result ((said : List ℕ) × IsEndText lines.now plan.now.blocks.items plan.now.opened.items (not plan.now.risky) number end.now said × (text.new ≡ text.old ++ said)) }
+{
+    push_head(number, end.orders, !plan.risky, text)?;
     end.state.show(alloc, text)?;
     let runs = runs_of(alloc, plan, &end.order)?;
     push_like(lines, &runs, text)

@@ -1,0 +1,18 @@
+-- What is printed of the bus that was woken is printed of the scene.
+use Rattle.std.proofs.Common.{◌≡◌, ◌++◌, List, ℕ, OnOk, Result, Ok, Err, ap, subst, ◌∙◌}
+use Rattle.i3c_base.specs.State.{State}
+use Rattle.i3c_lines.specs.declared.names.Names.{Names}
+use Rattle.i3c_script.specs.Printed.{show_text}
+use Rattle.i3c_scene.specs.declared.named.Named.{Named}
+use Rattle.i3c_scene.specs.Scenes.{Seen}
+use Rattle.i3c_scene.specs.Shown.{IsShown, StandFor}
+use Rattle.i3c_scene.proofs.scene.Scene.show.Goals as goal
+
+shown : {U E : Type 0} (result : Result U E) (scene live : Seen) (st : State) (names : Names) (old new : List ℕ) → live ≡ scene → st ≡ live.state → StandFor scene.names names
+    → OnOk result (new ≡ old ++ show_text st names) → OnOk result ((said : List ℕ) × IsShown scene said × (new ≡ old ++ said))
+shown (Err e) scene live st names old new same is stand told = tt
+shown (Ok u) scene live st names old new same is stand told = (show_text st names, (names, stand, ap (λ s. show_text s names) (is ∙ ap (λ (l : Seen). l.state) same)), told)
+
+pub returns : goal.returns
+returns c = shown c.show_bus.result c.args.self.now c.in_ok-live.live c.bus.result.now.state c.in_ok-names.names c.args.text.now c.show_bus.new.text c.in_ok-live.ensures c.bus.ensures
+    (subst (λ (known : List Named). StandFor known c.in_ok-names.names) (c.as_slice.ensures ∙ ap (λ (s : Seen). s.names) c.self.view_is) c.in_ok-names.ensures) c.show_bus.ensures

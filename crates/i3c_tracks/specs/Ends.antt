@@ -1,0 +1,44 @@
+-- What is printed where all holds.
+use Rattle.std.specs.Prelude.{◌≡◌, ℕ, Bool, List, [], ◌∷◌, ◌++◌, Option, Some, codes, length, slice_get, suc, zero}
+use Rattle.std.specs.Fmt.{decimal}
+use Rattle.std.specs.Global.{Vec}
+use Rattle.i3c_explore.specs.declared.node.Node.{Node}
+use Rattle.i3c_explore.specs.Parts.{Part}
+use Rattle.i3c_scene.specs.declared.line.Line.{Line}
+use Rattle.i3c_scene.specs.Scenes.{Seen}
+use Rattle.i3c_scene.specs.Shown.{IsShown}
+use Rattle.i3c_tracks.specs.declared.course.Run.{Run}
+use Rattle.i3c_tracks.specs.Courses.{AreRunsOf, LeadsTo}
+use Rattle.i3c_tracks.specs.Planning.{IsPlan}
+use Rattle.i3c_tracks.specs.Telling.{head_text, like_text, orders_text}
+
+-- an end: its number and its orders, the bus as `show` prints it, and the lines of the first order that leads there
+abbrev pub IsEndText : List (Vec ℕ) → List (Vec (Vec Line)) → List Bool → Bool → ℕ → Node Seen → List ℕ → Type 0
+IsEndText lines blocks opened counted number end text =
+    (shown : List ℕ) × (runs : List Run) × IsShown end.state shown × AreRunsOf blocks opened end.order.items runs
+    × (text ≡ head_text number end.orders counted ++ (shown ++ like_text lines runs))
+
+-- the first ends, so many
+abbrev pub AreEndTexts : List (Vec ℕ) → List (Vec (Vec Line)) → List Bool → Bool → List (Node Seen) → ℕ → List ℕ → Type 0
+AreEndTexts lines blocks opened counted ends zero text = text ≡ []
+AreEndTexts lines blocks opened counted ends (suc k) text =
+    (earlier : List ℕ) × (own : List ℕ) × (end : Node Seen) × AreEndTexts lines blocks opened counted ends k earlier × (slice_get ends k ≡ Some end)
+    × IsEndText lines blocks opened counted (suc k) end own × (text ≡ earlier ++ own)
+
+-- a line of some words and a number
+abbrev pub count_text : List ℕ → ℕ → List ℕ
+count_text words count = words ++ (decimal count ++ 10 ∷ [])
+
+-- the number of orders, of lines that were run, and of ends
+abbrev pub numbers_text : Option ℕ → ℕ → ℕ → List ℕ
+numbers_text orders steps ends = codes "orders " ++ (orders_text orders ++ (10 ∷ (count_text (codes "steps ") steps ++ count_text (codes "ends ") ends)))
+
+-- what all orders of these blocks lead to
+abbrev pub IsReport : List (Vec ℕ) → List (Vec (Vec Line)) → List (Node Seen) → Option ℕ → List ℕ → Type 0
+IsReport lines blocks ends orders text =
+    (opened : List Bool) × (counted : Bool) × (steps : ℕ) × (told : List ℕ) × AreEndTexts lines blocks opened counted ends (length ends) told × (text ≡ numbers_text orders steps (length ends) ++ told)
+
+-- what is printed of a file in whose part of orders all holds: what these lead to
+abbrev pub TellsEnds : List (Vec ℕ) → Part → List ℕ → Type 0
+TellsEnds lines part text =
+    (start : Seen) × (blocks : List (Vec (Vec Line))) × (ends : List (Node Seen)) × (orders : Option ℕ) × IsPlan lines start blocks × LeadsTo start blocks part ends orders × IsReport lines blocks ends orders text
