@@ -10,7 +10,7 @@ ghost use Rattle.i3c_explore.specs.Orders.{IsOrder, IsPrefix, Leads};
 ghost use Rattle.i3c_explore.specs.Parts.{HasLine, whole};
 ghost use Rattle.i3c_explore.specs.Splits.{IsInPart};
 
-use crate::expand::next_layer;
+use crate::expander::Expander;
 use crate::layer::{Layer, spare_all};
 use crate::machine::Machine;
 use crate::node::Node;
@@ -51,12 +51,12 @@ fn is_over<M>(next: &Vec<Node<M>>, part: Part, ran: u64) -> bool
 /// # Errors
 ///
 /// `Breaks` has an order that breaks an expectation, of the shortest ones. After `Memory` and `Most` nothing is known of orders.
-pub(crate) fn explore_block<M: Machine>(
+pub(crate) fn explore_block<M: Machine, E: Expander<M>>(
     alloc: Global,
     starts: Layer<M>,
     tracks: &[Vec<M::Line>],
     part: Part,
-    runner: &mut M::Runner,
+    expander: &mut E,
 ) -> Result<Layer<M>, Stop>
     requires { (part ≡ whole) ⊎ HasLine tracks.now }
     // every order of the part, and every beginning of one, leads on: no line breaks an expectation
@@ -78,13 +78,12 @@ pub(crate) fn explore_block<M: Machine>(
         let spares = mem::replace(&mut layer.spares, Vec::new(alloc));
         let opening = part.only_if(ran == 0);
         let limits = layer.limits;
-        let mut next = match next_layer(
+        let mut next = match expander.next_layer(
             alloc,
             &layer.nodes,
             limits,
             tracks,
             opening,
-            runner,
             spares,
         ) {
             Ok(next) => next,

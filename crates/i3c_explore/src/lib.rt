@@ -19,6 +19,7 @@
 
 mod block;
 mod expand;
+mod expander;
 mod fork;
 mod index;
 mod layer;
@@ -26,6 +27,7 @@ mod limits;
 mod machine;
 mod node;
 mod part;
+mod runs;
 mod splits;
 mod stop;
 mod turn;
@@ -38,4 +40,4 @@ pub use part::Part;
 pub use splits::{first_turns_split, parts_share_all};
 pub use stop::Stop;
 pub use turn::Turn;
-pub use walk::{Explored, explore, explore_part};
+pub use walk::{Explored, explore, explore_on, explore_part};

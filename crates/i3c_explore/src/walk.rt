@@ -11,6 +11,7 @@ ghost use Rattle.i3c_explore.specs.Orders.{IsDetermined, IsExclusive};
 ghost use Rattle.i3c_explore.specs.Parts.{IsOfPart};
 
 use crate::block::explore_block;
+use crate::expander::{Alone, Expander, Together};
 use crate::fork::fork;
 use crate::layer::Layer;
 use crate::limits::Limits;
@@ -19,6 +20,7 @@ use crate::node::{Node, sum};
 use crate::part::Part;
 use crate::stop::Stop;
 use std::alloc::{AllocError, Global};
+use std::thread::Threads;
 
 /// What all orders lead to.
 #[derive(Drop)]
@@ -141,15 +143,99 @@ pub fn explore_part<M: Machine>(
     // an order of the part that is answered in place of them breaks an expectation at its last line, and no shorter one of the part does
     ensures broken { IfErr result (λ stop. (order : VecValue TurnValue) → stop ≡ StopValue.Breaks order → IsShortestInPart M.steps M.breaks part blocks.now start order.items) }
 {
+    let mut alone = Alone {
+        runner: start.runner(alloc)?,
+    };
+    match explore_by(alloc, start, blocks, limits, part, &mut alone) {
+        Ok(found) => Ok(found),
+        Err(stop) => Err(stop),
+    }
+}
+
+/// Tries every order of a part by so many jobs, each on a thread of its own. The answer is that of [`explore_part`], with
+/// the same nodes, orders and numbers.
+///
+/// # Errors
+///
+/// `Breaks` has an order that breaks an expectation, of the shortest ones. After `Memory` and `Most` nothing is known of
+/// orders.
+pub fn explore_on<R: Threads + Sync, M: Machine + Send + Sync>(
+    rt: &R,
+    alloc: Global,
+    start: M,
+    blocks: &[Vec<Vec<M::Line>>],
+    limits: Limits,
+    part: Part,
+    jobs: usize,
+) -> Result<Explored<M>, Stop>
+where
+    M::Line: Sync,
+    M::Runner: Send,
+    // every order of the part, and every beginning of one, leads on: no line breaks an expectation
+    ensures all { OnOk result ((course : List (List TurnValue)) → IsBegun blocks.now course → IsOfPart part blocks.now course → (end : M) × LeadsOn M.steps blocks.now start course end) }
+    // and no order of it breaks one in another run, where steps are determined and what breaks leads nowhere
+    ensures unbroken { OnOk result (IsDetermined M.steps → IsExclusive M.steps M.breaks → (course : List (List TurnValue)) → IsBegun blocks.now course → IsOfPart part blocks.now course → BreaksOn M.steps M.breaks blocks.now start course → ⊥) }
+    // every order of it leads to one of the ends
+    ensures ends { IfOk result (λ found. (course : List (List TurnValue)) → IsWhole blocks.now course → IsOfPart part blocks.now course →
+        (n : NodeValue M) × Contains found.ends.items n × LeadsOn M.steps blocks.now start course n.state) }
+    // and to no other state, where steps are determined
+    ensures only { IfOk result (λ found. IsDetermined M.steps → (course : List (List TurnValue)) → IsWhole blocks.now course → IsOfPart part blocks.now course → (end : M) → LeadsOn M.steps blocks.now start course end
+        → (n : NodeValue M) × Contains found.ends.items n × (n.state ≡ end)) }
+    // each end is reached by the order that it has, which is of the part
+    ensures reached { IfOk result (λ found. (n : NodeValue M) → Contains found.ends.items n →
+        (course : List (List TurnValue)) × IsWhole blocks.now course × IsOfPart part blocks.now course × (n.order.items ≡ reverse (turns course)) × LeadsOn M.steps blocks.now start course n.state) }
+    // the part's interleavings are counted, all together and at the ends to which they lead
+    ensures counted { IfOk result (λ found. PartIsCounted M.steps part blocks.now start found.ends.items found.orders) }
+    // no more lines were run than the limits allow
+    ensures within { IfOk result (λ found. found.steps ≤ limits.steps) }
+    // an order of the part that is answered in place of them breaks an expectation at its last line, and no shorter one of the part does
+    ensures broken { IfErr result (λ stop. (order : VecValue TurnValue) → stop ≡ StopValue.Breaks order → IsShortestInPart M.steps M.breaks part blocks.now start order.items) }
+{
+    let runner = start.runner(alloc)?;
+    let mut together = Together { rt, jobs, runner };
+    match explore_by(alloc, start, blocks, limits, part, &mut together) {
+        Ok(found) => Ok(found),
+        Err(stop) => Err(stop),
+    }
+}
+
+/// Tries every order of a part, by layers that are made by this.
+fn explore_by<M: Machine, E: Expander<M>>(
+    alloc: Global,
+    start: M,
+    blocks: &[Vec<Vec<M::Line>>],
+    limits: Limits,
+    part: Part,
+    expander: &mut E,
+) -> Result<Explored<M>, Stop>
+    // every order of the part, and every beginning of one, leads on: no line breaks an expectation
+    ensures all { OnOk result ((course : List (List TurnValue)) → IsBegun blocks.now course → IsOfPart part blocks.now course → (end : M) × LeadsOn M.steps blocks.now start course end) }
+    // and no order of it breaks one in another run, where steps are determined and what breaks leads nowhere
+    ensures unbroken { OnOk result (IsDetermined M.steps → IsExclusive M.steps M.breaks → (course : List (List TurnValue)) → IsBegun blocks.now course → IsOfPart part blocks.now course → BreaksOn M.steps M.breaks blocks.now start course → ⊥) }
+    // every order of it leads to one of the ends
+    ensures ends { IfOk result (λ found. (course : List (List TurnValue)) → IsWhole blocks.now course → IsOfPart part blocks.now course →
+        (n : NodeValue M) × Contains found.ends.items n × LeadsOn M.steps blocks.now start course n.state) }
+    // and to no other state, where steps are determined
+    ensures only { IfOk result (λ found. IsDetermined M.steps → (course : List (List TurnValue)) → IsWhole blocks.now course → IsOfPart part blocks.now course → (end : M) → LeadsOn M.steps blocks.now start course end
+        → (n : NodeValue M) × Contains found.ends.items n × (n.state ≡ end)) }
+    // each end is reached by the order that it has, which is of the part
+    ensures reached { IfOk result (λ found. (n : NodeValue M) → Contains found.ends.items n →
+        (course : List (List TurnValue)) × IsWhole blocks.now course × IsOfPart part blocks.now course × (n.order.items ≡ reverse (turns course)) × LeadsOn M.steps blocks.now start course n.state) }
+    // the part's interleavings are counted, all together and at the ends to which they lead
+    ensures counted { IfOk result (λ found. PartIsCounted M.steps part blocks.now start found.ends.items found.orders) }
+    // no more lines were run than the limits allow
+    ensures within { IfOk result (λ found. found.steps ≤ limits.steps) }
+    // an order of the part that is answered in place of them breaks an expectation at its last line, and no shorter one of the part does
+    ensures broken { IfErr result (λ stop. (order : VecValue TurnValue) → stop ≡ StopValue.Breaks order → IsShortestInPart M.steps M.breaks part blocks.now start order.items) }
+{
     let split = fork(blocks);
     if !part.has_orders(split, blocks.len()) {
         return Ok(nothing(alloc));
     }
-    let mut runner = start.runner(alloc)?;
     let mut layer = first_layer(alloc, start, limits)?;
     for index in 0..blocks.len() {
         let opening = part.only_if(index == split);
-        layer = match explore_block(alloc, layer, &blocks[index], opening, &mut runner) {
+        layer = match explore_block(alloc, layer, &blocks[index], opening, expander) {
             Ok(layer) => layer,
             Err(stop) => return Err(stop),
         };

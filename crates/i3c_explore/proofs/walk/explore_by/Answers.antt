@@ -13,7 +13,7 @@ use Rattle.i3c_explore.proofs.Courses.{CoursesLead, HoldCourses, ReachCourses, b
 use Rattle.i3c_explore.proofs.Opening.{InPart, block_part}
 use Rattle.i3c_explore.proofs.Parting.{block_ready, none_counted}
 use Rattle.i3c_explore.proofs.Totals.{SharesCourses, all_counted, share_next, share_start}
-use Rattle.i3c_explore.proofs.walk.explore_part.Goals as goal
+use Rattle.i3c_explore.proofs.walk.explore_by.Goals as goal
 
 pub returns-then-not-has_orders-clause-counted : goal.returns-then-not-has_orders-clause-counted
 returns-then-not-has_orders-clause-counted g c =
