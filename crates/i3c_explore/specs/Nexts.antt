@@ -2,8 +2,10 @@
 use Rattle.std.specs.Prelude.{◌≡◌, ◌<◌, ◌≤◌, ℕ, List, Some, Contains, length, slice_get}
 use Rattle.std.specs.Global.{Vec}
 use Rattle.i3c_explore.specs.declared.node.Node.{Node}
+use Rattle.i3c_explore.specs.declared.turn.Turn.{Turn}
 use Rattle.i3c_explore.specs.Counts.{IsShared}
-use Rattle.i3c_explore.specs.Layers.{IsExpanded, IsSuccessor}
+use Rattle.i3c_explore.specs.Layers.{IsBreak, IsExpanded, IsSuccessor}
+use Rattle.i3c_explore.specs.Parts.{Part, opening}
 use Rattle.i3c_explore.specs.Shares.{IsLed, IsMeant, by_tracks}
 
 -- the orders of the nodes in a range are shared out to the next layer, each with each turn that can follow, and no other ones
@@ -32,3 +34,15 @@ pub record IsNextOf {S L : Type 0} (steps : S → L → ℕ → S → Type 0) (t
   pub expanded : AreExpanded steps lines (length tracks) layer first last next
   pub from : AreSuccessors steps lines layer next
   pub counted : SharesIn steps tracks lines (length tracks) layer first last next
+
+-- each node of a layer has a place in each track
+abbrev pub ArePlaced : {S L : Type 0} → List (Node S) → List (Vec L) → Type 0
+ArePlaced {S} layer tracks = (n : Node S) → Contains layer n → length n.places.items ≡ length tracks
+
+-- a layer has what all nodes of a layer lead to, by one more line of the tracks by which orders of a part begin
+abbrev pub FollowsAll : {S L : Type 0} → (S → L → ℕ → S → Type 0) → List (Vec L) → Part → List (Node S) → List (Node S) → Type 0
+FollowsAll steps tracks part layer next = IsNextOf steps tracks (opening part tracks) layer 0 (length layer) next
+
+-- one more line of such a track breaks an expectation behind a node of a layer, in this order
+abbrev pub BreaksNext : {S L : Type 0} → (S → L → ℕ → Type 0) → List (Vec L) → Part → List (Node S) → List Turn → Type 0
+BreaksNext {S} breaks tracks part layer order = (old : Node S) × Contains layer old × IsBreak breaks (opening part tracks) old order

@@ -19,7 +19,6 @@
 
 mod block;
 mod expand;
-mod expander;
 mod fork;
 mod index;
 mod layer;

@@ -1,10 +1,11 @@
-ghost use Rattle.std.specs.Prelude.{◌≡◌, ◌<◌, ◌≤◌, ℕ, IfOk, IfSome, List, Contains, length};
+ghost use Rattle.std.specs.Prelude.{◌≡◌, ◌<◌, ◌≤◌, ℕ, IfErr, IfOk, Contains, length};
+ghost use Rattle.std.specs.Global.{Vec as VecValue};
 ghost use Rattle.i3c_explore.specs.declared.node.Node.{Node as NodeValue};
-ghost use Rattle.i3c_explore.specs.Counts.{IsShared};
-ghost use Rattle.i3c_explore.specs.Layers.{ArePut, IsExpanded, IsSuccessor};
-ghost use Rattle.i3c_explore.specs.Nexts.{IsNextOf};
+ghost use Rattle.i3c_explore.specs.declared.stop.Stop.{Stop as StopValue};
+ghost use Rattle.i3c_explore.specs.declared.turn.Turn.{Turn as TurnValue};
+ghost use Rattle.i3c_explore.specs.Layers.{ArePut};
+ghost use Rattle.i3c_explore.specs.Nexts.{ArePlaced, BreaksNext, FollowsAll, IsNextOf};
 ghost use Rattle.i3c_explore.specs.Parts.{opening};
-ghost use Rattle.i3c_explore.specs.Shares.{IsLed, IsMeant, IsSharedNext};
 
 use crate::expand::expand_range;
 use crate::layer::Layer;
@@ -14,6 +15,7 @@ use crate::node::Node;
 use crate::part::Part;
 use crate::stop::Stop;
 use std::alloc::Global;
+use std::mem;
 use std::thread::{Threads, join};
 
 /// The number of a range's nodes that the first `low` of so many jobs get.
@@ -154,11 +156,28 @@ where
     let front = move || -> Result<Layer<M>, Stop>
         requires { (first ≤ mid) × (mid ≤ length layer.now) × ((n : NodeValue M) → Contains layer.now n → length n.places.items ≡ length tracks.now) }
         ensures { IfOk result (λ next. IsNextOf M.steps tracks.entry.now (opening part tracks.entry.now) layer.entry.now first mid next.nodes.items) }
-    { by_two(rt, alloc, layer, first, mid, limits, tracks, part, low, spares) };
+    {
+        by_two(
+            rt, alloc, layer, first, mid, limits, tracks, part, low, spares,
+        )
+    };
     let back = move || -> Result<Layer<M>, Stop>
         requires { (mid ≤ last) × (last ≤ length layer.now) × ((n : NodeValue M) → Contains layer.now n → length n.places.items ≡ length tracks.now) × (low ≤ jobs) }
         ensures { IfOk result (λ next. IsNextOf M.steps tracks.entry.now (opening part tracks.entry.now) layer.entry.now mid last next.nodes.items) }
-    { by_two(rt, alloc, layer, mid, last, limits, tracks, part, jobs - low, theirs) };
+    {
+        by_two(
+            rt,
+            alloc,
+            layer,
+            mid,
+            last,
+            limits,
+            tracks,
+            part,
+            jobs - low,
+            theirs,
+        )
+    };
     let (a, b) = join(rt, front, back);
     let ours = a?;
     let more = b?;
@@ -197,11 +216,28 @@ where
     let front = move || -> Result<Layer<M>, Stop>
         requires { (first ≤ mid) × (mid ≤ length layer.now) × ((n : NodeValue M) → Contains layer.now n → length n.places.items ≡ length tracks.now) }
         ensures { IfOk result (λ next. IsNextOf M.steps tracks.entry.now (opening part tracks.entry.now) layer.entry.now first mid next.nodes.items) }
-    { by_four(rt, alloc, layer, first, mid, limits, tracks, part, low, spares) };
+    {
+        by_four(
+            rt, alloc, layer, first, mid, limits, tracks, part, low, spares,
+        )
+    };
     let back = move || -> Result<Layer<M>, Stop>
         requires { (mid ≤ last) × (last ≤ length layer.now) × ((n : NodeValue M) → Contains layer.now n → length n.places.items ≡ length tracks.now) × (low ≤ jobs) }
         ensures { IfOk result (λ next. IsNextOf M.steps tracks.entry.now (opening part tracks.entry.now) layer.entry.now mid last next.nodes.items) }
-    { by_four(rt, alloc, layer, mid, last, limits, tracks, part, jobs - low, theirs) };
+    {
+        by_four(
+            rt,
+            alloc,
+            layer,
+            mid,
+            last,
+            limits,
+            tracks,
+            part,
+            jobs - low,
+            theirs,
+        )
+    };
     let (a, b) = join(rt, front, back);
     let ours = a?;
     let more = b?;
@@ -211,31 +247,41 @@ where
     }
 }
 
-/// The layer that follows, by so many jobs, or none if a job found a break, or its limits or memory ran out.
+/// How few nodes are worth a thread of their own.
+const FEW: usize = 64;
+
+/// The layer that follows all nodes of a layer, by so many jobs. Where one of them finds a break or reaches a limit, one
+/// thread makes the layer again from its first node, so that each number of jobs answers the same.
 pub(crate) fn next_by_jobs<R: Threads + Sync, M: Machine + Send + Sync>(
     rt: &R,
     alloc: Global,
+    jobs: usize,
     layer: &[Node<M>],
     limits: Limits,
     tracks: &[Vec<M::Line>],
     part: Part,
-    jobs: usize,
-    spares: Vec<M>,
-) -> Option<Layer<M>>
+    runner: &mut M::Runner,
+    mut spares: Vec<M>,
+) -> Result<Layer<M>, Stop>
 where
     M::Line: Sync,
     M::Runner: Send,
-    requires sized { (n : NodeValue M) → Contains layer.now n → length n.places.items ≡ length tracks.now }
-    ensures expanded { IfSome result (λ next. (n : NodeValue M) → Contains layer.now n → IsExpanded M.steps (opening part tracks.now) (length tracks.now) n next.nodes.items) }
-    ensures from { IfSome result (λ next. (n : NodeValue M) → Contains next.nodes.items n → (old : NodeValue M) × Contains layer.now old × IsSuccessor M.steps (opening part tracks.now) old n) }
-    ensures counted { IfSome result (λ next. (starts : List (NodeValue M)) (past : ℕ → List (List (List ℕ))) (share : ℕ → List (List ℕ × List (List ℕ))) → IsShared layer.now share
-        → IsMeant (IsLed M.steps tracks.now starts past) layer.now share → IsSharedNext (IsLed M.steps tracks.now starts past) (opening part tracks.now) (length tracks.now) layer.now next.nodes.items share) }
+    requires sized { ArePlaced layer.now tracks.now }
+    ensures next { IfOk result (λ next. FollowsAll M.steps tracks.now part layer.now next.nodes.items) }
+    ensures broken { IfErr result (λ stop. (order : VecValue TurnValue) → stop ≡ StopValue.Breaks order → BreaksNext M.breaks tracks.now part layer.now order.items) }
 {
     let last = layer.len();
-    match by_eight(
-        rt, alloc, layer, 0, last, limits, tracks, part, jobs, spares,
-    ) {
-        Ok(next) => Some(next),
-        Err(_) => None,
+    let useful = jobs.min(last / FEW);
+    if useful > 1 {
+        let lent = mem::replace(&mut spares, Vec::new(alloc));
+        if let Ok(next) = by_eight(
+            rt, alloc, layer, 0, last, limits, tracks, part, useful, lent,
+        ) {
+            return Ok(next);
+        }
+    }
+    match expand_range(alloc, layer, 0, last, limits, tracks, part, runner, spares) {
+        Ok(next) => Ok(next),
+        Err(stop) => Err(stop),
     }
 }
