@@ -7,6 +7,7 @@ pub mod Expanding
 pub mod Joining
 pub mod Shares
 pub mod Nexts
+pub mod Following
 pub mod Turns
 pub mod Splitting
 pub mod Opening

@@ -9,3 +9,4 @@ pub mod Blocks
 pub mod Stops
 pub mod Sums
 pub mod Nexts
+pub mod Runs

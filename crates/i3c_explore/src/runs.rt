@@ -1,11 +1,11 @@
-ghost use Rattle.std.specs.Prelude.{◌≡◌, ◌<◌, ◌≤◌, ℕ, IfErr, IfOk, Contains, length};
+ghost use Rattle.std.specs.Prelude.{◌≡◌, ◌≤◌, [], IfErr, IfOk, length};
 ghost use Rattle.std.specs.Global.{Vec as VecValue};
-ghost use Rattle.i3c_explore.specs.declared.node.Node.{Node as NodeValue};
 ghost use Rattle.i3c_explore.specs.declared.stop.Stop.{Stop as StopValue};
 ghost use Rattle.i3c_explore.specs.declared.turn.Turn.{Turn as TurnValue};
 ghost use Rattle.i3c_explore.specs.Layers.{ArePut};
 ghost use Rattle.i3c_explore.specs.Nexts.{ArePlaced, BreaksNext, FollowsAll, IsNextOf};
 ghost use Rattle.i3c_explore.specs.Parts.{opening};
+ghost use Rattle.i3c_explore.specs.Runs.{AreJoined, AreRuns};
 
 use crate::expand::expand_range;
 use crate::layer::Layer;
@@ -14,21 +14,71 @@ use crate::machine::Machine;
 use crate::node::Node;
 use crate::part::Part;
 use crate::stop::Stop;
-use std::alloc::Global;
+use std::alloc::{AllocError, Global};
 use std::mem;
-use std::thread::{Threads, join};
+use std::thread::{Threads, map_vec};
 
-/// The number of a range's nodes that the first `low` of so many jobs get.
-fn share_of(nodes: usize, jobs: usize, low: usize) -> usize
+/// How few nodes are worth a thread of their own.
+const FEW: usize = 64;
+
+/// Consecutive nodes of a layer that one job expands: from the first one up to the one before the last, by their indices.
+#[derive(Drop)]
+struct Run<M> {
+    first: usize,
+    last: usize,
+    // states whose room the job may take
+    spares: Vec<M>,
+}
+
+/// The index of a layer's node with which a job begins, of so many jobs. Each but the last gets the same number of nodes.
+fn begin_of(nodes: usize, jobs: usize, job: usize) -> usize
     ensures { result ≤ nodes }
 {
     match nodes.checked_div(jobs) {
-        Some(each) => each.saturating_mul(low).min(nodes),
-        None => 0,
+        Some(each) => each.saturating_mul(job).min(nodes),
+        None => nodes,
     }
 }
 
-/// Adds the layer that follows the nodes behind a range to that of the range. Its steps are taken too.
+/// A job's share of the spare states, of so many jobs.
+fn share_of<M: Machine>(spares: &mut Vec<M>, jobs: usize) -> Result<Vec<M>, AllocError> {
+    match spares.len().checked_div(jobs) {
+        Some(each) => spares.split_off(spares.len() - each),
+        None => spares.split_off(0),
+    }
+}
+
+/// The runs of so many jobs, which have all nodes of a layer, in their order.
+fn runs_of<M: Machine>(
+    alloc: Global,
+    nodes: usize,
+    jobs: usize,
+    spares: Vec<M>,
+) -> Result<Vec<Run<M>>, AllocError>
+    ensures { IfOk result (λ runs. AreRuns runs.items 0 nodes) }
+{
+    let mut rest = spares;
+    let mut runs = Vec::new(alloc);
+    let mut first = 0usize;
+    for job in 1..jobs {
+        let last = begin_of(nodes, jobs, job).max(first);
+        let spares = share_of(&mut rest, jobs)?;
+        runs.push(Run {
+            first,
+            last,
+            spares,
+        })?;
+        first = last;
+    }
+    runs.push(Run {
+        first,
+        last: nodes,
+        spares: rest,
+    })?;
+    Ok(runs)
+}
+
+/// Adds a layer to another one. Its steps are taken too.
 fn joined<M: Machine>(
     alloc: Global,
     front: Layer<M>,
@@ -37,33 +87,63 @@ fn joined<M: Machine>(
 ) -> Result<Layer<M>, Stop>
     ensures { IfOk result (λ both. ArePut front.nodes.items back.nodes.items both.nodes.items) }
 {
-    let mut both = front;
     let steps = limits.steps.saturating_sub(back.limits.steps);
-    match both.limits.steps.checked_sub(steps) {
-        Some(left) => both.limits.steps = left,
-        None => return Err(Stop::Most),
+    let Some(left) = front.limits.steps.checked_sub(steps) else {
+        return Err(Stop::Most);
+    };
+    if front.nodes.is_empty() {
+        let mut both = back;
+        both.limits.steps = left;
+        return Ok(both);
     }
+    let mut both = front;
+    both.limits.steps = left;
     match both.put_all(alloc, back) {
         Ok(()) => Ok(both),
         Err(stop) => Err(stop),
     }
 }
 
-/// The layer that follows a range of a layer's nodes, on one thread with a runner of its own.
-fn expand_alone<M: Machine>(
+/// The layers of all jobs as one: each node once, in the order in which one thread finds them.
+fn joined_all<M: Machine>(
+    alloc: Global,
+    layers: Vec<Result<Layer<M>, Stop>>,
+    limits: Limits,
+) -> Result<Layer<M>, Stop>
+    ensures { IfOk result (λ both. AreJoined [] layers.items both.nodes.items) }
+{
+    let mut both = Layer::new(alloc, limits);
+    for made in layers {
+        let layer = match made {
+            Ok(layer) => layer,
+            Err(stop) => return Err(stop),
+        };
+        both = match joined(alloc, both, layer, limits) {
+            Ok(both) => both,
+            Err(stop) => return Err(stop),
+        };
+    }
+    Ok(both)
+}
+
+/// The layer that follows a run of a layer's nodes, on a runner of its own.
+fn expand_run<M: Machine>(
     alloc: Global,
     layer: &[Node<M>],
-    first: usize,
-    last: usize,
+    run: Run<M>,
     limits: Limits,
     tracks: &[Vec<M::Line>],
     part: Part,
-    spares: Vec<M>,
 ) -> Result<Layer<M>, Stop>
-    requires within { (first ≤ last) × (last ≤ length layer.now) }
-    requires sized { (n : NodeValue M) → Contains layer.now n → length n.places.items ≡ length tracks.now }
-    ensures { IfOk result (λ next. IsNextOf M.steps tracks.now (opening part tracks.now) layer.now first last next.nodes.items) }
+    requires within { (run.first ≤ run.last) × (run.last ≤ length layer.now) }
+    requires sized { ArePlaced layer.now tracks.now }
+    ensures { IfOk result (λ next. IsNextOf M.steps tracks.now (opening part tracks.now) layer.now run.first run.last next.nodes.items) }
 {
+    let Run {
+        first,
+        last,
+        spares,
+    } = run;
     let Some(node) = layer.get(first) else {
         return Err(Stop::Most);
     };
@@ -84,173 +164,36 @@ fn expand_alone<M: Machine>(
     }
 }
 
-/// The layer that follows a range of a layer's nodes, by up to two jobs. Each has consecutive nodes and a thread of its own.
-fn by_two<R: Threads + Sync, M: Machine + Send + Sync>(
+/// The layer that follows all nodes of a layer, by so many jobs, each with a run of them and a thread of its own.
+fn by_runs<R: Threads + Sync, M: Machine + Send + Sync>(
     rt: &R,
     alloc: Global,
+    jobs: usize,
     layer: &[Node<M>],
-    first: usize,
-    last: usize,
     limits: Limits,
     tracks: &[Vec<M::Line>],
     part: Part,
-    jobs: usize,
-    mut spares: Vec<M>,
+    spares: Vec<M>,
 ) -> Result<Layer<M>, Stop>
 where
     M::Line: Sync,
     M::Runner: Send,
-    requires within { (first ≤ last) × (last ≤ length layer.now) }
-    requires sized { (n : NodeValue M) → Contains layer.now n → length n.places.items ≡ length tracks.now }
-    ensures { IfOk result (λ next. IsNextOf M.steps tracks.now (opening part tracks.now) layer.now first last next.nodes.items) }
+    requires sized { ArePlaced layer.now tracks.now }
+    ensures { IfOk result (λ next. FollowsAll M.steps tracks.now part layer.now next.nodes.items) }
 {
-    if jobs < 2 {
-        return expand_alone(alloc, layer, first, last, limits, tracks, part, spares);
-    }
-    let low = jobs / 2;
-    let mid = first + share_of(last - first, jobs, low);
-    let theirs = spares.split_off(spares.len() / 2)?;
-    let front = move || -> Result<Layer<M>, Stop>
-        requires { (first ≤ mid) × (mid ≤ length layer.now) × ((n : NodeValue M) → Contains layer.now n → length n.places.items ≡ length tracks.now) }
-        ensures { IfOk result (λ next. IsNextOf M.steps tracks.entry.now (opening part tracks.entry.now) layer.entry.now first mid next.nodes.items) }
-    { expand_alone(alloc, layer, first, mid, limits, tracks, part, spares) };
-    let back = move || -> Result<Layer<M>, Stop>
-        requires { (mid ≤ last) × (last ≤ length layer.now) × ((n : NodeValue M) → Contains layer.now n → length n.places.items ≡ length tracks.now) }
-        ensures { IfOk result (λ next. IsNextOf M.steps tracks.entry.now (opening part tracks.entry.now) layer.entry.now mid last next.nodes.items) }
-    { expand_alone(alloc, layer, mid, last, limits, tracks, part, theirs) };
-    let (a, b) = join(rt, front, back);
-    let ours = a?;
-    let more = b?;
-    match joined(alloc, ours, more, limits) {
-        Ok(both) => Ok(both),
+    let runs = runs_of(alloc, layer.len(), jobs, spares)?;
+    let expand = |run: Run<M>| -> Result<Layer<M>, Stop>
+        requires { (run.first ≤ run.last) × (run.last ≤ length layer.now) × ArePlaced layer.now tracks.now }
+        ensures { IfOk result (λ next. IsNextOf M.steps tracks.entry.now (opening part tracks.entry.now) layer.entry.now run.first run.last next.nodes.items) }
+    { expand_run(alloc, layer, run, limits, tracks, part) };
+    let layers = map_vec(rt, runs, &expand)?;
+    match joined_all(alloc, layers, limits) {
+        Ok(next) => Ok(next),
         Err(stop) => Err(stop),
     }
 }
 
-/// The layer that follows a range of a layer's nodes, by up to four jobs. Each has consecutive nodes and a thread of its own.
-fn by_four<R: Threads + Sync, M: Machine + Send + Sync>(
-    rt: &R,
-    alloc: Global,
-    layer: &[Node<M>],
-    first: usize,
-    last: usize,
-    limits: Limits,
-    tracks: &[Vec<M::Line>],
-    part: Part,
-    jobs: usize,
-    mut spares: Vec<M>,
-) -> Result<Layer<M>, Stop>
-where
-    M::Line: Sync,
-    M::Runner: Send,
-    requires within { (first ≤ last) × (last ≤ length layer.now) }
-    requires sized { (n : NodeValue M) → Contains layer.now n → length n.places.items ≡ length tracks.now }
-    ensures { IfOk result (λ next. IsNextOf M.steps tracks.now (opening part tracks.now) layer.now first last next.nodes.items) }
-{
-    if jobs < 2 {
-        return expand_alone(alloc, layer, first, last, limits, tracks, part, spares);
-    }
-    let low = jobs / 2;
-    let mid = first + share_of(last - first, jobs, low);
-    let theirs = spares.split_off(spares.len() / 2)?;
-    let front = move || -> Result<Layer<M>, Stop>
-        requires { (first ≤ mid) × (mid ≤ length layer.now) × ((n : NodeValue M) → Contains layer.now n → length n.places.items ≡ length tracks.now) }
-        ensures { IfOk result (λ next. IsNextOf M.steps tracks.entry.now (opening part tracks.entry.now) layer.entry.now first mid next.nodes.items) }
-    {
-        by_two(
-            rt, alloc, layer, first, mid, limits, tracks, part, low, spares,
-        )
-    };
-    let back = move || -> Result<Layer<M>, Stop>
-        requires { (mid ≤ last) × (last ≤ length layer.now) × ((n : NodeValue M) → Contains layer.now n → length n.places.items ≡ length tracks.now) × (low ≤ jobs) }
-        ensures { IfOk result (λ next. IsNextOf M.steps tracks.entry.now (opening part tracks.entry.now) layer.entry.now mid last next.nodes.items) }
-    {
-        by_two(
-            rt,
-            alloc,
-            layer,
-            mid,
-            last,
-            limits,
-            tracks,
-            part,
-            jobs - low,
-            theirs,
-        )
-    };
-    let (a, b) = join(rt, front, back);
-    let ours = a?;
-    let more = b?;
-    match joined(alloc, ours, more, limits) {
-        Ok(both) => Ok(both),
-        Err(stop) => Err(stop),
-    }
-}
-
-/// The layer that follows a range of a layer's nodes, by up to eight jobs. Each has consecutive nodes and a thread of its own.
-fn by_eight<R: Threads + Sync, M: Machine + Send + Sync>(
-    rt: &R,
-    alloc: Global,
-    layer: &[Node<M>],
-    first: usize,
-    last: usize,
-    limits: Limits,
-    tracks: &[Vec<M::Line>],
-    part: Part,
-    jobs: usize,
-    mut spares: Vec<M>,
-) -> Result<Layer<M>, Stop>
-where
-    M::Line: Sync,
-    M::Runner: Send,
-    requires within { (first ≤ last) × (last ≤ length layer.now) }
-    requires sized { (n : NodeValue M) → Contains layer.now n → length n.places.items ≡ length tracks.now }
-    ensures { IfOk result (λ next. IsNextOf M.steps tracks.now (opening part tracks.now) layer.now first last next.nodes.items) }
-{
-    if jobs < 2 {
-        return expand_alone(alloc, layer, first, last, limits, tracks, part, spares);
-    }
-    let low = jobs / 2;
-    let mid = first + share_of(last - first, jobs, low);
-    let theirs = spares.split_off(spares.len() / 2)?;
-    let front = move || -> Result<Layer<M>, Stop>
-        requires { (first ≤ mid) × (mid ≤ length layer.now) × ((n : NodeValue M) → Contains layer.now n → length n.places.items ≡ length tracks.now) }
-        ensures { IfOk result (λ next. IsNextOf M.steps tracks.entry.now (opening part tracks.entry.now) layer.entry.now first mid next.nodes.items) }
-    {
-        by_four(
-            rt, alloc, layer, first, mid, limits, tracks, part, low, spares,
-        )
-    };
-    let back = move || -> Result<Layer<M>, Stop>
-        requires { (mid ≤ last) × (last ≤ length layer.now) × ((n : NodeValue M) → Contains layer.now n → length n.places.items ≡ length tracks.now) × (low ≤ jobs) }
-        ensures { IfOk result (λ next. IsNextOf M.steps tracks.entry.now (opening part tracks.entry.now) layer.entry.now mid last next.nodes.items) }
-    {
-        by_four(
-            rt,
-            alloc,
-            layer,
-            mid,
-            last,
-            limits,
-            tracks,
-            part,
-            jobs - low,
-            theirs,
-        )
-    };
-    let (a, b) = join(rt, front, back);
-    let ours = a?;
-    let more = b?;
-    match joined(alloc, ours, more, limits) {
-        Ok(both) => Ok(both),
-        Err(stop) => Err(stop),
-    }
-}
-
-/// How few nodes are worth a thread of their own.
-const FEW: usize = 64;
-
-/// The layer that follows all nodes of a layer, by so many jobs. Where one of them finds a break or reaches a limit, one
+/// The layer that follows all nodes of a layer, by up to so many jobs. Where one of them finds a break or reaches a limit, one
 /// thread makes the layer again from its first node, so that each number of jobs answers the same.
 pub(crate) fn next_by_jobs<R: Threads + Sync, M: Machine + Send + Sync>(
     rt: &R,
@@ -274,9 +217,7 @@ where
     let useful = jobs.min(last / FEW);
     if useful > 1 {
         let lent = mem::replace(&mut spares, Vec::new(alloc));
-        if let Ok(next) = by_eight(
-            rt, alloc, layer, 0, last, limits, tracks, part, useful, lent,
-        ) {
+        if let Ok(next) = by_runs(rt, alloc, useful, layer, limits, tracks, part, lent) {
             return Ok(next);
         }
     }

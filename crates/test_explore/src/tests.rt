@@ -312,7 +312,10 @@ fn is_same(one: &Explored<Counter>, other: &Explored<Counter>) -> bool {
 }
 
 /// Whether two explorations are answered the same.
-fn are_same(one: &Result<Explored<Counter>, Stop>, other: &Result<Explored<Counter>, Stop>) -> bool {
+fn are_same(
+    one: &Result<Explored<Counter>, Stop>,
+    other: &Result<Explored<Counter>, Stop>,
+) -> bool {
     match (one, other) {
         (Ok(one), Ok(other)) => is_same(one, other),
         (Err(Stop::Breaks(one)), Err(Stop::Breaks(other))) => one.as_slice() == other.as_slice(),
@@ -321,7 +324,7 @@ fn are_same(one: &Result<Explored<Counter>, Stop>, other: &Result<Explored<Count
     }
 }
 
-/// Whether each number of jobs up to 4 answers a part of some blocks as one thread does.
+/// Whether some numbers of jobs answer a part of some blocks as one thread does.
 fn jobs_agree<R: Threads + Sync>(
     rt: &R,
     alloc: Global,
@@ -333,7 +336,7 @@ fn jobs_agree<R: Threads + Sync>(
     let start = Counter { count: 1 };
     let alone = explore_part(alloc, start, &blocks, limits, part);
     let mut agree = true;
-    for jobs in 0..5usize {
+    for jobs in [0, 1, 2, 3, 4, 9] {
         let found = explore_on(rt, alloc, start, &blocks, limits, part, jobs);
         agree = agree && are_same(&alone, &found);
     }
@@ -380,17 +383,17 @@ fn jobs_tell_the_break_that_one_thread_tells(rt: HostRuntime) -> Result<(), Fail
         Err(Stop::Breaks(order)) => assert!(rt; order.len() == 8),
         _ => assert!(rt; false),
     }
-    for part in 0..40u64 {
+    for tenth in 1..10u64 {
         let limits = Limits {
-            steps: 250 * part,
+            steps: 1000 * tenth,
             states: 16_384,
         };
         assert!(rt; jobs_agree(&rt, rt.alloc(), &[tracks], limits, Part::whole())?);
     }
-    for part in 0..40usize {
+    for states in [200, 400, 800] {
         let limits = Limits {
             steps: 100_000,
-            states: 50 * part,
+            states,
         };
         assert!(rt; jobs_agree(&rt, rt.alloc(), &[tracks], limits, Part::whole())?);
     }
@@ -404,7 +407,11 @@ fn jobs_have_the_limits_of_one_thread(rt: HostRuntime) -> Result<(), Fail> {
     let tracks: &[&[Line]] = &[&lines, &lines, &lines, &lines, &lines];
     let blocks = blocks_of(rt.alloc(), &[tracks])?;
     let start = Counter { count: 1 };
-    for (steps, states, enough) in [(12_500, 381, true), (12_499, 381, false), (12_500, 380, false)] {
+    for (steps, states, enough) in [
+        (12_500, 381, true),
+        (12_499, 381, false),
+        (12_500, 380, false),
+    ] {
         let limits = Limits { steps, states };
         let found = explore_on(&rt, rt.alloc(), start, &blocks, limits, Part::whole(), 4);
         assert!(rt; found.is_ok() == enough);

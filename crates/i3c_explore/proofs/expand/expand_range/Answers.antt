@@ -3,16 +3,14 @@ use Rattle.std.proofs.Common.{◌≡◌, ◌<◌, ℕ, ap, arith, inl, inr, leng
 use Rattle.i3c_explore.proofs.Expanding.{like_successor, passed_here, passed_kept}
 use Rattle.i3c_explore.specs.Nexts.{IsNextOf}
 use Rattle.i3c_explore.specs.Parts.{opening}
-use Rattle.i3c_explore.proofs.Shares.{shares_first, shares_more}
+use Rattle.i3c_explore.proofs.Nexts.{next_none}
+use Rattle.i3c_explore.proofs.Shares.{shares_more}
 use Rattle.i3c_explore.proofs.expand.expand_range.Goals as goal
 
 pub loop-index-init : goal.loop-index-init
 loop-index-init g c =
-    let none : length c.new-next.result.nodes.items ≡ 0 = ap length c.new-next.ensures.nodes in record {
-      expanded = λ k lt le. absurd (omega arith);
-      from = λ n (k, lt, is). absurd (omega arith);
-      counted = shares_first g.M.Machine.steps c.args.tracks.now (opening c.args.part c.args.tracks.now) (length c.args.tracks.now) c.args.layer.now c.new-next.result.nodes.items c.args.first none;
-    }
+    let tracks = c.args.tracks.now in
+    next_none g.M.Machine.steps tracks (opening c.args.part tracks) c.args.layer.now c.args.first c.new-next.result.nodes.items (ap length c.new-next.ensures.nodes)
 
 pub loop-index-preserved : goal.loop-index-preserved
 loop-index-preserved g c =
