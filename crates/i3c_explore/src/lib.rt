@@ -13,6 +13,10 @@
 //! [`explore_part`] tries the orders of one [`Part`] alone. Each order is in exactly one part, and the parts' numbers of orders
 //! add up ([`parts_share_all`]).
 //!
+//! [`explore_on`] does so by several jobs, each on a thread of its own: a job expands a run of a layer's nodes into a layer of
+//! its own, and these layers are joined in the order of their runs. Where a job breaks an expectation or reaches a limit, one
+//! thread makes the layer again, so that each number of jobs stops at the same place.
+//!
 //! Not claimed: that there is memory enough, that the limits are, or how much time it takes. Where a machine's steps are not
 //! determined, what its `run` doesn't choose is not tried.
 #![tactic(auto)]

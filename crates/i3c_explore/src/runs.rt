@@ -19,7 +19,7 @@ use std::mem;
 use std::thread::{Threads, map_vec};
 
 /// How few nodes are worth a thread of their own.
-const FEW: usize = 64;
+const FEW: usize = 16;
 
 /// Consecutive nodes of a layer that one job expands: from the first one up to the one before the last, by their indices.
 #[derive(Drop)]

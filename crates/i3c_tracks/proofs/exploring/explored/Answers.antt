@@ -10,12 +10,12 @@ use Rattle.i3c_scene.specs.Trying.{LineBreaks, LineSteps}
 use Rattle.i3c_tracks.proofs.exploring.explored.Goals as goal
 
 pub returns-in_ok-push_ends-in-Ok-clause-answer : goal.returns-in_ok-push_ends-in-Ok-clause-answer
-returns-in_ok-push_ends-in-Ok-clause-answer c =
+returns-in_ok-push_ends-in-Ok-clause-answer g c =
     subst (λ (s : Seen). (course : List (List Turn)) → IsBegun c.args.plan.now.blocks.items course → IsOfPart c.args.part c.args.plan.now.blocks.items course → (end : Seen) × LeadsOn LineSteps c.args.plan.now.blocks.items s course end) c.in_ok-start.ensures
     (subst (λ (bs : List (Vec (Vec Line))). (course : List (List Turn)) → IsBegun bs course → IsOfPart c.args.part bs course → (end : Seen) × LeadsOn LineSteps bs c.in_ok-start.start course end) c.deref.ensures.value c.in-Ok.ensures.all)
 
 pub returns-in_ok-push_broken-in-Err-Breaks-clause-answer : goal.returns-in_ok-push_broken-in-Err-Breaks-clause-answer
-returns-in_ok-push_broken-in-Err-Breaks-clause-answer c =
+returns-in_ok-push_broken-in-Err-Breaks-clause-answer g c =
     let order = c.in-Err-Breaks.order in (
       order.items,
       subst (λ (s : Seen). IsShortestInPart LineSteps LineBreaks c.args.part c.args.plan.now.blocks.items s order.items) c.in_ok-start.ensures
