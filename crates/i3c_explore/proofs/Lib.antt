@@ -2,9 +2,12 @@ pub mod Lists
 pub mod Putting
 pub mod Sharing
 pub mod Counting
-pub mod Shares
 pub mod NextLines
 pub mod Expanding
+pub mod Joining
+pub mod Shares
+pub mod Nexts
+pub mod Following
 pub mod Turns
 pub mod Splitting
 pub mod Opening

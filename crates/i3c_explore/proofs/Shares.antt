@@ -1,28 +1,19 @@
 -- The orders of a layer are shared out to the next one.
-use Rattle.std.proofs.Common.{◌≡◌, ◌∙◌, ◌<◌, ◌≤◌, ◌+◌, ℕ, List, [], Some, ap, arith, get_or, inl, inr, length, refl, subst, sym}
+use Rattle.std.proofs.Common.{◌≡◌, ◌∙◌, ◌<◌, ◌≤◌, ◌+◌, ℕ, suc, List, [], Some, ap, arith, get_or, inl, inr, length, refl, subst, sym}
 use Rattle.std.specs.Global.{Vec}
 use Rattle.std.specs.List.{Contains, slice_get}
-use Rattle.std.proofs.lemmas.Bool.Decides.{eqb_tells}
+use Rattle.std.proofs.lemmas.Bool.Decides.{eqb_tells, leb_tells}
 use Rattle.std.proofs.lemmas.Option.{same_Some, slice_get_read, slice_get_within}
 use Rattle.i3c_explore.specs.declared.node.Node.{Node}
 use Rattle.i3c_explore.specs.Counts.{IsShared}
+use Rattle.i3c_explore.specs.Layers.{ArePut}
+use Rattle.i3c_explore.specs.Nexts.{SharesIn}
 use Rattle.i3c_explore.specs.Shares.{Gains, IsLed, IsMeant, IsSharedNext, by_tracks, longer}
-use Rattle.i3c_explore.proofs.Counting.{by_tracks_from, longer_once, longer_track}
+use Rattle.i3c_explore.proofs.Counting.{by_tracks_from, led_alike, longer_once, longer_track}
+use Rattle.i3c_explore.proofs.Joining.{all_added, in_all, in_some}
 
--- the orders of the nodes below an index are shared out
-pub record IsSharedBelow {S L : Type 0} (Fits : Node S → List ℕ × List (List ℕ) → Type 0) (lines : ℕ → List L) (count : ℕ) (layer : List (Node S)) (index : ℕ) (next : List (Node S)) (share : ℕ → List (List ℕ × List (List ℕ))) : Type 0 where
-  pub now : ℕ → List (List ℕ × List (List ℕ))
-  pub shared : IsShared next now
-  pub meant : IsMeant Fits next now
-  pub each : (k : ℕ) → k < index → (n : Node S) (o : List ℕ × List (List ℕ)) → slice_get layer k ≡ Some n → Contains (by_tracks lines n.places.items count (share k)) o → (j : ℕ) × Contains (now j) o
-  pub from : (j : ℕ) (o : List ℕ × List (List ℕ)) → Contains (now j) o → (k : ℕ) × (k < index) × ((n : Node S) × (slice_get layer k ≡ Some n) × Contains (by_tracks lines n.places.items count (share k)) o)
-
-abbrev pub SharesBelow : {S L : Type 0} → (S → L → ℕ → S → Type 0) → List (Vec L) → (ℕ → List L) → ℕ → List (Node S) → ℕ → List (Node S) → Type 0
-SharesBelow {S} steps tracks lines count layer index next = (starts : List (Node S)) (past : ℕ → List (List (List ℕ))) (share : ℕ → List (List ℕ × List (List ℕ))) → IsShared layer share
-    → IsMeant (IsLed steps tracks starts past) layer share → IsSharedBelow (IsLed steps tracks starts past) lines count layer index next share
-
-pub shares_first : {S L : Type 0} (steps : S → L → ℕ → S → Type 0) (tracks : List (Vec L)) (lines : ℕ → List L) (count : ℕ) (layer next : List (Node S)) → length next ≡ 0 → SharesBelow steps tracks lines count layer 0 next
-shares_first {S} steps tracks lines count layer next none starts past share was meant = record {
+pub shares_first : {S L : Type 0} (steps : S → L → ℕ → S → Type 0) (tracks : List (Vec L)) (lines : ℕ → List L) (count : ℕ) (layer next : List (Node S)) (first : ℕ) → length next ≡ 0 → SharesIn steps tracks lines count layer first first next
+shares_first {S} steps tracks lines count layer next first none starts past share was meant = record {
   now = λ k. [];
   shared = record {
     number = λ k n found. absurd (let lt = slice_get_within next k n found in omega arith);
@@ -31,7 +22,7 @@ shares_first {S} steps tracks lines count layer next none starts past share was 
     within = λ i o (k, lt, is). absurd (omega arith);
   };
   meant = λ i o (k, lt, is). absurd (omega arith);
-  each = λ k lt. absurd (omega arith);
+  each = λ k lt le. absurd (omega arith);
   from = λ j o (k, lt, is). absurd (omega arith);
 }
 
@@ -47,10 +38,10 @@ apart_next lines one other share i j count o apart c d =
     let same : b ≡ a = sym (longer_once t a b (both ∙ ap (λ (v : ℕ). longer v b) track)) in
     apart a at (subst (λ (x : List ℕ × List (List ℕ)). Contains (share j) x) same there)
 
-pub shares_more : {S L : Type 0} (steps : S → L → ℕ → S → Type 0) (tracks : List (Vec L)) (lines : ℕ → List L) (count : ℕ) (layer : List (Node S)) (index : ℕ) (node : Node S) (old new : List (Node S))
-    → index < length layer → node ≡ get_or layer index node → SharesBelow steps tracks lines count layer index old → Gains steps tracks node old new (by_tracks lines node.places.items count)
-    → SharesBelow steps tracks lines count layer (index + 1) new
-shares_more {S} {L} steps tracks lines count layer index node old new lt is below gains starts past share was meant =
+pub shares_more : {S L : Type 0} (steps : S → L → ℕ → S → Type 0) (tracks : List (Vec L)) (lines : ℕ → List L) (count : ℕ) (layer : List (Node S)) (first index : ℕ) (node : Node S) (old new : List (Node S))
+    → first ≤ index → index < length layer → node ≡ get_or layer index node → SharesIn steps tracks lines count layer first index old → Gains steps tracks node old new (by_tracks lines node.places.items count)
+    → SharesIn steps tracks lines count layer first (index + 1) new
+shares_more {S} {L} steps tracks lines count layer first index node old new begun lt is below gains starts past share was meant =
     let here : slice_get layer index ≡ Some node = slice_get_read layer (length layer) index node refl lt is in
     let Fits : Node S → List ℕ × List (List ℕ) → Type 0 = IsLed steps tracks starts past in
     let more = by_tracks lines node.places.items count (share index) in
@@ -59,33 +50,56 @@ shares_more {S} {L} steps tracks lines count layer index node old new lt is belo
     let (n, found, fit) = meant index o c in subst (λ (m : Node S). IsLed steps tracks starts past m o) (same_Some n node (sym found ∙ here)) fit in
     let after = gains starts past (share index) (was.number index node here, was.distinct index, fits) before.now before.shared before.meant
     (λ k o c d.
-    let (i, less, (n, _, e)) = before.from k o c in
+    let (i, less, _, (n, _, e)) = before.from k o c in
     let same = apart_next lines n.places.items node.places.items share i index count o (λ x. was.apart i index x) e d in omega arith) in record {
       now = after.now;
       shared = after.shared;
       meant = after.meant;
-      each = λ k le n o found c. elim (eqb_tells k index) [
+      each = λ k lt le n o found c. elim (eqb_tells k index) [
         | inl (_, same) ↦ (
             let alike : n ≡ node = same_Some n node (sym found ∙ ap (λ (i : ℕ). slice_get layer i) same ∙ here) in
             after.added o (subst (λ (i : ℕ). Contains (by_tracks lines node.places.items count (share i)) o) same
             (subst (λ (m : Node S). Contains (by_tracks lines m.places.items count (share k)) o) alike c))
             )
-        | inr (_, other) ↦ (let (j, d) = before.each k (omega arith) n o found c in after.kept j o d)
+        | inr (_, other) ↦ (let (j, d) = before.each k (omega arith) le n o found c in after.kept j o d)
       ];
       from = λ j o c. elim (after.from j o c) [
-        | inl (k, d) ↦ (let (i, less, rest) = before.from k o d in (i, omega arith, rest))
-        | inr d ↦ (index, omega arith, (node, here, d))
+        | inl (k, d) ↦ (let (i, less, le, rest) = before.from k o d in (i, omega arith, le, rest))
+        | inr d ↦ (index, omega arith, begun, (node, here, d))
       ];
     }
 
-pub shares_all : {S L : Type 0} (steps : S → L → ℕ → S → Type 0) (tracks : List (Vec L)) (lines : ℕ → List L) (count : ℕ) (layer next : List (Node S)) (index : ℕ) → length layer ≤ index → SharesBelow steps tracks lines count layer index next
+pub shares_all : {S L : Type 0} (steps : S → L → ℕ → S → Type 0) (tracks : List (Vec L)) (lines : ℕ → List L) (count : ℕ) (layer next : List (Node S)) → SharesIn steps tracks lines count layer 0 (length layer) next
     → (starts : List (Node S)) (past : ℕ → List (List (List ℕ))) (share : ℕ → List (List ℕ × List (List ℕ))) → IsShared layer share
     → IsMeant (IsLed steps tracks starts past) layer share → IsSharedNext (IsLed steps tracks starts past) lines count layer next share
-shares_all {S} {L} steps tracks lines count layer next index all below starts past share was meant =
+shares_all {S} {L} steps tracks lines count layer next below starts past share was meant =
     let done = below starts past share was meant in record {
       now = done.now;
       shared = done.shared;
       meant = done.meant;
-      each = λ k n o found c. done.each k (let lt = slice_get_within layer k n found in omega arith) n o found c;
-      from = λ j o c. let (k, _, rest) = done.from j o c in (k, rest);
+      each = λ k n o found c. done.each k (slice_get_within layer k n found) (omega arith) n o found c;
+      from = λ j o c. let (k, _, _, rest) = done.from j o c in (k, rest);
+    }
+
+-- the orders of two ranges, side by side, where the nodes that follow the second one are put behind
+pub shares_both : {S L : Type 0} (steps : S → L → ℕ → S → Type 0) (tracks : List (Vec L)) (lines : ℕ → List L) (count : ℕ) (layer : List (Node S)) (first mid last : ℕ) (one other both : List (Node S))
+    → first ≤ mid → mid ≤ last → ArePut one other both → SharesIn steps tracks lines count layer first mid one → SharesIn steps tracks lines count layer mid last other
+    → SharesIn steps tracks lines count layer first last both
+shares_both {S} steps tracks lines count layer first mid last one other both low high put front back starts past share was meant =
+    let x = front starts past share was meant in let y = back starts past share was meant in
+    let done = all_added (IsLed steps tracks starts past) (led_alike steps tracks starts past) one both other y.now put y.shared y.meant x.now x.shared x.meant
+    (λ k o c d.
+    let (j, e) = in_some y.now other o d in let (a, lt, _, (n, _, p)) = x.from k o c in let (b, _, le, (m, _, q)) = y.from j o e in
+    let same = apart_next lines n.places.items m.places.items share a b count o (λ z. was.apart a b z) p q in omega arith) in record {
+      now = done.now;
+      shared = done.shared;
+      meant = done.meant;
+      each = λ k lt le n o found c. elim (leb_tells (suc k) mid) [
+        | inl (_, below) ↦ (let (j, d) = x.each k (omega arith) le n o found c in done.kept j o d)
+        | inr (_, over) ↦ (let (j, d) = y.each k lt (omega arith) n o found c in done.added o (in_all y.now other j o (y.shared.within j o d) d))
+      ];
+      from = λ j o c. elim (done.from j o c) [
+        | inl (k, d) ↦ (let (i, lt, le, rest) = x.from k o d in (i, omega arith, le, rest))
+        | inr d ↦ (let (k, e) = in_some y.now other o d in let (i, lt, le, rest) = y.from k o e in (i, lt, omega arith, rest))
+      ];
     }

@@ -39,6 +39,11 @@ pub record IsMerged {S : Type 0} (old : List (Node S)) (node : Node S) (new : Li
 abbrev pub IsPut : {S : Type 0} → List (Node S) → Node S → List (Node S) → Type 0
 IsPut old node new = (new ≡ old ++ node ∷ []) ⊎ IsMerged old node new
 
+-- nodes are put into a layer, one after another
+abbrev pub ArePut : {S : Type 0} → List (Node S) → List (Node S) → List (Node S) → Type 0
+ArePut old [] new = new ≡ old
+ArePut {S} old (node ∷ rest) new = (mid : List (Node S)) × IsPut old node mid × ArePut mid rest new
+
 -- one more line of a track has run
 abbrev pub advanced : ℕ → List ℕ → List ℕ
 advanced t places = slice_set places t (suc (slice_index places t))

@@ -8,3 +8,5 @@ pub mod Layers
 pub mod Blocks
 pub mod Stops
 pub mod Sums
+pub mod Nexts
+pub mod Runs

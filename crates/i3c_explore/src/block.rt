@@ -6,12 +6,13 @@ ghost use Rattle.i3c_explore.specs.declared.turn.Turn.{Turn as TurnValue};
 ghost use Rattle.i3c_explore.specs.Counts.{IsShared};
 ghost use Rattle.i3c_explore.specs.Shares.{AreShared};
 ghost use Rattle.i3c_explore.specs.Layers.{IsFirstBreak, IsRestarted};
+ghost use Rattle.i3c_explore.specs.Nexts.{ArePlaced, BreaksNext, FollowsAll};
 ghost use Rattle.i3c_explore.specs.Orders.{IsOrder, IsPrefix, Leads};
 ghost use Rattle.i3c_explore.specs.Parts.{HasLine, whole};
 ghost use Rattle.i3c_explore.specs.Splits.{IsInPart};
 
-use crate::expand::next_layer;
 use crate::layer::{Layer, spare_all};
+use crate::limits::Limits;
 use crate::machine::Machine;
 use crate::node::Node;
 use crate::part::Part;
@@ -51,14 +52,30 @@ fn is_over<M>(next: &Vec<Node<M>>, part: Part, ran: u64) -> bool
 /// # Errors
 ///
 /// `Breaks` has an order that breaks an expectation, of the shortest ones. After `Memory` and `Most` nothing is known of orders.
-pub(crate) fn explore_block<M: Machine>(
+pub(crate) fn explore_block<
+    M: Machine,
+    F: Fn(
+        &[Node<M>],
+        Limits,
+        &[Vec<M::Line>],
+        Part,
+        &mut M::Runner,
+        Vec<M>,
+    ) -> Result<Layer<M>, Stop>,
+>(
     alloc: Global,
     starts: Layer<M>,
     tracks: &[Vec<M::Line>],
     part: Part,
     runner: &mut M::Runner,
+    next_layer: &F,
 ) -> Result<Layer<M>, Stop>
-    requires { (part ≡ whole) ⊎ HasLine tracks.now }
+    requires accepts { (layer : _) (limits : _) (lines : _) (opening : _) (runner : _) (spares : _) → ArePlaced layer.now lines.now → F.pre next_layer.now layer limits lines opening runner spares }
+    requires next { (layer : _) (limits : _) (lines : _) (opening : _) (runner : _) (spares : _) (made : _) (after : _) → F.post next_layer.now layer limits lines opening runner spares made after
+        → IfOk made (λ next. FollowsAll M.steps lines.now opening layer.now next.nodes.items) }
+    requires breaks { (layer : _) (limits : _) (lines : _) (opening : _) (runner : _) (spares : _) (made : _) (after : _) → F.post next_layer.now layer limits lines opening runner spares made after
+        → IfErr made (λ stop. (order : VecValue TurnValue) → stop ≡ StopValue.Breaks order → BreaksNext M.breaks lines.now opening layer.now order.items) }
+    requires begins { (part ≡ whole) ⊎ HasLine tracks.now }
     // every order of the part, and every beginning of one, leads on: no line breaks an expectation
     ensures all { OnOk result ((s : NodeValue M) → Contains starts.nodes.items s → (order : List TurnValue) → IsPrefix tracks.now order → IsInPart part.index part.of order → (end : M) × Leads M.steps tracks.now s.state order end) }
     // every order of the part leads to one of the ends
@@ -78,15 +95,7 @@ pub(crate) fn explore_block<M: Machine>(
         let spares = mem::replace(&mut layer.spares, Vec::new(alloc));
         let opening = part.only_if(ran == 0);
         let limits = layer.limits;
-        let mut next = match next_layer(
-            alloc,
-            &layer.nodes,
-            limits,
-            tracks,
-            opening,
-            runner,
-            spares,
-        ) {
+        let mut next = match next_layer(&layer.nodes, limits, tracks, opening, runner, spares) {
             Ok(next) => next,
             Err(stop) => return Err(stop),
         };

@@ -1,11 +1,11 @@
-ghost use Rattle.std.specs.Prelude.{◌≡◌, ◌<◌, ◌^◌, ◌+◌, ℕ, IfErr, IfOk, MatchOption, None, OnOk, Some, List, Contains, length, slice_get, slice_index};
+ghost use Rattle.std.specs.Prelude.{◌≡◌, ◌<◌, ◌≤◌, ◌^◌, ◌+◌, ℕ, IfErr, IfOk, MatchOption, None, OnOk, Some, List, Contains, length, slice_get, slice_index};
 ghost use Rattle.std.specs.Global.{Vec as VecValue};
 ghost use Rattle.i3c_explore.specs.declared.node.Node.{Node as NodeValue};
 ghost use Rattle.i3c_explore.specs.declared.stop.Stop.{Stop as StopValue};
 ghost use Rattle.i3c_explore.specs.declared.turn.Turn.{Turn as TurnValue};
-ghost use Rattle.i3c_explore.specs.Counts.{IsShared};
-ghost use Rattle.i3c_explore.specs.Shares.{Gains, IsLed, IsMeant, IsSharedNext, by_track, by_tracks, by_turn};
-ghost use Rattle.i3c_explore.specs.Layers.{AreFrom, Has, IsBreak, IsExpanded, IsNextAt, IsSuccessor, IsTracked, Keeps, advanced};
+ghost use Rattle.i3c_explore.specs.Shares.{Gains, by_track, by_tracks, by_turn};
+ghost use Rattle.i3c_explore.specs.Layers.{AreFrom, Has, IsBreak, IsExpanded, IsNextAt, IsTracked, Keeps, advanced};
+ghost use Rattle.i3c_explore.specs.Nexts.{BreaksNext, IsNextOf};
 ghost use Rattle.i3c_explore.specs.Orders.{track as lines_of};
 ghost use Rattle.i3c_explore.specs.Parts.{opening};
 
@@ -117,27 +117,28 @@ fn expand<M: Machine>(
     Ok(())
 }
 
-/// The layer that follows: what each node leads to, by one more line of the tracks by which orders of a part begin.
-pub(crate) fn next_layer<M: Machine>(
+/// The layer that follows a range of a layer's nodes: what each of them leads to, by one more line of the tracks by which
+/// orders of a part begin.
+pub(crate) fn expand_range<M: Machine>(
     alloc: Global,
     layer: &[Node<M>],
+    first: usize,
+    last: usize,
     limits: Limits,
     tracks: &[Vec<M::Line>],
     part: Part,
     runner: &mut M::Runner,
     spares: Vec<M>,
 ) -> Result<Layer<M>, Stop>
+    requires within { (first ≤ last) × (last ≤ length layer.now) }
     requires sized { (n : NodeValue M) → Contains layer.now n → length n.places.items ≡ length tracks.now }
-    ensures expanded { IfOk result (λ next. (n : NodeValue M) → Contains layer.now n → IsExpanded M.steps (opening part tracks.now) (length tracks.now) n next.nodes.items) }
-    ensures from { IfOk result (λ next. (n : NodeValue M) → Contains next.nodes.items n → (old : NodeValue M) × Contains layer.now old × IsSuccessor M.steps (opening part tracks.now) old n) }
-    ensures counted { IfOk result (λ next. (starts : List (NodeValue M)) (past : ℕ → List (List (List ℕ))) (share : ℕ → List (List ℕ × List (List ℕ))) → IsShared layer.now share
-        → IsMeant (IsLed M.steps tracks.now starts past) layer.now share → IsSharedNext (IsLed M.steps tracks.now starts past) (opening part tracks.now) (length tracks.now) layer.now next.nodes.items share) }
-    ensures broken { IfErr result (λ stop. (order : VecValue TurnValue) → stop ≡ StopValue.Breaks order → (old : NodeValue M) × Contains layer.now old × IsBreak M.breaks (opening part tracks.now) old order.items) }
+    ensures next { IfOk result (λ next. IsNextOf M.steps tracks.now (opening part tracks.now) layer.now first last next.nodes.items) }
+    ensures broken { IfErr result (λ stop. (order : VecValue TurnValue) → stop ≡ StopValue.Breaks order → BreaksNext M.breaks tracks.now part layer.now order.items) }
 {
     let mut next = Layer::new(alloc, limits);
     next.spares = spares;
-    for node in layer {
-        match expand(alloc, node, tracks, part, runner, &mut next) {
+    for index in first..last {
+        match expand(alloc, &layer[index], tracks, part, runner, &mut next) {
             Ok(()) => {}
             Err(stop) => return Err(stop),
         }

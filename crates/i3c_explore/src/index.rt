@@ -38,6 +38,14 @@ impl Index {
         Some((other == key, index))
     }
 
+    /// The key of a node, or 0 if there is no such node.
+    pub(crate) fn key(&self, index: usize) -> u64 {
+        match self.keys.get(index) {
+            Some(key) => *key,
+            None => 0,
+        }
+    }
+
     /// The number of slots.
     pub(crate) fn slots(&self) -> usize {
         self.slots.len()

@@ -1,12 +1,12 @@
 ghost use Rattle.std.specs.Prelude.{◌≡◌, ◌<◌, ◌+◌, ◌^◌, ◌++◌, ◌∷◌, [], IfErr, IfOk, IfSome, IsTrue, OnOk, length, slice_index};
 ghost use Rattle.i3c_explore.specs.declared.node.Node.{Node as NodeValue};
-ghost use Rattle.i3c_explore.specs.Layers.{by_way, IsAlikeAt, IsMerged, IsPutBehind};
+ghost use Rattle.i3c_explore.specs.Layers.{by_way, ArePut, IsAlikeAt, IsMerged, IsPut, IsPutBehind};
 ghost use Rattle.i3c_explore.specs.Stops.{IsShort};
 
 use crate::index::Index;
 use crate::limits::Limits;
 use crate::machine::Machine;
-use crate::node::{Node, counted, is_alike, moved_on, sum};
+use crate::node::{Node, counted, is_alike, is_like, moved_on, sum};
 use crate::stop::Stop;
 use crate::turn::{Turn, extended};
 use std::alloc::{AllocError, Global};
@@ -113,6 +113,31 @@ impl<M: Machine> Layer<M> {
         }
     }
 
+    /// The index of a node that is alike.
+    fn find_like(&self, key: u64, node: &Node<M>) -> Option<usize>
+        ensures { IfSome result (λ index. IsAlikeAt self.now.nodes.items index node.now.places.items node.now.state) }
+    {
+        for distance in 0..self.index.slots() {
+            let Some((has_key, index)) = self.index.at(key, distance) else {
+                return None;
+            };
+            if has_key && self.is_like_at(index, node) {
+                return Some(index);
+            }
+        }
+        None
+    }
+
+    /// Whether the node at an index is alike.
+    fn is_like_at(&self, index: usize, node: &Node<M>) -> bool
+        ensures { IsTrue result → IsAlikeAt self.now.nodes.items index node.now.places.items node.now.state }
+    {
+        match self.nodes.get(index) {
+            Some(held) => is_like(held, node),
+            None => false,
+        }
+    }
+
     /// Adds a node behind the others.
     fn push(&mut self, alloc: Global, key: u64, node: Node<M>) -> Result<(), AllocError>
         ensures { OnOk result (self.new.nodes.items ≡ self.old.nodes.items ++ node ∷ []) }
@@ -147,6 +172,39 @@ impl<M: Machine> Layer<M> {
         }
         let new = successor(alloc, node, turn, places, runner, &mut self.spares)?;
         self.push(alloc, key, new)?;
+        Ok(())
+    }
+
+    /// Puts a node of another layer: behind the others, or merged with one that is alike.
+    fn put_node(&mut self, alloc: Global, key: u64, node: Node<M>) -> Result<(), Stop>
+        ensures { OnOk result (IsPut self.old.nodes.items node self.new.nodes.items) }
+    {
+        if let Some(index) = self.find_like(key, &node) {
+            merge(&mut self.nodes, index, node.orders);
+            let _ = self.spares.push(node.state);
+            return Ok(());
+        }
+        let is_full = self.nodes.len() >= self.limits.states;
+        if is_full {
+            return Err(Stop::Most);
+        }
+        self.push(alloc, key, node)?;
+        Ok(())
+    }
+
+    /// Puts the nodes of another layer, one after another.
+    pub(crate) fn put_all(&mut self, alloc: Global, other: Layer<M>) -> Result<(), Stop>
+        ensures { OnOk result (ArePut self.old.nodes.items other.nodes.items self.new.nodes.items) }
+    {
+        let Layer { nodes, index, .. } = other;
+        let mut place = 0usize;
+        for node in nodes {
+            match self.put_node(alloc, index.key(place), node) {
+                Ok(()) => {}
+                Err(stop) => return Err(stop),
+            }
+            place = place.saturating_add(1);
+        }
         Ok(())
     }
 }

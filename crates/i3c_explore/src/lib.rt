@@ -13,6 +13,10 @@
 //! [`explore_part`] tries the orders of one [`Part`] alone. Each order is in exactly one part, and the parts' numbers of orders
 //! add up ([`parts_share_all`]).
 //!
+//! [`explore_on`] does so by several jobs, each on a thread of its own: a job expands a run of a layer's nodes into a layer of
+//! its own, and these layers are joined in the order of their runs. Where a job breaks an expectation or reaches a limit, one
+//! thread makes the layer again, so that each number of jobs stops at the same place.
+//!
 //! Not claimed: that there is memory enough, that the limits are, or how much time it takes. Where a machine's steps are not
 //! determined, what its `run` doesn't choose is not tried.
 #![tactic(auto)]
@@ -26,6 +30,7 @@ mod limits;
 mod machine;
 mod node;
 mod part;
+mod runs;
 mod splits;
 mod stop;
 mod turn;
@@ -38,4 +43,4 @@ pub use part::Part;
 pub use splits::{first_turns_split, parts_share_all};
 pub use stop::Stop;
 pub use turn::Turn;
-pub use walk::{Explored, explore, explore_part};
+pub use walk::{Explored, explore, explore_on, explore_part};

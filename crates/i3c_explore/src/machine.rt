@@ -47,6 +47,10 @@ pub trait Machine: Sized + Drop {
     fn is_of(&self, runner: &Self::Runner) -> bool
         ensures { IsTrue result → self.now ≡ shown runner.now };
 
+    /// Whether two states are equal.
+    fn is_same(&self, other: &Self) -> bool
+        ensures { IsTrue result → self.now ≡ other.now };
+
     /// A hash of the state that a runner is in. Where equal states have different hashes they are explored separately, which
     /// costs time and changes no answer.
     fn hash(runner: &Self::Runner) -> u64;

@@ -27,6 +27,14 @@ pub(crate) fn is_alike<M: Machine>(node: &Node<M>, places: &Vec<usize>, runner: 
     node.places.as_slice() == places.as_slice() && node.state.is_of(runner)
 }
 
+/// Whether two nodes are at the same places, with the same state.
+pub(crate) fn is_like<M: Machine>(node: &Node<M>, other: &Node<M>) -> bool
+    ensures places { IsTrue result → node.now.places.items ≡ other.now.places.items }
+    ensures state { IsTrue result → node.now.state ≡ other.now.state }
+{
+    node.places.as_slice() == other.places.as_slice() && node.state.is_same(&other.state)
+}
+
 /// The sum of two numbers of orders.
 pub(crate) fn sum(one: Option<u64>, other: Option<u64>) -> Option<u64>
     ensures { IsSum one other result }

@@ -7,18 +7,22 @@ ghost use Rattle.i3c_explore.specs.Blocks.{AreCounted, BreaksOn, IsBegun, IsShor
 ghost use Rattle.i3c_explore.specs.Counts.{IsShared};
 ghost use Rattle.i3c_explore.specs.Shares.{all_below};
 ghost use Rattle.i3c_explore.specs.Numbers.{IsNumber};
+ghost use Rattle.i3c_explore.specs.Nexts.{ArePlaced, BreaksNext, FollowsAll};
 ghost use Rattle.i3c_explore.specs.Orders.{IsDetermined, IsExclusive};
 ghost use Rattle.i3c_explore.specs.Parts.{IsOfPart};
 
 use crate::block::explore_block;
+use crate::expand::expand_range;
 use crate::fork::fork;
 use crate::layer::Layer;
 use crate::limits::Limits;
 use crate::machine::Machine;
 use crate::node::{Node, sum};
 use crate::part::Part;
+use crate::runs::next_by_jobs;
 use crate::stop::Stop;
 use std::alloc::{AllocError, Global};
+use std::thread::Threads;
 
 /// What all orders lead to.
 #[derive(Drop)]
@@ -141,6 +145,130 @@ pub fn explore_part<M: Machine>(
     // an order of the part that is answered in place of them breaks an expectation at its last line, and no shorter one of the part does
     ensures broken { IfErr result (λ stop. (order : VecValue TurnValue) → stop ≡ StopValue.Breaks order → IsShortestInPart M.steps M.breaks part blocks.now start order.items) }
 {
+    let next_layer = |layer: &[Node<M>], limits: Limits, tracks: &[Vec<
+        M::Line,
+    >], opening: Part, runner: &mut M::Runner, spares: Vec<M>| -> Result<Layer<M>, Stop>
+        requires { ArePlaced layer.now tracks.now }
+        ensures next { IfOk result (λ next. FollowsAll M.steps tracks.now opening layer.now next.nodes.items) }
+        ensures broken { IfErr result (λ stop. (order : VecValue TurnValue) → stop ≡ StopValue.Breaks order → BreaksNext M.breaks tracks.now opening layer.now order.items) }
+    {
+        let last = layer.len();
+        match expand_range(
+            alloc, layer, 0, last, limits, tracks, opening, runner, spares,
+        ) {
+            Ok(next) => Ok(next),
+            Err(stop) => Err(stop),
+        }
+    };
+    match explore_by(alloc, start, blocks, limits, part, &next_layer) {
+        Ok(found) => Ok(found),
+        Err(stop) => Err(stop),
+    }
+}
+
+/// Tries every order of a part by so many jobs, each on a thread of its own. The answer is that of [`explore_part`], with
+/// the same nodes, orders and numbers.
+///
+/// # Errors
+///
+/// `Breaks` has an order that breaks an expectation, of the shortest ones. After `Memory` and `Most` nothing is known of
+/// orders.
+pub fn explore_on<R: Threads + Sync, M: Machine + Send + Sync>(
+    rt: &R,
+    alloc: Global,
+    start: M,
+    blocks: &[Vec<Vec<M::Line>>],
+    limits: Limits,
+    part: Part,
+    jobs: usize,
+) -> Result<Explored<M>, Stop>
+where
+    M::Line: Sync,
+    M::Runner: Send,
+    // every order of the part, and every beginning of one, leads on: no line breaks an expectation
+    ensures all { OnOk result ((course : List (List TurnValue)) → IsBegun blocks.now course → IsOfPart part blocks.now course → (end : M) × LeadsOn M.steps blocks.now start course end) }
+    // and no order of it breaks one in another run, where steps are determined and what breaks leads nowhere
+    ensures unbroken { OnOk result (IsDetermined M.steps → IsExclusive M.steps M.breaks → (course : List (List TurnValue)) → IsBegun blocks.now course → IsOfPart part blocks.now course → BreaksOn M.steps M.breaks blocks.now start course → ⊥) }
+    // every order of it leads to one of the ends
+    ensures ends { IfOk result (λ found. (course : List (List TurnValue)) → IsWhole blocks.now course → IsOfPart part blocks.now course →
+        (n : NodeValue M) × Contains found.ends.items n × LeadsOn M.steps blocks.now start course n.state) }
+    // and to no other state, where steps are determined
+    ensures only { IfOk result (λ found. IsDetermined M.steps → (course : List (List TurnValue)) → IsWhole blocks.now course → IsOfPart part blocks.now course → (end : M) → LeadsOn M.steps blocks.now start course end
+        → (n : NodeValue M) × Contains found.ends.items n × (n.state ≡ end)) }
+    // each end is reached by the order that it has, which is of the part
+    ensures reached { IfOk result (λ found. (n : NodeValue M) → Contains found.ends.items n →
+        (course : List (List TurnValue)) × IsWhole blocks.now course × IsOfPart part blocks.now course × (n.order.items ≡ reverse (turns course)) × LeadsOn M.steps blocks.now start course n.state) }
+    // the part's interleavings are counted, all together and at the ends to which they lead
+    ensures counted { IfOk result (λ found. PartIsCounted M.steps part blocks.now start found.ends.items found.orders) }
+    // no more lines were run than the limits allow
+    ensures within { IfOk result (λ found. found.steps ≤ limits.steps) }
+    // an order of the part that is answered in place of them breaks an expectation at its last line, and no shorter one of the part does
+    ensures broken { IfErr result (λ stop. (order : VecValue TurnValue) → stop ≡ StopValue.Breaks order → IsShortestInPart M.steps M.breaks part blocks.now start order.items) }
+{
+    let next_layer = |layer: &[Node<M>], limits: Limits, tracks: &[Vec<
+        M::Line,
+    >], opening: Part, runner: &mut M::Runner, spares: Vec<M>| -> Result<Layer<M>, Stop>
+        requires { ArePlaced layer.now tracks.now }
+        ensures next { IfOk result (λ next. FollowsAll M.steps tracks.now opening layer.now next.nodes.items) }
+        ensures broken { IfErr result (λ stop. (order : VecValue TurnValue) → stop ≡ StopValue.Breaks order → BreaksNext M.breaks tracks.now opening layer.now order.items) }
+    {
+        match next_by_jobs(
+            rt, alloc, jobs, layer, limits, tracks, opening, runner, spares,
+        ) {
+            Ok(next) => Ok(next),
+            Err(stop) => Err(stop),
+        }
+    };
+    match explore_by(alloc, start, blocks, limits, part, &next_layer) {
+        Ok(found) => Ok(found),
+        Err(stop) => Err(stop),
+    }
+}
+
+/// Tries every order of a part. Each layer is made of the one before by a function.
+fn explore_by<
+    M: Machine,
+    F: Fn(
+        &[Node<M>],
+        Limits,
+        &[Vec<M::Line>],
+        Part,
+        &mut M::Runner,
+        Vec<M>,
+    ) -> Result<Layer<M>, Stop>,
+>(
+    alloc: Global,
+    start: M,
+    blocks: &[Vec<Vec<M::Line>>],
+    limits: Limits,
+    part: Part,
+    next_layer: &F,
+) -> Result<Explored<M>, Stop>
+    requires accepts { (layer : _) (limits : _) (lines : _) (opening : _) (runner : _) (spares : _) → ArePlaced layer.now lines.now → F.pre next_layer.now layer limits lines opening runner spares }
+    requires next { (layer : _) (limits : _) (lines : _) (opening : _) (runner : _) (spares : _) (made : _) (after : _) → F.post next_layer.now layer limits lines opening runner spares made after
+        → IfOk made (λ next. FollowsAll M.steps lines.now opening layer.now next.nodes.items) }
+    requires breaks { (layer : _) (limits : _) (lines : _) (opening : _) (runner : _) (spares : _) (made : _) (after : _) → F.post next_layer.now layer limits lines opening runner spares made after
+        → IfErr made (λ stop. (order : VecValue TurnValue) → stop ≡ StopValue.Breaks order → BreaksNext M.breaks lines.now opening layer.now order.items) }
+    // every order of the part, and every beginning of one, leads on: no line breaks an expectation
+    ensures all { OnOk result ((course : List (List TurnValue)) → IsBegun blocks.now course → IsOfPart part blocks.now course → (end : M) × LeadsOn M.steps blocks.now start course end) }
+    // and no order of it breaks one in another run, where steps are determined and what breaks leads nowhere
+    ensures unbroken { OnOk result (IsDetermined M.steps → IsExclusive M.steps M.breaks → (course : List (List TurnValue)) → IsBegun blocks.now course → IsOfPart part blocks.now course → BreaksOn M.steps M.breaks blocks.now start course → ⊥) }
+    // every order of it leads to one of the ends
+    ensures ends { IfOk result (λ found. (course : List (List TurnValue)) → IsWhole blocks.now course → IsOfPart part blocks.now course →
+        (n : NodeValue M) × Contains found.ends.items n × LeadsOn M.steps blocks.now start course n.state) }
+    // and to no other state, where steps are determined
+    ensures only { IfOk result (λ found. IsDetermined M.steps → (course : List (List TurnValue)) → IsWhole blocks.now course → IsOfPart part blocks.now course → (end : M) → LeadsOn M.steps blocks.now start course end
+        → (n : NodeValue M) × Contains found.ends.items n × (n.state ≡ end)) }
+    // each end is reached by the order that it has, which is of the part
+    ensures reached { IfOk result (λ found. (n : NodeValue M) → Contains found.ends.items n →
+        (course : List (List TurnValue)) × IsWhole blocks.now course × IsOfPart part blocks.now course × (n.order.items ≡ reverse (turns course)) × LeadsOn M.steps blocks.now start course n.state) }
+    // the part's interleavings are counted, all together and at the ends to which they lead
+    ensures counted { IfOk result (λ found. PartIsCounted M.steps part blocks.now start found.ends.items found.orders) }
+    // no more lines were run than the limits allow
+    ensures within { IfOk result (λ found. found.steps ≤ limits.steps) }
+    // an order of the part that is answered in place of them breaks an expectation at its last line, and no shorter one of the part does
+    ensures broken { IfErr result (λ stop. (order : VecValue TurnValue) → stop ≡ StopValue.Breaks order → IsShortestInPart M.steps M.breaks part blocks.now start order.items) }
+{
     let split = fork(blocks);
     if !part.has_orders(split, blocks.len()) {
         return Ok(nothing(alloc));
@@ -149,7 +277,14 @@ pub fn explore_part<M: Machine>(
     let mut layer = first_layer(alloc, start, limits)?;
     for index in 0..blocks.len() {
         let opening = part.only_if(index == split);
-        layer = match explore_block(alloc, layer, &blocks[index], opening, &mut runner) {
+        layer = match explore_block(
+            alloc,
+            layer,
+            &blocks[index],
+            opening,
+            &mut runner,
+            next_layer,
+        ) {
             Ok(layer) => layer,
             Err(stop) => return Err(stop),
         };

@@ -59,6 +59,10 @@ impl Machine for Scene {
         self.is_same(live)
     }
 
+    fn is_same(&self, other: &Scene) -> bool {
+        self.is_equal(other)
+    }
+
     fn hash(live: &Live) -> u64 {
         live.bus.key()
     }

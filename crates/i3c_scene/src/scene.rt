@@ -104,6 +104,16 @@ impl Scene {
             && self.still.is_of(&live.bus)
             && self.known.is_same(&live.known)
     }
+
+    /// Whether another scene is the same.
+    pub(crate) fn is_equal(&self, other: &Scene) -> bool
+        ensures { IsTrue result → self.now ≡ other.now }
+    {
+        is_same_policy(&self.policy, &other.policy)
+            && are_same_cuts(&self.cuts, &other.cuts)
+            && self.still.is_same(&other.still)
+            && self.known.is_same(&other.known)
+    }
 }
 
 /// Whether two policies accept the same requests.

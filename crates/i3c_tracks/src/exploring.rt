@@ -11,11 +11,12 @@ use crate::broken::push_broken;
 use crate::plan::{Plan, PlanFault, read_plan};
 use crate::refusal::{Reason, Refusal};
 use crate::report::push_ends;
-use i3c_explore::{Limits, Part, Stop, explore_part};
+use i3c_explore::{Limits, Part, Stop, explore_on};
 use i3c_scenario::{ScriptFault, ScriptLines, write_out};
 use i3c_text::Text;
 use std::alloc::{AllocError, Global};
 use std::io::{Read, Write};
+use std::thread::Threads;
 
 /// How many bytes are read at once.
 const CHUNK: usize = 8192;
@@ -34,13 +35,16 @@ pub enum Answer {
 /// Explores every order of a part of a file's orders, and prints the ends that they lead to, or an order that breaks an expectation, or
 /// why the file is refused.
 ///
-/// The file is read whole before anything runs.
-pub fn run_explore<R: Read, W: Write>(
+/// The file is read whole before anything runs. Up to so many jobs run lines, each on a thread of its own. Each number of
+/// jobs prints the same.
+pub fn run_explore<T: Threads + Sync, R: Read, W: Write>(
+    rt: &T,
     alloc: Global,
     reader: &mut R,
     writer: &mut W,
     limits: Limits,
     part: Part,
+    jobs: usize,
 ) -> Result<Answer, ScriptFault>
     // an `Ok` comes after the whole of a file that isn't too large
     ensures whole { OnOk result (IsAtEnd (R.remaining reader.new)) }
@@ -57,7 +61,7 @@ pub fn run_explore<R: Read, W: Write>(
         Err(fault) => return Err(fault),
     };
     let mut text = Text::new(alloc);
-    let Ok(answer) = answered(alloc, &lines, limits, part, &mut text) else {
+    let Ok(answer) = answered(rt, alloc, &lines, limits, part, jobs, &mut text) else {
         return Err(ScriptFault::Memory);
     };
     match write_out(text.as_bytes(), writer) {
@@ -104,18 +108,20 @@ fn add_line(alloc: Global, line: &[u8], lines: &mut Vec<Vec<u8>>) -> Result<(), 
 }
 
 /// Appends what is printed of a file.
-fn answered(
+fn answered<T: Threads + Sync>(
+    rt: &T,
     alloc: Global,
     lines: &[Vec<u8>],
     limits: Limits,
     part: Part,
+    jobs: usize,
     text: &mut Text,
 ) -> Result<Answer, AllocError>
     ensures answer { IfOk result (IsExplored lines.now part) }
     ensures printed { IfOk result (λ answer. IsPrinted lines.now part answer text.old text.new) }
 {
     match read_plan(alloc, lines) {
-        Ok(plan) => explored(alloc, lines, &plan, limits, part, text),
+        Ok(plan) => explored(rt, alloc, lines, &plan, limits, part, jobs, text),
         Err(PlanFault::Memory) => Err(AllocError),
         Err(PlanFault::Refused(refusal)) => {
             refusal.push(text)?;
@@ -134,12 +140,14 @@ fn limits_left(limits: Limits, before: usize) -> Option<Limits> {
 }
 
 /// Explores a part of a plan's orders, and appends what is printed of it.
-fn explored(
+fn explored<T: Threads + Sync>(
+    rt: &T,
     alloc: Global,
     lines: &[Vec<u8>],
     plan: &Plan,
     limits: Limits,
     part: Part,
+    jobs: usize,
     text: &mut Text,
 ) -> Result<Answer, AllocError>
     ensures answer { IfOk result (IsAnswer plan.now.start plan.now.blocks.items part) }
@@ -149,7 +157,7 @@ fn explored(
         return refuse_most(text);
     };
     let start = plan.start.copied(alloc)?;
-    match explore_part(alloc, start, &plan.blocks, limits, part) {
+    match explore_on(rt, alloc, start, &plan.blocks, limits, part, jobs) {
         Ok(found) => {
             push_ends(alloc, lines, plan, &found, text)?;
             Ok(Answer::Holds)

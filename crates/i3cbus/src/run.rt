@@ -45,7 +45,7 @@ where
     match task_named(rt.alloc(), &words)? {
         Task::File(work, file) => ran(run_file(rt, work, file)),
         Task::Capture(capturing, telling, file) => ran(run_capture(rt, capturing, telling, file)),
-        Task::Explore(limits, part, file) => run_exploration(rt, limits, part, file),
+        Task::Explore(limits, part, jobs, file) => run_exploration(rt, limits, part, jobs, file),
         Task::Stress(stress) => ran(run_stress(rt, &stress, is_watched)),
         Task::Version => ran(print_version(rt)),
     }
@@ -97,15 +97,21 @@ where
 
 /// Explores a file, or standard input.
 #[inline(never)]
-fn run_exploration<R>(rt: &R, limits: Limits, part: Part, file: &str) -> Result<Ending, Fault>
+fn run_exploration<R>(
+    rt: &R,
+    limits: Limits,
+    part: Part,
+    jobs: usize,
+    file: &str,
+) -> Result<Ending, Fault>
 where
-    R: Files + Input + Print + AllocGlobal,
+    R: Files + Input + Print + AllocGlobal + Threads + Sync,
 {
     if file == STANDARD_INPUT {
-        return explore_from(rt, limits, part, &mut rt.reader());
+        return explore_from(rt, limits, part, jobs, &mut rt.reader());
     }
     match fs::open(rt, file) {
-        Ok(mut input) => explore_from(rt, limits, part, &mut input),
+        Ok(mut input) => explore_from(rt, limits, part, jobs, &mut input),
         Err(error) => Err(reading_fault(&error)),
     }
 }
@@ -256,14 +262,15 @@ fn draw_from<R: Print + AllocGlobal, S: Read>(rt: &R, input: &mut S) -> Result<T
 }
 
 /// Explores the file of a reader.
-fn explore_from<R: Print + AllocGlobal, S: Read>(
+fn explore_from<R: Print + AllocGlobal + Threads + Sync, S: Read>(
     rt: &R,
     limits: Limits,
     part: Part,
+    jobs: usize,
     input: &mut S,
 ) -> Result<Ending, Fault> {
     let mut printed = io::writer(rt);
-    let outcome = run_explore(rt.alloc(), input, &mut printed, limits, part);
+    let outcome = run_explore(rt, rt.alloc(), input, &mut printed, limits, part, jobs);
     let flushed = printed.flush().is_ok();
     explored(outcome, flushed)
 }

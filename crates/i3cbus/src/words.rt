@@ -75,7 +75,10 @@ const MOST: &str = "most";
 /// Its option: which part of all orders is tried.
 const PART: &str = "part";
 
-/// How many lines may be run without it, as the help has it.
+/// Its option: how many threads run lines.
+const JOBS: &str = "jobs";
+
+/// How many lines may be run without `--most`, as the help has it.
 const MOST_STEPS: u64 = 10_000_000;
 
 /// How many states there may be behind as many lines of a block.
@@ -170,7 +173,7 @@ The file is a script with blocks. The lines of a block's tracks happen in any in
   expect waiting 0    this holds here, after the line before, in every order
 
 If all of it holds in every order, the number of orders is printed, and each end that they lead to. Otherwise the output is a
-script that leads to what doesn't hold.
+script that leads to what doesn't hold. With --jobs N several threads find the same sooner.
 
 Exit status:
   0  every order was tried, and all holds
@@ -187,8 +190,8 @@ pub(crate) enum Task<'a> {
     File(Work, &'a str),
     /// Reads this file as a capture, and tells its symbols.
     Capture(Capturing<'a>, Telling, &'a str),
-    /// Tries every order of this part, of this file's tracks, within these limits.
-    Explore(Limits, Part, &'a str),
+    /// Tries every order of this part, of this file's tracks, within these limits, by up to so many jobs.
+    Explore(Limits, Part, usize, &'a str),
     /// Lets devices post from threads of their own.
     Stress(Stress),
     /// Prints which program this is.
@@ -354,7 +357,7 @@ fn wave_given<'a>(matches: &ArgMatches<'a>) -> Result<Task<'a>, Fault> {
     }
 }
 
-/// The file that was given to be explored, its limits, and the part of its orders.
+/// The file that was given to be explored, its limits, the part of its orders, and the number of jobs.
 fn explore_given<'a>(matches: &ArgMatches<'a>) -> Result<Task<'a>, Fault> {
     let limits = Limits {
         steps: matches.get_one::<u64>(MOST).unwrap_or(MOST_STEPS),
@@ -364,8 +367,9 @@ fn explore_given<'a>(matches: &ArgMatches<'a>) -> Result<Task<'a>, Fault> {
         Some(text) => part_of(text)?,
         None => Part::whole(),
     };
+    let jobs = matches.get_one::<u32>(JOBS).unwrap_or(1) as usize;
     let file = matches.get_str(FILE).unwrap_or(STANDARD_INPUT);
-    Ok(Task::Explore(limits, part, file))
+    Ok(Task::Explore(limits, part, jobs, file))
 }
 
 /// The part that a text `K/N` names.
@@ -545,6 +549,7 @@ fn explore_command<'a>(alloc: Global) -> Result<Command<'a>, Fault> {
     explore
         .arg(most_argument(alloc))?
         .arg(part_argument(alloc))?
+        .arg(jobs_argument(alloc))?
         .arg(file_argument(alloc, "The file, or - for standard input"))
         .or(Err(Fault::Memory))
 }
@@ -563,6 +568,15 @@ fn part_argument<'a>(alloc: Global) -> Arg<'a> {
     Arg::new(alloc, PART).long(PART).value_name("K/N").help(
         "Tries part K of N alone: the N parts have each order once, by their first turns",
     )
+}
+
+/// How many threads run lines.
+fn jobs_argument<'a>(alloc: Global) -> Arg<'a> {
+    Arg::new(alloc, JOBS)
+        .long(JOBS)
+        .value_name("N")
+        .help("Uses N threads, 1 without this, and prints the same")
+        .value_parser(value_parser!(u32).range(1..))
 }
 
 /// The command that reads a trace.

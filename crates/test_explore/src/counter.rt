@@ -96,6 +96,10 @@ impl Machine for Counter {
         self.count == runner.count
     }
 
+    fn is_same(&self, other: &Counter) -> bool {
+        self.count == other.count
+    }
+
     fn hash(runner: &Counter) -> u64 {
         runner.count
     }

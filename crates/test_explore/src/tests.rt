@@ -1,7 +1,8 @@
 use crate::counter::{Counter, Line};
-use i3c_explore::{Explored, Limits, Part, Stop, explore, explore_part};
+use i3c_explore::{Explored, Limits, Node, Part, Stop, explore, explore_on, explore_part};
 use std::alloc::{AllocError, Global};
 use std::test::Fail;
+use std::thread::Threads;
 
 /// Limits that these tests don't reach.
 const WIDE: Limits = Limits {
@@ -287,5 +288,134 @@ fn a_part_is_one_of_as_many_as_there_are(rt: HostRuntime) -> Result<(), Fail> {
     assert!(rt; Part::new(1, 0).is_none());
     assert!(rt; Part::new(2, 2).is_some());
     assert!(rt; matches!(Part::new(1, 1), Some(part) if part == Part::whole()));
+    Ok(())
+}
+
+/// Whether two ends are equal, with their orders and their number.
+fn is_same_end(one: &Node<Counter>, other: &Node<Counter>) -> bool {
+    one.state == other.state
+        && one.places.as_slice() == other.places.as_slice()
+        && one.order.as_slice() == other.order.as_slice()
+        && one.orders == other.orders
+}
+
+/// Whether two explorations have the same ends in the same order, and the same numbers.
+fn is_same(one: &Explored<Counter>, other: &Explored<Counter>) -> bool {
+    one.orders == other.orders
+        && one.steps == other.steps
+        && one.ends.len() == other.ends.len()
+        && one
+            .ends
+            .iter()
+            .zip(other.ends.iter())
+            .all(|(one, other)| is_same_end(one, other))
+}
+
+/// Whether two explorations are answered the same.
+fn are_same(
+    one: &Result<Explored<Counter>, Stop>,
+    other: &Result<Explored<Counter>, Stop>,
+) -> bool {
+    match (one, other) {
+        (Ok(one), Ok(other)) => is_same(one, other),
+        (Err(Stop::Breaks(one)), Err(Stop::Breaks(other))) => one.as_slice() == other.as_slice(),
+        (Err(Stop::Most), Err(Stop::Most)) => true,
+        _ => false,
+    }
+}
+
+/// Whether some numbers of jobs answer a part of some blocks as one thread does.
+fn jobs_agree<R: Threads + Sync>(
+    rt: &R,
+    alloc: Global,
+    blocks: &[&[&[Line]]],
+    limits: Limits,
+    part: Part,
+) -> Result<bool, AllocError> {
+    let blocks = blocks_of(alloc, blocks)?;
+    let start = Counter { count: 1 };
+    let alone = explore_part(alloc, start, &blocks, limits, part);
+    let mut agree = true;
+    for jobs in [0, 1, 2, 3, 4, 9] {
+        let found = explore_on(rt, alloc, start, &blocks, limits, part, jobs);
+        agree = agree && are_same(&alone, &found);
+    }
+    Ok(agree)
+}
+
+// 381 places are behind 10 of 20 lines, so four jobs have a thread each; each place has the one sum
+#[test]
+fn four_jobs_answer_as_one(rt: HostRuntime) -> Result<(), Fail> {
+    let lines = [Line::Add(1), Line::Add(2), Line::Add(3), Line::Add(4)];
+    let tracks: &[&[Line]] = &[&lines, &lines, &lines, &lines, &lines];
+    assert!(rt; jobs_agree(&rt, rt.alloc(), &[tracks], WIDE, Part::whole())?);
+    let blocks = blocks_of(rt.alloc(), &[tracks])?;
+    let start = Counter { count: 1 };
+    let found = explore_on(&rt, rt.alloc(), start, &blocks, WIDE, Part::whole(), 4)?;
+    assert!(rt; has(&found, 1, Some(305_540_235_000), 12_500));
+    Ok(())
+}
+
+// states differ by the order of doubles, and by ways; a part has fewer
+#[test]
+fn jobs_merge_states_as_one_thread_does(rt: HostRuntime) -> Result<(), Fail> {
+    let lines = [Line::Add(3), Line::Double, Line::Risk(2), Line::Clear];
+    let short = [Line::Risk(1), Line::Add(5)];
+    let tracks: &[&[Line]] = &[&lines, &lines, &lines, &short];
+    let blocks: &[&[&[Line]]] = &[tracks, &[&short, &short]];
+    assert!(rt; jobs_agree(&rt, rt.alloc(), blocks, WIDE, Part::whole())?);
+    for number in 1..3usize {
+        let Some(part) = Part::new(number, 2) else {
+            return Ok(());
+        };
+        assert!(rt; jobs_agree(&rt, rt.alloc(), blocks, WIDE, part)?);
+    }
+    Ok(())
+}
+
+// four adds and four doubles come to 81 · 16, so a break is 8 turns long, and a limit can be reached before it
+#[test]
+fn jobs_tell_the_break_that_one_thread_tells(rt: HostRuntime) -> Result<(), Fail> {
+    let lines = [Line::Add(20), Line::Double, Line::Add(1), Line::Add(2)];
+    let tracks: &[&[Line]] = &[&lines, &lines, &lines, &lines, &lines];
+    assert!(rt; jobs_agree(&rt, rt.alloc(), &[tracks], WIDE, Part::whole())?);
+    match explored(rt.alloc(), &[tracks], WIDE) {
+        Err(Stop::Breaks(order)) => assert!(rt; order.len() == 8),
+        _ => assert!(rt; false),
+    }
+    for tenth in 1..10u64 {
+        let limits = Limits {
+            steps: 1000 * tenth,
+            states: 16_384,
+        };
+        assert!(rt; jobs_agree(&rt, rt.alloc(), &[tracks], limits, Part::whole())?);
+    }
+    for states in [200, 400, 800] {
+        let limits = Limits {
+            steps: 100_000,
+            states,
+        };
+        assert!(rt; jobs_agree(&rt, rt.alloc(), &[tracks], limits, Part::whole())?);
+    }
+    Ok(())
+}
+
+// 12,500 lines have to run, and the widest layer has 381 states
+#[test]
+fn jobs_have_the_limits_of_one_thread(rt: HostRuntime) -> Result<(), Fail> {
+    let lines = [Line::Add(1), Line::Add(2), Line::Add(3), Line::Add(4)];
+    let tracks: &[&[Line]] = &[&lines, &lines, &lines, &lines, &lines];
+    let blocks = blocks_of(rt.alloc(), &[tracks])?;
+    let start = Counter { count: 1 };
+    for (steps, states, enough) in [
+        (12_500, 381, true),
+        (12_499, 381, false),
+        (12_500, 380, false),
+    ] {
+        let limits = Limits { steps, states };
+        let found = explore_on(&rt, rt.alloc(), start, &blocks, limits, Part::whole(), 4);
+        assert!(rt; found.is_ok() == enough);
+        assert!(rt; enough || matches!(found, Err(Stop::Most)));
+    }
     Ok(())
 }

@@ -4,6 +4,8 @@ use Rattle.i3c_explore.specs.Layers.{IsBreak}
 use Rattle.i3c_explore.specs.Parts.{Part, opening}
 use Rattle.i3c_explore.specs.Shares.{IsLed, IsSharedNext}
 use Rattle.i3c_explore.proofs.Lists.{get_below}
+use Rattle.i3c_explore.proofs.Expanding.{all_passed}
+use Rattle.i3c_explore.proofs.Shares.{shares_all}
 use Rattle.i3c_explore.proofs.Blocks.{ends_held, ends_reached, first_break, held_first, held_then, lead_on_first, lead_on_next, no_more, reached_first, reached_then, some_first, some_next}
 use Rattle.i3c_explore.proofs.Ends.{IsCounted, counted_first, counted_next, ends_shared, next_shared}
 use Rattle.i3c_explore.proofs.block.explore_block.Goals as goal
@@ -20,11 +22,11 @@ loop-ran-init g c =
     }
 
 pub next_layer-requires : goal.next_layer-requires
-next_layer-requires g c = record { sized = λ n at. (c.loop-ran.invariant.reached n (subst (λ l. Contains l n) c.deref.ensures.value at)).2.0.sized }
+next_layer-requires g c = c.requires.accepts _ _ _ _ _ _ (λ n at. (c.loop-ran.invariant.reached n (subst (λ l. Contains l n) c.deref.ensures.value at)).2.0.sized)
 
 pub returns-in-Err-clause-broken : goal.returns-in-Err-clause-broken
 returns-in-Err-clause-broken g c order is =
-    let (old, at, broken) = c.in-Err.ensures.broken order is in let was = c.loop-ran.invariant in let tracks = c.args.tracks.now in
+    let (old, at, broken) = c.requires.breaks _ _ _ _ _ _ _ _ c.in-Err.ensures order is in let was = c.loop-ran.invariant in let tracks = c.args.tracks.now in
     let here = subst (λ (p : Part). IsBreak g.M.Machine.breaks (opening p tracks) old order.items) c.only_if-opening.ensures broken in
     first_break g.M.Machine.steps g.M.Machine.breaks c.args.part tracks c.args.starts.nodes.items c.loop-ran.layer.nodes.items c.loop-ran.ran old order.items
     was.reached was.lead_on (subst (λ l. Contains l old) c.deref.ensures.value at) here
@@ -33,7 +35,8 @@ pub returns-then-is_over-clause-all : goal.returns-then-is_over-clause-all
 returns-then-is_over-clause-all g c s at order prefix fits =
     let steps = g.M.Machine.steps in let part = c.args.part in let tracks = c.args.tracks.now in let starts = c.args.starts.nodes.items in
     let layer = c.loop-ran.layer.nodes.items in let next = c.in-Ok.next.nodes.items in let count = c.loop-ran.ran in let was = c.loop-ran.invariant in
-    let held = held_then steps part tracks starts layer next count c.deref.result.now c.only_if-opening.result c.deref.ensures.value c.only_if-opening.ensures was.reached c.in-Ok.ensures.expanded was.held in
+    let made = c.requires.next _ _ _ _ _ _ _ _ c.in-Ok.ensures in
+    let held = held_then steps part tracks starts layer next count c.deref.result.now c.only_if-opening.result c.deref.ensures.value c.only_if-opening.ensures was.reached (all_passed steps (opening c.only_if-opening.result tracks) (length tracks) c.deref.result.now next made.expanded) was.held in
     let (empty, ended) = c.is_over.ensures.0 c.if-is_over.true in
     was.lead_on s at order (no_more steps part tracks starts next count s at held empty order prefix fits) prefix fits
 
@@ -41,7 +44,8 @@ pub returns-then-is_over-clause-ends : goal.returns-then-is_over-clause-ends
 returns-then-is_over-clause-ends g c =
     let steps = g.M.Machine.steps in let part = c.args.part in let tracks = c.args.tracks.now in let starts = c.args.starts.nodes.items in
     let layer = c.loop-ran.layer.nodes.items in let next = c.in-Ok.next.nodes.items in let count = c.loop-ran.ran in let was = c.loop-ran.invariant in
-    let held = held_then steps part tracks starts layer next count c.deref.result.now c.only_if-opening.result c.deref.ensures.value c.only_if-opening.ensures was.reached c.in-Ok.ensures.expanded was.held in
+    let made = c.requires.next _ _ _ _ _ _ _ _ c.in-Ok.ensures in
+    let held = held_then steps part tracks starts layer next count c.deref.result.now c.only_if-opening.result c.deref.ensures.value c.only_if-opening.ensures was.reached (all_passed steps (opening c.only_if-opening.result tracks) (length tracks) c.deref.result.now next made.expanded) was.held in
     let (empty, ended) = c.is_over.ensures.0 c.if-is_over.true in
     ends_held steps part tracks starts layer next count was.reached was.held held empty was.some
 
@@ -49,7 +53,8 @@ pub returns-then-is_over-clause-reached : goal.returns-then-is_over-clause-reach
 returns-then-is_over-clause-reached g c =
     let steps = g.M.Machine.steps in let part = c.args.part in let tracks = c.args.tracks.now in let starts = c.args.starts.nodes.items in
     let layer = c.loop-ran.layer.nodes.items in let next = c.in-Ok.next.nodes.items in let count = c.loop-ran.ran in let was = c.loop-ran.invariant in
-    let held = held_then steps part tracks starts layer next count c.deref.result.now c.only_if-opening.result c.deref.ensures.value c.only_if-opening.ensures was.reached c.in-Ok.ensures.expanded was.held in
+    let made = c.requires.next _ _ _ _ _ _ _ _ c.in-Ok.ensures in
+    let held = held_then steps part tracks starts layer next count c.deref.result.now c.only_if-opening.result c.deref.ensures.value c.only_if-opening.ensures was.reached (all_passed steps (opening c.only_if-opening.result tracks) (length tracks) c.deref.result.now next made.expanded) was.held in
     let (empty, ended) = c.is_over.ensures.0 c.if-is_over.true in
     ends_reached steps part tracks starts layer next count was.reached held empty ended
 
@@ -57,7 +62,8 @@ pub returns-then-is_over-clause-counted : goal.returns-then-is_over-clause-count
 returns-then-is_over-clause-counted g c =
     let steps = g.M.Machine.steps in let part = c.args.part in let tracks = c.args.tracks.now in let starts = c.args.starts.nodes.items in
     let layer = c.loop-ran.layer.nodes.items in let next = c.in-Ok.next.nodes.items in let count = c.loop-ran.ran in let was = c.loop-ran.invariant in
-    let held = held_then steps part tracks starts layer next count c.deref.result.now c.only_if-opening.result c.deref.ensures.value c.only_if-opening.ensures was.reached c.in-Ok.ensures.expanded was.held in
+    let made = c.requires.next _ _ _ _ _ _ _ _ c.in-Ok.ensures in
+    let held = held_then steps part tracks starts layer next count c.deref.result.now c.only_if-opening.result c.deref.ensures.value c.only_if-opening.ensures was.reached (all_passed steps (opening c.only_if-opening.result tracks) (length tracks) c.deref.result.now next made.expanded) was.held in
     let (empty, ended) = c.is_over.ensures.0 c.if-is_over.true in
     λ past shared. ends_shared steps part tracks starts layer next past count was.reached held empty ended was.some shared (was.counted past shared)
 
@@ -66,8 +72,9 @@ loop-ran-preserved g c =
     let steps = g.M.Machine.steps in let part = c.args.part in let tracks = c.args.tracks.now in let starts = c.args.starts.nodes.items in
     let layer = c.loop-ran.layer.nodes.items in let next = c.in-Ok.next.nodes.items in let count = c.loop-ran.ran in let was = c.loop-ran.invariant in
     let chosen = c.only_if-opening.result in
-    let held = held_then steps part tracks starts layer next count c.deref.result.now chosen c.deref.ensures.value c.only_if-opening.ensures was.reached c.in-Ok.ensures.expanded was.held in
-    let reached = reached_then steps part tracks starts layer next count c.deref.result.now chosen c.deref.ensures.value c.only_if-opening.ensures was.reached c.in-Ok.ensures.from in
+    let made = c.requires.next _ _ _ _ _ _ _ _ c.in-Ok.ensures in
+    let held = held_then steps part tracks starts layer next count c.deref.result.now chosen c.deref.ensures.value c.only_if-opening.ensures was.reached (all_passed steps (opening c.only_if-opening.result tracks) (length tracks) c.deref.result.now next made.expanded) was.held in
+    let reached = reached_then steps part tracks starts layer next count c.deref.result.now chosen c.deref.ensures.value c.only_if-opening.ensures was.reached made.from in
     let lead = lead_on_next steps part tracks starts next count was.lead_on held in
     record {
       lead_on = λ s at order le. lead s at order (omega arith);
@@ -75,10 +82,10 @@ loop-ran-preserved g c =
       reached = λ n at. let (s, in_starts, (r, len, fits)) = reached n at in (s, in_starts, (r, omega arith, fits));
       counted = λ past shared.
           let before = was.counted past shared in
-          let then_ = next_shared steps tracks (opening chosen tracks) (length tracks) layer next starts past c.deref.result.now c.deref.ensures.value before.share c.in-Ok.ensures.counted before.shared before.meant in
+          let then_ = next_shared steps tracks (opening chosen tracks) (length tracks) layer next starts past c.deref.result.now c.deref.ensures.value before.share (shares_all steps tracks (opening chosen tracks) (length tracks) c.deref.result.now next made.counted) before.shared before.meant in
           let here = subst (λ (p : Part). IsSharedNext (IsLed steps tracks starts past) (opening p tracks) (length tracks) layer next before.share) c.only_if-opening.ensures then_ in
           let more : IsCounted steps part tracks starts past (suc count) next = counted_next steps part tracks starts past count layer next before here in
           let same : suc count ≡ count + 1 = omega arith in
           subst (λ (k : ℕ). IsCounted steps part tracks starts past k next) same more;
-      some = some_next steps part tracks starts next count held c.requires (λ over. let is = c.is_over.ensures.1 over in cc);
+      some = some_next steps part tracks starts next count held c.requires.begins (λ over. let is = c.is_over.ensures.1 over in cc);
     }

@@ -17,4 +17,4 @@ of_file lines start blocks part (Ok Answer.Breaks) plan answer = (start, blocks,
 of_file lines start blocks part (Err e) plan answer = tt
 
 pub returns-in-Ok-clause-answer : goal.returns-in-Ok-clause-answer
-returns-in-Ok-clause-answer c = of_file c.args.lines.now c.in-Ok.plan.start c.in-Ok.plan.blocks.items c.args.part c.explored.result c.in-Ok.ensures c.explored.ensures.answer
+returns-in-Ok-clause-answer g c = of_file c.args.lines.now c.in-Ok.plan.start c.in-Ok.plan.blocks.items c.args.part c.explored.result c.in-Ok.ensures c.explored.ensures.answer

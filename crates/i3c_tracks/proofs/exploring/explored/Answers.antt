@@ -11,12 +11,12 @@ use Rattle.i3c_tracks.specs.Courses.{LeadsTo}
 use Rattle.i3c_tracks.proofs.exploring.explored.Goals as goal
 
 pub returns-in_ok-push_ends-in-Ok-clause-answer : goal.returns-in_ok-push_ends-in-Ok-clause-answer
-returns-in_ok-push_ends-in-Ok-clause-answer c =
+returns-in_ok-push_ends-in-Ok-clause-answer g c =
     subst (λ (s : Seen). (course : List (List Turn)) → IsBegun c.args.plan.now.blocks.items course → IsOfPart c.args.part c.args.plan.now.blocks.items course → (end : Seen) × LeadsOn LineSteps c.args.plan.now.blocks.items s course end) c.in_ok-start.ensures
     (subst (λ (bs : List (Vec (Vec Line))). (course : List (List Turn)) → IsBegun bs course → IsOfPart c.args.part bs course → (end : Seen) × LeadsOn LineSteps bs c.in_ok-start.start course end) c.deref.ensures.value c.in-Ok.ensures.all)
 
 pub returns-in_ok-push_broken-in-Err-Breaks-clause-answer : goal.returns-in_ok-push_broken-in-Err-Breaks-clause-answer
-returns-in_ok-push_broken-in-Err-Breaks-clause-answer c =
+returns-in_ok-push_broken-in-Err-Breaks-clause-answer g c =
     let order = c.in-Err-Breaks.order in (
       order.items,
       subst (λ (s : Seen). IsShortestInPart LineSteps LineBreaks c.args.part c.args.plan.now.blocks.items s order.items) c.in_ok-start.ensures
@@ -24,7 +24,7 @@ returns-in_ok-push_broken-in-Err-Breaks-clause-answer c =
     )
 
 pub returns-in_ok-push_ends-in-Ok-clause-printed : goal.returns-in_ok-push_ends-in-Ok-clause-printed
-returns-in_ok-push_ends-in-Ok-clause-printed c plan =
+returns-in_ok-push_ends-in-Ok-clause-printed g c plan =
     let (said, report, put) = c.in_ok-push_ends-in-Ok.ensures in
     let ends = c.in-Ok.found.ends.items in
     let found : LeadsTo c.in_ok-start.start c.deref.result.now c.args.part ends c.in-Ok.found.orders = record {

@@ -13,7 +13,7 @@ use Rattle.i3c_explore.proofs.Courses.{CoursesLead, HoldCourses, ReachCourses, b
 use Rattle.i3c_explore.proofs.Opening.{InPart, block_part}
 use Rattle.i3c_explore.proofs.Parting.{block_ready, none_counted}
 use Rattle.i3c_explore.proofs.Totals.{SharesCourses, all_counted, share_next, share_start}
-use Rattle.i3c_explore.proofs.walk.explore_part.Goals as goal
+use Rattle.i3c_explore.proofs.walk.explore_by.Goals as goal
 
 pub returns-then-not-has_orders-clause-counted : goal.returns-then-not-has_orders-clause-counted
 returns-then-not-has_orders-clause-counted g c =
@@ -48,7 +48,12 @@ explore_block-requires g c =
     let blocks = c.args.blocks.now in let count = c.loop-index.index in let tracks = c.deref.result.now in
     let here : tracks ≡ block blocks count = block_read blocks count c.index-blocks-index.result tracks c.loop-index-test.true c.index-blocks-index.is c.deref.ensures.value in
     let chosen = part_read c.args.part (fork blocks) c.fork-split.result count c.only_if-opening.result c.fork-split.ensures c.only_if-opening.ensures in
-    subst (λ (p : Part). (p ≡ whole) ⊎ HasLine tracks) (sym chosen) (block_ready c.args.part blocks count tracks here c.loop-index-test.true)
+    record {
+      accepts = c.requires.accepts;
+      next = c.requires.next;
+      breaks = c.requires.breaks;
+      begins = subst (λ (p : Part). (p ≡ whole) ⊎ HasLine tracks) (sym chosen) (block_ready c.args.part blocks count tracks here c.loop-index-test.true);
+    }
 
 pub returns-in-Err-clause-broken : goal.returns-in-Err-clause-broken
 returns-in-Err-clause-broken g c order is =

@@ -1,7 +1,7 @@
 use Rattle.i3c_explore.specs.Parts.{fork}
 use Rattle.i3c_explore.proofs.Courses.{CoursesLead, HoldCourses, ReachCourses}
 use Rattle.i3c_explore.proofs.Totals.{SharesCourses}
-use Rattle.i3c_explore.proofs.walk.explore_part.Given as goal
+use Rattle.i3c_explore.proofs.walk.explore_by.Given as goal
 
 -- each course of the part of the blocks so far leads to a node of the layer, and each node is reached by one
 abbrev pub invariant-loop-index : goal.invariant-loop-index
