@@ -1,4 +1,4 @@
-ghost use Rattle.i3c_step.specs.Laws.{AcceptedInterruptsAreRecorded, AddressesAreUnique, DataAreOfTheTable, InterruptsAreRecordedOnce, LateCutsAreAlike, LateCutsDoNothing, OneIsActive, RaisesStayInOrder, RunsAreHistories, SessionsEnd, SlotsAreKept, StaysBeginByAttachments, StepsAreGiven, UncutStepsAreDetermined};
+ghost use Rattle.i3c_step.specs.Laws.{AcceptedInterruptsAreRecorded, AddressesAreUnique, DataAreOfTheTable, InterruptsAreRecordedOnce, LateCutsAreAlike, LateCutsDoNothing, OneIsActive, PidsAreTold, RaisesStayInOrder, RunsAreHistories, SessionsEnd, SlotsAreKept, StaysBeginByAttachments, StepsAreGiven, UncutStepsAreDetermined};
 
 /// Over every legal run: where devices that are present together have distinct identities, no two devices answer to
 /// one address, legacy targets included.
