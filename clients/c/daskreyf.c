@@ -547,6 +547,16 @@ enum daskreyf_result daskreyf_policy(struct daskreyf *bus, enum daskreyf_policy 
     return send_line(bus, "policy %s", words[policy]);
 }
 
+enum daskreyf_result daskreyf_policy_of(struct daskreyf *bus, uint8_t kinds)
+{
+    if (kinds & ~(DASKREYF_INTERRUPTS | DASKREYF_ROLES | DASKREYF_JOINS))
+        return DASKREYF_BAD_ARGUMENT;
+    if (!kinds)
+        return daskreyf_policy(bus, DASKREYF_ACCEPT_NONE);
+    return send_line(bus, "policy%s%s%s", kinds & DASKREYF_JOINS ? " joins" : "", kinds & DASKREYF_ROLES ? " roles" : "",
+        kinds & DASKREYF_INTERRUPTS ? " interrupts" : "");
+}
+
 enum daskreyf_result daskreyf_serve(struct daskreyf *bus)
 {
     return daskreyf_line(bus, "serve");

@@ -64,7 +64,12 @@ static void test_requests(struct daskreyf *bus)
     CHECK(!strcmp(daskreyf_asking(bus), "t"));
     CHECK(daskreyf_policy(bus, DASKREYF_ACCEPT_ROLES) == DASKREYF_OK);
     CHECK(daskreyf_serve(bus) == DASKREYF_OK && served->request == DASKREYF_TURNED_DOWN);
-    CHECK(daskreyf_policy(bus, DASKREYF_ACCEPT_ALL) == DASKREYF_OK);
+    CHECK(daskreyf_policy_of(bus, DASKREYF_JOINS | DASKREYF_ROLES) == DASKREYF_OK);
+    CHECK(daskreyf_serve(bus) == DASKREYF_OK && served->request == DASKREYF_TURNED_DOWN);
+    CHECK(daskreyf_policy_of(bus, 0) == DASKREYF_OK);
+    CHECK(daskreyf_serve(bus) == DASKREYF_OK && served->request == DASKREYF_TURNED_DOWN);
+    CHECK(daskreyf_policy_of(bus, 4) == DASKREYF_BAD_ARGUMENT);
+    CHECK(daskreyf_policy_of(bus, DASKREYF_JOINS | DASKREYF_ROLES | DASKREYF_INTERRUPTS) == DASKREYF_OK);
     CHECK(daskreyf_ask_role(bus, "second") == DASKREYF_OK);
     CHECK(!strcmp(daskreyf_asking(bus), "t"));
     CHECK(daskreyf_list(bus) == DASKREYF_OK && served->request == DASKREYF_RECORDED);

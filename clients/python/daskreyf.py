@@ -452,9 +452,9 @@ class Bus:
 
     # What the controller does
 
-    def policy(self, policy: Policy) -> None:
-        """`policy`: which requests are accepted from here on."""
-        self.line(f"policy {Policy(policy).value}")
+    def policy(self, policy: Policy, *more: Policy) -> None:
+        """`policy`: which requests are accepted from here on. Several kinds are accepted together, `ALL` and `NONE` alone."""
+        self.line(" ".join(("policy", *(Policy(word).value for word in (policy, *more)))))
 
     def serve(self) -> Served | None:
         """`serve`: a frame that serves the first request. None if nobody asks."""

@@ -214,6 +214,19 @@ class LinesTest(unittest.TestCase):
         self.bus.policy(Policy("none"))
         self.assertEqual(self.bus.answer, Answer(2))
 
+    def test_a_policy_of_several_kinds(self) -> None:
+        with_hub(self.bus)
+        target = with_target(self.bus)
+        self.bus.daa()
+        target.raise_interrupt(0x11)
+        self.bus.policy(Policy.ROLES, Policy.JOINS)
+        self.assertEqual(self.bus.serve(), TurnedDown())
+        for wrong in ((Policy.JOINS, Policy.JOINS), (Policy.JOINS, Policy.ALL), (Policy.NONE, Policy.INTERRUPTS)):
+            with self.assertRaises(daskreyf.BadLine):
+                self.bus.policy(*wrong)
+        self.bus.policy(Policy.ROLES, Policy.INTERRUPTS)
+        self.assertEqual(self.bus.serve(), Record(1, 1, 1, 0x09, 0x11))
+
     def test_lines_of_ones_own(self) -> None:
         self.assertEqual(self.bus.line(""), Answer(1))
         self.assertEqual(self.bus.line("# a comment, \0 and \N{MICRO SIGN}"), Answer(2))

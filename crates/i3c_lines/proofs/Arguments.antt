@@ -12,7 +12,8 @@ use Rattle.i3c_base.specs.declared.requests.Fixed.{Fixed}
 use Rattle.i3c_lines.specs.declared.command.Command.{Command}
 use Rattle.i3c_lines.specs.declared.names.Name.{Name}
 use Rattle.i3c_lines.specs.Data.{length_word}
-use Rattle.i3c_lines.specs.Forms.{AreAddress, AreAddresses, AreByte, AreDeclared, AreDevice, AreKinds, AreLength, AreWritten, IsForm, IsNamed, IsPolicy, WritesAddress, tokens}
+use Rattle.i3c_lines.specs.Forms.{AreAddress, AreAddresses, AreByte, AreDeclared, AreDevice, AreKinds, AreLength, AreWritten, IsForm, IsNamed, WritesAddress, tokens}
+use Rattle.i3c_lines.specs.Policies.{IsPolicy}
 use Rattle.i3c_lines.specs.Parsing.{AreKept, AreNamed, Reads, joined}
 use Rattle.i3c_lines.specs.Words.{AreBytes, IsHex, pair_values}
 use Rattle.i3c_lines.proofs.LineLaws.{line_is, one_word, word_left}
@@ -28,8 +29,9 @@ join_args rest command form = let f = as_meant (codes "ask-join" ∷ rest) comma
 pub role_args : (rest : List (List ℕ)) (command : Command) → IsForm (codes "ask-role" ∷ rest) command → (name : Name) × AreNamed rest name
 role_args rest command form = let f = as_meant (codes "ask-role" ∷ rest) command form in (named (first_of rest), (f.0, ap rest_of f.1, f.2))
 
-pub policy_args : (rest : List (List ℕ)) (command : Command) → IsForm (codes "policy" ∷ rest) command → (word : List ℕ) × (policy : Fixed) × (rest ≡ word ∷ []) × IsPolicy word policy
-policy_args rest command form = let f = as_meant (codes "policy" ∷ rest) command form in (f.0, policy_of (first_of rest), ap rest_of f.1, f.2)
+pub policy_args : (rest : List (List ℕ)) (command : Command) → IsForm (codes "policy" ∷ rest) command → (policy : Fixed) × IsPolicy rest policy
+policy_args rest command form =
+    let f = as_meant (codes "policy" ∷ rest) command form in (policy_of rest, subst (λ ws. IsPolicy ws (policy_of rest)) (sym (ap rest_of f.1)) f.2)
 
 pub main_args : (rest : List (List ℕ)) (command : Command) → IsForm (codes "main" ∷ rest) command → (name : Name) × (setup : Setup) × AreDevice rest name setup
 main_args rest command form =

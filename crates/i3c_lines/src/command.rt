@@ -132,7 +132,8 @@ pub enum Command {
     End,
     /// `daa`: a whole session of dynamic address assignment.
     Daa,
-    /// `policy all|none|joins|roles|interrupts`: which requests the frames from now on accept.
+    /// `policy all`, `policy none` or `policy KIND..`: which requests the frames from now on accept. A KIND is `joins`,
+    /// `roles` or `interrupts`, and no other kind is accepted.
     Policy(Fixed),
     /// `cut NAME BIT`: a device loses power at a bit of the next frame.
     Cut {
@@ -575,12 +576,11 @@ fn parse_handover(words: &mut Tokens<'_>) -> Option<Command>
     Some(Command::HandOver { to })
 }
 
-/// The word of `policy`.
+/// The words of `policy`.
 fn parse_policy(words: &mut Tokens<'_>) -> Option<Command>
     ensures { Reads IsForm (codes "policy" ∷ left_words words.old) result }
 {
-    let policy = policy(words.next()?)?;
-    words.end()?;
+    let policy = policy(words)?;
     Some(Command::Policy(policy))
 }
 
