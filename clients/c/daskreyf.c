@@ -846,14 +846,23 @@ static bool read_state(const char *line, struct daskreyf_state *state)
     return line && sscanf(line, "records %lu", &state->record_count) == 1;
 }
 
-enum daskreyf_result daskreyf_show(struct daskreyf *bus, struct daskreyf_state *state)
+/* What `show` came to, as the state. */
+static enum daskreyf_result shown(struct daskreyf *bus, enum daskreyf_result result, struct daskreyf_state *state)
 {
-    enum daskreyf_result result = daskreyf_line(bus, "show");
-
     memset(state, 0, sizeof *state);
     if (result != DASKREYF_OK)
         return result;
     return read_state(bus->text, state) ? DASKREYF_OK : broken(bus);
+}
+
+enum daskreyf_result daskreyf_show(struct daskreyf *bus, struct daskreyf_state *state)
+{
+    return shown(bus, daskreyf_line(bus, "show"), state);
+}
+
+enum daskreyf_result daskreyf_show_from(struct daskreyf *bus, uint16_t first, struct daskreyf_state *state)
+{
+    return shown(bus, send_line(bus, "show %u", (unsigned)first), state);
 }
 
 enum daskreyf_result daskreyf_show_all(struct daskreyf *bus)

@@ -116,6 +116,11 @@ static void test_a_cut_interrupt(struct daskreyf *bus)
     CHECK(daskreyf_cut(bus, "t", 9) == DASKREYF_OK);
     CHECK(daskreyf_read(bus, 0x09, registers, NULL) == DASKREYF_NO_ANSWER && served->request == DASKREYF_TORN);
     CHECK(daskreyf_show(bus, &state) == DASKREYF_OK && state.device_count == 2 && state.record_count == 1);
+    CHECK(strstr(daskreyf_text(bus), "\nrecord 1 "));
+    CHECK(daskreyf_show_from(bus, 1, &state) == DASKREYF_OK && strstr(daskreyf_text(bus), "\nrecord 1 "));
+    CHECK(daskreyf_show_from(bus, 2, &state) == DASKREYF_OK && state.device_count == 2 && state.record_count == 1);
+    CHECK(!strstr(daskreyf_text(bus), "\nrecord 1 "));
+    CHECK(daskreyf_show_from(bus, 0, &state) == DASKREYF_BAD_LINE && state.device_count == 0);
 }
 
 static void test_a_join_by_rounds(struct daskreyf *bus)

@@ -1,6 +1,7 @@
 -- The command that a line can be at most.
-use Rattle.std.proofs.Common.{◌≡◌, ◌∙◌, ℕ, ◌-◌, ◌<◌, ◌≤◌, Bool, true, false, cond, nat_eq, inl, inr, List, [], ◌∷◌, ◌++◌, Option, Some, None, drop, length, replicate, take, bit_and, codes, ap, arith, refl, sym, subst}
+use Rattle.std.proofs.Common.{◌≡◌, ◌∙◌, ℕ, ◌-◌, ◌<◌, ◌≤◌, Bool, true, false, cond, nat_eq, eqb, inl, inr, List, [], ◌∷◌, ◌++◌, Option, Some, None, drop, length, replicate, take, bit_and, codes, ap, arith, refl, sym, subst}
 use Rattle.std.proofs.lemmas.List.{length-append, length-replicate, length-take, length-take-le, take_all, take-append-drop}
+use Rattle.std.proofs.lemmas.Bool.{ne_eqb}
 use Rattle.std.proofs.Math.Seq.{drop-append_seam, take-append_seam}
 use Rattle.std.specs.Cmp.Lexicographic.{pointwise}
 use Rattle.std.specs.Str.Parse.{digits_value}
@@ -22,7 +23,7 @@ use Rattle.i3c_lines.specs.Forms.{AreAddress, AreByte, AreWritten, IsForm, IsFra
 use Rattle.i3c_lines.specs.Data.{length_word, told_word}
 use Rattle.i3c_lines.specs.Naming.{letters}
 use Rattle.i3c_lines.specs.Policies.{AcceptEach, Accepts, IsPolicy, each_kind}
-use Rattle.i3c_lines.specs.Words.{pair_values}
+use Rattle.i3c_lines.specs.Words.{IsDecimal, IsDecimalDigit, pair_values}
 
 -- a name is known by its letters
 pub same_name : (one other : Name) → letters one ≡ letters other → one ≡ other
@@ -80,10 +81,14 @@ abbrev pub willing_of : List (List ℕ) → Bool
 willing_of [] = true
 willing_of (word ∷ words) = false
 
--- `show` alone, or with a word behind it
+abbrev pub letter_of : List ℕ → ℕ
+letter_of [] = 0
+letter_of (byte ∷ word) = byte
+
+-- `show` alone, or with a word behind it: one that begins with an `a`, or a number
 abbrev pub shown_by : List (List ℕ) → Command
 shown_by [] = Command.Show
-shown_by (word ∷ words) = Command.ShowAll
+shown_by (word ∷ words) = cond (eqb (letter_of word) 97) Command.ShowAll (Command.ShowFrom (digits_value 10 word))
 
 abbrev pub kinds_of : List ℕ → Kinds
 kinds_of word = record { 0 = bit_and (hex word) 11 }
@@ -249,6 +254,11 @@ frame_is words (Frame.Get what at) (word, e, is) = ap meant e ∙ (λ i. Command
 frame_is words (Frame.SetLength way most to) (rest, e, (word, more, e', is, at)) =
     ap meant (e ∙ ap (λ ws. length_word way ∷ ws) e') ∙ lengths_meant way (word ∷ more) ∙ (λ i. Command.Frame (Frame.SetLength way (sym is.0.0.1 i) (address_is more to at i)))
 
+-- a number doesn't begin with an `a`
+is_number : (word : List ℕ) → IsDecimal word → eqb (letter_of word) 97 ≡ false
+is_number [] is = absurd (omega (arith, is.0))
+is_number (byte ∷ word) is = let digit : IsDecimalDigit byte = is.1 0 0 (omega arith) in ne_eqb byte 97 (λ a. omega (arith, digit.1, a))
+
 -- words are no other command's than the one that they mean
 pub meant_is : (words : List (List ℕ)) (command : Command) → IsForm words command → meant words ≡ command
 meant_is words (Command.Legacy name address lvr) (word, at, byte, e, is, a, b) = ap meant e ∙ (λ i. Command.Legacy (named_is word name is i) (sym a.0.1 i) (record { 0 = sym b.1 i }))
@@ -272,8 +282,10 @@ meant_is words (Command.Policy policy) (rest, e, is) = ap meant e ∙ ap Command
 meant_is words (Command.Cut name bit) (word, digits, e, is, b) = ap meant e ∙ (λ i. Command.Cut (named_is word name is i) (sym b.1 i))
 meant_is words Command.Show e = ap meant e
 meant_is words Command.ShowAll e = ap meant e
+meant_is words (Command.ShowFrom first) (rest, e, (word, e', is)) =
+    ap meant (e ∙ ap (λ ws. codes "show" ∷ ws) e') ∙ ap (λ b. cond b Command.ShowAll (Command.ShowFrom (digits_value 10 word))) (is_number word is.0.0) ∙ ap Command.ShowFrom (sym is.0.1)
 meant_is words Command.Symbols e = ap meant e
-meant_is words (Command.Frames count) (word, e, is) = ap meant e ∙ ap Command.Frames (sym is.0.1)
+meant_is words (Command.Frames count) (rest, e, (word, e', is)) = ap meant (e ∙ ap (λ ws. codes "frames" ∷ ws) e') ∙ ap Command.Frames (sym is.0.1)
 
 -- so they have its form, if they have any
 pub as_meant : (words : List (List ℕ)) (command : Command) → IsForm words command → IsForm words (meant words)

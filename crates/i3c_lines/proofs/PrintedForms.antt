@@ -1,5 +1,5 @@
 -- A printed command has its own form.
-use Rattle.std.proofs.Common.{◌≡◌, ◌∙◌, ℕ, ◌<◌, ◌≤◌, Bool, true, false, inl, inr, List, [], ◌∷◌, Option, Some, None, All, bit_and, codes, length, take, ap, arith, refl, sym, subst}
+use Rattle.std.proofs.Common.{◌≡◌, ◌∙◌, ℕ, ◌^◌, ◌<◌, ◌≤◌, Bool, true, false, inl, inr, List, [], ◌∷◌, Option, Some, None, All, bit_and, codes, length, take, ap, arith, refl, sym, subst}
 use Rattle.std.proofs.lemmas.List.{take_all}
 use Rattle.std.proofs.lemmas.Nat.{and_le_r}
 use Rattle.std.specs.Fmt.{decimal}
@@ -15,7 +15,7 @@ use Rattle.i3c_base.specs.Numbers.{IsInRange}
 use Rattle.i3c_step.specs.declared.events.Command.{Command as Frame}
 use Rattle.i3c_lines.specs.declared.command.Command.{Command}
 use Rattle.i3c_lines.specs.declared.names.Name.{Name}
-use Rattle.i3c_lines.specs.Forms.{AreAddress, AreAddresses, AreByte, AreDeclared, AreDevice, AreKinds, AreLength, AreWritten, IsCommand, IsForm, tokens, willing_words}
+use Rattle.i3c_lines.specs.Forms.{AreAddress, AreAddresses, AreByte, AreCount, AreDeclared, AreDevice, AreKinds, AreLength, AreWritten, IsCommand, IsForm, tokens, willing_words}
 use Rattle.i3c_lines.specs.Policies.{IsAlone, IsPolicy, each_kind}
 use Rattle.i3c_text.specs.Hex.{byte_text, bytes_text, hex_text}
 use Rattle.i3c_lines.specs.Data.{datum_word, length_word}
@@ -132,6 +132,11 @@ length_fits most to some few h =
     let at = address_fits to h in
     ((decimal most, byte_words to, refl, ((digits.0, some), few), at.0), (digits.1, at.1), omega (arith, digits.2, at.2))
 
+count_fits : (count : ℕ) → 0 < count → count < 2 ^ 16 → Fit (AreCount (decimal count ∷ []) count) (decimal count ∷ []) 6
+count_fits count some few =
+    let digits = decimal_writes count (omega (arith, few)) in
+    ((decimal count, refl, (digits.0, some)), (digits.1, tt), omega (arith, digits.2))
+
 -- a command's words have its form, none has a space, and they are short
 abbrev Prints : Command → Type 0
 Prints command = Fit (IsForm (command_words command) command) (command_words command) 60
@@ -191,10 +196,9 @@ prints (Command.Cut name bit) h =
     ((letters name, decimal bit, refl, (h.0, refl), digits.0), (plain (codes "cut") tt, (fit.0.0, (digits.1, tt))), omega (arith, fit.1, digits.2))
 prints Command.Show h = (refl, (plain (codes "show") tt, tt), omega arith)
 prints Command.ShowAll h = (refl, (plain (codes "show") tt, (plain (codes "all") tt, tt)), omega arith)
+prints (Command.ShowFrom first) h = let fit = count_fits first h.0 h.1 in ((decimal first ∷ [], refl, fit.0), (plain (codes "show") tt, fit.1), omega (arith, fit.2))
 prints Command.Symbols h = (refl, (plain (codes "symbols") tt, tt), omega arith)
-prints (Command.Frames count) h =
-    let digits = decimal_writes count (omega (arith, h.1)) in
-    ((decimal count, refl, (digits.0, h.0)), (plain (codes "frames") tt, (digits.1, tt)), omega (arith, digits.2))
+prints (Command.Frames count) h = let fit = count_fits count h.0 h.1 in ((decimal count ∷ [], refl, fit.0), (plain (codes "frames") tt, fit.1), omega (arith, fit.2))
 
 -- words that are apart are those of their line, and this is short
 read_again : (words : List (List ℕ)) → Apart words → total words ≤ 60 → (0 < length words) → (tokens (spaced words) ≡ words) × (length (spaced words) ≤ 256)

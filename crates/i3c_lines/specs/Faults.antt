@@ -27,7 +27,7 @@ IsField Field.Length word = IsDecimal word × (digits_value 10 word < 65536) × 
 IsField Field.Policy word = (policy : Fixed) × (IsAlone word policy ⊎ Accepts word (each_kind Refuse) policy)
 IsField Field.Kind word = (policy : Fixed) × Accepts word (each_kind Refuse) policy
 IsField Field.Decline word = word ≡ codes "decline"
-IsField Field.All word = word ≡ codes "all"
+IsField Field.Shown word = (word ≡ codes "all") ⊎ (IsDecimal word × (digits_value 10 word < 65536) × (0 < digits_value 10 word))
 
 -- what a fault says of its line is so. Of the words of a line it says only that one hasn't its field's form
 abbrev pub IsSo : List ℕ → FormFault → Type 0

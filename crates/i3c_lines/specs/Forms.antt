@@ -79,6 +79,10 @@ AreAddress words (Some address) = (word : List ℕ) × (words ≡ word ∷ []) �
 abbrev pub AreKinds : List (List ℕ) → Option ℕ → Kinds → Type 0
 AreKinds words to kinds = (word : List ℕ) × (rest : List (List ℕ)) × (words ≡ word ∷ rest) × WritesKinds word kinds × AreAddress rest to
 
+-- `N`
+abbrev pub AreCount : List (List ℕ) → ℕ → Type 0
+AreCount words count = (word : List ℕ) × (words ≡ word ∷ []) × WritesCount word count
+
 -- `N [ADDR]`
 abbrev pub AreLength : List (List ℕ) → ℕ → Option ℕ → Type 0
 AreLength words most to = (word : List ℕ) × (rest : List (List ℕ)) × (words ≡ word ∷ rest) × WritesLength word most × AreAddress rest to
@@ -135,8 +139,9 @@ IsForm words (Command.Policy policy) = (rest : List (List ℕ)) × (words ≡ co
 IsForm words (Command.Cut name bit) = (word digits : List ℕ) × (words ≡ codes "cut" ∷ word ∷ digits ∷ []) × IsNamed word name × WritesBit digits bit
 IsForm words Command.Show = words ≡ codes "show" ∷ []
 IsForm words Command.ShowAll = words ≡ codes "show" ∷ codes "all" ∷ []
+IsForm words (Command.ShowFrom first) = (rest : List (List ℕ)) × (words ≡ codes "show" ∷ rest) × AreCount rest first
 IsForm words Command.Symbols = words ≡ codes "symbols" ∷ []
-IsForm words (Command.Frames count) = (word : List ℕ) × (words ≡ codes "frames" ∷ word ∷ []) × WritesCount word count
+IsForm words (Command.Frames count) = (rest : List (List ℕ)) × (words ≡ codes "frames" ∷ rest) × AreCount rest count
 
 -- a line that is passed over: it is empty, or begins with `#`, which is 35
 abbrev pub IsSkipped : List ℕ → Type 0

@@ -89,6 +89,7 @@ command_words (Command.Policy policy) = codes "policy" ∷ verdicts_words policy
 command_words (Command.Cut name bit) = codes "cut" ∷ letters name ∷ decimal bit ∷ []
 command_words Command.Show = codes "show" ∷ []
 command_words Command.ShowAll = codes "show" ∷ codes "all" ∷ []
+command_words (Command.ShowFrom first) = codes "show" ∷ decimal first ∷ []
 command_words Command.Symbols = codes "symbols" ∷ []
 command_words (Command.Frames count) = codes "frames" ∷ decimal count ∷ []
 
@@ -143,5 +144,6 @@ HasLine (Command.Policy policy) = ⊤
 HasLine (Command.Cut name bit) = IsNamable name × (bit < 2 ^ 16)
 HasLine Command.Show = ⊤
 HasLine Command.ShowAll = ⊤
+HasLine (Command.ShowFrom first) = (0 < first) × (first < 2 ^ 16)
 HasLine Command.Symbols = ⊤
 HasLine (Command.Frames count) = (0 < count) × (count < 2 ^ 16)

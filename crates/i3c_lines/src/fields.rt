@@ -39,8 +39,8 @@ pub enum Field {
     Count,
     /// How many bytes a transfer may have.
     Length,
-    /// The word that asks for all of the bus.
-    All,
+    /// What else of the bus is shown: all of it, or its records from a number on.
+    Shown,
     /// The first word of a policy.
     Policy,
     /// A kind of request, which a policy accepts.
@@ -68,7 +68,7 @@ impl Field {
             Field::Policy => is_first(word),
             Field::Kind => is_kind(word),
             Field::Decline => is_word(word, DECLINE),
-            Field::All => is_word(word, ALL),
+            Field::Shown => is_word(word, ALL) || tokens::count(word).is_some(),
         }
     }
 
@@ -89,7 +89,7 @@ impl Field {
             Field::Count | Field::Length => "N",
             Field::Policy => "POLICY",
             Field::Kind => "KIND",
-            Field::Decline | Field::All => "",
+            Field::Decline | Field::Shown => "",
         }
     }
 
@@ -109,7 +109,7 @@ impl Field {
             Field::Policy => "all, none, joins, roles or interrupts",
             Field::Kind => "joins, roles or interrupts",
             Field::Decline => "'decline' or nothing",
-            Field::All => "'all' or nothing",
+            Field::Shown => "'all', a record's number from 1 to 65535, or nothing",
         }
     }
 
@@ -132,7 +132,7 @@ impl Field {
             | Field::Policy
             | Field::Kind
             | Field::Decline
-            | Field::All => false,
+            | Field::Shown => false,
         }
     }
 }

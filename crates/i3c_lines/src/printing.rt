@@ -39,8 +39,9 @@ impl Command {
             Command::Cut { name, bit } => push_cut(text, name, *bit),
             Command::Show => text.push(b"show"),
             Command::ShowAll => text.push(b"show all"),
+            Command::ShowFrom(first) => push_counted(text, b"show", *first),
             Command::Symbols => text.push(b"symbols"),
-            Command::Frames(count) => push_frames(text, *count),
+            Command::Frames(count) => push_counted(text, b"frames", *count),
         }
     }
 }
@@ -260,10 +261,11 @@ fn push_cut(text: &mut Text, name: &Name, bit: u16) -> Result<(), AllocError>
     text.push_decimal(u64::from(bit))
 }
 
-/// Appends `frames`, and how many.
-fn push_frames(text: &mut Text, count: u16) -> Result<(), AllocError>
-    ensures { OnOk result (text.new ≡ text.old ++ spaced (codes "frames" ∷ decimal count ∷ [])) }
+/// Appends a first word, and a count.
+fn push_counted(text: &mut Text, first: &[u8], count: u16) -> Result<(), AllocError>
+    ensures { OnOk result (text.new ≡ text.old ++ spaced (first.now ∷ decimal count ∷ [])) }
 {
-    text.push(b"frames ")?;
+    text.push(first)?;
+    text.push(b" ")?;
     text.push_decimal(u64::from(count))
 }

@@ -186,7 +186,7 @@ static SHAPES: [Shape; 37] = [
     Shape {
         word: "show",
         needed: &[],
-        further: Some(Field::All),
+        further: Some(Field::Shown),
     },
     Shape {
         word: "symbols",
