@@ -547,6 +547,16 @@ enum daskreyf_result daskreyf_policy(struct daskreyf *bus, enum daskreyf_policy 
     return send_line(bus, "policy %s", words[policy]);
 }
 
+enum daskreyf_result daskreyf_policy_of(struct daskreyf *bus, uint8_t kinds)
+{
+    if (kinds & ~(DASKREYF_INTERRUPTS | DASKREYF_ROLES | DASKREYF_JOINS))
+        return DASKREYF_BAD_ARGUMENT;
+    if (!kinds)
+        return daskreyf_policy(bus, DASKREYF_ACCEPT_NONE);
+    return send_line(bus, "policy%s%s%s", kinds & DASKREYF_JOINS ? " joins" : "", kinds & DASKREYF_ROLES ? " roles" : "",
+        kinds & DASKREYF_INTERRUPTS ? " interrupts" : "");
+}
+
 enum daskreyf_result daskreyf_serve(struct daskreyf *bus)
 {
     return daskreyf_line(bus, "serve");
@@ -836,14 +846,23 @@ static bool read_state(const char *line, struct daskreyf_state *state)
     return line && sscanf(line, "records %lu", &state->record_count) == 1;
 }
 
-enum daskreyf_result daskreyf_show(struct daskreyf *bus, struct daskreyf_state *state)
+/* What `show` came to, as the state. */
+static enum daskreyf_result shown(struct daskreyf *bus, enum daskreyf_result result, struct daskreyf_state *state)
 {
-    enum daskreyf_result result = daskreyf_line(bus, "show");
-
     memset(state, 0, sizeof *state);
     if (result != DASKREYF_OK)
         return result;
     return read_state(bus->text, state) ? DASKREYF_OK : broken(bus);
+}
+
+enum daskreyf_result daskreyf_show(struct daskreyf *bus, struct daskreyf_state *state)
+{
+    return shown(bus, daskreyf_line(bus, "show"), state);
+}
+
+enum daskreyf_result daskreyf_show_from(struct daskreyf *bus, uint16_t first, struct daskreyf_state *state)
+{
+    return shown(bus, send_line(bus, "show %u", (unsigned)first), state);
 }
 
 enum daskreyf_result daskreyf_show_all(struct daskreyf *bus)

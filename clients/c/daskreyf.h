@@ -207,9 +207,13 @@ enum daskreyf_result daskreyf_raise(struct daskreyf *bus, const char *name, int 
 enum daskreyf_result daskreyf_ask_join(struct daskreyf *bus, const char *name); /* [5.1.5] */
 enum daskreyf_result daskreyf_ask_role(struct daskreyf *bus, const char *name); /* [5.1.7] */
 
-/* What the controller does. All but the policy are frames: daskreyf_served has what came up in their first header. */
+/* What the controller does. All but the policies are frames: daskreyf_served has what came up in their first header. */
 
 enum daskreyf_result daskreyf_policy(struct daskreyf *bus, enum daskreyf_policy policy);
+
+/* Accepts these kinds and no others: DASKREYF_INTERRUPTS, DASKREYF_ROLES and DASKREYF_JOINS, with `|` between. */
+enum daskreyf_result daskreyf_policy_of(struct daskreyf *bus, uint8_t kinds);
+
 enum daskreyf_result daskreyf_serve(struct daskreyf *bus);
 
 /* Enables and disables kinds of events, of the device at an address or of DASKREYF_ALL. [5.1.9.3.1] */
@@ -278,6 +282,9 @@ enum daskreyf_result daskreyf_end(struct daskreyf *bus);
 
 /* The bus; its log is in daskreyf_text. */
 enum daskreyf_result daskreyf_show(struct daskreyf *bus, struct daskreyf_state *state);
+
+/* The same, but of its log daskreyf_text has only the records from this number on, which is 1 at least. */
+enum daskreyf_result daskreyf_show_from(struct daskreyf *bus, uint16_t first, struct daskreyf_state *state);
 
 /*
  * All of the bus, with what each device is, may and wants; the last symbols on the wire, 256 at most; and the last frames of

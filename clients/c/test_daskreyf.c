@@ -64,7 +64,12 @@ static void test_requests(struct daskreyf *bus)
     CHECK(!strcmp(daskreyf_asking(bus), "t"));
     CHECK(daskreyf_policy(bus, DASKREYF_ACCEPT_ROLES) == DASKREYF_OK);
     CHECK(daskreyf_serve(bus) == DASKREYF_OK && served->request == DASKREYF_TURNED_DOWN);
-    CHECK(daskreyf_policy(bus, DASKREYF_ACCEPT_ALL) == DASKREYF_OK);
+    CHECK(daskreyf_policy_of(bus, DASKREYF_JOINS | DASKREYF_ROLES) == DASKREYF_OK);
+    CHECK(daskreyf_serve(bus) == DASKREYF_OK && served->request == DASKREYF_TURNED_DOWN);
+    CHECK(daskreyf_policy_of(bus, 0) == DASKREYF_OK);
+    CHECK(daskreyf_serve(bus) == DASKREYF_OK && served->request == DASKREYF_TURNED_DOWN);
+    CHECK(daskreyf_policy_of(bus, 4) == DASKREYF_BAD_ARGUMENT);
+    CHECK(daskreyf_policy_of(bus, DASKREYF_JOINS | DASKREYF_ROLES | DASKREYF_INTERRUPTS) == DASKREYF_OK);
     CHECK(daskreyf_ask_role(bus, "second") == DASKREYF_OK);
     CHECK(!strcmp(daskreyf_asking(bus), "t"));
     CHECK(daskreyf_list(bus) == DASKREYF_OK && served->request == DASKREYF_RECORDED);
@@ -111,6 +116,11 @@ static void test_a_cut_interrupt(struct daskreyf *bus)
     CHECK(daskreyf_cut(bus, "t", 9) == DASKREYF_OK);
     CHECK(daskreyf_read(bus, 0x09, registers, NULL) == DASKREYF_NO_ANSWER && served->request == DASKREYF_TORN);
     CHECK(daskreyf_show(bus, &state) == DASKREYF_OK && state.device_count == 2 && state.record_count == 1);
+    CHECK(strstr(daskreyf_text(bus), "\nrecord 1 "));
+    CHECK(daskreyf_show_from(bus, 1, &state) == DASKREYF_OK && strstr(daskreyf_text(bus), "\nrecord 1 "));
+    CHECK(daskreyf_show_from(bus, 2, &state) == DASKREYF_OK && state.device_count == 2 && state.record_count == 1);
+    CHECK(!strstr(daskreyf_text(bus), "\nrecord 1 "));
+    CHECK(daskreyf_show_from(bus, 0, &state) == DASKREYF_BAD_LINE && state.device_count == 0);
 }
 
 static void test_a_join_by_rounds(struct daskreyf *bus)

@@ -127,7 +127,7 @@ class LegacyTarget:
 
 @dataclass(frozen=True)
 class BusState:
-    """The bus, as `show` prints it."""
+    """The bus, as `show` prints it, or `show N`."""
 
     active: int
     """The address of the active controller."""
@@ -452,9 +452,9 @@ class Bus:
 
     # What the controller does
 
-    def policy(self, policy: Policy) -> None:
-        """`policy`: which requests are accepted from here on."""
-        self.line(f"policy {Policy(policy).value}")
+    def policy(self, policy: Policy, *more: Policy) -> None:
+        """`policy`: which requests are accepted from here on. Several kinds are accepted together, `ALL` and `NONE` alone."""
+        self.line(" ".join(("policy", *(Policy(word).value for word in (policy, *more)))))
 
     def serve(self) -> Served | None:
         """`serve`: a frame that serves the first request. None if nobody asks."""
@@ -570,9 +570,9 @@ class Bus:
 
     # What is looked at
 
-    def show(self) -> BusState:
-        """`show`: the bus, with its whole log."""
-        return _state(self.line("show").lines)
+    def show(self, first: int = 1) -> BusState:
+        """`show`: the bus, with its whole log, or of that the records from a number on."""
+        return _state(self.line("show" if first == 1 else f"show {_count(first)}").lines)
 
     def show_all(self) -> BusDetails:
         """`show all`: the same, what each device is, may and wants, and whether the list is current and a session open."""
@@ -695,6 +695,12 @@ def _bit(bit: int) -> int:
     if not 0 <= bit <= 65535:
         raise ValueError(f"a bit number is from 0 to 65535, and not {bit}")
     return bit
+
+
+def _count(count: int) -> int:
+    if not 1 <= count <= 65535:
+        raise ValueError(f"such a number is from 1 to 65535, and not {count}")
+    return count
 
 
 def _most(length: int) -> int:

@@ -37,6 +37,20 @@ class LinesTest(unittest.TestCase):
         hub, target = DeviceState("hub", 0x08, 0), DeviceState("t", None, 0)
         self.assertEqual(self.bus.show(), BusState(0x08, (hub, target), (LegacyTarget("clock", 0x68),), ()))
 
+    def test_the_log_from_a_number_on(self) -> None:
+        with_hub(self.bus)
+        target = with_target(self.bus)
+        self.bus.daa()
+        for byte in (0x11, 0x12, 0x13):
+            target.raise_interrupt(byte)
+            self.bus.serve()
+        self.assertEqual(self.bus.show().records, tuple(self.bus.records))
+        self.assertEqual(self.bus.show(1), self.bus.show())
+        self.assertEqual(self.bus.show(2).records, (Record(2, 1, 2, 0x09, 0x12), Record(3, 1, 3, 0x09, 0x13)))
+        self.assertEqual(self.bus.show(4).records, ())
+        self.assertEqual(self.bus.answer.lines[-1], "records 3")
+        self.assertEqual(len(self.bus.records), 3)
+
     def test_all_of_the_bus(self) -> None:
         with_hub(self.bus)
         joiner = with_target(self.bus)
@@ -214,6 +228,19 @@ class LinesTest(unittest.TestCase):
         self.bus.policy(Policy("none"))
         self.assertEqual(self.bus.answer, Answer(2))
 
+    def test_a_policy_of_several_kinds(self) -> None:
+        with_hub(self.bus)
+        target = with_target(self.bus)
+        self.bus.daa()
+        target.raise_interrupt(0x11)
+        self.bus.policy(Policy.ROLES, Policy.JOINS)
+        self.assertEqual(self.bus.serve(), TurnedDown())
+        for wrong in ((Policy.JOINS, Policy.JOINS), (Policy.JOINS, Policy.ALL), (Policy.NONE, Policy.INTERRUPTS)):
+            with self.assertRaises(daskreyf.BadLine):
+                self.bus.policy(*wrong)
+        self.bus.policy(Policy.ROLES, Policy.INTERRUPTS)
+        self.assertEqual(self.bus.serve(), Record(1, 1, 1, 0x09, 0x11))
+
     def test_lines_of_ones_own(self) -> None:
         self.assertEqual(self.bus.line(""), Answer(1))
         self.assertEqual(self.bus.line("# a comment, \0 and \N{MICRO SIGN}"), Answer(2))
@@ -260,6 +287,8 @@ class FaultsTest(unittest.TestCase):
                 lambda: bus.read(0x100),
                 lambda: bus.read(-1),
                 lambda: with_hub(bus).cut(65536),
+                lambda: bus.show(0),
+                lambda: bus.show(65536),
                 lambda: bus.set_mwl(0),
                 lambda: bus.set_mrl(17, 0x09),
                 lambda: bus.policy("some"),  # type: ignore[arg-type]

@@ -12,7 +12,8 @@ use Rattle.i3c_base.specs.declared.requests.Fixed.{Fixed}
 use Rattle.i3c_lines.specs.declared.command.Command.{Command}
 use Rattle.i3c_lines.specs.declared.names.Name.{Name}
 use Rattle.i3c_lines.specs.Data.{length_word}
-use Rattle.i3c_lines.specs.Forms.{AreAddress, AreAddresses, AreByte, AreDeclared, AreDevice, AreKinds, AreLength, AreWritten, IsForm, IsNamed, IsPolicy, WritesAddress, tokens}
+use Rattle.i3c_lines.specs.Forms.{AreAddress, AreAddresses, AreByte, AreCount, AreDeclared, AreDevice, AreKinds, AreLength, AreWritten, IsForm, IsNamed, WritesAddress, tokens}
+use Rattle.i3c_lines.specs.Policies.{IsPolicy}
 use Rattle.i3c_lines.specs.Parsing.{AreKept, AreNamed, Reads, joined}
 use Rattle.i3c_lines.specs.Words.{AreBytes, IsHex, pair_values}
 use Rattle.i3c_lines.proofs.LineLaws.{line_is, one_word, word_left}
@@ -28,8 +29,9 @@ join_args rest command form = let f = as_meant (codes "ask-join" ∷ rest) comma
 pub role_args : (rest : List (List ℕ)) (command : Command) → IsForm (codes "ask-role" ∷ rest) command → (name : Name) × AreNamed rest name
 role_args rest command form = let f = as_meant (codes "ask-role" ∷ rest) command form in (named (first_of rest), (f.0, ap rest_of f.1, f.2))
 
-pub policy_args : (rest : List (List ℕ)) (command : Command) → IsForm (codes "policy" ∷ rest) command → (word : List ℕ) × (policy : Fixed) × (rest ≡ word ∷ []) × IsPolicy word policy
-policy_args rest command form = let f = as_meant (codes "policy" ∷ rest) command form in (f.0, policy_of (first_of rest), ap rest_of f.1, f.2)
+pub policy_args : (rest : List (List ℕ)) (command : Command) → IsForm (codes "policy" ∷ rest) command → (policy : Fixed) × IsPolicy rest policy
+policy_args rest command form =
+    let f = as_meant (codes "policy" ∷ rest) command form in (policy_of rest, subst (λ ws. IsPolicy ws (policy_of rest)) (sym (ap rest_of f.1)) f.2)
 
 pub main_args : (rest : List (List ℕ)) (command : Command) → IsForm (codes "main" ∷ rest) command → (name : Name) × (setup : Setup) × AreDevice rest name setup
 main_args rest command form =
@@ -70,6 +72,10 @@ pub length_args : (way : Direction) (rest : List (List ℕ)) (command : Command)
 length_args way rest command form =
     let f = subst (λ c. IsForm (length_word way ∷ rest) c) (lengths_meant way rest) (as_meant (length_word way ∷ rest) command form) in
     (digits_value 10 (first_of rest), number_of (rest_of rest), subst (λ ws. AreLength ws (digits_value 10 (first_of rest)) (number_of (rest_of rest))) (sym (ap rest_of f.1)) f.2)
+
+pub frames_args : (rest : List (List ℕ)) (command : Command) → IsForm (codes "frames" ∷ rest) command → (count : ℕ) × AreCount rest count
+frames_args rest command form =
+    let f = as_meant (codes "frames" ∷ rest) command form in (digits_value 10 (first_of rest), subst (λ ws. AreCount ws (digits_value 10 (first_of rest))) (sym (ap rest_of f.1)) f.2)
 
 pub raise_args : (rest : List (List ℕ)) (command : Command) → IsForm (codes "raise" ∷ rest) command
     → (name : Name) × (byte : Option ℕ) × (word : List ℕ) × (more : List (List ℕ)) × (rest ≡ word ∷ more) × IsNamed word name × AreByte more byte

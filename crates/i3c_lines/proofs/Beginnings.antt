@@ -1,23 +1,20 @@
 -- The lines that begin with a letter.
-use Rattle.std.proofs.Common.{◌≡◌, ◌∙◌, ◌⊎◌, ℕ, Bool, true, false, cond, inl, inr, List, [], ◌∷◌, ◌++◌, Option, Some, None, codes, drop, take, ap, arith, refl, sym, subst}
+use Rattle.std.proofs.Common.{◌≡◌, ◌∙◌, ◌⊎◌, ℕ, Bool, true, false, cond, eqb, inl, inr, List, [], ◌∷◌, ◌++◌, Option, Some, None, codes, drop, take, ap, arith, refl, sym, subst}
 use Rattle.std.specs.List.{slice_get}
+use Rattle.std.specs.Str.Parse.{digits_value}
 use Rattle.i3c_base.specs.declared.datum.Datum.{Datum}
 use Rattle.i3c_base.specs.declared.datum.Direction.{Direction}
 use Rattle.i3c_step.specs.declared.events.Command.{Command as Frame}
 use Rattle.i3c_lines.specs.declared.command.Command.{Command}
 use Rattle.i3c_lines.specs.Data.{datum_word, told_word}
-use Rattle.i3c_lines.specs.Forms.{AreAsked, IsForm, WritesAddress, tokens, with_first}
+use Rattle.i3c_lines.specs.Forms.{AreAsked, AreCount, IsForm, WritesAddress, WritesCount, tokens, with_first}
 use Rattle.i3c_lines.specs.Parsing.{Becomes, BecomesOther, IsOther}
-use Rattle.i3c_lines.proofs.LineLaws.{line_is, line_of, some_word}
-use Rattle.i3c_lines.proofs.Meanings.{are_same, as_meant, first_of, hex, datum_of, identity_of, kinds_of, length_of, meant, meant_is, named, number_of, rest_of, shown_by, written_of}
+use Rattle.i3c_lines.proofs.LineLaws.{line_is, line_of, some_word, word_left}
+use Rattle.i3c_lines.proofs.Meanings.{are_same, as_meant, first_of, hex, datum_of, identity_of, kinds_of, length_of, letter_of, meant, meant_is, named, number_of, rest_of, shown_by, written_of}
 
 abbrev tail_of : List ℕ → List ℕ
 tail_of [] = []
 tail_of (byte ∷ line) = line
-
-abbrev letter_of : List ℕ → ℕ
-letter_of [] = 0
-letter_of (byte ∷ word) = byte
 
 -- a word's form is one of two commands'
 either : (b : Bool) (one other : Command) (words : List (List ℕ)) → IsForm words (cond b one other) → IsForm words one ⊎ IsForm words other
@@ -78,10 +75,26 @@ only_e tail command form =
           ]
     ]
 
--- the two lines that `show` begins
-shown : (word : List ℕ) (words : List (List ℕ)) → IsForm (word ∷ words) (shown_by words) → (word ∷ words ≡ codes "show" ∷ []) ⊎ (word ∷ words ≡ codes "show" ∷ codes "all" ∷ [])
+-- the three lines that `show` begins
+shown : (word : List ℕ) (words : List (List ℕ)) → IsForm (word ∷ words) (shown_by words)
+    → (word ∷ words ≡ codes "show" ∷ []) ⊎ (word ∷ words ≡ codes "show" ∷ codes "all" ∷ []) ⊎ ((next : List ℕ) × (word ∷ words ≡ codes "show" ∷ next ∷ []) × WritesCount next (digits_value 10 next))
 shown word [] e = inl e
-shown word (next ∷ words) e = inr e
+shown word (next ∷ words) form =
+    elim (either (eqb (letter_of next) 97) Command.ShowAll (Command.ShowFrom (digits_value 10 next)) (word ∷ next ∷ words) form) [
+      | inl is ↦ inr (inl is)
+      | inr (rest, e, (one, e', is)) ↦
+          let same : next ≡ one = ap (λ ws. first_of (rest_of ws)) e ∙ ap first_of e' in
+          inr (inr (one, e ∙ ap (λ ws. codes "show" ∷ ws) e', subst (λ (n : ℕ). WritesCount one n) (ap (digits_value 10) same) is))
+    ]
+
+-- a line behind `show`, of which `all` is another
+pub shown_args : (line : List ℕ) (command : Command) → (line ≡ codes "all" → ⊥) → IsForm (codes "show" ∷ tokens line) command → (first : ℕ) × AreCount (tokens line) first
+shown_args line command other form =
+    elim (shown (codes "show") (tokens line) (as_meant (codes "show" ∷ tokens line) command form)) [
+      | inl none ↦ absurd (word_left line (ap rest_of none))
+      | inr (inl all) ↦ absurd (other (line_is line (codes "all" ∷ []) (ap rest_of all)))
+      | inr (inr (next, e, is)) ↦ (digits_value 10 next, (next, ap rest_of e, is))
+    ]
 
 -- the lines that set a maximum length, or `show`
 lengthened : (tail word : List ℕ) (words : List (List ℕ)) → tokens (115 ∷ tail) ≡ (115 ∷ word) ∷ words
@@ -99,7 +112,7 @@ lengthened tail word words e form =
 
 -- behind `s`
 pub only_s : (tail : List ℕ) (command : Command) → IsForm (tokens (115 ∷ tail)) command → (tail ≡ codes "erve") ⊎ (tail ≡ codes "how") ⊎ (tail ≡ codes "ymbols") ⊎ (tail ≡ codes "how all")
-    ⊎ GoesOn tail (codes "etdasa") ⊎ GoesOn tail (codes "etnewda") ⊎ GoesOn tail (codes "etmwl") ⊎ GoesOn tail (codes "etmrl")
+    ⊎ GoesOn tail (codes "how") ⊎ GoesOn tail (codes "etdasa") ⊎ GoesOn tail (codes "etnewda") ⊎ GoesOn tail (codes "etmwl") ⊎ GoesOn tail (codes "etmrl")
 only_s tail command form =
     let (word, words, e, here) = begun 115 tail command refl form in
     elim (either (are_same word (codes "erve")) (Command.Frame Frame.Serve) _ _ here) [
@@ -112,18 +125,19 @@ only_s tail command form =
                   | inl shows ↦
                       elim (shown (115 ∷ word) words shows) [
                         | inl is ↦ inr (inl (alone 115 tail (codes "how") (e ∙ is)))
-                        | inr is ↦ inr (inr (inr (inl (ap tail_of (line_is (115 ∷ tail) (codes "show" ∷ codes "all" ∷ []) (e ∙ is))))))
+                        | inr (inl is) ↦ inr (inr (inr (inl (ap tail_of (line_is (115 ∷ tail) (codes "show" ∷ codes "all" ∷ []) (e ∙ is))))))
+                        | inr (inr is) ↦ inr (inr (inr (inr (inl (goes_on 115 tail (codes "how") is.0 [] (e ∙ is.1))))))
                       ]
                   | inr fourth ↦
                       elim (either (are_same word (codes "etdasa")) (Command.Frame (Frame.SetStatic (hex (first_of words)) (hex (first_of (rest_of words))))) _ _ fourth) [
-                        | inl is ↦ inr (inr (inr (inr (inl (goes_on 115 tail (codes "etdasa") is.2.0 (is.2.1 ∷ []) (e ∙ is.1 ∙ ap (λ ws. codes "setdasa" ∷ ws) is.2.2))))))
+                        | inl is ↦ inr (inr (inr (inr (inr (inl (goes_on 115 tail (codes "etdasa") is.2.0 (is.2.1 ∷ []) (e ∙ is.1 ∙ ap (λ ws. codes "setdasa" ∷ ws) is.2.2)))))))
                         | inr fifth ↦
                             elim (either (are_same word (codes "etnewda")) (Command.Frame (Frame.SetNew (hex (first_of words)) (hex (first_of (rest_of words))))) _ _ fifth) [
-                              | inl is ↦ inr (inr (inr (inr (inr (inl (goes_on 115 tail (codes "etnewda") is.2.0 (is.2.1 ∷ []) (e ∙ is.1 ∙ ap (λ ws. codes "setnewda" ∷ ws) is.2.2)))))))
+                              | inl is ↦ inr (inr (inr (inr (inr (inr (inl (goes_on 115 tail (codes "etnewda") is.2.0 (is.2.1 ∷ []) (e ∙ is.1 ∙ ap (λ ws. codes "setnewda" ∷ ws) is.2.2))))))))
                               | inr sixth ↦
                                   elim (lengthened tail word words e sixth) [
                                     | inl show ↦ inr (inl show)
-                                    | inr length ↦ inr (inr (inr (inr (inr (inr length)))))
+                                    | inr length ↦ inr (inr (inr (inr (inr (inr (inr length))))))
                                   ]
                             ]
                       ]

@@ -1,6 +1,7 @@
 -- The command that a line can be at most.
-use Rattle.std.proofs.Common.{◌≡◌, ◌∙◌, ℕ, ◌-◌, ◌≤◌, Bool, true, false, cond, nat_eq, inl, inr, List, [], ◌∷◌, ◌++◌, Option, Some, None, drop, length, replicate, take, bit_and, codes, ap, arith, refl, sym, subst}
+use Rattle.std.proofs.Common.{◌≡◌, ◌∙◌, ℕ, ◌-◌, ◌<◌, ◌≤◌, Bool, true, false, cond, nat_eq, eqb, inl, inr, List, [], ◌∷◌, ◌++◌, Option, Some, None, drop, length, replicate, take, bit_and, codes, ap, arith, refl, sym, subst}
 use Rattle.std.proofs.lemmas.List.{length-append, length-replicate, length-take, length-take-le, take_all, take-append-drop}
+use Rattle.std.proofs.lemmas.Bool.{ne_eqb}
 use Rattle.std.proofs.Math.Seq.{drop-append_seam, take-append_seam}
 use Rattle.std.specs.Cmp.Lexicographic.{pointwise}
 use Rattle.std.specs.Str.Parse.{digits_value}
@@ -18,11 +19,11 @@ use Rattle.i3c_base.specs.declared.requests.Verdict.TheVariants.{Accept, Refuse}
 use Rattle.i3c_step.specs.declared.events.Command.{Command as Frame}
 use Rattle.i3c_lines.specs.declared.command.Command.{Command}
 use Rattle.i3c_lines.specs.declared.names.Name.{Name}
-use Rattle.i3c_lines.specs.Forms.{AreAddress, AreByte, AreWritten, IsForm, IsFrameForm, IsNamed, IsPolicy, WritesIdentity, WritesKinds, willing_words}
+use Rattle.i3c_lines.specs.Forms.{AreAddress, AreByte, AreWritten, IsForm, IsFrameForm, IsNamed, WritesIdentity, WritesKinds, willing_words}
 use Rattle.i3c_lines.specs.Data.{length_word, told_word}
 use Rattle.i3c_lines.specs.Naming.{letters}
-use Rattle.i3c_lines.specs.Policies.{each_kind, interrupts_alone, joins_alone, roles_alone}
-use Rattle.i3c_lines.specs.Words.{pair_values}
+use Rattle.i3c_lines.specs.Policies.{AcceptEach, Accepts, IsPolicy, each_kind}
+use Rattle.i3c_lines.specs.Words.{IsDecimal, IsDecimalDigit, pair_values}
 
 -- a name is known by its letters
 pub same_name : (one other : Name) → letters one ≡ letters other → one ≡ other
@@ -80,10 +81,14 @@ abbrev pub willing_of : List (List ℕ) → Bool
 willing_of [] = true
 willing_of (word ∷ words) = false
 
--- `show` alone, or with a word behind it
+abbrev pub letter_of : List ℕ → ℕ
+letter_of [] = 0
+letter_of (byte ∷ word) = byte
+
+-- `show` alone, or with a word behind it: one that begins with an `a`, or a number
 abbrev pub shown_by : List (List ℕ) → Command
 shown_by [] = Command.Show
-shown_by (word ∷ words) = Command.ShowAll
+shown_by (word ∷ words) = cond (eqb (letter_of word) 97) Command.ShowAll (Command.ShowFrom (digits_value 10 word))
 
 abbrev pub kinds_of : List ℕ → Kinds
 kinds_of word = record { 0 = bit_and (hex word) 11 }
@@ -97,9 +102,16 @@ setup_of words = record { identity = identity_of words; willing = willing_of (re
 abbrev pub are_same : List ℕ → List ℕ → Bool
 are_same one other = pointwise nat_eq one other
 
-abbrev pub policy_of : List ℕ → Fixed
-policy_of word = cond (are_same word (codes "all")) (each_kind Accept)
-    (cond (are_same word (codes "none")) (each_kind Refuse) (cond (are_same word (codes "joins")) joins_alone (cond (are_same word (codes "roles")) roles_alone interrupts_alone)))
+-- a policy that accepts a kind more
+abbrev pub accepting : List ℕ → Fixed → Fixed
+accepting word policy = cond (are_same word (codes "joins")) (record policy { join = Accept }) (cond (are_same word (codes "roles")) (record policy { role = Accept }) (record policy { interrupt = Accept }))
+
+abbrev pub accepting_each : List (List ℕ) → Fixed → Fixed
+accepting_each [] policy = policy
+accepting_each (word ∷ words) policy = accepting_each words (accepting word policy)
+
+abbrev pub policy_of : List (List ℕ) → Fixed
+policy_of words = cond (are_same (first_of words) (codes "all")) (each_kind Accept) (cond (are_same (first_of words) (codes "none")) (each_kind Refuse) (accepting_each words (each_kind Refuse)))
 
 -- the datum that has this word, if one has
 abbrev pub datum_of : List ℕ → Datum
@@ -142,7 +154,7 @@ meant_by word args =
     (cond (are_same word (codes "ask-join")) (Command.AskJoin (named (first_of args)))
     (cond (are_same word (codes "ask-role")) (Command.AskRole (named (first_of args)))
     (cond (are_same word (codes "handover")) (Command.HandOver (hex (first_of args)))
-    (cond (are_same word (codes "policy")) (Command.Policy (policy_of (first_of args)))
+    (cond (are_same word (codes "policy")) (Command.Policy (policy_of args))
     (cond (are_same word (codes "cut")) (Command.Cut (named (first_of args)) (digits_value 10 (first_of (rest_of args))))
     (cond (are_same word (codes "frames")) (Command.Frames (digits_value 10 (first_of args)))
     (cond (are_same (take 3 word) (codes "get")) (Command.Frame (Frame.Get (datum_of (drop 3 word)) (hex (first_of args))))
@@ -169,12 +181,33 @@ willing_is : (willing : Bool) → willing_of (willing_words willing) ≡ willing
 willing_is true = refl
 willing_is false = refl
 
-policy_is : (word : List ℕ) (policy : Fixed) → IsPolicy word policy → policy_of word ≡ policy
-policy_is word policy (inl (e, is)) = ap policy_of e ∙ sym is
-policy_is word policy (inr (inl (e, is))) = ap policy_of e ∙ sym is
-policy_is word policy (inr (inr (inl (e, is)))) = ap policy_of e ∙ sym is
-policy_is word policy (inr (inr (inr (inl (e, is))))) = ap policy_of e ∙ sym is
-policy_is word policy (inr (inr (inr (inr (e, is))))) = ap policy_of e ∙ sym is
+accepting_is : (word : List ℕ) (old new : Fixed) → Accepts word old new → accepting word old ≡ new
+accepting_is word old new (inl is) = ap (λ w. accepting w old) is.0 ∙ sym is.2
+accepting_is word old new (inr (inl is)) = ap (λ w. accepting w old) is.0 ∙ sym is.2
+accepting_is word old new (inr (inr is)) = ap (λ w. accepting w old) is.0 ∙ sym is.2
+
+-- a word names one kind of request at most
+pub same_accepted : (word : List ℕ) (old one other : Fixed) → Accepts word old one → Accepts word old other → one ≡ other
+same_accepted word old one other first second = sym (accepting_is word old one first) ∙ accepting_is word old other second
+
+accepting_each_is : (words : List (List ℕ)) (old new : Fixed) → AcceptEach words old new → accepting_each words old ≡ new
+accepting_each_is [] old new same = sym same
+accepting_each_is (word ∷ words) old new (next, is, are) = ap (λ policy. accepting_each words policy) (accepting_is word old next is) ∙ accepting_each_is words next new are
+
+-- a word that names a kind stands not alone
+pub kind_first : (word : List ℕ) (words : List (List ℕ)) (old new : Fixed) → Accepts word old new → policy_of (word ∷ words) ≡ accepting_each (word ∷ words) (each_kind Refuse)
+kind_first word words old new (inl is) = ap (λ w. policy_of (w ∷ words)) is.0 ∙ sym (ap (λ w. accepting_each (w ∷ words) (each_kind Refuse)) is.0)
+kind_first word words old new (inr (inl is)) = ap (λ w. policy_of (w ∷ words)) is.0 ∙ sym (ap (λ w. accepting_each (w ∷ words) (each_kind Refuse)) is.0)
+kind_first word words old new (inr (inr is)) = ap (λ w. policy_of (w ∷ words)) is.0 ∙ sym (ap (λ w. accepting_each (w ∷ words) (each_kind Refuse)) is.0)
+
+kinds_are : (words : List (List ℕ)) (policy : Fixed) → 0 < length words → AcceptEach words (each_kind Refuse) policy → policy_of words ≡ policy
+kinds_are [] policy some are = absurd (omega (arith, some))
+kinds_are (word ∷ words) policy some are = kind_first word words (each_kind Refuse) are.0 are.1 ∙ accepting_each_is (word ∷ words) (each_kind Refuse) policy are
+
+policy_is : (words : List (List ℕ)) (policy : Fixed) → IsPolicy words policy → policy_of words ≡ policy
+policy_is words policy (inl (word, e, inl is)) = ap policy_of (e ∙ ap (λ w. w ∷ []) is.0) ∙ sym is.1
+policy_is words policy (inl (word, e, inr is)) = ap policy_of (e ∙ ap (λ w. w ∷ []) is.0) ∙ sym is.1
+policy_is words policy (inr are) = kinds_are words policy are.0 are.1
 
 datum_is : (what : Datum) → datum_of (told_word what) ≡ what
 datum_is Datum.Pid = refl
@@ -221,6 +254,11 @@ frame_is words (Frame.Get what at) (word, e, is) = ap meant e ∙ (λ i. Command
 frame_is words (Frame.SetLength way most to) (rest, e, (word, more, e', is, at)) =
     ap meant (e ∙ ap (λ ws. length_word way ∷ ws) e') ∙ lengths_meant way (word ∷ more) ∙ (λ i. Command.Frame (Frame.SetLength way (sym is.0.0.1 i) (address_is more to at i)))
 
+-- a number doesn't begin with an `a`
+is_number : (word : List ℕ) → IsDecimal word → eqb (letter_of word) 97 ≡ false
+is_number [] is = absurd (omega (arith, is.0))
+is_number (byte ∷ word) is = let digit : IsDecimalDigit byte = is.1 0 0 (omega arith) in ne_eqb byte 97 (λ a. omega (arith, digit.1, a))
+
 -- words are no other command's than the one that they mean
 pub meant_is : (words : List (List ℕ)) (command : Command) → IsForm words command → meant words ≡ command
 meant_is words (Command.Legacy name address lvr) (word, at, byte, e, is, a, b) = ap meant e ∙ (λ i. Command.Legacy (named_is word name is i) (sym a.0.1 i) (record { 0 = sym b.1 i }))
@@ -240,12 +278,14 @@ meant_is words Command.Open e = ap meant e
 meant_is words Command.Round e = ap meant e
 meant_is words Command.End e = ap meant e
 meant_is words Command.Daa e = ap meant e
-meant_is words (Command.Policy policy) (word, e, is) = ap meant e ∙ ap Command.Policy (policy_is word policy is)
+meant_is words (Command.Policy policy) (rest, e, is) = ap meant e ∙ ap Command.Policy (policy_is rest policy is)
 meant_is words (Command.Cut name bit) (word, digits, e, is, b) = ap meant e ∙ (λ i. Command.Cut (named_is word name is i) (sym b.1 i))
 meant_is words Command.Show e = ap meant e
 meant_is words Command.ShowAll e = ap meant e
+meant_is words (Command.ShowFrom first) (rest, e, (word, e', is)) =
+    ap meant (e ∙ ap (λ ws. codes "show" ∷ ws) e') ∙ ap (λ b. cond b Command.ShowAll (Command.ShowFrom (digits_value 10 word))) (is_number word is.0.0) ∙ ap Command.ShowFrom (sym is.0.1)
 meant_is words Command.Symbols e = ap meant e
-meant_is words (Command.Frames count) (word, e, is) = ap meant e ∙ ap Command.Frames (sym is.0.1)
+meant_is words (Command.Frames count) (rest, e, (word, e', is)) = ap meant (e ∙ ap (λ ws. codes "frames" ∷ ws) e') ∙ ap Command.Frames (sym is.0.1)
 
 -- so they have its form, if they have any
 pub as_meant : (words : List (List ℕ)) (command : Command) → IsForm words command → IsForm words (meant words)

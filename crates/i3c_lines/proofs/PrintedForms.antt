@@ -1,5 +1,5 @@
 -- A printed command has its own form.
-use Rattle.std.proofs.Common.{◌≡◌, ◌∙◌, ℕ, ◌<◌, ◌≤◌, Bool, true, false, inl, inr, List, [], ◌∷◌, Option, Some, None, All, bit_and, codes, length, take, ap, arith, refl, sym, subst}
+use Rattle.std.proofs.Common.{◌≡◌, ◌∙◌, ℕ, ◌^◌, ◌<◌, ◌≤◌, Bool, true, false, inl, inr, List, [], ◌∷◌, Option, Some, None, All, bit_and, codes, length, take, ap, arith, refl, sym, subst}
 use Rattle.std.proofs.lemmas.List.{take_all}
 use Rattle.std.proofs.lemmas.Nat.{and_le_r}
 use Rattle.std.specs.Fmt.{decimal}
@@ -9,15 +9,18 @@ use Rattle.i3c_base.specs.declared.device.Setup.{Setup}
 use Rattle.i3c_base.specs.declared.identity.Identity.{Identity}
 use Rattle.i3c_base.specs.declared.kinds.Kinds.{Kinds}
 use Rattle.i3c_base.specs.declared.requests.Fixed.{Fixed}
+use Rattle.i3c_base.specs.declared.requests.Verdict.{Verdict}
+use Rattle.i3c_base.specs.declared.requests.Verdict.TheVariants.{Accept, Refuse}
 use Rattle.i3c_base.specs.Numbers.{IsInRange}
 use Rattle.i3c_step.specs.declared.events.Command.{Command as Frame}
 use Rattle.i3c_lines.specs.declared.command.Command.{Command}
 use Rattle.i3c_lines.specs.declared.names.Name.{Name}
-use Rattle.i3c_lines.specs.Forms.{AreAddress, AreAddresses, AreByte, AreDeclared, AreDevice, AreKinds, AreLength, AreWritten, IsCommand, IsForm, IsPolicy, tokens, willing_words}
+use Rattle.i3c_lines.specs.Forms.{AreAddress, AreAddresses, AreByte, AreCount, AreDeclared, AreDevice, AreKinds, AreLength, AreWritten, IsCommand, IsForm, tokens, willing_words}
+use Rattle.i3c_lines.specs.Policies.{IsAlone, IsPolicy, each_kind}
 use Rattle.i3c_text.specs.Hex.{byte_text, bytes_text, hex_text}
 use Rattle.i3c_lines.specs.Data.{datum_word, length_word}
 use Rattle.i3c_lines.specs.Naming.{letters}
-use Rattle.i3c_lines.specs.Printing.{AreKnown, HasLine, IsWithin, IsNamable, byte_words, command_text, command_words, device_words, identity_words, spaced, verdicts_word, written_words}
+use Rattle.i3c_lines.specs.Printing.{AreKnown, HasLine, IsWithin, IsNamable, byte_words, command_text, command_words, device_words, identity_words, spaced, verdicts_words, written_words}
 use Rattle.i3c_lines.proofs.Meanings.{as_meant}
 use Rattle.i3c_lines.proofs.PrintedLines.{Apart, byte_writes, decimal_writes, pairs_are, pairs_length, pid_writes, plain, spaced_length, tokens_spaced, total}
 use Rattle.i3c_lines.proofs.SplitLaws.{HasNoSpace, hex_no_space, name_no_space, pairs_no_space}
@@ -90,15 +93,21 @@ kinds_fit to kinds known h =
       omega (arith, at.2),
     )
 
-abbrev word_of : Fixed → List ℕ
-word_of policy = verdicts_word policy.join policy.role policy.interrupt
+alone_fits : (word : List ℕ) (policy : Fixed) → IsAlone word policy → HasNoSpace word → length word ≤ 5 → Fit (IsPolicy (word ∷ []) policy) (word ∷ []) 17
+alone_fits word policy is apart short = (inl (word, refl, is), (apart, tt), omega (arith, short))
 
-policy_fits : (word : List ℕ) (policy : Fixed) → IsPolicy word policy → IsPolicy (word_of policy) policy × HasNoSpace (word_of policy) × (length (word_of policy) ≤ 10)
-policy_fits word policy (inl (_, is)) = let same = ap word_of is in (inl (same, is), subst HasNoSpace (sym same) (plain (codes "all") tt), omega (arith, ap length same))
-policy_fits word policy (inr (inl (_, is))) = let same = ap word_of is in (inr (inl (same, is)), subst HasNoSpace (sym same) (plain (codes "none") tt), omega (arith, ap length same))
-policy_fits word policy (inr (inr (inl (_, is)))) = let same = ap word_of is in (inr (inr (inl (same, is))), subst HasNoSpace (sym same) (plain (codes "joins") tt), omega (arith, ap length same))
-policy_fits word policy (inr (inr (inr (inl (_, is))))) = let same = ap word_of is in (inr (inr (inr (inl (same, is)))), subst HasNoSpace (sym same) (plain (codes "roles") tt), omega (arith, ap length same))
-policy_fits word policy (inr (inr (inr (inr (_, is))))) = let same = ap word_of is in (inr (inr (inr (inr (same, is)))), subst HasNoSpace (sym same) (plain (codes "interrupts") tt), omega (arith, ap length same))
+all_apart : HasNoSpace (codes "joins") × HasNoSpace (codes "roles") × HasNoSpace (codes "interrupts")
+all_apart = (plain (codes "joins") tt, plain (codes "roles") tt, plain (codes "interrupts") tt)
+
+verdicts_fit : (join role interrupt : Verdict) → let policy : Fixed = record { join = join; role = role; interrupt = interrupt } in Fit (IsPolicy (verdicts_words join role interrupt) policy) (verdicts_words join role interrupt) 17
+verdicts_fit Accept Accept Accept = alone_fits (codes "all") (each_kind Accept) (inl (refl, refl)) (plain (codes "all") tt) (omega arith)
+verdicts_fit Accept Accept Refuse = (inr (omega arith, (_, inl (refl, refl, refl), (_, inr (inl (refl, refl, refl)), refl))), (all_apart.0, (all_apart.1, tt)), omega arith)
+verdicts_fit Accept Refuse Accept = (inr (omega arith, (_, inl (refl, refl, refl), (_, inr (inr (refl, refl, refl)), refl))), (all_apart.0, (all_apart.2, tt)), omega arith)
+verdicts_fit Accept Refuse Refuse = (inr (omega arith, (_, inl (refl, refl, refl), refl)), (all_apart.0, tt), omega arith)
+verdicts_fit Refuse Accept Accept = (inr (omega arith, (_, inr (inl (refl, refl, refl)), (_, inr (inr (refl, refl, refl)), refl))), (all_apart.1, (all_apart.2, tt)), omega arith)
+verdicts_fit Refuse Accept Refuse = (inr (omega arith, (_, inr (inl (refl, refl, refl)), refl)), (all_apart.1, tt), omega arith)
+verdicts_fit Refuse Refuse Accept = (inr (omega arith, (_, inr (inr (refl, refl, refl)), refl)), (all_apart.2, tt), omega arith)
+verdicts_fit Refuse Refuse Refuse = alone_fits (codes "none") (each_kind Refuse) (inr (refl, refl)) (plain (codes "none") tt) (omega arith)
 
 named_fits : (name : Name) → IsNamable name → Apart (letters name ∷ []) × (total (letters name ∷ []) ≤ 17)
 named_fits name is = ((name_no_space (letters name) is, tt), omega (arith, is.1))
@@ -122,6 +131,11 @@ length_fits most to some few h =
     let digits = decimal_writes most (omega (arith, few)) in
     let at = address_fits to h in
     ((decimal most, byte_words to, refl, ((digits.0, some), few), at.0), (digits.1, at.1), omega (arith, digits.2, at.2))
+
+count_fits : (count : ℕ) → 0 < count → count < 2 ^ 16 → Fit (AreCount (decimal count ∷ []) count) (decimal count ∷ []) 6
+count_fits count some few =
+    let digits = decimal_writes count (omega (arith, few)) in
+    ((decimal count, refl, (digits.0, some)), (digits.1, tt), omega (arith, digits.2))
 
 -- a command's words have its form, none has a space, and they are short
 abbrev Prints : Command → Type 0
@@ -174,17 +188,17 @@ prints Command.Open h = (refl, (plain (codes "open") tt, tt), omega arith)
 prints Command.Round h = (refl, (plain (codes "round") tt, tt), omega arith)
 prints Command.End h = (refl, (plain (codes "end") tt, tt), omega arith)
 prints Command.Daa h = (refl, (plain (codes "daa") tt, tt), omega arith)
-prints (Command.Policy policy) h = let fit = policy_fits h.0 policy h.1 in ((word_of policy, refl, fit.0), (plain (codes "policy") tt, (fit.1, tt)), omega (arith, fit.2))
+prints (Command.Policy policy) h =
+    let fit = verdicts_fit policy.join policy.role policy.interrupt in ((verdicts_words policy.join policy.role policy.interrupt, refl, fit.0), (plain (codes "policy") tt, fit.1), omega (arith, fit.2))
 prints (Command.Cut name bit) h =
     let fit = named_fits name h.0 in
     let digits = decimal_writes bit (omega (arith, h.1)) in
     ((letters name, decimal bit, refl, (h.0, refl), digits.0), (plain (codes "cut") tt, (fit.0.0, (digits.1, tt))), omega (arith, fit.1, digits.2))
 prints Command.Show h = (refl, (plain (codes "show") tt, tt), omega arith)
 prints Command.ShowAll h = (refl, (plain (codes "show") tt, (plain (codes "all") tt, tt)), omega arith)
+prints (Command.ShowFrom first) h = let fit = count_fits first h.0 h.1 in ((decimal first ∷ [], refl, fit.0), (plain (codes "show") tt, fit.1), omega (arith, fit.2))
 prints Command.Symbols h = (refl, (plain (codes "symbols") tt, tt), omega arith)
-prints (Command.Frames count) h =
-    let digits = decimal_writes count (omega (arith, h.1)) in
-    ((decimal count, refl, (digits.0, h.0)), (plain (codes "frames") tt, (digits.1, tt)), omega (arith, digits.2))
+prints (Command.Frames count) h = let fit = count_fits count h.0 h.1 in ((decimal count ∷ [], refl, fit.0), (plain (codes "frames") tt, fit.1), omega (arith, fit.2))
 
 -- words that are apart are those of their line, and this is short
 read_again : (words : List (List ℕ)) → Apart words → total words ≤ 60 → (0 < length words) → (tokens (spaced words) ≡ words) × (length (spaced words) ≤ 256)

@@ -1,11 +1,12 @@
 -- Why a line has no form.
-use Rattle.std.specs.Prelude.{⊤, ◌≡◌, ℕ, ◌-◌, ◌<◌, ◌≤◌, List, ◌∷◌, Some, codes, length, slice_get, ◌==◌, true}
+use Rattle.std.specs.Prelude.{⊤, ◌≡◌, ℕ, ◌-◌, ◌<◌, ◌≤◌, ◌⊎◌, List, ◌∷◌, Some, codes, length, slice_get, ◌==◌, true}
 use Rattle.std.specs.List.{list_any}
 use Rattle.std.specs.Str.Parse.{digits_value}
 use Rattle.i3c_base.specs.declared.requests.Fixed.{Fixed}
+use Rattle.i3c_base.specs.declared.requests.Verdict.TheVariants.{Refuse}
 use Rattle.i3c_lines.specs.declared.fields.Field.{Field}
 use Rattle.i3c_lines.specs.declared.form_faults.FormFault.{FormFault}
-use Rattle.i3c_lines.specs.Forms.{IsPolicy}
+use Rattle.i3c_lines.specs.Policies.{Accepts, IsAlone, each_kind}
 use Rattle.i3c_lines.specs.Words.{AreBytes, IsDecimal, IsHex, IsName}
 
 -- a word that has a field's form
@@ -23,9 +24,10 @@ IsField Field.Bytes word = (0 < length word) × AreBytes word
 IsField Field.Bit word = IsDecimal word × (digits_value 10 word < 65536)
 IsField Field.Count word = IsDecimal word × (digits_value 10 word < 65536) × (0 < digits_value 10 word)
 IsField Field.Length word = IsDecimal word × (digits_value 10 word < 65536) × (0 < digits_value 10 word) × (digits_value 10 word ≤ 16)
-IsField Field.Policy word = (policy : Fixed) × IsPolicy word policy
+IsField Field.Policy word = (policy : Fixed) × (IsAlone word policy ⊎ Accepts word (each_kind Refuse) policy)
+IsField Field.Kind word = (policy : Fixed) × Accepts word (each_kind Refuse) policy
 IsField Field.Decline word = word ≡ codes "decline"
-IsField Field.All word = word ≡ codes "all"
+IsField Field.Shown word = (word ≡ codes "all") ⊎ (IsDecimal word × (digits_value 10 word < 65536) × (0 < digits_value 10 word))
 
 -- what a fault says of its line is so. Of the words of a line it says only that one hasn't its field's form
 abbrev pub IsSo : List ℕ → FormFault → Type 0
@@ -40,3 +42,4 @@ IsSo line (FormFault.Unknown word) = ⊤
 IsSo line (FormFault.Missing field) = ⊤
 IsSo line (FormFault.Misfit field word) = IsField field word.now → ⊥
 IsSo line (FormFault.Surplus word) = ⊤
+IsSo line (FormFault.Repeated word) = ⊤

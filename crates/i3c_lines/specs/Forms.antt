@@ -5,14 +5,12 @@ use Rattle.i3c_base.specs.declared.device.Setup.{Setup}
 use Rattle.i3c_base.specs.declared.datum.Datum.{Datum}
 use Rattle.i3c_base.specs.declared.identity.Identity.{Identity}
 use Rattle.i3c_base.specs.declared.kinds.Kinds.{Kinds}
-use Rattle.i3c_base.specs.declared.requests.Fixed.{Fixed}
-use Rattle.i3c_base.specs.declared.requests.Verdict.TheVariants.{Accept, Refuse}
 use Rattle.i3c_step.specs.declared.events.Command.{Command as Frame}
 use Rattle.i3c_lines.specs.declared.command.Command.{Command}
 use Rattle.i3c_lines.specs.declared.names.Name.{Name}
 use Rattle.i3c_lines.specs.Data.{datum_word, length_word, told_word}
 use Rattle.i3c_lines.specs.Naming.{letters}
-use Rattle.i3c_lines.specs.Policies.{each_kind, interrupts_alone, joins_alone, roles_alone}
+use Rattle.i3c_lines.specs.Policies.{IsPolicy}
 use Rattle.i3c_lines.specs.Words.{AreBytes, IsDecimal, IsHex, IsName, pair_values}
 
 -- a byte in front of the first word
@@ -81,6 +79,10 @@ AreAddress words (Some address) = (word : List ℕ) × (words ≡ word ∷ []) �
 abbrev pub AreKinds : List (List ℕ) → Option ℕ → Kinds → Type 0
 AreKinds words to kinds = (word : List ℕ) × (rest : List (List ℕ)) × (words ≡ word ∷ rest) × WritesKinds word kinds × AreAddress rest to
 
+-- `N`
+abbrev pub AreCount : List (List ℕ) → ℕ → Type 0
+AreCount words count = (word : List ℕ) × (words ≡ word ∷ []) × WritesCount word count
+
 -- `N [ADDR]`
 abbrev pub AreLength : List (List ℕ) → ℕ → Option ℕ → Type 0
 AreLength words most to = (word : List ℕ) × (rest : List (List ℕ)) × (words ≡ word ∷ rest) × WritesLength word most × AreAddress rest to
@@ -101,11 +103,6 @@ AreDeclared words address identity = (at pid bcr dcr : List ℕ) × (words ≡ a
 abbrev pub AreWritten : List (List ℕ) → List ℕ → Type 0
 AreWritten words bytes = ((words ≡ []) × (bytes ≡ []))
     ⊎ ((word : List ℕ) × (words ≡ word ∷ []) × (0 < length word) × AreBytes word × (bytes ≡ take 17 (pair_values word)))
-
--- a word that names this policy
-abbrev pub IsPolicy : List ℕ → Fixed → Type 0
-IsPolicy word policy = ((word ≡ codes "all") × (policy ≡ each_kind Accept)) ⊎ ((word ≡ codes "none") × (policy ≡ each_kind Refuse))
-    ⊎ ((word ≡ codes "joins") × (policy ≡ joins_alone)) ⊎ ((word ≡ codes "roles") × (policy ≡ roles_alone)) ⊎ ((word ≡ codes "interrupts") × (policy ≡ interrupts_alone))
 
 -- these words are a frame's line
 abbrev pub IsFrameForm : List (List ℕ) → Frame → Type 0
@@ -138,12 +135,13 @@ IsForm words Command.Open = words ≡ codes "open" ∷ []
 IsForm words Command.Round = words ≡ codes "round" ∷ []
 IsForm words Command.End = words ≡ codes "end" ∷ []
 IsForm words Command.Daa = words ≡ codes "daa" ∷ []
-IsForm words (Command.Policy policy) = (word : List ℕ) × (words ≡ codes "policy" ∷ word ∷ []) × IsPolicy word policy
+IsForm words (Command.Policy policy) = (rest : List (List ℕ)) × (words ≡ codes "policy" ∷ rest) × IsPolicy rest policy
 IsForm words (Command.Cut name bit) = (word digits : List ℕ) × (words ≡ codes "cut" ∷ word ∷ digits ∷ []) × IsNamed word name × WritesBit digits bit
 IsForm words Command.Show = words ≡ codes "show" ∷ []
 IsForm words Command.ShowAll = words ≡ codes "show" ∷ codes "all" ∷ []
+IsForm words (Command.ShowFrom first) = (rest : List (List ℕ)) × (words ≡ codes "show" ∷ rest) × AreCount rest first
 IsForm words Command.Symbols = words ≡ codes "symbols" ∷ []
-IsForm words (Command.Frames count) = (word : List ℕ) × (words ≡ codes "frames" ∷ word ∷ []) × WritesCount word count
+IsForm words (Command.Frames count) = (rest : List (List ℕ)) × (words ≡ codes "frames" ∷ rest) × AreCount rest count
 
 -- a line that is passed over: it is empty, or begins with `#`, which is 35
 abbrev pub IsSkipped : List ℕ → Type 0

@@ -74,6 +74,7 @@ IsOther (Command.Policy policy) = ⊤
 IsOther (Command.Cut name bit) = ⊤
 IsOther Command.Show = ⊥
 IsOther Command.ShowAll = ⊥
+IsOther (Command.ShowFrom first) = ⊥
 IsOther Command.Symbols = ⊥
 IsOther (Command.Frames count) = ⊤
 

@@ -10,7 +10,7 @@ use Rattle.i3c_base.specs.declared.requests.Verdict.TheVariants.{Accept, Refuse}
 use Rattle.i3c_step.specs.declared.events.Command.{Command as Frame}
 use Rattle.i3c_lines.specs.declared.command.Command.{Command}
 use Rattle.i3c_lines.specs.declared.names.Name.{Name}
-use Rattle.i3c_lines.specs.Forms.{IsPolicy, willing_words}
+use Rattle.i3c_lines.specs.Forms.{willing_words}
 use Rattle.i3c_text.specs.Hex.{byte_text, bytes_text, hex_text}
 use Rattle.i3c_lines.specs.Data.{datum_word, length_word}
 use Rattle.i3c_lines.specs.Naming.{letters}
@@ -44,16 +44,16 @@ identity_words identity = hex_text 12 identity.pid ∷ byte_text identity.bcr.0 
 abbrev pub device_words : Name → Setup → List (List ℕ)
 device_words name setup = letters name ∷ hex_text 12 setup.identity.pid ∷ byte_text setup.identity.bcr.0 ∷ byte_text setup.identity.dcr.0 ∷ willing_words setup.willing
 
--- the word of a policy that has one, by its verdicts on joins, role requests and interrupts
-abbrev pub verdicts_word : Verdict → Verdict → Verdict → List ℕ
-verdicts_word Accept Accept Accept = codes "all"
-verdicts_word Refuse Refuse Refuse = codes "none"
-verdicts_word Accept Refuse Refuse = codes "joins"
-verdicts_word Refuse Accept Refuse = codes "roles"
-verdicts_word Refuse Refuse Accept = codes "interrupts"
-verdicts_word Accept Accept Refuse = []
-verdicts_word Accept Refuse Accept = []
-verdicts_word Refuse Accept Accept = []
+-- the words of a policy, by its verdicts on joins, role requests and interrupts
+abbrev pub verdicts_words : Verdict → Verdict → Verdict → List (List ℕ)
+verdicts_words Accept Accept Accept = codes "all" ∷ []
+verdicts_words Accept Accept Refuse = codes "joins" ∷ codes "roles" ∷ []
+verdicts_words Accept Refuse Accept = codes "joins" ∷ codes "interrupts" ∷ []
+verdicts_words Accept Refuse Refuse = codes "joins" ∷ []
+verdicts_words Refuse Accept Accept = codes "roles" ∷ codes "interrupts" ∷ []
+verdicts_words Refuse Accept Refuse = codes "roles" ∷ []
+verdicts_words Refuse Refuse Accept = codes "interrupts" ∷ []
+verdicts_words Refuse Refuse Refuse = codes "none" ∷ []
 
 -- the words of a frame's line
 abbrev pub frame_words : Frame → List (List ℕ)
@@ -85,10 +85,11 @@ command_words Command.Open = codes "open" ∷ []
 command_words Command.Round = codes "round" ∷ []
 command_words Command.End = codes "end" ∷ []
 command_words Command.Daa = codes "daa" ∷ []
-command_words (Command.Policy policy) = codes "policy" ∷ verdicts_word policy.join policy.role policy.interrupt ∷ []
+command_words (Command.Policy policy) = codes "policy" ∷ verdicts_words policy.join policy.role policy.interrupt
 command_words (Command.Cut name bit) = codes "cut" ∷ letters name ∷ decimal bit ∷ []
 command_words Command.Show = codes "show" ∷ []
 command_words Command.ShowAll = codes "show" ∷ codes "all" ∷ []
+command_words (Command.ShowFrom first) = codes "show" ∷ decimal first ∷ []
 command_words Command.Symbols = codes "symbols" ∷ []
 command_words (Command.Frames count) = codes "frames" ∷ decimal count ∷ []
 
@@ -123,7 +124,7 @@ FrameHasLine (Frame.SetNew at to) = (at < 128) × (to < 128)
 FrameHasLine (Frame.Get what at) = at < 128
 FrameHasLine (Frame.SetLength way most to) = (0 < most) × (most ≤ 16) × IsWithin 128 to
 
--- a command that a line can ask for: its names have letters, its numbers are in range, and its policy has a word
+-- a command that a line can ask for: its names have letters, and its numbers are in range
 abbrev pub HasLine : Command → Type 0
 HasLine (Command.Legacy name address lvr) = IsNamable name × (address < 128) × (lvr.0 < 256)
 HasLine (Command.Declare address identity) = (address < 128) × IsInRange identity
@@ -139,9 +140,10 @@ HasLine Command.Open = ⊤
 HasLine Command.Round = ⊤
 HasLine Command.End = ⊤
 HasLine Command.Daa = ⊤
-HasLine (Command.Policy policy) = (word : List ℕ) × IsPolicy word policy
+HasLine (Command.Policy policy) = ⊤
 HasLine (Command.Cut name bit) = IsNamable name × (bit < 2 ^ 16)
 HasLine Command.Show = ⊤
 HasLine Command.ShowAll = ⊤
+HasLine (Command.ShowFrom first) = (0 < first) × (first < 2 ^ 16)
 HasLine Command.Symbols = ⊤
 HasLine (Command.Frames count) = (0 < count) × (count < 2 ^ 16)

@@ -1,5 +1,5 @@
 ghost use Rattle.std.specs.Prelude.{◌≡◌, ◌∷◌, Some, codes, option_copied};
-ghost use Rattle.i3c_lines.specs.Forms.{AreAddress, AreAddresses, AreAsked, AreByte, AreDeclared, AreDevice, AreKinds, AreLength, IsForm, IsNamed, Writes, tokens};
+ghost use Rattle.i3c_lines.specs.Forms.{AreAddress, AreAddresses, AreAsked, AreByte, AreCount, AreDeclared, AreDevice, AreKinds, AreLength, IsForm, IsNamed, Writes, tokens};
 ghost use Rattle.i3c_lines.specs.Data.{length_word};
 ghost use Rattle.i3c_lines.specs.Parsing.{AreKept, AreNamed, AreWilling, Becomes, BecomesOther, IsOtherForm, Reads, TakesIdentity, TakesWord, left_words, words_of};
 
@@ -25,6 +25,8 @@ const SERVE: &[u8] = b"erve";
 const SHOW: &[u8] = b"how";
 
 const SHOW_ALL: &[u8] = b"how all";
+
+const SHOW_FROM: &[u8] = b"how ";
 
 const SYMBOLS: &[u8] = b"ymbols";
 
@@ -132,7 +134,8 @@ pub enum Command {
     End,
     /// `daa`: a whole session of dynamic address assignment.
     Daa,
-    /// `policy all|none|joins|roles|interrupts`: which requests the frames from now on accept.
+    /// `policy all`, `policy none` or `policy KIND..`: which requests the frames from now on accept. A KIND is `joins`,
+    /// `roles` or `interrupts`, and no other kind is accepted.
     Policy(Fixed),
     /// `cut NAME BIT`: a device loses power at a bit of the next frame.
     Cut {
@@ -143,6 +146,8 @@ pub enum Command {
     Show,
     /// `show all`: the same, and what each device is, which of its events are enabled, and what it wishes for.
     ShowAll,
+    /// `show N`: the same as `show`, but of the records only those from this number on.
+    ShowFrom(u16),
     /// `symbols`: the last symbols of the wire.
     Symbols,
     /// `frames N`: the last N whole frames of these symbols.
@@ -235,6 +240,9 @@ impl Command {
         }
         if let Some(line) = after(tail, SETMRL) {
             return self.read_length(Direction::Read, line);
+        }
+        if let Some(line) = after(tail, SHOW_FROM) {
+            return self.read_shown(line);
         }
         None
     }
@@ -385,6 +393,18 @@ impl Command {
     {
         let (most, to) = parse_length(&mut Tokens::of(line))?;
         *self = Command::Frame(Frame::SetLength(way, most, to));
+        Some(())
+    }
+
+    /// Becomes `show N`, by the word behind its first, which isn't `all`: a number.
+    // kept apart, so that no other line pays for it
+    #[inline(never)]
+    fn read_shown(&mut self, line: &[u8]) -> Option<()>
+        requires { line.now ≡ codes "all" → ⊥ }
+        ensures { Becomes (codes "show" ∷ tokens line.now) result self.old self.new }
+    {
+        let first = parse_count(&mut Tokens::of(line))?;
+        *self = Command::ShowFrom(first);
         Some(())
     }
 
@@ -575,12 +595,11 @@ fn parse_handover(words: &mut Tokens<'_>) -> Option<Command>
     Some(Command::HandOver { to })
 }
 
-/// The word of `policy`.
+/// The words of `policy`.
 fn parse_policy(words: &mut Tokens<'_>) -> Option<Command>
     ensures { Reads IsForm (codes "policy" ∷ left_words words.old) result }
 {
-    let policy = policy(words.next()?)?;
-    words.end()?;
+    let policy = policy(words)?;
     Some(Command::Policy(policy))
 }
 
@@ -598,9 +617,17 @@ fn parse_cut(words: &mut Tokens<'_>) -> Option<Command>
 fn parse_frames(words: &mut Tokens<'_>) -> Option<Command>
     ensures { Reads IsForm (codes "frames" ∷ left_words words.old) result }
 {
+    let count = parse_count(words)?;
+    Some(Command::Frames(count))
+}
+
+/// The last word, which is a count.
+fn parse_count(words: &mut Tokens<'_>) -> Option<u16>
+    ensures { Reads AreCount (left_words words.old) result }
+{
     let count = tokens::count(words.next()?)?;
     words.end()?;
-    Some(Command::Frames(count))
+    Some(count)
 }
 
 /// The words of `enec` and of `disec`: a byte, and an address if one is given.

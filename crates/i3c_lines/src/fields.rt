@@ -1,7 +1,7 @@
 ghost use Rattle.std.specs.Prelude.{◌≡◌, ◌↔◌, IsTrue};
 
 use crate::names::Name;
-use crate::policies::policy;
+use crate::policies::{is_first, is_kind};
 use crate::tokens::{self, is_word};
 
 /// The last word of a device that doesn't take the controller role.
@@ -39,10 +39,12 @@ pub enum Field {
     Count,
     /// How many bytes a transfer may have.
     Length,
-    /// The word that asks for all of the bus.
-    All,
-    /// The name of a policy.
+    /// What else of the bus is shown: all of it, or its records from a number on.
+    Shown,
+    /// The first word of a policy.
     Policy,
+    /// A kind of request, which a policy accepts.
+    Kind,
     /// The word of a device that doesn't take the controller role.
     Decline,
 }
@@ -63,9 +65,10 @@ impl Field {
             Field::Bit => tokens::bit(word).is_some(),
             Field::Count => tokens::count(word).is_some(),
             Field::Length => tokens::length(word).is_some(),
-            Field::Policy => policy(word).is_some(),
+            Field::Policy => is_first(word),
+            Field::Kind => is_kind(word),
             Field::Decline => is_word(word, DECLINE),
-            Field::All => is_word(word, ALL),
+            Field::Shown => is_word(word, ALL) || tokens::count(word).is_some(),
         }
     }
 
@@ -85,7 +88,8 @@ impl Field {
             Field::Bit => "BIT",
             Field::Count | Field::Length => "N",
             Field::Policy => "POLICY",
-            Field::Decline | Field::All => "",
+            Field::Kind => "KIND",
+            Field::Decline | Field::Shown => "",
         }
     }
 
@@ -103,8 +107,9 @@ impl Field {
             Field::Count => "decimal digits, 1 to 65535",
             Field::Length => "decimal digits, 1 to 16",
             Field::Policy => "all, none, joins, roles or interrupts",
+            Field::Kind => "joins, roles or interrupts",
             Field::Decline => "'decline' or nothing",
-            Field::All => "'all' or nothing",
+            Field::Shown => "'all', a record's number from 1 to 65535, or nothing",
         }
     }
 
@@ -125,8 +130,9 @@ impl Field {
             | Field::Count
             | Field::Length
             | Field::Policy
+            | Field::Kind
             | Field::Decline
-            | Field::All => false,
+            | Field::Shown => false,
         }
     }
 }

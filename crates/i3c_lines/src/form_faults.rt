@@ -4,6 +4,7 @@ ghost use Rattle.i3c_lines.specs.Faults.{IsSo};
 
 use crate::fields::Field;
 use crate::line::{LINE_LENGTH, read_line};
+use crate::policies::{REFUSE_ALL, accept};
 use crate::shapes::{Shape, nearest, shape_of};
 use crate::tokens::{SPACE, Tokens, after};
 use i3c_text::Text;
@@ -46,6 +47,8 @@ pub enum FormFault<'a> {
     Misfit(Field, &'a [u8]),
     /// This word is one too many.
     Surplus(&'a [u8]),
+    /// This word names a kind of request that a word before it names.
+    Repeated(&'a [u8]),
 }
 
 /// Why a line has no form, if it has none. A line that is empty or a comment has one.
@@ -104,6 +107,7 @@ fn stray_byte(line: &[u8]) -> Option<FormFault<'_>>
 fn misfit<'a>(first: &'a [u8], shape: &Shape, words: &mut Tokens<'a>) -> FormFault<'a>
     ensures { (line : List ℕ) → IsSo line result }
 {
+    let mut kinds = *words;
     for field in shape.needed {
         let Some(word) = words.next() else {
             return FormFault::Missing(*field);
@@ -112,7 +116,33 @@ fn misfit<'a>(first: &'a [u8], shape: &Shape, words: &mut Tokens<'a>) -> FormFau
             return fault;
         }
     }
-    last_misfit(first, shape.further, words)
+    match shape.further {
+        Some(Field::Kind) => kind_misfit(first, &mut kinds),
+        further => last_misfit(first, further, words),
+    }
+}
+
+/// The first of a policy's words that may not follow those before it.
+fn kind_misfit<'a>(first: &'a [u8], words: &mut Tokens<'a>) -> FormFault<'a>
+    ensures { (line : List ℕ) → IsSo line result }
+{
+    let Some(word) = words.next() else {
+        return FormFault::Unknown(first);
+    };
+    let Some(mut policy) = accept(REFUSE_ALL, word) else {
+        // `all` or `none`, behind which nothing follows
+        return last_misfit(first, None, words);
+    };
+    while let Some(word) = words.next() {
+        if let Some(fault) = misfit_at(Field::Kind, word) {
+            return fault;
+        }
+        match accept(policy, word) {
+            Some(next) => policy = next,
+            None => return FormFault::Repeated(word),
+        }
+    }
+    FormFault::Unknown(first)
 }
 
 /// The first of the words behind those that a command needs that isn't as its shape has it.
@@ -176,6 +206,10 @@ impl FormFault<'_> {
             FormFault::Surplus(word) => {
                 push_quoted(word, text)?;
                 text.push(b": a word too many")
+            }
+            FormFault::Repeated(word) => {
+                push_quoted(word, text)?;
+                text.push(b": named twice")
             }
         }
     }

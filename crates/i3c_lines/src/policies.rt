@@ -1,7 +1,10 @@
-ghost use Rattle.std.specs.Prelude.{MatchOption};
-ghost use Rattle.i3c_lines.specs.Forms.{IsPolicy};
+ghost use Rattle.std.specs.Prelude.{◌≡◌, ◌↔◌, ◌⊎◌, IsTrue, MatchOption};
+ghost use Rattle.i3c_lines.specs.Parsing.{Reads, left_words};
+ghost use Rattle.i3c_lines.specs.Policies.{AcceptEach, Accepts, IsAlone, IsPolicy, each_kind};
 ghost use Rattle.i3c_base.specs.declared.requests.Fixed.{Fixed};
+ghost use Rattle.i3c_base.specs.declared.requests.Verdict.TheVariants.{Accept, Refuse};
 
+use crate::tokens::{Tokens, is_word};
 use i3c_base::{Fixed, Verdict};
 
 /// Each request is accepted, as at the start of a script.
@@ -12,31 +15,108 @@ pub const ACCEPT_ALL: Fixed = Fixed {
 };
 
 /// Each request is turned down.
-const REFUSE_ALL: Fixed = Fixed {
+pub(crate) const REFUSE_ALL: Fixed = Fixed {
     join: Verdict::Refuse,
     role: Verdict::Refuse,
     interrupt: Verdict::Refuse,
 };
 
-/// The policy that a word names: `all` or `none`, or the kind of request that alone is accepted.
-pub(crate) fn policy(word: &[u8]) -> Option<Fixed>
-    ensures { MatchOption result ((policy : Fixed) → IsPolicy word.now policy → ⊥) (λ policy. IsPolicy word.now policy) }
+const ALL: &[u8] = b"all";
+
+const NONE: &[u8] = b"none";
+
+const JOINS: &[u8] = b"joins";
+
+const ROLES: &[u8] = b"roles";
+
+const INTERRUPTS: &[u8] = b"interrupts";
+
+/// The policy that words name: `all` or `none` alone, or the kinds of requests that alone are accepted, each once.
+pub(crate) fn policy(words: &mut Tokens<'_>) -> Option<Fixed>
+    ensures { Reads IsPolicy (left_words words.old) result }
 {
-    match word {
-        b"all" => Some(ACCEPT_ALL),
-        b"none" => Some(REFUSE_ALL),
-        b"joins" => Some(Fixed {
-            join: Verdict::Accept,
-            ..REFUSE_ALL
-        }),
-        b"roles" => Some(Fixed {
-            role: Verdict::Accept,
-            ..REFUSE_ALL
-        }),
-        b"interrupts" => Some(Fixed {
-            interrupt: Verdict::Accept,
-            ..REFUSE_ALL
-        }),
-        _ => None,
+    let first = words.next()?;
+    match alone(first) {
+        Some(policy) => {
+            words.end()?;
+            Some(policy)
+        }
+        None => accept_each(accept(REFUSE_ALL, first)?, words),
+    }
+}
+
+/// The policy of a word that stands alone.
+pub(crate) fn alone(word: &[u8]) -> Option<Fixed>
+    ensures { MatchOption result ((policy : Fixed) → IsAlone word.now policy → ⊥) (λ policy. IsAlone word.now policy) }
+{
+    if is_word(word, ALL) {
+        return Some(ACCEPT_ALL);
+    }
+    if is_word(word, NONE) {
+        return Some(REFUSE_ALL);
+    }
+    None
+}
+
+/// A policy that accepts the kinds of more words as well.
+fn accept_each(policy: Fixed, words: &mut Tokens<'_>) -> Option<Fixed>
+    ensures { Reads (λ words new. AcceptEach words policy new) (left_words words.old) result }
+{
+    let Some(word) = words.next() else {
+        return Some(policy);
+    };
+    let next = accept(policy, word)?;
+    accept_each(next, words)
+}
+
+/// A policy that accepts a word's kind as well, which it turned down.
+pub(crate) fn accept(policy: Fixed, word: &[u8]) -> Option<Fixed>
+    ensures { MatchOption result ((next : Fixed) → Accepts word.now policy next → ⊥) (λ next. Accepts word.now policy next) }
+{
+    if is_word(word, JOINS) {
+        let join = accept_once(policy.join)?;
+        return Some(Fixed { join, ..policy });
+    }
+    if is_word(word, ROLES) {
+        let role = accept_once(policy.role)?;
+        return Some(Fixed { role, ..policy });
+    }
+    if is_word(word, INTERRUPTS) {
+        let interrupt = accept_once(policy.interrupt)?;
+        return Some(Fixed {
+            interrupt,
+            ..policy
+        });
+    }
+    None
+}
+
+/// A verdict that accepts, in place of one that doesn't.
+fn accept_once(verdict: Verdict) -> Option<Verdict>
+    ensures { MatchOption result (verdict ≡ Accept) (λ accept. (accept ≡ Accept) × (verdict ≡ Refuse)) }
+{
+    match verdict {
+        Verdict::Refuse => Some(Verdict::Accept),
+        Verdict::Accept => None,
+    }
+}
+
+/// Whether a word names a kind of request.
+pub(crate) fn is_kind(word: &[u8]) -> bool
+    ensures { IsTrue result ↔ ((policy : Fixed) × Accepts word.now (each_kind Refuse) policy) }
+{
+    match accept(REFUSE_ALL, word) {
+        Some(_) => true,
+        None => false,
+    }
+}
+
+/// Whether a word can be the first of a policy's.
+pub(crate) fn is_first(word: &[u8]) -> bool
+    ensures { IsTrue result ↔ ((policy : Fixed) × (IsAlone word.now policy ⊎ Accepts word.now (each_kind Refuse) policy)) }
+{
+    match alone(word) {
+        Some(_) => true,
+        None => is_kind(word),
     }
 }

@@ -4,7 +4,7 @@ ghost use Rattle.i3c_lines.specs.Forms.{willing_words};
 ghost use Rattle.i3c_text.specs.Hex.{byte_text, hex_text};
 ghost use Rattle.i3c_lines.specs.Data.{datum_word, length_word};
 ghost use Rattle.i3c_lines.specs.Naming.{letters};
-ghost use Rattle.i3c_lines.specs.Printing.{behind, byte_words, command_text, device_words, frame_words, identity_words, spaced, verdicts_word, written_words};
+ghost use Rattle.i3c_lines.specs.Printing.{behind, byte_words, command_text, device_words, frame_words, identity_words, spaced, verdicts_words, written_words};
 
 use crate::command::Command;
 use crate::data::{length_word, told_word};
@@ -39,8 +39,9 @@ impl Command {
             Command::Cut { name, bit } => push_cut(text, name, *bit),
             Command::Show => text.push(b"show"),
             Command::ShowAll => text.push(b"show all"),
+            Command::ShowFrom(first) => push_counted(text, b"show", *first),
             Command::Symbols => text.push(b"symbols"),
-            Command::Frames(count) => push_frames(text, *count),
+            Command::Frames(count) => push_counted(text, b"frames", *count),
         }
     }
 }
@@ -226,26 +227,28 @@ fn push_length(
 
 /// Appends a policy's line.
 fn push_policy(text: &mut Text, policy: &Fixed) -> Result<(), AllocError>
-    ensures { OnOk result (text.new ≡ text.old ++ spaced (codes "policy" ∷ verdicts_word policy.now.join policy.now.role policy.now.interrupt ∷ [])) }
+    ensures { OnOk result (text.new ≡ text.old ++ spaced (codes "policy" ∷ verdicts_words policy.now.join policy.now.role policy.now.interrupt)) }
 {
     text.push(b"policy")?;
     push_word(
         text,
-        verdicts_word(policy.join, policy.role, policy.interrupt).as_bytes(),
+        verdicts_words(policy.join, policy.role, policy.interrupt).as_bytes(),
     )
 }
 
-/// The word of a policy that has one.
-fn verdicts_word(join: Verdict, role: Verdict, interrupt: Verdict) -> &'static str
-    ensures { result.now ≡ verdicts_word join role interrupt }
+/// The words of a policy, with spaces between.
+fn verdicts_words(join: Verdict, role: Verdict, interrupt: Verdict) -> &'static str
+    ensures { result.now ≡ spaced (verdicts_words join role interrupt) }
 {
     match (join, role, interrupt) {
         (Verdict::Accept, Verdict::Accept, Verdict::Accept) => "all",
-        (Verdict::Refuse, Verdict::Refuse, Verdict::Refuse) => "none",
+        (Verdict::Accept, Verdict::Accept, Verdict::Refuse) => "joins roles",
+        (Verdict::Accept, Verdict::Refuse, Verdict::Accept) => "joins interrupts",
         (Verdict::Accept, Verdict::Refuse, Verdict::Refuse) => "joins",
+        (Verdict::Refuse, Verdict::Accept, Verdict::Accept) => "roles interrupts",
         (Verdict::Refuse, Verdict::Accept, Verdict::Refuse) => "roles",
         (Verdict::Refuse, Verdict::Refuse, Verdict::Accept) => "interrupts",
-        _ => "",
+        (Verdict::Refuse, Verdict::Refuse, Verdict::Refuse) => "none",
     }
 }
 
@@ -258,10 +261,11 @@ fn push_cut(text: &mut Text, name: &Name, bit: u16) -> Result<(), AllocError>
     text.push_decimal(u64::from(bit))
 }
 
-/// Appends `frames`, and how many.
-fn push_frames(text: &mut Text, count: u16) -> Result<(), AllocError>
-    ensures { OnOk result (text.new ≡ text.old ++ spaced (codes "frames" ∷ decimal count ∷ [])) }
+/// Appends a first word, and a count.
+fn push_counted(text: &mut Text, first: &[u8], count: u16) -> Result<(), AllocError>
+    ensures { OnOk result (text.new ≡ text.old ++ spaced (first.now ∷ decimal count ∷ [])) }
 {
-    text.push(b"frames ")?;
+    text.push(first)?;
+    text.push(b" ")?;
     text.push_decimal(u64::from(count))
 }

@@ -3,7 +3,8 @@ use std::alloc::{AllocError, Global};
 use std::str;
 use strsim::osa_distance;
 
-/// A command's first word, the fields that must follow it, and one that may follow these.
+/// A command's first word, the fields that must follow it, and one that may follow these. A kind may be followed by
+/// others.
 pub(crate) struct Shape {
     word: &'static str,
     pub(crate) needed: &'static [Field],
@@ -55,7 +56,7 @@ static SHAPES: [Shape; 37] = [
     Shape {
         word: "policy",
         needed: &[Field::Policy],
-        further: None,
+        further: Some(Field::Kind),
     },
     Shape {
         word: "cut",
@@ -185,7 +186,7 @@ static SHAPES: [Shape; 37] = [
     Shape {
         word: "show",
         needed: &[],
-        further: Some(Field::All),
+        further: Some(Field::Shown),
     },
     Shape {
         word: "symbols",

@@ -173,6 +173,7 @@ does_late old (Command.Policy policy) refused new s bit more e late later does =
 does_late old (Command.Cut name at) refused new s bit more e late later does = absurd cc
 does_late old Command.Show refused new s bit more e late later does = absurd cc
 does_late old Command.ShowAll refused new s bit more e late later does = absurd cc
+does_late old (Command.ShowFrom first) refused new s bit more e late later does = absurd cc
 does_late old Command.Symbols refused new s bit more e late later does = absurd cc
 does_late old (Command.Frames count) refused new s bit more e late later does = absurd cc
 does_late old (Command.Legacy name address lvr) refused new s bit more e late later does = absurd cc

@@ -95,6 +95,7 @@ Does old (Command.Cut name bit) refused new = MatchResult (present_in old.state 
     (λ slot. Becomes (seen old.state old.policy (cut_at old.cuts slot bit) old.names) refused new) (λ why. IsRefused old why refused new)
 Does old Command.Show refused new = Becomes old refused new
 Does old Command.ShowAll refused new = Becomes old refused new
+Does old (Command.ShowFrom first) refused new = Becomes old refused new
 Does old Command.Symbols refused new = Becomes old refused new
 Does old (Command.Frames count) refused new = Becomes old refused new
 Does old (Command.Legacy name address lvr) refused new = IsRefused old Refusal.BusMade refused new

@@ -262,7 +262,11 @@ impl Live {
                 Ok(())
             }
             Command::Cut { name, bit } => self.cut(name, *bit),
-            Command::Show | Command::ShowAll | Command::Symbols | Command::Frames(_) => Ok(()),
+            Command::Show
+            | Command::ShowAll
+            | Command::ShowFrom(_)
+            | Command::Symbols
+            | Command::Frames(_) => Ok(()),
             Command::Legacy { .. } | Command::Declare { .. } | Command::Main { .. } => Err(
                 Stop::Refused(Refusal::BusMade),
             ),

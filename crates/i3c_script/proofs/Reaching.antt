@@ -105,6 +105,7 @@ does_on steps old new names (Command.Policy policy) said refused r h = none_more
 does_on steps old new names (Command.Cut name bit) said refused r h = cut_on steps (slot_of_device old.state names name) old new _ said refused (λ slot. refl) r h
 does_on steps old new names Command.Show said refused r h = stays steps old new r h.0
 does_on steps old new names Command.ShowAll said refused r h = stays steps old new r h.0
+does_on steps old new names (Command.ShowFrom first) said refused r h = stays steps old new r h.0
 does_on steps old new names Command.Symbols said refused r h = stays steps old new r h.0
 does_on steps old new names (Command.Frames count) said refused r h = stays steps old new r h.0
 does_on steps old new names (Command.Legacy name address lvr) said refused r h = stays steps old new r h.0
@@ -134,6 +135,7 @@ obeys_on steps old new names named (Command.Policy policy) said refused r (same,
 obeys_on steps old new names named (Command.Cut name bit) said refused r (same, h) = does_on steps old new names (Command.Cut name bit) said refused r h
 obeys_on steps old new names named Command.Show said refused r (same, h) = does_on steps old new names Command.Show said refused r h
 obeys_on steps old new names named Command.ShowAll said refused r (same, h) = does_on steps old new names Command.ShowAll said refused r h
+obeys_on steps old new names named (Command.ShowFrom first) said refused r (same, h) = does_on steps old new names (Command.ShowFrom first) said refused r h
 obeys_on steps old new names named Command.Symbols said refused r (same, h) = does_on steps old new names Command.Symbols said refused r h
 obeys_on steps old new names named (Command.Frames count) said refused r (same, h) = does_on steps old new names (Command.Frames count) said refused r h
 obeys_on steps old new names named (Command.Legacy name address lvr) said refused r (same, h) = does_on steps old new names (Command.Legacy name address lvr) said refused r h
@@ -186,6 +188,7 @@ before_on steps board names (Command.Policy policy) said refused new none h = sa
 before_on steps board names (Command.Cut name bit) said refused new none h = same_before steps board names new none h.0
 before_on steps board names Command.Show said refused new none h = same_before steps board names new none h.0
 before_on steps board names Command.ShowAll said refused new none h = same_before steps board names new none h.0
+before_on steps board names (Command.ShowFrom first) said refused new none h = same_before steps board names new none h.0
 before_on steps board names Command.Symbols said refused new none h = same_before steps board names new none h.0
 before_on steps board names (Command.Frames count) said refused new none h = same_before steps board names new none h.0
 

@@ -95,6 +95,7 @@ on_bus_made old names (Command.Policy policy) said refused new named (same, does
 on_bus_made old names (Command.Cut name bit) said refused new named (same, does) = does_made old names (Command.Cut name bit) said refused new does
 on_bus_made old names Command.Show said refused new named (same, does) = does_made old names Command.Show said refused new does
 on_bus_made old names Command.ShowAll said refused new named (same, does) = does_made old names Command.ShowAll said refused new does
+on_bus_made old names (Command.ShowFrom first) said refused new named (same, does) = does_made old names (Command.ShowFrom first) said refused new does
 on_bus_made old names Command.Symbols said refused new named (same, does) = does_made old names Command.Symbols said refused new does
 on_bus_made old names (Command.Frames count) said refused new named (same, does) = does_made old names (Command.Frames count) said refused new does
 on_bus_made old names (Command.Legacy name address lvr) said refused new named (same, does) = does_made old names (Command.Legacy name address lvr) said refused new does

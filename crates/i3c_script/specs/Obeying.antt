@@ -1,5 +1,5 @@
 -- What a line's command does, what it prints, and why it is refused.
-use Rattle.std.specs.Prelude.{◌≡◌, ℕ, List, [], Option, Some, None, Result, MatchOption, MatchResult, if◌then◌else◌, is_some, option_map, slice_set, replicate}
+use Rattle.std.specs.Prelude.{◌≡◌, ℕ, ◌-◌, List, [], Option, Some, None, Result, MatchOption, MatchResult, if◌then◌else◌, is_some, option_map, slice_set, replicate}
 use Rattle.i3c_base.specs.declared.device.Setup.{Setup}
 use Rattle.i3c_base.specs.declared.identity.Bcr.{Bcr}
 use Rattle.i3c_base.specs.declared.identity.Identity.{Identity}
@@ -27,7 +27,7 @@ use Rattle.i3c_script.specs.declared.stage.Stage.{Stage}
 use Rattle.i3c_script.specs.Asking.{IsEntrance, slot_meant, slot_of_device}
 use Rattle.i3c_script.specs.Assigning.{Assigns, Moves}
 use Rattle.i3c_script.specs.Details.{show_all_text}
-use Rattle.i3c_script.specs.Printed.{added_text, declared_text, frames_text, main_text, show_text, subject_of, symbols_text}
+use Rattle.i3c_script.specs.Printed.{added_text, declared_text, frames_text, main_text, show_behind_text, show_text, subject_of, symbols_text}
 use Rattle.i3c_script.specs.Ran.{Ran}
 use Rattle.i3c_script.specs.Telling.{IsTold, Prints}
 
@@ -156,6 +156,7 @@ Does old names (Command.Cut name bit) said refused new = MatchResult (slot_of_de
     (λ why. (new ≡ old) × IsRefused why said refused)
 Does old names Command.Show said refused new = (new ≡ old) × IsDone (show_text old.state names) said refused
 Does old names Command.ShowAll said refused new = (new ≡ old) × IsDone (show_all_text old.state names old.ended) said refused
+Does old names (Command.ShowFrom first) said refused new = (new ≡ old) × IsDone (show_behind_text (first - 1) old.state names) said refused
 Does old names Command.Symbols said refused new = (new ≡ old) × IsDone (symbols_text old.wire) said refused
 Does old names (Command.Frames count) said refused new = (new ≡ old) × IsDone (frames_text count old.wire) said refused
 Does old names (Command.Legacy name address lvr) said refused new = (new ≡ old) × IsRefused Refusal.BusMade said refused

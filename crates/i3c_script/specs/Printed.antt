@@ -1,5 +1,5 @@
 -- What lines print.
-use Rattle.std.specs.Prelude.{◌≡◌, ℕ, zero, suc, if◌then◌else◌, List, [], ◌∷◌, ◌++◌, codes, length, map, Option, Some, None, Result, Ok, Err, slice_index_or}
+use Rattle.std.specs.Prelude.{◌≡◌, ℕ, zero, suc, if◌then◌else◌, List, [], ◌∷◌, ◌++◌, codes, drop, length, map, Option, Some, None, Result, Ok, Err, slice_index_or}
 use Rattle.std.specs.Fmt.{decimal}
 use Rattle.std.specs.List.{flat_map, join_with_byte}
 use Rattle.circular_buffer.specs.Buffer.{keep_last}
@@ -219,14 +219,18 @@ abbrev pub numbered_text : ℕ → List Record → List ℕ
 numbered_text number [] = []
 numbered_text number (r ∷ rest) = codes "record " ++ (decimal number ++ (record_text r ++ numbered_text (suc number) rest))
 
--- how many interrupts were recorded, and each, the oldest first
-abbrev pub records_text : List Record → List ℕ
-records_text records = number_text (codes "records ") (length records) ++ numbered_text 1 records
+-- how many interrupts were recorded, and each behind the first so many, the oldest first
+abbrev pub records_text : ℕ → List Record → List ℕ
+records_text passed records = number_text (codes "records ") (length records) ++ numbered_text (suc passed) (drop passed records)
 
--- `show`: the active controller's address, the present devices, the legacy targets and the records
+-- the active controller's address, the present devices, the legacy targets, and the records behind the first so many
+abbrev pub show_behind_text : ℕ → State → Names → List ℕ
+show_behind_text passed st names =
+    codes "active " ++ (byte_or_none (address_of (device_at st st.active)) ++ (10 ∷ (devices_text st names SLOTS ++ (legacies_text names ADDRESSES ++ records_text passed st.records))))
+
+-- `show`: the same with all records
 abbrev pub show_text : State → Names → List ℕ
-show_text st names =
-    codes "active " ++ (byte_or_none (address_of (device_at st st.active)) ++ (10 ∷ (devices_text st names SLOTS ++ (legacies_text names ADDRESSES ++ records_text st.records))))
+show_text st names = show_behind_text 0 st names
 
 -- `symbols`: these, with a space between each two
 abbrev pub symbols_text : List Symbol → List ℕ

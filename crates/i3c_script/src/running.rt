@@ -6,7 +6,7 @@ use crate::asking::{entrance, slot_of_device};
 use crate::assigning;
 use crate::details::show_all;
 use crate::faults::Stop;
-use crate::show::show_bus;
+use crate::show::{show_bus, show_bus_behind};
 use crate::telling::{
     frame_subject, subject_of, tell, tell_attached, tell_dropped, tell_join, tell_raised, tell_role,
 };
@@ -50,7 +50,7 @@ impl Model for Running {
 }
 
 impl Running {
-    ghost use Rattle.std.specs.Prelude.{◌≡◌, [], true, Ok, Err, IfOk, MatchResult, OnOk};
+    ghost use Rattle.std.specs.Prelude.{◌≡◌, ◌-◌, [], true, Ok, Err, IfOk, MatchResult, OnOk};
     ghost use Rattle.i3c_base.specs.Numbers.{is_capable};
     ghost use Rattle.i3c_base.specs.Cutting.{no_cuts};
     ghost use Rattle.i3c_base.specs.State.{IsStart};
@@ -61,7 +61,7 @@ impl Running {
     ghost use Rattle.i3c_script.specs.Assigning.{Assigns, Moves, cuts_left};
     ghost use Rattle.i3c_script.specs.Obeying.{Answers, AnswersIn, Enters, IsDone, ObeysOn, cut_at};
     ghost use Rattle.i3c_script.specs.Details.{show_all_text};
-    ghost use Rattle.i3c_script.specs.Printed.{frames_text, show_text, symbols_text};
+    ghost use Rattle.i3c_script.specs.Printed.{frames_text, show_behind_text, show_text, symbols_text};
     ghost use Rattle.i3c_script.specs.Ran.{IsEnd};
     ghost use Rattle.i3c_script.specs.Telling.{Prints};
     ghost use Rattle.i3c_lines.specs.Policies.{each_kind};
@@ -132,6 +132,7 @@ impl Running {
             Command::Cut { name, bit } => self.cut(names, name, *bit),
             Command::Show => self.show(names, text),
             Command::ShowAll => self.show_all(names, text),
+            Command::ShowFrom(first) => self.show_from(names, *first, text),
             Command::Symbols => self.show_symbols(text),
             Command::Frames(count) => self.show_frames(*count, text),
             Command::Legacy { .. } | Command::Declare { .. } | Command::Main { .. } => Err(
@@ -350,6 +351,18 @@ impl Running {
         ensures { Prints (IsDone (show_text self.now.state names.now)) text.old text.new result }
     {
         match show_bus(&self.bus, names, text) {
+            Ok(()) => Ok(()),
+            Err(_) => Err(Stop::Memory),
+        }
+    }
+
+    /// `show N`: the bus with its records from this number on.
+    #[inline(never)]
+    fn show_from(&self, names: &Names, first: u16, text: &mut Text) -> Result<(), Stop>
+        ensures { Prints (IsDone (show_behind_text (first - 1) self.now.state names.now)) text.old text.new result }
+    {
+        let passed = usize::from(first).saturating_sub(1);
+        match show_bus_behind(&self.bus, names, passed, text) {
             Ok(()) => Ok(()),
             Err(_) => Err(Stop::Memory),
         }

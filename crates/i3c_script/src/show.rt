@@ -5,7 +5,7 @@ ghost use Rattle.i3c_bus.specs.Readings.{AreAskers, address_of};
 ghost use Rattle.i3c_device.specs.Sets.{IsLowestOf};
 ghost use Rattle.i3c_base.specs.State.{IsPresent, device_at};
 ghost use Rattle.i3c_lines.specs.Naming.{legacy_names, letters, slot_names};
-ghost use Rattle.i3c_script.specs.Printed.{TellsAskers, added_text, asker_text, askers_text, byte_or_none, declared_text, device_text, devices_text, legacies_text, legacy_text, numbered_text, record_text, recorded_text, records_text, show_text};
+ghost use Rattle.i3c_script.specs.Printed.{TellsAskers, added_text, asker_text, askers_text, byte_or_none, declared_text, device_text, devices_text, legacies_text, legacy_text, numbered_text, record_text, recorded_text, records_text, show_behind_text, show_text};
 
 use i3c_base::{ADDRESSES, Addr7, Record, SLOTS, Slot};
 use i3c_bus::{Bus, Request, SlotSet};
@@ -76,10 +76,22 @@ pub(crate) fn show_main(
 pub fn show_bus(bus: &Bus, names: &Names, text: &mut Text) -> Result<(), AllocError>
     ensures { OnOk result (text.new ≡ text.old ++ show_text bus.now.state names.now) }
 {
+    show_bus_behind(bus, names, 0, text)
+}
+
+/// Prints the same, but of the records only those behind the first `passed`.
+pub(crate) fn show_bus_behind(
+    bus: &Bus,
+    names: &Names,
+    passed: usize,
+    text: &mut Text,
+) -> Result<(), AllocError>
+    ensures { OnOk result (text.new ≡ text.old ++ show_behind_text passed bus.now.state names.now) }
+{
     show_place(b"active ", bus.address(bus.active()), text)?;
     show_devices(bus, names, text)?;
     show_legacies(names, text)?;
-    show_records(bus.records(), text)
+    show_records(bus.records(), passed, text)
 }
 
 /// Prints each present device, by slot.
@@ -140,12 +152,12 @@ fn show_legacy(names: &Names, address: Addr7, text: &mut Text) -> Result<(), All
     }
 }
 
-/// Prints how many interrupts were recorded, and each, the oldest first.
-fn show_records(records: &[Record], text: &mut Text) -> Result<(), AllocError>
-    ensures { OnOk result (text.new ≡ text.old ++ records_text records.now) }
+/// Prints how many interrupts were recorded, and each behind the first `passed`, the oldest first.
+fn show_records(records: &[Record], passed: usize, text: &mut Text) -> Result<(), AllocError>
+    ensures { OnOk result (text.new ≡ text.old ++ records_text passed records.now) }
 {
     text.push_numbered(b"records ", records.len() as u64)?;
-    show_records_behind(records, 0, text)
+    show_records_behind(records, passed, text)
 }
 
 /// Prints the records behind the first `count`, each with its number, as `show` does.

@@ -28,6 +28,7 @@ is_outer (Command.Declare address identity) = true
 is_outer (Command.Main name setup) = true
 is_outer Command.Show = true
 is_outer Command.ShowAll = true
+is_outer (Command.ShowFrom first) = true
 is_outer Command.Symbols = true
 is_outer (Command.Frames count) = true
 is_outer _ = false

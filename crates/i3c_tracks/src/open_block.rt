@@ -54,6 +54,7 @@ fn is_outer(command: &Command) -> bool
             | Command::Main { .. }
             | Command::Show
             | Command::ShowAll
+            | Command::ShowFrom(_)
             | Command::Symbols
             | Command::Frames(_)
     )

@@ -122,6 +122,7 @@ A script says what happens on the bus, one line for each event, and each line pr
   cut t 9                       it does so in the midst of the next frame, at bit 9
   show                          who is there, at which addresses, and what was recorded
   show all                      the same, with PIDs, enabled kinds and wishes
+  show 8                        as show, but of what was recorded only the eighth and later
   symbols                       the last symbols of the wire
   frames 2                      its last two whole frames, a line each
   expect t waiting 0            whether this holds here: 'met', or 'unmet', the line's number and what is there

@@ -11,10 +11,11 @@ returns g c = (
         | inr (inl show) ↦ false≢true (c.if-is_word-2.ensures.1 show)
         | inr (inr (inl symbols)) ↦ false≢true (c.if-is_word-3.ensures.1 symbols)
         | inr (inr (inr (inl all))) ↦ false≢true (c.if-is_word-4.ensures.1 all)
-        | inr (inr (inr (inr (inl static)))) ↦ c.in_default.ensures static.0 static.1
-        | inr (inr (inr (inr (inr (inl new))))) ↦ c.in_default-after.ensures new.0 new.1
-        | inr (inr (inr (inr (inr (inr (inl written)))))) ↦ c.in_default-after-2.ensures written.0 written.1
-        | inr (inr (inr (inr (inr (inr (inr told)))))) ↦ c.in_default-after-3.ensures told.0 told.1
+        | inr (inr (inr (inr (inl from)))) ↦ c.in_default-after-4.ensures from.0 from.1
+        | inr (inr (inr (inr (inr (inl static))))) ↦ c.in_default.ensures static.0 static.1
+        | inr (inr (inr (inr (inr (inr (inl new)))))) ↦ c.in_default-after.ensures new.0 new.1
+        | inr (inr (inr (inr (inr (inr (inr (inl written))))))) ↦ c.in_default-after-2.ensures written.0 written.1
+        | inr (inr (inr (inr (inr (inr (inr (inr told))))))) ↦ c.in_default-after-3.ensures told.0 told.1
       ],
   refl,
 )
