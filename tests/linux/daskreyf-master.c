@@ -13,12 +13,14 @@
 #include <linux/of.h>
 #include <linux/platform_device.h>
 #include <linux/slab.h>
+#include <asm/unaligned.h>
 #include <os.h>
 
 #define LINE		256	/* what the engine reads at most */
 #define ANSWER		4096	/* a line of an answer; `symbols` prints long ones */
 #define REASON		32	/* why a line was refused */
-#define REGISTERS	16	/* what `read` gives, and `write` takes at most */
+#define REGISTERS	16	/* what `write` takes at most */
+#define ROUNDS		64	/* of an assignment, at most */
 
 static char *to_path = "to", *from_path = "from";
 module_param_named(to, to_path, charp, 0444);
@@ -37,22 +39,18 @@ static bool asking;		/* the next frame would meet a request */
 static char in[1024];
 static int in_len, in_pos;
 
-struct dk_row {			/* what `assigned` told: the engine has no GET* */
-	u64 pid;
-	u8 bcr, dcr;
-};
-
 struct dk_master {
 	struct i3c_master_controller base;
 	struct device *dev;
-	struct mutex lock;	/* a line and its answer; devs, rows */
+	struct mutex lock;	/* a line and its answer; devs */
 	char line[ANSWER];	/* of an answer, the one that was read last */
 	char answer[ANSWER];	/* the last one that the line itself printed */
 	char refused[REASON];	/* why the line was refused; empty if it was done */
 	bool declined;		/* what the next frame would meet was turned down */
 	bool silent;		/* this line is followed by no `serve` */
+	bool held;		/* requests wait: the core adds devices */
 	bool leaving;		/* no request is served any more */
-	struct dk_row rows[128];
+	const char *policy;	/* the kinds of requests that are accepted otherwise */
 	struct i3c_dev_desc *devs[128];
 	struct work_struct join, serve;
 	atomic_t handled;	/* interrupts whose handlers haven't ended */
@@ -74,7 +72,7 @@ static struct dk_master *to_dk(struct i3c_master_controller *base)
 /* Lines */
 
 /* Reads the next line of an answer. */
-static int dk_get(struct dk_master *m)
+static int dk_next(struct dk_master *m)
 {
 	unsigned int n = 0;
 	int got;
@@ -216,13 +214,20 @@ static bool dk_asks(struct dk_master *m)
 }
 
 /*
- * What a controller does when a device pulls SDA low.  It waits for handlers,
- * so that slots don't run out: once the engine has accepted an interrupt it is
- * too late to turn it down, and `policy` knows kinds, not devices.
+ * May a `serve` be sent?  It waits for handlers, so that slots don't run out:
+ * once the engine has accepted an interrupt it is too late to turn it down, and
+ * `policy` knows kinds, not devices.
  */
+static bool dk_may_serve(struct dk_master *m)
+{
+	return READ_ONCE(asking) && !m->declined && !m->held && !m->leaving &&
+		!atomic_read(&m->handled);
+}
+
+/* What a controller does when a device pulls SDA low. */
 static void dk_wake(struct dk_master *m)
 {
-	if (READ_ONCE(asking) && !m->declined && !m->leaving && !atomic_read(&m->handled))
+	if (dk_may_serve(m))
 		queue_work(m->base.wq, &m->serve);
 }
 
@@ -230,7 +235,7 @@ static int dk_receive(struct dk_master *m, dk_line_fn *own, void *data)
 {
 	m->answer[0] = m->refused[0] = 0;
 	for (;;) {
-		int ret = dk_get(m);
+		int ret = dk_next(m);
 
 		if (ret)
 			return ret;
@@ -268,15 +273,28 @@ static void dk_serve(struct work_struct *work)
 	struct dk_master *m = container_of(work, struct dk_master, serve);
 
 	mutex_lock(&m->lock);
-	if (asking && !m->declined && !atomic_read(&m->handled))
+	if (dk_may_serve(m))
 		dk_do(m, "serve");
 	mutex_unlock(&m->lock);
+}
+
+/*
+ * While the core adds devices, the engine accepts no request.  That takes many
+ * frames, of which each could serve an interrupt, and no handler ends before:
+ * handlers wait for the lock of the bus, and the slots would run out.
+ */
+static int dk_hold(struct dk_master *m, bool on)
+{
+	m->held = on;
+	m->declined = false;
+	return dk_do(m, "policy %s", on ? "none" : m->policy);
 }
 
 /* Addresses */
 
 struct dk_news {
-	u8 addr[128];
+	u64 pid[ROUNDS];
+	u8 addr[ROUNDS];
 	int count;
 };
 
@@ -284,13 +302,13 @@ struct dk_news {
 static void dk_note(struct dk_master *m, void *data)
 {
 	struct dk_news *news = data;
-	u8 addr, bcr, dcr;
 	u64 pid;
+	u8 addr;
 
-	if (sscanf(m->line, "assigned %2hhx %12llx %2hhx %2hhx",
-		   &addr, &pid, &bcr, &dcr) != 4)
+	if (news->count == ROUNDS ||
+	    sscanf(m->line, "assigned %2hhx %12llx", &addr, &pid) != 2)
 		return;
-	m->rows[addr & 0x7f] = (struct dk_row){ pid, bcr, dcr };
+	news->pid[news->count] = pid;
 	news->addr[news->count++] = addr & 0x7f;
 }
 
@@ -299,11 +317,11 @@ static void dk_note(struct dk_master *m, void *data)
  * where it was.  The core has it there already, and would answer -EBUSY: only
  * its events are to be set.
  */
-static bool dk_is_back(struct dk_master *m, u8 addr)
+static bool dk_is_back(struct dk_master *m, u8 addr, u64 pid)
 {
 	struct i3c_dev_desc *old = m->devs[addr];
 
-	if (!old || old->info.pid != m->rows[addr].pid || naive)
+	if (!old || old->info.pid != pid || naive)
 		return false;
 	dev_info(m->dev, "%llx is back at %02x\n", old->info.pid, addr);
 	i3c_master_disec_locked(&m->base, addr, I3C_CCC_EVENT_SIR | I3C_CCC_EVENT_MR);
@@ -319,14 +337,18 @@ static int dk_do_daa(struct i3c_master_controller *base)
 	int i, ret;
 
 	mutex_lock(&m->lock);
-	ret = dk_exchange(m, dk_note, &news, "daa");
+	ret = dk_hold(m, true) ?: dk_exchange(m, dk_note, &news, "daa");
 	mutex_unlock(&m->lock);
 
 	for (i = 0; i < news.count; i++)
-		if (!dk_is_back(m, news.addr[i]))
+		if (!dk_is_back(m, news.addr[i], news.pid[i]))
 			i3c_master_add_i3c_dev_locked(base, news.addr[i]);
 	if (!ret && news.count)
 		ret = i3c_master_defslvs_locked(base);
+
+	mutex_lock(&m->lock);
+	ret = dk_hold(m, false) ?: ret;
+	mutex_unlock(&m->lock);
 	return ret;
 }
 
@@ -356,7 +378,6 @@ static int dk_reattach_i3c_dev(struct i3c_dev_desc *dev, u8 old)
 	struct dk_master *m = to_dk(i3c_dev_get_master(dev));
 
 	mutex_lock(&m->lock);
-	m->rows[dev->info.dyn_addr] = m->rows[old];
 	m->devs[old] = NULL;
 	m->devs[dev->info.dyn_addr] = dev;
 	mutex_unlock(&m->lock);
@@ -376,24 +397,68 @@ static void dk_detach_i3c_dev(struct i3c_dev_desc *dev)
 
 /* Commands */
 
-static int dk_give(struct i3c_ccc_cmd_dest *dest, const u8 *bytes, u16 len)
+/* The datum that a code reads, as the engine calls it. */
+static const char *dk_datum(u8 id)
 {
-	if (dest->payload.len < len)
-		return -EINVAL;
-	memcpy(dest->payload.data, bytes, len);
-	dest->payload.len = len;
-	return 0;
+	switch (id) {
+	case I3C_CCC_GETPID:
+		return "pid";
+	case I3C_CCC_GETBCR:
+		return "bcr";
+	case I3C_CCC_GETDCR:
+		return "dcr";
+	case I3C_CCC_GETSTATUS:
+		return "status";
+	case I3C_CCC_GETMWL:
+		return "mwl";
+	case I3C_CCC_GETMRL:
+		return "mrl";
+	case I3C_CCC_GETMXDS:
+		return "mxds";
+	case I3C_CCC_GETHDRCAP:	/* whose later name is GETCAPS */
+		return "caps";
+	default:
+		return NULL;
+	}
 }
 
-static int dk_send_one(struct dk_master *m, struct i3c_ccc_cmd *cmd,
-		       struct i3c_ccc_cmd_dest *dest)
+/* The answer is a word and digits: takes their bytes, as many as are wanted at most. */
+static int dk_bytes(struct dk_master *m, const char *word, u8 *bytes, u16 *len)
 {
-	struct dk_row *row = &m->rows[dest->addr & 0x7f];
-	const u8 *data = dest->payload.data;
-	u8 pid[6];
-	int i;
+	size_t at = strlen(word);
+	const char *digits = m->answer + at + 1;
 
-	switch (cmd->id) {
+	if (!begins(m->answer, word) || m->answer[at] != ' ')
+		return -EPROTO;
+	*len = min_t(size_t, *len, strlen(digits) / 2);
+	return hex2bin(bytes, digits, *len) ? -EPROTO : 0;
+}
+
+/* The core wants one byte of GETCAPS, and gets the first of two. */
+static int dk_get(struct dk_master *m, const char *datum, struct i3c_ccc_cmd_dest *dest)
+{
+	return dk_do(m, "get%s %02X", datum, dest->addr) ?:
+		dk_bytes(m, datum, dest->payload.data, &dest->payload.len);
+}
+
+/* SETMWL and SETMRL.  The engine doesn't send the third byte of SETMRL. */
+static int dk_set_length(struct dk_master *m, const char *line, struct i3c_ccc_cmd_dest *dest)
+{
+	u16 most;
+
+	if (dest->payload.len != sizeof(most))
+		return -EOPNOTSUPP;
+	most = get_unaligned_be16(dest->payload.data);
+	if (dest->addr == I3C_BROADCAST_ADDR)
+		return dk_do(m, "%s %u", line, most);
+	return dk_do(m, "%s %u %02X", line, most, dest->addr);
+}
+
+static int dk_send_one(struct dk_master *m, u8 id, struct i3c_ccc_cmd_dest *dest)
+{
+	const u8 *data = dest->payload.data;
+
+	switch (id) {
 	case I3C_CCC_RSTDAA(true):
 		return dk_do(m, "reset");
 	case I3C_CCC_ENEC(true):
@@ -408,29 +473,24 @@ static int dk_send_one(struct dk_master *m, struct i3c_ccc_cmd *cmd,
 		dev_info(m->dev, "DEFSLVS of the core: %*ph\n",
 			 dest->payload.len, data);
 		return dk_do(m, "list");
-	case I3C_CCC_SETDASA:	/* refused: no line declares a static address */
+	case I3C_CCC_SETDASA:
 		return dk_do(m, "setdasa %02X %02X", dest->addr, data[0] >> 1);
 	case I3C_CCC_SETNEWDA:
 		return dk_do(m, "setnewda %02X %02X", dest->addr, data[0] >> 1);
-	/* The engine has none of these: told from `assigned`, without a frame. */
-	case I3C_CCC_GETPID:
-		for (i = 0; i < 6; i++)
-			pid[i] = row->pid >> (8 * (5 - i));
-		return row->pid ? dk_give(dest, pid, 6) : -ENXIO;
-	case I3C_CCC_GETBCR:
-		return row->pid ? dk_give(dest, &row->bcr, 1) : -ENXIO;
-	case I3C_CCC_GETDCR:
-		return row->pid ? dk_give(dest, &row->dcr, 1) : -ENXIO;
+	case I3C_CCC_SETMWL(true):
+	case I3C_CCC_SETMWL(false):
+		return dk_set_length(m, "setmwl", dest);
+	case I3C_CCC_SETMRL(true):
+	case I3C_CCC_SETMRL(false):
+		return dk_set_length(m, "setmrl", dest);
 	default:
-		return -EOPNOTSUPP;
+		return dk_get(m, dk_datum(id), dest);
 	}
 }
 
 static bool dk_supports_ccc_cmd(struct i3c_master_controller *base,
 				const struct i3c_ccc_cmd *cmd)
 {
-	static DECLARE_BITMAP(told, 256);
-
 	switch (cmd->id) {
 	case I3C_CCC_RSTDAA(true):
 	case I3C_CCC_ENEC(true):
@@ -440,15 +500,15 @@ static bool dk_supports_ccc_cmd(struct i3c_master_controller *base,
 	case I3C_CCC_DEFSLVS:
 	case I3C_CCC_SETDASA:
 	case I3C_CCC_SETNEWDA:
-	case I3C_CCC_GETPID:
-	case I3C_CCC_GETBCR:
-	case I3C_CCC_GETDCR:
+	case I3C_CCC_SETMWL(true):
+	case I3C_CCC_SETMWL(false):
+	case I3C_CCC_SETMRL(true):
+	case I3C_CCC_SETMRL(false):
 		return true;
 	default:
-		if (!test_and_set_bit(cmd->id, told))
-			dev_info(to_dk(base)->dev,
-				 "the core wants CCC %02x, the engine has none\n",
-				 cmd->id);
+		if (dk_datum(cmd->id))
+			return true;
+		dev_info(to_dk(base)->dev, "CCC %02x has no line\n", cmd->id);
 		return false;
 	}
 }
@@ -460,9 +520,11 @@ static int dk_send_ccc_cmd(struct i3c_master_controller *base,
 	unsigned int i;
 	int ret = 0;
 
+	if (!dk_supports_ccc_cmd(base, cmd))	/* the core has asked; `ccc` hasn't */
+		return -EOPNOTSUPP;
 	mutex_lock(&m->lock);
 	for (i = 0; !ret && i < cmd->ndests; i++)
-		ret = dk_send_one(m, cmd, &cmd->dests[i]);
+		ret = dk_send_one(m, cmd->id, &cmd->dests[i]);
 	mutex_unlock(&m->lock);
 	if (ret == -ENXIO)
 		cmd->err = I3C_ERROR_M2;
@@ -473,9 +535,6 @@ static int dk_send_ccc_cmd(struct i3c_master_controller *base,
 
 static int dk_transfer(struct dk_master *m, u8 addr, bool rnw, u8 *buf, u16 *len)
 {
-	u8 all[REGISTERS];
-	int ret;
-
 	if (!rnw) {
 		char hex[2 * (REGISTERS + 1) + 1];	/* 17 bytes: `TooLong` */
 		int i, n = min_t(int, *len, REGISTERS + 1);
@@ -486,14 +545,7 @@ static int dk_transfer(struct dk_master *m, u8 addr, bool rnw, u8 *buf, u16 *len
 		hex[2 * n] = 0;
 		return dk_do(m, "write %02X%s%s", addr, n ? " " : "", hex);
 	}
-	ret = dk_do(m, "read %02X", addr);
-	if (ret)
-		return ret;
-	if (!begins(m->answer, "bytes ") || hex2bin(all, m->answer + 6, REGISTERS))
-		return -EPROTO;
-	*len = min_t(u16, *len, REGISTERS);
-	memcpy(buf, all, *len);
-	return 0;
+	return dk_do(m, "read %02X", addr) ?: dk_bytes(m, "bytes", buf, len);
 }
 
 static int dk_priv_xfers(struct i3c_dev_desc *dev, struct i3c_priv_xfer *xfers,
@@ -584,8 +636,8 @@ static int dk_set_hotjoin(struct i3c_master_controller *base, bool on)
 	int ret;
 
 	mutex_lock(&m->lock);
-	m->declined = false;
-	ret = dk_do(m, "policy %s", on ? "all" : "interrupts");
+	m->policy = on ? "all" : "interrupts";
+	ret = dk_hold(m, false);
 	mutex_unlock(&m->lock);
 	if (ret)
 		return ret;
@@ -603,7 +655,10 @@ static int dk_disable_hotjoin(struct i3c_master_controller *base)
 	return dk_set_hotjoin(base, false);
 }
 
-/* The start: `legacy` lines come before `main`, which is the core's order too. */
+/*
+ * The start: `legacy` and `declare` lines come before `main`.  The core
+ * attaches legacy targets before it has bus_init() called.
+ */
 
 static int dk_attach_i2c_dev(struct i2c_dev_desc *dev)
 {
@@ -618,6 +673,30 @@ static int dk_attach_i2c_dev(struct i2c_dev_desc *dev)
 	return ret;
 }
 
+/*
+ * Tells the engine the static addresses of the device tree, and whose they
+ * are.  A node without a PID is a legacy target's.
+ */
+static int dk_declare(struct dk_master *m)
+{
+	struct device_node *node;
+	u32 reg[3], kinds[2];
+	int ret = 0;
+
+	for_each_available_child_of_node(m->dev->of_node, node) {
+		if (of_property_read_u32_array(node, "reg", reg, 3) || !reg[0] || !reg[1])
+			continue;
+		ret = of_property_read_u32_array(node, "daskreyf,bcr-dcr", kinds, 2) ?:
+			dk_do(m, "declare %02X %04X%08X %02X %02X",
+			      reg[0], reg[1], reg[2], kinds[0], kinds[1]);
+		if (ret) {
+			of_node_put(node);
+			break;
+		}
+	}
+	return ret;
+}
+
 /* Starts the engine's bus with the devices of the device tree. */
 static int dk_start(struct dk_master *m, const char *main)
 {
@@ -625,7 +704,7 @@ static int dk_start(struct dk_master *m, const char *main)
 	const char *target;
 	int i, ret;
 
-	ret = dk_do(m, "main hub %s", main);
+	ret = dk_declare(m) ?: dk_do(m, "main hub %s", main);
 	if (!ret && sscanf(m->answer, "hub slot 0 at %2hhx", &hub) != 1)
 		ret = -EIO;
 	for (i = 0; !ret && !of_property_read_string_index(np,
@@ -645,9 +724,10 @@ static int dk_bus_init(struct i3c_master_controller *base)
 	    sscanf(main, "%12llx %2hhx %2hhx", &info.pid, &info.bcr, &info.dcr) != 3)
 		return -EINVAL;
 	mutex_lock(&m->lock);
+	m->policy = "interrupts";
 	if (!hub)
 		ret = dk_start(m, main);
-	ret = ret ?: dk_do(m, "policy interrupts");
+	ret = ret ?: dk_hold(m, false);
 	mutex_unlock(&m->lock);
 	info.dyn_addr = hub;
 	return ret ?: i3c_master_set_info(base, &info);
@@ -679,11 +759,13 @@ static const struct i3c_master_controller_ops dk_ops = {
  * controller serves whoever asks, unless the line began with a minus.
  */
 
+/* Adds a printed line to what is shown, if all of it fits. */
 static void dk_show_line(struct dk_master *m, void *data)
 {
-	size_t *n = data;
+	size_t *n = data, room = sizeof(m->shown) - *n;
 
-	*n += scnprintf(m->shown + *n, sizeof(m->shown) - *n, "%s\n", m->line);
+	if (strlen(m->line) + 1 < room)
+		*n += scnprintf(m->shown + *n, room, "%s\n", m->line);
 }
 
 static ssize_t sensor_store(struct device *dev, struct device_attribute *attr,
@@ -713,6 +795,39 @@ static ssize_t sensor_show(struct device *dev, struct device_attribute *attr, ch
 }
 static DEVICE_ATTR_RW(sensor);
 
+/*
+ * Sends what the core has no call for: a code, an address, and the bytes that
+ * are written, in hexadecimal.  What is read goes to the kernel's log.
+ */
+static ssize_t ccc_store(struct device *dev, struct device_attribute *attr,
+			 const char *buf, size_t len)
+{
+	struct dk_master *m = dev_get_drvdata(dev);
+	u8 bytes[8] = { };
+	struct i3c_ccc_cmd_dest dest = {
+		.payload.len = sizeof(bytes), .payload.data = bytes,
+	};
+	struct i3c_ccc_cmd cmd = { .ndests = 1, .dests = &dest };
+	int ret, at = 0;
+
+	if (sscanf(buf, "%2hhx %2hhx %n", &cmd.id, &dest.addr, &at) < 2)
+		return -EINVAL;
+	cmd.rnw = !!dk_datum(cmd.id);
+	if (!cmd.rnw) {
+		dest.payload.len = min(strcspn(buf + at, "\n") / 2, sizeof(bytes));
+		if (hex2bin(bytes, buf + at, dest.payload.len))
+			return -EINVAL;
+	}
+	ret = dk_send_ccc_cmd(&m->base, &cmd);
+	if (ret)
+		return ret;
+	if (cmd.rnw)
+		dev_info(dev, "CCC %02x of %02x: %*ph\n", cmd.id, dest.addr,
+			 dest.payload.len, bytes);
+	return len;
+}
+static DEVICE_ATTR_WO(ccc);
+
 static ssize_t daa_store(struct device *dev, struct device_attribute *attr,
 			 const char *buf, size_t len)
 {
@@ -723,7 +838,7 @@ static ssize_t daa_store(struct device *dev, struct device_attribute *attr,
 static DEVICE_ATTR_WO(daa);
 
 static struct attribute *dk_attrs[] = {
-	&dev_attr_sensor.attr, &dev_attr_daa.attr, NULL
+	&dev_attr_sensor.attr, &dev_attr_ccc.attr, &dev_attr_daa.attr, NULL
 };
 ATTRIBUTE_GROUPS(dk);
 
