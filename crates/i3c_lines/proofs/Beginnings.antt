@@ -7,7 +7,7 @@ use Rattle.i3c_base.specs.declared.datum.Direction.{Direction}
 use Rattle.i3c_step.specs.declared.events.Command.{Command as Frame}
 use Rattle.i3c_lines.specs.declared.command.Command.{Command}
 use Rattle.i3c_lines.specs.Data.{datum_word, told_word}
-use Rattle.i3c_lines.specs.Forms.{AreAsked, AreCount, IsForm, WritesAddress, WritesCount, tokens, with_first}
+use Rattle.i3c_lines.specs.Forms.{AreAsked, ArePlace, IsForm, WritesAddress, WritesPlace, tokens, with_first}
 use Rattle.i3c_lines.specs.Parsing.{Becomes, BecomesOther, IsOther}
 use Rattle.i3c_lines.proofs.LineLaws.{line_is, line_of, some_word, word_left}
 use Rattle.i3c_lines.proofs.Meanings.{are_same, as_meant, first_of, hex, datum_of, identity_of, kinds_of, length_of, letter_of, meant, meant_is, named, number_of, rest_of, shown_by, written_of}
@@ -77,18 +77,18 @@ only_e tail command form =
 
 -- the three lines that `show` begins
 shown : (word : List ℕ) (words : List (List ℕ)) → IsForm (word ∷ words) (shown_by words)
-    → (word ∷ words ≡ codes "show" ∷ []) ⊎ (word ∷ words ≡ codes "show" ∷ codes "all" ∷ []) ⊎ ((next : List ℕ) × (word ∷ words ≡ codes "show" ∷ next ∷ []) × WritesCount next (digits_value 10 next))
+    → (word ∷ words ≡ codes "show" ∷ []) ⊎ (word ∷ words ≡ codes "show" ∷ codes "all" ∷ []) ⊎ ((next : List ℕ) × (word ∷ words ≡ codes "show" ∷ next ∷ []) × WritesPlace next (digits_value 10 next))
 shown word [] e = inl e
 shown word (next ∷ words) form =
     elim (either (eqb (letter_of next) 97) Command.ShowAll (Command.ShowFrom (digits_value 10 next)) (word ∷ next ∷ words) form) [
       | inl is ↦ inr (inl is)
       | inr (rest, e, (one, e', is)) ↦
           let same : next ≡ one = ap (λ ws. first_of (rest_of ws)) e ∙ ap first_of e' in
-          inr (inr (one, e ∙ ap (λ ws. codes "show" ∷ ws) e', subst (λ (n : ℕ). WritesCount one n) (ap (digits_value 10) same) is))
+          inr (inr (one, e ∙ ap (λ ws. codes "show" ∷ ws) e', subst (λ (n : ℕ). WritesPlace one n) (ap (digits_value 10) same) is))
     ]
 
 -- a line behind `show`, of which `all` is another
-pub shown_args : (line : List ℕ) (command : Command) → (line ≡ codes "all" → ⊥) → IsForm (codes "show" ∷ tokens line) command → (first : ℕ) × AreCount (tokens line) first
+pub shown_args : (line : List ℕ) (command : Command) → (line ≡ codes "all" → ⊥) → IsForm (codes "show" ∷ tokens line) command → (first : ℕ) × ArePlace (tokens line) first
 shown_args line command other form =
     elim (shown (codes "show") (tokens line) (as_meant (codes "show" ∷ tokens line) command form)) [
       | inl none ↦ absurd (word_left line (ap rest_of none))

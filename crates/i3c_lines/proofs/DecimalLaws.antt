@@ -25,17 +25,17 @@ no_plus : (word : List ℕ) → All IsDecimalDigit word → get_or word 0 0 ≢ 
 no_plus [] h e = omega arith
 no_plus (byte ∷ word) h e = let digit = h 0 0 (omega arith) in absurd (grind arith)
 
--- the number of some digits, if it is in 16 bits
+-- the number of some digits, if it is in 64 bits
 abbrev pub Writes : {E : Type 0} → List ℕ → Result ℕ E → Type 0
-Writes word r = OkIff r (IsNumeral 10 word × (digits_value 10 word < 2 ^ 16)) (digits_value 10 word)
+Writes word r = OkIff r (IsNumeral 10 word × (digits_value 10 word < 2 ^ 64)) (digits_value 10 word)
 
-pub decimal_parses : {E : Type 0} → (word : List ℕ) (r : Result ℕ E) → IsDecimal word → ParsesUnsigned 16 10 word r → Writes word r
-decimal_parses word r h parses = subst (λ bs. OkIff r (IsNumeral 10 bs × (digits_value 10 bs < 2 ^ 16)) (digits_value 10 bs)) (without_leading_plus_none word (no_plus word h.1)) parses
+pub decimal_parses : {E : Type 0} → (word : List ℕ) (r : Result ℕ E) → IsDecimal word → ParsesUnsigned 64 10 word r → Writes word r
+decimal_parses word r h parses = subst (λ bs. OkIff r (IsNumeral 10 bs × (digits_value 10 bs < 2 ^ 64)) (digits_value 10 bs)) (without_leading_plus_none word (no_plus word h.1)) parses
 
-pub some_is_short : {E : Type 0} → (word : List ℕ) (r : Result ℕ E) → Writes word r → IsSome (result_ok r) → digits_value 10 word < 2 ^ 16
+pub some_is_short : {E : Type 0} → (word : List ℕ) (r : Result ℕ E) → Writes word r → IsSome (result_ok r) → digits_value 10 word < 2 ^ 64
 some_is_short word (Ok n) writes some = writes.0.1
 some_is_short word (Err e) writes some = absurd cc
 
-pub short_is_some : {E : Type 0} → (word : List ℕ) (r : Result ℕ E) → Writes word r → IsDecimal word → digits_value 10 word < 2 ^ 16 → IsSome (result_ok r)
+pub short_is_some : {E : Type 0} → (word : List ℕ) (r : Result ℕ E) → Writes word r → IsDecimal word → digits_value 10 word < 2 ^ 64 → IsSome (result_ok r)
 short_is_some word (Ok n) writes h short = refl
 short_is_some word (Err e) writes h short = absurd (writes ((h.0, all_decimal word h.1), short))

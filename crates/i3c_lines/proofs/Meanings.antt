@@ -283,7 +283,7 @@ meant_is words (Command.Cut name bit) (word, digits, e, is, b) = ap meant e ∙ 
 meant_is words Command.Show e = ap meant e
 meant_is words Command.ShowAll e = ap meant e
 meant_is words (Command.ShowFrom first) (rest, e, (word, e', is)) =
-    ap meant (e ∙ ap (λ ws. codes "show" ∷ ws) e') ∙ ap (λ b. cond b Command.ShowAll (Command.ShowFrom (digits_value 10 word))) (is_number word is.0.0) ∙ ap Command.ShowFrom (sym is.0.1)
+    ap meant (e ∙ ap (λ ws. codes "show" ∷ ws) e') ∙ ap (λ b. cond b Command.ShowAll (Command.ShowFrom (digits_value 10 word))) (is_number word is.0) ∙ ap Command.ShowFrom (sym is.1)
 meant_is words Command.Symbols e = ap meant e
 meant_is words (Command.Frames count) (rest, e, (word, e', is)) = ap meant (e ∙ ap (λ ws. codes "frames" ∷ ws) e') ∙ ap Command.Frames (sym is.0.1)
 

@@ -15,14 +15,14 @@ use Rattle.i3c_base.specs.Numbers.{IsInRange}
 use Rattle.i3c_step.specs.declared.events.Command.{Command as Frame}
 use Rattle.i3c_lines.specs.declared.command.Command.{Command}
 use Rattle.i3c_lines.specs.declared.names.Name.{Name}
-use Rattle.i3c_lines.specs.Forms.{AreAddress, AreAddresses, AreByte, AreCount, AreDeclared, AreDevice, AreKinds, AreLength, AreWritten, IsCommand, IsForm, tokens, willing_words}
+use Rattle.i3c_lines.specs.Forms.{AreAddress, AreAddresses, AreByte, AreCount, AreDeclared, AreDevice, AreKinds, AreLength, ArePlace, AreWritten, IsCommand, IsForm, tokens, willing_words}
 use Rattle.i3c_lines.specs.Policies.{IsAlone, IsPolicy, each_kind}
 use Rattle.i3c_text.specs.Hex.{byte_text, bytes_text, hex_text}
 use Rattle.i3c_lines.specs.Data.{datum_word, length_word}
 use Rattle.i3c_lines.specs.Naming.{letters}
 use Rattle.i3c_lines.specs.Printing.{AreKnown, HasLine, IsWithin, IsNamable, byte_words, command_text, command_words, device_words, identity_words, spaced, verdicts_words, written_words}
 use Rattle.i3c_lines.proofs.Meanings.{as_meant}
-use Rattle.i3c_lines.proofs.PrintedLines.{Apart, byte_writes, decimal_writes, pairs_are, pairs_length, pid_writes, plain, spaced_length, tokens_spaced, total}
+use Rattle.i3c_lines.proofs.PrintedLines.{Apart, byte_writes, decimal_writes, pairs_are, pairs_length, pid_writes, plain, spaced_length, tokens_spaced, total, place_writes}
 use Rattle.i3c_lines.proofs.SplitLaws.{HasNoSpace, hex_no_space, name_no_space, pairs_no_space}
 
 byte_apart : (byte : ℕ) → byte < 256 → HasNoSpace (byte_text byte)
@@ -137,6 +137,11 @@ count_fits count some few =
     let digits = decimal_writes count (omega (arith, few)) in
     ((decimal count, refl, (digits.0, some)), (digits.1, tt), omega (arith, digits.2))
 
+place_fits : (place : ℕ) → 0 < place → place < 2 ^ 64 → Fit (ArePlace (decimal place ∷ []) place) (decimal place ∷ []) 21
+place_fits place some few =
+    let digits = place_writes place some few in
+    ((decimal place, refl, digits.0), (digits.1, tt), omega (arith, digits.2))
+
 -- a command's words have its form, none has a space, and they are short
 abbrev Prints : Command → Type 0
 Prints command = Fit (IsForm (command_words command) command) (command_words command) 60
@@ -196,7 +201,7 @@ prints (Command.Cut name bit) h =
     ((letters name, decimal bit, refl, (h.0, refl), digits.0), (plain (codes "cut") tt, (fit.0.0, (digits.1, tt))), omega (arith, fit.1, digits.2))
 prints Command.Show h = (refl, (plain (codes "show") tt, tt), omega arith)
 prints Command.ShowAll h = (refl, (plain (codes "show") tt, (plain (codes "all") tt, tt)), omega arith)
-prints (Command.ShowFrom first) h = let fit = count_fits first h.0 h.1 in ((decimal first ∷ [], refl, fit.0), (plain (codes "show") tt, fit.1), omega (arith, fit.2))
+prints (Command.ShowFrom first) h = let fit = place_fits first h.0 h.1 in ((decimal first ∷ [], refl, fit.0), (plain (codes "show") tt, fit.1), omega (arith, fit.2))
 prints Command.Symbols h = (refl, (plain (codes "symbols") tt, tt), omega arith)
 prints (Command.Frames count) h = let fit = count_fits count h.0 h.1 in ((decimal count ∷ [], refl, fit.0), (plain (codes "frames") tt, fit.1), omega (arith, fit.2))
 

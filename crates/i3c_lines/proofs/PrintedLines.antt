@@ -7,7 +7,7 @@ use Rattle.std.proofs.lemmas.Fmt.{decimal_is_IsNumeral, length-decimal-le}
 use lib.Ieee.Fits.{and_r}
 use Rattle.std.specs.Fmt.{decimal, digit_glyph}
 use Rattle.std.specs.Str.Parse.{AllDigits}
-use Rattle.i3c_lines.specs.Forms.{Writes, WritesBit, tokens}
+use Rattle.i3c_lines.specs.Forms.{Writes, WritesBit, tokens, WritesPlace}
 use Rattle.i3c_text.specs.Hex.{byte_text, bytes_text, hex_text}
 use Rattle.i3c_text.proofs.DigitLaws.{hex_is, length-hex_text}
 use Rattle.i3c_lines.specs.Printing.{behind, spaced}
@@ -64,6 +64,12 @@ decimal_writes bit h =
     let is = decimal_is_IsNumeral bit (omega (arith, h)) in
     let digits = decimal_all (decimal bit) is.0.1 in
     (((is.0.0, digits), sym is.1, h), (λ k within space. let digit : IsDecimalDigit 32 = subst IsDecimalDigit space (digits k 0 within) in omega (arith, digit.0)), length-decimal-le 5 bit (omega arith) (omega (arith, h)) (omega (arith, h)))
+
+pub place_writes : (place : ℕ) → 0 < place → place < 2 ^ 64 → WritesPlace (decimal place) place × HasNoSpace (decimal place) × (length (decimal place) ≤ 20)
+place_writes place some h =
+    let is = decimal_is_IsNumeral place (omega (arith, h)) in
+    let digits = decimal_all (decimal place) is.0.1 in
+    (((is.0.0, digits), sym is.1, h, some), (λ k within space. let digit : IsDecimalDigit 32 = subst IsDecimalDigit space (digits k 0 within) in omega (arith, digit.0)), length-decimal-le 20 place (omega arith) (omega (arith, h)) (omega (arith, h)))
 
 -- words without spaces
 abbrev pub Apart : List (List ℕ) → Type 0

@@ -1,5 +1,5 @@
 -- Why a line has no form.
-use Rattle.std.specs.Prelude.{⊤, ◌≡◌, ℕ, ◌-◌, ◌<◌, ◌≤◌, ◌⊎◌, List, ◌∷◌, Some, codes, length, slice_get, ◌==◌, true}
+use Rattle.std.specs.Prelude.{⊤, ◌≡◌, ℕ, ◌-◌, ◌<◌, ◌≤◌, ◌⊎◌, List, ◌∷◌, Some, codes, length, slice_get, ◌==◌, true, ◌^◌}
 use Rattle.std.specs.List.{list_any}
 use Rattle.std.specs.Str.Parse.{digits_value}
 use Rattle.i3c_base.specs.declared.requests.Fixed.{Fixed}
@@ -27,7 +27,7 @@ IsField Field.Length word = IsDecimal word × (digits_value 10 word < 65536) × 
 IsField Field.Policy word = (policy : Fixed) × (IsAlone word policy ⊎ Accepts word (each_kind Refuse) policy)
 IsField Field.Kind word = (policy : Fixed) × Accepts word (each_kind Refuse) policy
 IsField Field.Decline word = word ≡ codes "decline"
-IsField Field.Shown word = (word ≡ codes "all") ⊎ (IsDecimal word × (digits_value 10 word < 65536) × (0 < digits_value 10 word))
+IsField Field.Shown word = (word ≡ codes "all") ⊎ (IsDecimal word × (digits_value 10 word < 2 ^ 64) × (0 < digits_value 10 word))
 
 -- what a fault says of its line is so. Of the words of a line it says only that one hasn't its field's form
 abbrev pub IsSo : List ℕ → FormFault → Type 0

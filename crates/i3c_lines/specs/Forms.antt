@@ -1,5 +1,5 @@
 -- Which bytes are which command.
-use Rattle.std.specs.Prelude.{◌≡◌, ◌⊎◌, ℕ, ◌<◌, ◌≤◌, ◌==◌, Bool, true, false, List, [], ◌∷◌, Option, Some, None, bit_and, codes, if◌then◌else◌, length, slice_get, take}
+use Rattle.std.specs.Prelude.{◌≡◌, ◌⊎◌, ℕ, ◌<◌, ◌≤◌, ◌==◌, Bool, true, false, List, [], ◌∷◌, Option, Some, None, bit_and, codes, if◌then◌else◌, length, slice_get, take, ◌^◌}
 use Rattle.std.specs.Str.Parse.{digits_value}
 use Rattle.i3c_base.specs.declared.device.Setup.{Setup}
 use Rattle.i3c_base.specs.declared.datum.Datum.{Datum}
@@ -47,7 +47,11 @@ WritesBit word bit = IsDecimal word × (bit ≡ digits_value 10 word) × (bit < 
 abbrev pub WritesCount : List ℕ → ℕ → Type 0
 WritesCount word count = WritesBit word count × (0 < count)
 
--- the same, and 16 at most
+-- decimal digits of a number from 1 on that 64 bits hold
+abbrev pub WritesPlace : List ℕ → ℕ → Type 0
+WritesPlace word place = IsDecimal word × (place ≡ digits_value 10 word) × (place < 2 ^ 64) × (0 < place)
+
+-- a count of 16 at most
 abbrev pub WritesLength : List ℕ → ℕ → Type 0
 WritesLength word most = WritesCount word most × (most ≤ 16)
 
@@ -82,6 +86,10 @@ AreKinds words to kinds = (word : List ℕ) × (rest : List (List ℕ)) × (word
 -- `N`
 abbrev pub AreCount : List (List ℕ) → ℕ → Type 0
 AreCount words count = (word : List ℕ) × (words ≡ word ∷ []) × WritesCount word count
+
+-- the number of a record
+abbrev pub ArePlace : List (List ℕ) → ℕ → Type 0
+ArePlace words place = (word : List ℕ) × (words ≡ word ∷ []) × WritesPlace word place
 
 -- `N [ADDR]`
 abbrev pub AreLength : List (List ℕ) → ℕ → Option ℕ → Type 0
@@ -139,7 +147,7 @@ IsForm words (Command.Policy policy) = (rest : List (List ℕ)) × (words ≡ co
 IsForm words (Command.Cut name bit) = (word digits : List ℕ) × (words ≡ codes "cut" ∷ word ∷ digits ∷ []) × IsNamed word name × WritesBit digits bit
 IsForm words Command.Show = words ≡ codes "show" ∷ []
 IsForm words Command.ShowAll = words ≡ codes "show" ∷ codes "all" ∷ []
-IsForm words (Command.ShowFrom first) = (rest : List (List ℕ)) × (words ≡ codes "show" ∷ rest) × AreCount rest first
+IsForm words (Command.ShowFrom first) = (rest : List (List ℕ)) × (words ≡ codes "show" ∷ rest) × ArePlace rest first
 IsForm words Command.Symbols = words ≡ codes "symbols" ∷ []
 IsForm words (Command.Frames count) = (rest : List (List ℕ)) × (words ≡ codes "frames" ∷ rest) × AreCount rest count
 

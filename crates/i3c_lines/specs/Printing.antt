@@ -144,6 +144,6 @@ HasLine (Command.Policy policy) = ⊤
 HasLine (Command.Cut name bit) = IsNamable name × (bit < 2 ^ 16)
 HasLine Command.Show = ⊤
 HasLine Command.ShowAll = ⊤
-HasLine (Command.ShowFrom first) = (0 < first) × (first < 2 ^ 16)
+HasLine (Command.ShowFrom first) = (0 < first) × (first < 2 ^ 64)
 HasLine Command.Symbols = ⊤
 HasLine (Command.Frames count) = (0 < count) × (count < 2 ^ 16)

@@ -1,5 +1,5 @@
 ghost use Rattle.std.specs.Prelude.{◌≡◌, ◌∷◌, Some, codes, option_copied};
-ghost use Rattle.i3c_lines.specs.Forms.{AreAddress, AreAddresses, AreAsked, AreByte, AreCount, AreDeclared, AreDevice, AreKinds, AreLength, IsForm, IsNamed, Writes, tokens};
+ghost use Rattle.i3c_lines.specs.Forms.{AreAddress, AreAddresses, AreAsked, AreByte, AreCount, AreDeclared, AreDevice, AreKinds, AreLength, ArePlace, IsForm, IsNamed, Writes, tokens};
 ghost use Rattle.i3c_lines.specs.Data.{length_word};
 ghost use Rattle.i3c_lines.specs.Parsing.{AreKept, AreNamed, AreWilling, Becomes, BecomesOther, IsOtherForm, Reads, TakesIdentity, TakesWord, left_words, words_of};
 
@@ -147,7 +147,7 @@ pub enum Command {
     /// `show all`: the same, and what each device is, which of its events are enabled, and what it wishes for.
     ShowAll,
     /// `show N`: the same as `show`, but of the records only those from this number on.
-    ShowFrom(u16),
+    ShowFrom(u64),
     /// `symbols`: the last symbols of the wire.
     Symbols,
     /// `frames N`: the last N whole frames of these symbols.
@@ -403,7 +403,7 @@ impl Command {
         requires { line.now ≡ codes "all" → ⊥ }
         ensures { Becomes (codes "show" ∷ tokens line.now) result self.old self.new }
     {
-        let first = parse_count(&mut Tokens::of(line))?;
+        let first = parse_place(&mut Tokens::of(line))?;
         *self = Command::ShowFrom(first);
         Some(())
     }
@@ -628,6 +628,15 @@ fn parse_count(words: &mut Tokens<'_>) -> Option<u16>
     let count = tokens::count(words.next()?)?;
     words.end()?;
     Some(count)
+}
+
+/// The last word, which is the number of a record.
+fn parse_place(words: &mut Tokens<'_>) -> Option<u64>
+    ensures { Reads ArePlace (left_words words.old) result }
+{
+    let place = tokens::place(words.next()?)?;
+    words.end()?;
+    Some(place)
 }
 
 /// The words of `enec` and of `disec`: a byte, and an address if one is given.

@@ -68,7 +68,7 @@ impl Field {
             Field::Policy => is_first(word),
             Field::Kind => is_kind(word),
             Field::Decline => is_word(word, DECLINE),
-            Field::Shown => is_word(word, ALL) || tokens::count(word).is_some(),
+            Field::Shown => is_word(word, ALL) || tokens::place(word).is_some(),
         }
     }
 
@@ -109,7 +109,7 @@ impl Field {
             Field::Policy => "all, none, joins, roles or interrupts",
             Field::Kind => "joins, roles or interrupts",
             Field::Decline => "'decline' or nothing",
-            Field::Shown => "'all', a record's number from 1 to 65535, or nothing",
+            Field::Shown => "'all', a record's number from 1 on, or nothing",
         }
     }
 

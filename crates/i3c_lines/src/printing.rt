@@ -41,7 +41,7 @@ impl Command {
             Command::ShowAll => text.push(b"show all"),
             Command::ShowFrom(first) => push_counted(text, b"show", *first),
             Command::Symbols => text.push(b"symbols"),
-            Command::Frames(count) => push_counted(text, b"frames", *count),
+            Command::Frames(count) => push_counted(text, b"frames", u64::from(*count)),
         }
     }
 }
@@ -262,10 +262,10 @@ fn push_cut(text: &mut Text, name: &Name, bit: u16) -> Result<(), AllocError>
 }
 
 /// Appends a first word, and a count.
-fn push_counted(text: &mut Text, first: &[u8], count: u16) -> Result<(), AllocError>
+fn push_counted(text: &mut Text, first: &[u8], count: u64) -> Result<(), AllocError>
     ensures { OnOk result (text.new ≡ text.old ++ spaced (first.now ∷ decimal count ∷ [])) }
 {
     text.push(first)?;
     text.push(b" ")?;
-    text.push_decimal(u64::from(count))
+    text.push_decimal(count)
 }

@@ -16,8 +16,8 @@ pub(crate) const SPACE: u8 = b' ';
 /// Numbers are written in hex.
 const RADIX: u64 = 16;
 
-/// Bits of frames are written in decimal.
-const BIT_RADIX: u32 = 10;
+/// Bits of frames, counts and the numbers of records are written in decimal.
+const DECIMAL_RADIX: u32 = 10;
 
 /// Bits 0, 1 and 3 of a byte: interrupts, role requests and Hot-Join.
 const KNOWN_KINDS: u8 = 0x0B;
@@ -179,10 +179,10 @@ fn is_decimal(word: &[u8]) -> bool
     word.iter().all(|byte| matches!(*byte, b'0'..=b'9'))
 }
 
-/// A bit of a frame: decimal digits, up to 65535. Zeros may lead them, and a sign may not.
-pub fn bit(word: &[u8]) -> Option<u16>
-    ensures form { IsSome result ↔ (IsDecimal word.now × (digits_value BIT_RADIX word.now < 2 ^ 16)) }
-    ensures value { IfSome result (λ b. b ≡ digits_value BIT_RADIX word.now) }
+/// A number of 64 bits in decimal digits. Zeros may lead them, and a sign may not.
+fn decimal(word: &[u8]) -> Option<u64>
+    ensures form { IsSome result ↔ (IsDecimal word.now × (digits_value DECIMAL_RADIX word.now < 2 ^ 64)) }
+    ensures value { IfSome result (λ n. n ≡ digits_value DECIMAL_RADIX word.now) }
 {
     if word.is_empty() || !is_decimal(word) {
         return None;
@@ -190,13 +190,36 @@ pub fn bit(word: &[u8]) -> Option<u16>
     let Ok(text) = str::from_utf8(word) else {
         unreachable!();
     };
-    u16::from_str_radix(text, BIT_RADIX).ok()
+    u64::from_str_radix(text, DECIMAL_RADIX).ok()
+}
+
+/// A bit of a frame: decimal digits, up to 65535.
+pub fn bit(word: &[u8]) -> Option<u16>
+    ensures form { IsSome result ↔ (IsDecimal word.now × (digits_value DECIMAL_RADIX word.now < 2 ^ 16)) }
+    ensures value { IfSome result (λ b. b ≡ digits_value DECIMAL_RADIX word.now) }
+{
+    let number = decimal(word)?;
+    if number > u64::from(u16::MAX) {
+        return None;
+    }
+    Some(number as u16)
+}
+
+/// The number of a record, from 1 on.
+pub(crate) fn place(word: &[u8]) -> Option<u64>
+    ensures form { IsSome result ↔ (IsDecimal word.now × (digits_value DECIMAL_RADIX word.now < 2 ^ 64) × (0 < digits_value DECIMAL_RADIX word.now)) }
+    ensures value { IfSome result (λ n. n ≡ digits_value DECIMAL_RADIX word.now) }
+{
+    match decimal(word)? {
+        0 => None,
+        place => Some(place),
+    }
 }
 
 /// A count: decimal digits, 1 to 65535, read as a bit is.
 pub(crate) fn count(word: &[u8]) -> Option<u16>
-    ensures form { IsSome result ↔ (IsDecimal word.now × (digits_value BIT_RADIX word.now < 2 ^ 16) × (0 < digits_value BIT_RADIX word.now)) }
-    ensures value { IfSome result (λ n. n ≡ digits_value BIT_RADIX word.now) }
+    ensures form { IsSome result ↔ (IsDecimal word.now × (digits_value DECIMAL_RADIX word.now < 2 ^ 16) × (0 < digits_value DECIMAL_RADIX word.now)) }
+    ensures value { IfSome result (λ n. n ≡ digits_value DECIMAL_RADIX word.now) }
 {
     match bit(word)? {
         0 => None,
@@ -206,8 +229,8 @@ pub(crate) fn count(word: &[u8]) -> Option<u16>
 
 /// A maximum length: decimal digits, 1 to 16, read as a bit is.
 pub(crate) fn length(word: &[u8]) -> Option<Length>
-    ensures form { IsSome result ↔ (IsDecimal word.now × (digits_value BIT_RADIX word.now < 2 ^ 16) × (0 < digits_value BIT_RADIX word.now) × (digits_value BIT_RADIX word.now ≤ 16)) }
-    ensures value { IfSome result (λ n. n ≡ digits_value BIT_RADIX word.now) }
+    ensures form { IsSome result ↔ (IsDecimal word.now × (digits_value DECIMAL_RADIX word.now < 2 ^ 16) × (0 < digits_value DECIMAL_RADIX word.now) × (digits_value DECIMAL_RADIX word.now ≤ 16)) }
+    ensures value { IfSome result (λ n. n ≡ digits_value DECIMAL_RADIX word.now) }
 {
     let number = bit(word)?;
     if number > 16 {
