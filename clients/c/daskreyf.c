@@ -860,9 +860,9 @@ enum daskreyf_result daskreyf_show(struct daskreyf *bus, struct daskreyf_state *
     return shown(bus, daskreyf_line(bus, "show"), state);
 }
 
-enum daskreyf_result daskreyf_show_from(struct daskreyf *bus, uint16_t first, struct daskreyf_state *state)
+enum daskreyf_result daskreyf_show_from(struct daskreyf *bus, uint64_t first, struct daskreyf_state *state)
 {
-    return shown(bus, send_line(bus, "show %u", (unsigned)first), state);
+    return shown(bus, send_line(bus, "show %" PRIu64, first), state);
 }
 
 enum daskreyf_result daskreyf_show_all(struct daskreyf *bus)

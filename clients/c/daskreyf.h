@@ -284,7 +284,7 @@ enum daskreyf_result daskreyf_end(struct daskreyf *bus);
 enum daskreyf_result daskreyf_show(struct daskreyf *bus, struct daskreyf_state *state);
 
 /* The same, but of its log daskreyf_text has only the records from this number on, which is 1 at least. */
-enum daskreyf_result daskreyf_show_from(struct daskreyf *bus, uint16_t first, struct daskreyf_state *state);
+enum daskreyf_result daskreyf_show_from(struct daskreyf *bus, uint64_t first, struct daskreyf_state *state);
 
 /*
  * All of the bus, with what each device is, may and wants; the last symbols on the wire, 256 at most; and the last frames of

@@ -572,7 +572,7 @@ class Bus:
 
     def show(self, first: int = 1) -> BusState:
         """`show`: the bus, with its whole log, or of that the records from a number on."""
-        return _state(self.line("show" if first == 1 else f"show {_count(first)}").lines)
+        return _state(self.line("show" if first == 1 else f"show {_place(first)}").lines)
 
     def show_all(self) -> BusDetails:
         """`show all`: the same, what each device is, may and wants, and whether the list is current and a session open."""
@@ -697,10 +697,10 @@ def _bit(bit: int) -> int:
     return bit
 
 
-def _count(count: int) -> int:
-    if not 1 <= count <= 65535:
-        raise ValueError(f"such a number is from 1 to 65535, and not {count}")
-    return count
+def _place(place: int) -> int:
+    if not 1 <= place < 1 << 64:
+        raise ValueError(f"a record's number is from 1 on, in 64 bits, and not {place}")
+    return place
 
 
 def _most(length: int) -> int:

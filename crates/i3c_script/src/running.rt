@@ -358,10 +358,10 @@ impl Running {
 
     /// `show N`: the bus with its records from this number on.
     #[inline(never)]
-    fn show_from(&self, names: &Names, first: u16, text: &mut Text) -> Result<(), Stop>
+    fn show_from(&self, names: &Names, first: u64, text: &mut Text) -> Result<(), Stop>
         ensures { Prints (IsDone (show_behind_text (first - 1) self.now.state names.now)) text.old text.new result }
     {
-        let passed = usize::from(first).saturating_sub(1);
+        let passed = first.saturating_sub(1) as usize;
         match show_bus_behind(&self.bus, names, passed, text) {
             Ok(()) => Ok(()),
             Err(_) => Err(Stop::Memory),
