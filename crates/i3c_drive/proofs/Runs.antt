@@ -1,39 +1,75 @@
 -- The run over an input, line by line.
-use Rattle.std.proofs.Common.{◌≡◌, ◌≢◌, ◌∙◌, ℕ, suc, ◌+◌, List, [], ◌∷◌, ◌++◌, drop, length, min, take, arith, Option, Some, None, IfSome, Result, Ok, Err, ap, append_assoc, append-nil, inr, refl, subst, sym}
+use Rattle.std.proofs.Common.{◌≡◌, ◌≢◌, ◌∙◌, ◌⊎◌, ◌<◌, ◌≤◌, ℕ, suc, ◌+◌, List, [], ◌∷◌, ◌++◌, drop, length, min, take, arith, Option, Some, None, IfSome, Result, Ok, Err, ap, append_assoc, append-nil, inl, inr, refl, subst, sym}
+use Rattle.std.proofs.lemmas.Bool.{cases_lt}
+use Rattle.std.proofs.lemmas.List.{length-take, take_all}
 use Rattle.std.proofs.lemmas.List.Elements.{All-tail}
 use Rattle.std.specs.Io.KnownBytes.{Appends, Consumes, IsAtEnd}
 use Rattle.i3c_drive.specs.declared.driven.Driver.{Driver}
 use Rattle.i3c_drive.specs.declared.form.Form.{Form}
 use Rattle.i3c_drive.specs.declared.input.Input.{Input}
 use Rattle.i3c_base.specs.declared.requests.Record.{Record}
-use Rattle.i3c_drive.specs.Answers.{AreAnswered, AreLinesOf, Asks, IsAnswered, IsChange, IsDrivenPart, IsNews, IsWritten, LacksFeed, WentBefore, log_of}
+use Rattle.i3c_drive.specs.Answers.{AreAnswered, AreLinesOf, Asks, DrivenDoes, IsAnswered, IsChange, IsDrivenPart, IsDrivenRun, IsNews, IsWritten, LacksFeed, StandFor, StandsFor, WentBefore, log_of}
 use Rattle.i3c_drive.specs.Inputs.{IsInHand, Takes, pending}
 use Rattle.i3c_drive.specs.Steps.{Closes, Fails, IsAnswer, IsCut, IsTold, Knows, RunsAll, RunsPart, RunsWhole, Tells, state}
+use Rattle.i3c_lines.specs.Capitals.{in_capitals}
 use Rattle.i3c_lines.specs.Gathering.{gathered}
 use Rattle.i3c_lines.specs.declared.refusals.Refusal.{Refusal}
 use Rattle.i3c_scenario.specs.declared.faults.ScriptFault.{ScriptFault}
 use Rattle.i3c_scenario.specs.Outcomes.{HasNoFeed}
-use Rattle.i3c_scenario.specs.Scripts.{IsRun, Lead, LineDoes, LineRun, lines_bytes, lines_refused, refusals_of}
+use Rattle.i3c_scenario.specs.Scripts.{Lead, LineDoes, LineRun, lines_bytes, lines_refused, refusals_of}
 use Rattle.i3c_script.specs.Obeying.{IsBegun, ScriptState}
+use Rattle.i3c_lines.proofs.CapitalLaws.{capitals_have_no_feed, capitals_length, long_capitals}
 use Rattle.i3c_scenario.proofs.CheckRuns.{some_out}
 use Rattle.i3c_scenario.proofs.Gathered.{nothing_out, some_after}
 use Rattle.i3c_scenario.proofs.ScriptRead.{ended_is, script_is, unread}
-use Rattle.i3c_scenario.proofs.ScriptRuns.{bytes_both, does_whole, refused_both}
+use Rattle.i3c_scenario.proofs.ScriptRuns.{bytes_both, refused_both}
 use Rattle.i3c_scenario.proofs.TraceRead.{more_read, none_read}
 use Rattle.i3c_scenario.proofs.Written.{appends_both}
 
--- Lines that are answered lead on
-pub answered_lead : (form : Form) (number : ℕ) (old : ScriptState) (lines : List LineRun) (new : ScriptState) (answers : List ℕ) → AreAnswered form number old lines new answers → Lead old lines new
-answered_lead form number old [] new answers (same, none) = same
-answered_lead form number old (run ∷ rest) new answers (mid, is, (answer, later, one, text, are)) = (mid, is, answered_lead form (suc number) mid rest new later are)
+-- the line that one stands for has no line feed either
+one_line : (line written : List ℕ) → StandsFor line written → HasNoFeed line → HasNoFeed written
+one_line line written (inl (form, same)) one = subst HasNoFeed (sym same) one
+one_line line written (inr (formless, same)) one = subst HasNoFeed (sym same) (capitals_have_no_feed line one)
+
+-- Lines that are answered lead on, as the lines that they stand for
+pub answered_lead : (form : Form) (number : ℕ) (old : ScriptState) (lines : List LineRun) (new : ScriptState) (answers : List ℕ) → AreAnswered form number old lines new answers → (script : List LineRun) × StandFor lines script × Lead old script new
+answered_lead form number old [] new answers (same, none) = ([], refl, same)
+answered_lead form number old (run ∷ rest) new answers (mid, is, (answer, later, one, text, are)) =
+    let (script, stand, lead) = answered_lead form (suc number) mid rest new later are in
+    let (written, stands, does) = is.does in
+    let first : LineRun = record { line = written; said = run.said; refused = run.refused } in
+    (first ∷ script, (first, script, refl, stands, refl, refl, stand), (mid, record { one = one_line run.line written stands is.one; does = does }, lead))
+
+-- a line that is too long is refused, whatever it says
+long_does : (old : ScriptState) (line said : List ℕ) (refused : Option Refusal) (new : ScriptState) → 256 < length line → LineDoes old line said refused new → (said ≡ []) × (refused ≡ Some Refusal.BadLine) × (new ≡ old)
+long_does old line said refused new long (inl is) = (is.1, is.2, is.3)
+long_does old line said refused new long (inr (inl is)) = absurd (omega (arith, long, is.0.0))
+long_does old line said refused new long (inr (inr is)) = absurd (omega (arith, long, is.1.0))
+
+-- what stands for a line that is too long is too long
+long_stands : (line written : List ℕ) → 256 < length line → StandsFor line written → 256 < length written
+long_stands line written long (inl (form, same)) = absurd (form (inl long))
+long_stands line written long (inr (formless, same)) = omega (arith, long, ap length same, capitals_length line)
+
+-- a driven line does what it does by its first bytes
+driven_whole : (old : ScriptState) (line said : List ℕ) (refused : Option Refusal) (new : ScriptState) → DrivenDoes old (take 257 line) said refused new → DrivenDoes old line said refused new
+driven_whole old line said refused new (written, stands, does) = if_short (cases_lt 256 (length (take 257 line))) where
+  if_short : (256 < length (take 257 line)) ⊎ (length (take 257 line) ≤ 256) → DrivenDoes old line said refused new
+  if_short (inl long) =
+      let whole : 256 < length line = omega (arith, long, length-take 257 line) in
+      let is = long_does old written said refused new (long_stands (take 257 line) written long stands) does in
+      (in_capitals line, inr (inl whole, refl), inl (long_capitals line whole, is.0, is.1, is.2))
+  if_short (inr short) =
+      let same : take 257 line ≡ line = take_all 257 line (omega (arith, short, length-take 257 line)) in
+      subst (λ l. DrivenDoes old l said refused new) same (written, stands, does)
 
 -- one more line is answered
 answered_more : (form : Form) (lines : List LineRun) (number at : ℕ) (old mid new : ScriptState) (run : LineRun) (answers answer : List ℕ)
-    → at ≡ number + length lines → AreAnswered form number old lines mid answers → IsRun mid run new → IsAnswered form at mid run new answer → AreAnswered form number old (lines ++ run ∷ []) new (answers ++ answer)
+    → at ≡ number + length lines → AreAnswered form number old lines mid answers → IsDrivenRun mid run new → IsAnswered form at mid run new answer → AreAnswered form number old (lines ++ run ∷ []) new (answers ++ answer)
 answered_more form [] number at old mid new run answers answer e (same, none) is one =
     let first : at ≡ number = omega (arith, e) in
     let here = subst (λ st. IsAnswered form number st run new answer) same (subst (λ n. IsAnswered form n mid run new answer) first one) in
-    (new, subst (λ st. IsRun st run new) same is, (answer, [], here, ap (λ a. a ++ answer) none ∙ sym (append-nil answer), (refl, refl)))
+    (new, subst (λ st. IsDrivenRun st run new) same is, (answer, [], here, ap (λ a. a ++ answer) none ∙ sym (append-nil answer), (refl, refl)))
 answered_more form (other ∷ lines) number at old mid new run answers answer e (next, does, (before, later, told, text, are)) is one =
     let on : at ≡ suc number + length lines = omega (arith, e) in
     (next, does, (before, later ++ answer, told, ap (λ a. a ++ answer) text ∙ append_assoc before later answer, answered_more form lines (suc number) at next mid new run later answer on are is one))
@@ -76,7 +112,7 @@ whole_answer : (form : Form) (number : ℕ) (line first : List ℕ) (old new : D
 whole_answer form number line first old new answer same is = record {
   said = is.said;
   refused = is.refused;
-  does = does_whole (state old) line is.said is.refused (state new) (subst (λ l. LineDoes (state old) l is.said is.refused (state new)) same is.does);
+  does = driven_whole (state old) line is.said is.refused (state new) (subst (λ l. DrivenDoes (state old) l is.said is.refused (state new)) same is.does);
   text = is.text;
   knows = is.knows;
   count = is.count;
@@ -88,7 +124,7 @@ more_driven : (form : Form) (known now before mid : Option (List ℕ)) (input : 
 more_driven form known now before mid input old from to number line first answer so_far one same is =
     let whole = whole_answer form number line first from to answer same is in
     let run : LineRun = record { line = line; said = whole.said; refused = whole.refused } in
-    let ran : IsRun (state from) run (state to) = record { one = one; does = whole.does } in (
+    let ran : IsDrivenRun (state from) run (state to) = record { one = one; does = whole.does } in (
       run,
       refl,
       answered_more form so_far.lines 1 number (state old) (state from) (state to) run so_far.answers answer so_far.number so_far.answered ran whole.text,
@@ -257,7 +293,7 @@ last_tells form known now next before mid after input further old from to number
 last_tells form known now next before mid after input further old from to number line (Err fault) so_far hand some takes none end fails = last_fails form fault known now next before mid after input further old from to number line so_far hand takes none end fails
 
 -- a line that was run, as it is answered
-pub line_answered : (form : Form) (number : ℕ) (line : List ℕ) (refused : Option Refusal) (log : List Record) (from mid to : Driver) → LineDoes (state from) line mid.answer refused (state mid) → state to ≡ state mid → log ≡ log_of (state from)
+pub line_answered : (form : Form) (number : ℕ) (line : List ℕ) (refused : Option Refusal) (log : List Record) (from mid to : Driver) → DrivenDoes (state from) line mid.answer refused (state mid) → state to ≡ state mid → log ≡ log_of (state from)
     → Knows from → mid.asked ≡ from.asked → Closes form number (length log) refused mid to → to.refused ≡ min (from.refused + refusals_of refused) 18446744073709551615 → IsAnswer form number line from to to.answer
 line_answered form number line refused log from mid to does same logged knows kept closes count =
     let before = log_of (state from) in
@@ -267,12 +303,12 @@ line_answered form number line refused log from mid to does same logged knows ke
     record {
       said = mid.answer;
       refused = refused;
-      does = subst (LineDoes (state from) line mid.answer refused) (sym same) does;
+      does = subst (DrivenDoes (state from) line mid.answer refused) (sym same) does;
       text = (closes.news, change, subst (λ st. IsWritten form number mid.answer (length before) (drop (length before) (log_of st)) closes.news refused to.answer) (sym same) told);
       knows = asks;
       count = count;
     }
 
 -- what a line printed is all of the answer so far
-pub said_whole : (old : ScriptState) (line before after : List ℕ) (refused : Option Refusal) (new : ScriptState) → (said : List ℕ) × (after ≡ before ++ said) × LineDoes old line said refused new → before ≡ [] → LineDoes old line after refused new
-said_whole old line before after refused new (said, told, does) none = subst (λ t. LineDoes old line t refused new) (sym (told ∙ ap (λ t. t ++ said) none)) does
+pub said_whole : (old : ScriptState) (line before after : List ℕ) (refused : Option Refusal) (new : ScriptState) → (said : List ℕ) × (after ≡ before ++ said) × DrivenDoes old line said refused new → before ≡ [] → DrivenDoes old line after refused new
+said_whole old line before after refused new (said, told, does) none = subst (λ t. DrivenDoes old line t refused new) (sym (told ∙ ap (λ t. t ++ said) none)) does

@@ -7,11 +7,13 @@ use Rattle.i3c_drive.specs.declared.form.Form.{Form}
 use Rattle.i3c_json.specs.Objects.{IsLineOf, answer_data}
 use Rattle.i3c_lines.specs.declared.names.Names.{Names}
 use Rattle.i3c_lines.specs.declared.refusals.Refusal.{Refusal}
+use Rattle.i3c_lines.specs.Capitals.{in_capitals}
+use Rattle.i3c_lines.specs.Forms.{HasNoForm}
 use Rattle.i3c_lines.specs.Refusing.{refusal_text}
 use Rattle.i3c_scenario.specs.declared.faults.ScriptFault.{ScriptFault}
 use Rattle.i3c_scenario.specs.declared.script.Tally.{Tally}
-use Rattle.i3c_scenario.specs.Outcomes.{AppendsSome}
-use Rattle.i3c_scenario.specs.Scripts.{IsRun, Lead, LineRun, lines_bytes, lines_refused}
+use Rattle.i3c_scenario.specs.Outcomes.{AppendsSome, HasNoFeed}
+use Rattle.i3c_scenario.specs.Scripts.{Lead, LineDoes, LineRun, lines_bytes, lines_refused}
 use Rattle.i3c_script.specs.declared.stage.Stage.{Stage}
 use Rattle.i3c_script.specs.Obeying.{IsBegun, ScriptState}
 use Rattle.i3c_script.specs.Printed.{TellsAskers, numbered_text}
@@ -70,10 +72,23 @@ abbrev pub IsAnswered : Form → ℕ → ScriptState → LineRun → ScriptState
 IsAnswered form number old run new answer =
     (news : Option (List ℕ)) × IsChange old new news × IsWritten form number run.said (length (log_of old)) (drop (length (log_of old)) (log_of new)) news run.refused answer
 
+-- the line of a script that a driven line stands for: itself, if it has a form, and otherwise the same in capitals
+abbrev pub StandsFor : List ℕ → List ℕ → Type 0
+StandsFor line written = ((HasNoForm line → ⊥) × (written ≡ line)) ⊎ (HasNoForm line × (written ≡ in_capitals line))
+
+-- a driven line does what the line that it stands for does in a script
+abbrev pub DrivenDoes : ScriptState → List ℕ → List ℕ → Option Refusal → ScriptState → Type 0
+DrivenDoes old line said refused new = (written : List ℕ) × StandsFor line written × LineDoes old written said refused new
+
+-- one line was run, and the script went from one state to another
+pub record IsDrivenRun (old : ScriptState) (run : LineRun) (new : ScriptState) : Type 0 where
+  pub one : HasNoFeed run.line
+  pub does : DrivenDoes old run.line run.said run.refused new
+
 -- lines, counted from this number on, were run and answered so
 abbrev pub AreAnswered : Form → ℕ → ScriptState → List LineRun → ScriptState → List ℕ → Type 0
 AreAnswered form number old [] new answers = (new ≡ old) × (answers ≡ [])
-AreAnswered form number old (run ∷ rest) new answers = (mid : ScriptState) × IsRun old run mid
+AreAnswered form number old (run ∷ rest) new answers = (mid : ScriptState) × IsDrivenRun old run mid
     × ((answer : List ℕ) × (later : List ℕ) × IsAnswered form number old run mid answer × (answers ≡ answer ++ later) × AreAnswered form (suc number) mid rest new later)
 
 -- an input whose last line lacks its line feed
@@ -119,6 +134,11 @@ pub record IsDrivenPart (form : Form) (known old new : Option (List ℕ)) (fault
 abbrev pub AnswersGoOut : Form → Option (List ℕ) → Option (List ℕ) → Option (List ℕ) → Result Tally ScriptFault → Type 0
 AnswersGoOut form known old new result = MatchResult result (IsDriven form known old new) (IsDrivenPart form known old new)
 
--- Lines that are answered do what they do in a script
+-- these lines of a script are those that driven lines stand for, and come to the same
+abbrev pub StandFor : List LineRun → List LineRun → Type 0
+StandFor [] script = script ≡ []
+StandFor (run ∷ rest) script = (one : LineRun) × (more : List LineRun) × (script ≡ one ∷ more) × StandsFor run.line one.line × (one.said ≡ run.said) × (one.refused ≡ run.refused) × StandFor rest more
+
+-- Lines that are answered do what the lines that they stand for do in a script
 abbrev pub AnsweredLinesLead : Type 0
-AnsweredLinesLead = (form : Form) (number : ℕ) (old : ScriptState) (lines : List LineRun) (new : ScriptState) (answers : List ℕ) → AreAnswered form number old lines new answers → Lead old lines new
+AnsweredLinesLead = (form : Form) (number : ℕ) (old : ScriptState) (lines : List LineRun) (new : ScriptState) (answers : List ℕ) → AreAnswered form number old lines new answers → (script : List LineRun) × StandFor lines script × Lead old script new

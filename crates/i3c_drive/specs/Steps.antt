@@ -3,10 +3,10 @@ use Rattle.std.specs.Prelude.{◌≡◌, ℕ, ◌+◌, Bool, true, false, List, 
 use Rattle.std.specs.Io.KnownBytes.{Appends}
 use Rattle.i3c_drive.specs.declared.driven.Driver.{Driver}
 use Rattle.i3c_drive.specs.declared.form.Form.{Form}
-use Rattle.i3c_drive.specs.Answers.{AreAnswered, AreLinesOf, Asks, IsAnswered, IsNews, IsWritten, WentBefore, log_of}
+use Rattle.i3c_drive.specs.Answers.{AreAnswered, AreLinesOf, Asks, DrivenDoes, IsAnswered, IsNews, IsWritten, WentBefore, log_of}
 use Rattle.i3c_lines.specs.declared.refusals.Refusal.{Refusal}
 use Rattle.i3c_scenario.specs.declared.faults.ScriptFault.{ScriptFault}
-use Rattle.i3c_scenario.specs.Scripts.{LineDoes, LineRun, lines_bytes, lines_refused, refusals_of}
+use Rattle.i3c_scenario.specs.Scripts.{LineRun, lines_bytes, lines_refused, refusals_of}
 use Rattle.i3c_script.specs.Obeying.{ScriptState, script}
 use Rattle.i3c_script.specs.Telling.{Prints}
 use Rattle.i3c_script.specs.declared.faults.Stop.{Stop}
@@ -17,7 +17,7 @@ state driver = script driver.stage driver.names
 
 -- what a line comes to, with what is printed before and after it: a mark has no form here
 abbrev pub Reads : ScriptState → List ℕ → List ℕ → List ℕ → Result (Unit {0}) Stop → ScriptState → Type 0
-Reads old line before after result new = Prints (λ said refused. LineDoes old line said refused new) before after result
+Reads old line before after result new = Prints (λ said refused. DrivenDoes old line said refused new) before after result
 
 -- the driver knows who asks
 abbrev pub Knows : Driver → Type 0
@@ -27,7 +27,7 @@ Knows driver = Asks (state driver) driver.asked
 pub record IsAnswer (form : Form) (number : ℕ) (line : List ℕ) (old new : Driver) (answer : List ℕ) : Type 0 where
   pub said : List ℕ
   pub refused : Option Refusal
-  pub does : LineDoes (state old) line said refused (state new)
+  pub does : DrivenDoes (state old) line said refused (state new)
   pub text : IsAnswered form number (state old) (record { line = line; said = said; refused = refused }) (state new) answer
   pub knows : Knows new
   pub count : new.refused ≡ min (old.refused + refusals_of refused) 18446744073709551615

@@ -1,8 +1,9 @@
-ghost use Rattle.std.specs.Prelude.{◌≡◌, ℕ, ◌+◌, List, [], ◌∷◌, ◌++◌, drop, min, option_map, suc, IfOk, OnOk};
+ghost use Rattle.std.specs.Prelude.{◌≡◌, ℕ, ◌+◌, ◌≤◌, List, [], ◌∷◌, ◌++◌, drop, length, min, option_map, suc, IfOk, OnOk};
 ghost use Rattle.std.specs.Io.KnownBytes.{IsAtEnd};
 ghost use Rattle.i3c_drive.specs.Answers.{AnswersGoOut, AsksAt, IsWritten, first_added, last_line, log_of, news_text};
 ghost use Rattle.i3c_drive.specs.Inputs.{pending};
 ghost use Rattle.i3c_drive.specs.Steps.{Asked, Closes, IsAnswer, Knows, Reads, RunsAll, Tells, news_of, state};
+ghost use Rattle.i3c_lines.specs.Forms.{HasNoForm};
 ghost use Rattle.i3c_script.specs.Obeying.{IsBegun};
 ghost use Rattle.i3c_script.specs.Printed.{numbered_text};
 ghost use Rattle.i3c_scenario.specs.Scripts.{refusals_of};
@@ -11,7 +12,7 @@ use crate::form::Form;
 use crate::input::{Input, Next};
 use i3c_base::Record;
 use i3c_json::{Answer, push_object};
-use i3c_lines::{Command, Names, Refusal, is_skipped};
+use i3c_lines::{Command, Names, Refusal, is_skipped, push_capitals};
 use i3c_scenario::{ScriptFault, Tally, write_out};
 use i3c_script::{Stage, Stop, show_askers, show_records_behind};
 use i3c_text::Text;
@@ -25,6 +26,8 @@ use std::io::{Read, Write};
 /// last line is `ok` and the line's number, or `refused`, the number and why. As JSON an answer is one line, an object that has
 /// the same in its fields.
 ///
+/// A line without a form is read once more with its hexadecimal digits in capitals, so these may be small letters.
+///
 /// Each line has an answer, empty ones and comments too. Expectations and other marks of a script have no form here. The input may have any length. At its end an open session is
 /// ended, and the bus retired. Before a fault all answers went out, but to a writer that fails only a part of them.
 #[inline(never)]
@@ -37,7 +40,7 @@ pub fn run_driven<R: Read, W: Write>(
     // an `Ok` comes after the whole input
     ensures whole { OnOk result (IsAtEnd (R.remaining reader.new)) }
     // a script starts with no bus, no legacy target and no name; each line changes the state and is answered as its command
-    // says; with `Ok` all answers went out, and before a fault as much as that fault says
+    // says, or that of the same line in capitals; with `Ok` all answers went out, and before a fault as much as that fault says
     ensures answers { AnswersGoOut form (R.remaining reader.old) (W.contents writer.old) (W.contents writer.new) result }
     ensures unmet { IfOk result (λ tally. tally.unmet ≡ 0) }
 {
@@ -57,6 +60,9 @@ pub fn run_driven<R: Read, W: Write>(
 /// Names the lines of a driven bus.
 struct Driven;
 
+/// Names those that are read in capitals.
+struct Capitals;
+
 /// The state of a driven bus: its stage and names, the current command, the current answer, and how many lines were
 /// refused.
 pub(crate) struct Driver {
@@ -69,6 +75,8 @@ pub(crate) struct Driver {
     // the names of those who asked before, and who ask now
     asked: Text,
     asks: Text,
+    // a line without a form, in capitals
+    capitals: Text,
     refused: u64,
 }
 
@@ -87,6 +95,7 @@ impl Driver {
             answer: Text::new(alloc),
             asked: Text::new(alloc),
             asks: Text::new(alloc),
+            capitals: Text::new(alloc),
             refused: 0,
         }
     }
@@ -244,6 +253,32 @@ impl Driver {
                 &self.command,
                 &mut self.answer,
             ),
+            None => self.obey_in_capitals(line),
+        }
+    }
+
+    /// Obeys a line that has no form as it stands by its form in capitals, if it has one.
+    #[cold]
+    #[inline(never)]
+    fn obey_in_capitals(&mut self, line: &[u8]) -> Result<(), Stop>
+        requires short { length line.now ≤ 256 }
+        requires formless { HasNoForm line.now }
+        ensures refused { self.new.refused ≡ self.old.refused }
+        ensures asked { self.new.asked ≡ self.old.asked }
+        ensures reads { Reads (state self.old) line.now self.old.answer self.new.answer result (state self.new) }
+    {
+        self.capitals.clear();
+        match push_capitals(line, &mut self.capitals) {
+            Ok(()) => {}
+            Err(_) => return Err(Stop::Memory),
+        }
+        match self.command.read::<Capitals>(self.capitals.as_bytes()) {
+            Some(()) => self.stage.obey::<Capitals>(
+                self.alloc,
+                &mut self.names,
+                &self.command,
+                &mut self.answer,
+            ),
             None => Err(Stop::Refused(Refusal::BadLine)),
         }
     }
@@ -302,6 +337,7 @@ impl Driver {
             answer: _,
             asked: _,
             asks: _,
+            capitals: _,
             refused,
         } = self;
         stage.retire();

@@ -9,3 +9,4 @@ pub mod SplitLaws
 pub mod Arguments
 pub mod PrintedLines
 pub mod PrintedForms
+pub mod CapitalLaws

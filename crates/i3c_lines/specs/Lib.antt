@@ -10,3 +10,4 @@ pub mod Faults
 pub mod Namings
 pub mod Laws
 pub mod Printing
+pub mod Capitals

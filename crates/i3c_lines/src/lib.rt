@@ -2,11 +2,13 @@
 //!
 //! `tokens` reads one word, `command` a line of text, `line` a line of bytes, which may come in pieces. `names` keeps what the names of a script
 //! stand for, and `namings` which names a command gives and means. `policies` are the words that name a policy,
-//! and `data` those of what a controller asks for, and of the lengths that it sets.
+//! and `data` those of what a controller asks for, and of the lengths that it sets. `capitals` writes a line's hexadecimal
+//! digits in capitals.
 //! `form_faults` says why a line has no form, by the `fields` and the `shapes` of the commands. `laws` are theorems over all
 //! lines.
 #![tactic(auto)]
 
+mod capitals;
 mod command;
 mod data;
 mod fields;
@@ -21,6 +23,7 @@ mod refusals;
 mod shapes;
 pub mod tokens;
 
+pub use capitals::push_capitals;
 pub use command::Command;
 pub use data::{datum, length_word, told_word};
 pub use fields::Field;

@@ -19,6 +19,7 @@ const COMMENT: u8 = b'#';
 pub fn is_skipped(line: &[u8]) -> Result<bool, Refusal>
     ensures long { 256 < length line.now → result ≡ Err Refusal.BadLine }
     ensures short { IfOk result (λ _. length line.now ≤ 256) }
+    ensures longer { IfErr result (λ _. 256 < length line.now) }
     ensures skipped { IfOk result (λ is_skipped. IsTrue is_skipped ↔ IsSkipped line.now) }
     ensures refused { IfErr result (λ why. (why ≡ Refusal.BadLine) × HasNoForm line.now) }
 {
