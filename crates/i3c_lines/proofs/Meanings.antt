@@ -186,10 +186,6 @@ accepting_is word old new (inl is) = ap (λ w. accepting w old) is.0 ∙ sym is.
 accepting_is word old new (inr (inl is)) = ap (λ w. accepting w old) is.0 ∙ sym is.2
 accepting_is word old new (inr (inr is)) = ap (λ w. accepting w old) is.0 ∙ sym is.2
 
--- a word names one kind of request at most
-pub same_accepted : (word : List ℕ) (old one other : Fixed) → Accepts word old one → Accepts word old other → one ≡ other
-same_accepted word old one other first second = sym (accepting_is word old one first) ∙ accepting_is word old other second
-
 accepting_each_is : (words : List (List ℕ)) (old new : Fixed) → AcceptEach words old new → accepting_each words old ≡ new
 accepting_each_is [] old new same = sym same
 accepting_each_is (word ∷ words) old new (next, is, are) = ap (λ policy. accepting_each words policy) (accepting_is word old next is) ∙ accepting_each_is words next new are

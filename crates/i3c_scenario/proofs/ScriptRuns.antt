@@ -69,12 +69,6 @@ no_form_whole line none = if_short (cases_lt 256 (length (take 257 line))) where
   if_short (inl long) = long_line line long
   if_short (inr short) = subst HasNoForm (taken_whole line short) none
 
--- a line does what it does by its first bytes
-pub does_whole : (old : ScriptState) (line said : List ℕ) (refused : Option Refusal) (new : ScriptState) → LineDoes old (take 257 line) said refused new → LineDoes old line said refused new
-does_whole old line said refused new (inl (form, none, why, same)) = inl (no_form_whole line form, none, why, same)
-does_whole old line said refused new (inr (inl (skipped, none, why, same))) = inr (inl (subst IsSkipped (taken_whole line skipped.0) skipped, none, why, same))
-does_whole old line said refused new (inr (inr (command, is, does))) = inr (inr (command, subst (λ l. IsCommand l command) (taken_whole line (is.0)) is, does))
-
 -- a line is short that is a mark
 mark_short : (n : ℕ) (line : List ℕ) → length line ≤ n → take (suc n) line ≡ line
 mark_short n line short = take_all (suc n) line (omega (arith, short))
