@@ -288,7 +288,7 @@ class FaultsTest(unittest.TestCase):
                 lambda: bus.read(-1),
                 lambda: with_hub(bus).cut(65536),
                 lambda: bus.show(0),
-                lambda: bus.show(65536),
+                lambda: bus.show(1 << 64),
                 lambda: bus.set_mwl(0),
                 lambda: bus.set_mrl(17, 0x09),
                 lambda: bus.policy("some"),  # type: ignore[arg-type]
