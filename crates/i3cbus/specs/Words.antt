@@ -7,6 +7,6 @@ use Rattle.i3cbus.specs.declared.words.Work.{Work}
 abbrev pub RunsInput : Task → Type 0
 RunsInput (Task.File work file) = (work ≡ Work.Run) × (file.now ≡ codes "-")
 RunsInput (Task.Capture capturing work file) = ⊥
-RunsInput (Task.Explore limits part file) = ⊥
+RunsInput (Task.Explore limits part jobs file) = ⊥
 RunsInput (Task.Stress stress) = ⊥
 RunsInput Task.Version = ⊥
