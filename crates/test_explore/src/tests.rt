@@ -373,29 +373,58 @@ fn jobs_merge_states_as_one_thread_does(rt: HostRuntime) -> Result<(), Fail> {
     Ok(())
 }
 
-// four adds and four doubles come to 81 · 16, so a break is 8 turns long, and a limit can be reached before it
+/// Lines whose count passes 1,000 where four adds come before four doubles.
+const GROWING: [Line; 4] = [Line::Add(20), Line::Double, Line::Add(1), Line::Add(2)];
+
+/// Whether some numbers of jobs answer five tracks of these lines as one thread does.
+fn growing_agrees<R: Threads + Sync>(
+    rt: &R,
+    alloc: Global,
+    limits: Limits,
+) -> Result<bool, AllocError> {
+    let tracks: &[&[Line]] = &[&GROWING, &GROWING, &GROWING, &GROWING, &GROWING];
+    jobs_agree(rt, alloc, &[tracks], limits, Part::whole())
+}
+
+/// How many turns an order has that breaks an expectation of these tracks, if one does.
+fn growing_break(alloc: Global) -> Option<usize> {
+    let lines = GROWING;
+    let tracks: &[&[Line]] = &[&lines, &lines, &lines, &lines, &lines];
+    match explored(alloc, &[tracks], WIDE) {
+        Err(Stop::Breaks(order)) => Some(order.len()),
+        _ => None,
+    }
+}
+
+// four adds and four doubles come to 81 · 16, so a break is 8 turns long
 #[test]
 fn jobs_tell_the_break_that_one_thread_tells(rt: HostRuntime) -> Result<(), Fail> {
-    let lines = [Line::Add(20), Line::Double, Line::Add(1), Line::Add(2)];
-    let tracks: &[&[Line]] = &[&lines, &lines, &lines, &lines, &lines];
-    assert!(rt; jobs_agree(&rt, rt.alloc(), &[tracks], WIDE, Part::whole())?);
-    match explored(rt.alloc(), &[tracks], WIDE) {
-        Err(Stop::Breaks(order)) => assert!(rt; order.len() == 8),
-        _ => assert!(rt; false),
-    }
+    assert!(rt; growing_break(rt.alloc()) == Some(8));
+    assert!(rt; growing_agrees(&rt, rt.alloc(), WIDE)?);
+    Ok(())
+}
+
+// a limit can be reached before the break
+#[test]
+fn jobs_meet_a_limit_of_lines_as_one_thread_does(rt: HostRuntime) -> Result<(), Fail> {
     for tenth in 1..10u64 {
         let limits = Limits {
             steps: 1000 * tenth,
             states: 16_384,
         };
-        assert!(rt; jobs_agree(&rt, rt.alloc(), &[tracks], limits, Part::whole())?);
+        assert!(rt; growing_agrees(&rt, rt.alloc(), limits)?);
     }
+    Ok(())
+}
+
+#[test]
+fn jobs_meet_a_limit_of_states_as_one_thread_does(rt: HostRuntime) -> Result<(), Fail> {
     for states in [200, 400, 800] {
         let limits = Limits {
             steps: 100_000,
             states,
         };
-        assert!(rt; jobs_agree(&rt, rt.alloc(), &[tracks], limits, Part::whole())?);
+        assert!(rt; growing_agrees(&rt, rt.alloc(), limits)?);
     }
     Ok(())
 }
