@@ -74,6 +74,13 @@ pub(crate) fn spare_all<M: Machine>(nodes: Vec<Node<M>>, spares: &mut Vec<M>) {
     }
 }
 
+/// More states are spare from now on, as far as there is memory to keep them.
+fn spare_more<M: Machine>(more: Vec<M>, spares: &mut Vec<M>) {
+    for state in more {
+        let _ = spares.push(state);
+    }
+}
+
 impl<M: Machine> Layer<M> {
     /// A layer without a state.
     pub(crate) fn new(alloc: Global, limits: Limits) -> Layer<M>
@@ -192,11 +199,17 @@ impl<M: Machine> Layer<M> {
         Ok(())
     }
 
-    /// Puts the nodes of another layer, one after another.
+    /// Puts the nodes of another layer, one after another. Its spare states are spare here.
     pub(crate) fn put_all(&mut self, alloc: Global, other: Layer<M>) -> Result<(), Stop>
         ensures { OnOk result (ArePut self.old.nodes.items other.nodes.items self.new.nodes.items) }
     {
-        let Layer { nodes, index, .. } = other;
+        let Layer {
+            nodes,
+            index,
+            spares,
+            limits: _,
+        } = other;
+        spare_more(spares, &mut self.spares);
         let mut place = 0usize;
         for node in nodes {
             match self.put_node(alloc, index.key(place), node) {
