@@ -1,4 +1,4 @@
-ghost use Rattle.std.specs.Prelude.{◌≡◌, ◌∷◌, Some, codes, option_copied};
+ghost use Rattle.std.specs.Prelude.{◌≡◌, ◌++◌, ◌∷◌, ℕ, List, Some, codes, option_copied};
 ghost use Rattle.i3c_lines.specs.Forms.{AreAddress, AreAddresses, AreAsked, AreByte, AreCount, AreDeclared, AreDevice, AreKinds, AreLength, ArePlace, IsForm, IsNamed, Writes, tokens};
 ghost use Rattle.i3c_lines.specs.Data.{length_word};
 ghost use Rattle.i3c_lines.specs.Parsing.{AreKept, AreNamed, AreWilling, Becomes, BecomesOther, IsOtherForm, Reads, TakesIdentity, TakesWord, left_words, words_of};
@@ -220,6 +220,20 @@ impl Command {
         if is_word(tail, SERVE) {
             return self.set(Command::Frame(Frame::Serve));
         }
+        if let Some(line) = after(tail, SETDASA) {
+            return self.read_setdasa::<K>(line);
+        }
+        self.read_other_s(tail)
+    }
+
+    /// Becomes another command whose first letter is an `s`, by the line behind that.
+    // kept apart, so that `serve` and `setdasa` don't pay for these
+    #[inline(never)]
+    fn read_other_s(&mut self, tail: &[u8]) -> Option<()>
+        requires serve { tail.now ≡ codes "erve" → ⊥ }
+        requires fixed { (rest : List ℕ) → tail.now ≡ codes "etdasa " ++ rest → ⊥ }
+        ensures { Becomes (tokens (115 ∷ tail.now)) result self.old self.new }
+    {
         if is_word(tail, SHOW) {
             return self.set(Command::Show);
         }
@@ -229,11 +243,8 @@ impl Command {
         if is_word(tail, SHOW_ALL) {
             return self.set(Command::ShowAll);
         }
-        if let Some(line) = after(tail, SETDASA) {
-            return self.read_setdasa::<K>(line);
-        }
         if let Some(line) = after(tail, SETNEWDA) {
-            return self.read_setnewda::<K>(line);
+            return self.read_setnewda(line);
         }
         if let Some(line) = after(tail, SETMWL) {
             return self.read_length(Direction::Write, line);
@@ -377,7 +388,7 @@ impl Command {
     }
 
     /// Becomes SETNEWDA, by the words behind its first: a dynamic address and another one.
-    fn read_setnewda<K>(&mut self, line: &[u8]) -> Option<()>
+    fn read_setnewda(&mut self, line: &[u8]) -> Option<()>
         ensures { Becomes (codes "setnewda" ∷ tokens line.now) result self.old self.new }
     {
         let (at, to) = parse_addresses(line)?;
