@@ -23,7 +23,7 @@ impl Bus {
 
     /// Clears each address but the active controller's, what is kept for identities, and wishes for the role (RSTDAA, I3C
     /// Basic 5.1.9.3.3). It serves the first request before.
-    #[inline(never)]
+    #[inline(always)]
     pub fn reset<P: Policy, T: Tap>(
         &mut self,
         role: &Role,
@@ -52,7 +52,7 @@ impl Bus {
 
     /// Tells the devices of all addresses (DEFTGTS, I3C Basic 5.1.9.3.7): whoever can be a controller and has an address
     /// keeps the list. It serves the first request before.
-    #[inline(never)]
+    #[inline(always)]
     pub fn list<P: Policy, T: Tap>(
         &mut self,
         role: &Role,

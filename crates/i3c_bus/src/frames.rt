@@ -125,33 +125,29 @@ impl Bus {
         match command {
             Command::Serve => Reply::from(self.serve(role, policy, tap, cuts)),
             Command::Enec(to, kinds) => {
-                Reply::from(self.enec(role, *to, *kinds, policy, tap, cuts))
+                self.kinds_reply(role, Change::Enable, *to, *kinds, policy, tap, cuts)
             }
             Command::Disec(to, kinds) => {
-                Reply::from(self.disec(role, *to, *kinds, policy, tap, cuts))
+                self.kinds_reply(role, Change::Disable, *to, *kinds, policy, tap, cuts)
             }
-            Command::Reset => Reply::from(self.reset(role, policy, tap, cuts)),
-            Command::SendList => Reply::from(self.list(role, policy, tap, cuts)),
-            Command::ReadFrom(from) => Reply::from(self.read(role, *from, policy, tap, cuts)),
+            Command::Reset => self.reset_reply(role, policy, tap, cuts),
+            Command::SendList => self.list_reply(role, policy, tap, cuts),
+            Command::ReadFrom(from) => self.read_reply(role, *from, policy, tap, cuts),
             Command::WriteTo(to, bytes) => self.write_kept(role, *to, bytes, policy, tap, cuts),
             Command::SetStatic(fixed, new) => {
-                Reply::from(self.set_static(role, *fixed, *new, policy, tap, cuts))
+                self.static_reply(role, *fixed, *new, policy, tap, cuts)
             }
-            Command::SetNew(old, new) => {
-                Reply::from(self.set_new(role, *old, *new, policy, tap, cuts))
-            }
-            Command::Get(what, from) => {
-                Reply::from(self.get(role, *what, *from, policy, tap, cuts))
-            }
+            Command::SetNew(old, new) => self.new_reply(role, *old, *new, policy, tap, cuts),
+            Command::Get(what, from) => self.get_reply(role, *what, *from, policy, tap, cuts),
             Command::SetLength(way, most, to) => {
-                Reply::from(self.set_length(role, *way, *most, *to, policy, tap, cuts))
+                self.length_reply(role, *way, *most, *to, policy, tap, cuts)
             }
         }
     }
 
     /// ENEC or DISEC: serves the first request, and goes on with the command.
-    #[inline(never)]
-    fn change_kinds<P: Policy, T: Tap>(
+    #[inline(always)]
+    pub(crate) fn change_kinds<P: Policy, T: Tap>(
         &mut self,
         role: &Role,
         change: Change,

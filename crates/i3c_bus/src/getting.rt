@@ -25,7 +25,7 @@ impl Bus {
     /// Asks the devices at an address for a datum (GETPID and its like, I3C Basic 5.1.9.3). It serves the first request
     /// before. It answers `NoAnswer` without a frame where the table has no row at the address or it is the active
     /// controller's own.
-    #[inline(never)]
+    #[inline(always)]
     pub fn get<P: Policy, T: Tap>(
         &mut self,
         role: &Role,

@@ -12,6 +12,7 @@ mod frames;
 mod getting;
 mod handing;
 mod limiting;
+mod replying;
 mod runs;
 mod sessions;
 mod setting;

@@ -32,7 +32,7 @@ impl Bus {
     /// Gives the device at a static address, while it has no dynamic one, this dynamic address (SETDASA, I3C Basic
     /// 5.1.9.3.10). It serves the first request before. Without a frame it answers `NoAnswer` where no identity is declared
     /// at the static address, and `BadAddress` where the new one may not be picked and isn't kept for that identity.
-    #[inline(never)]
+    #[inline(always)]
     pub fn set_static<P: Policy, T: Tap>(
         &mut self,
         role: &Role,
@@ -68,7 +68,7 @@ impl Bus {
     /// Gives the device at a dynamic address another one in its place (SETNEWDA, I3C Basic 5.1.9.3.11). It serves the first
     /// request before. Without a frame it answers `NoAnswer` where the table has no row at the old address or it is the
     /// active controller's own, and `BadAddress` where the new one may not be picked.
-    #[inline(never)]
+    #[inline(always)]
     pub fn set_new<P: Policy, T: Tap>(
         &mut self,
         role: &Role,

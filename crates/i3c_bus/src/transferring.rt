@@ -28,7 +28,7 @@ impl Bus {
     /// address (private read, I3C Basic 5.1.2.2, 5.1.9.3.6). It serves the first request before. It answers `NoAnswer`
     /// without a frame where the table has no row at the address or it is the active controller's own, and no legacy target
     /// stands there.
-    #[inline(never)]
+    #[inline(always)]
     pub fn read<P: Policy, T: Tap>(
         &mut self,
         role: &Role,

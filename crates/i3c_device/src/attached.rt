@@ -163,6 +163,13 @@ impl Attached {
         self.identity
     }
 
+    /// Whether it wishes for the controller role, with an address or without one.
+    pub fn has_role_wish(&self) -> bool
+        ensures { result ≡ self.now.role_wish }
+    {
+        self.role_wish
+    }
+
     /// Whether it hears the open session.
     pub fn is_hearing(&self) -> bool
         ensures { result ≡ self.now.hearing }

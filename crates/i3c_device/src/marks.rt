@@ -88,13 +88,14 @@ impl Marks {
         requires { index < SLOT_COUNT }
         ensures { (places : List (Option DeviceState)) (address : ℕ) → length places ≡ SLOT_COUNT → AreMarks self.old places → place.now ≡ option_map (winner address) (slice_index_or places index None) → AreMarks self.new (slice_set places index place.now) }
     {
-        self.keys[index] = key_in(place);
-        self.answering.set(index, answer_in(place));
         self.joining = self.joining.with(index, false);
         self.asking = self.asking.with(index, wishes_role(place));
         self.interrupting = self.interrupting.with(index, wishes_interrupt(place));
         self.hearing = self.hearing.with(index, false);
         self.unaddressed = self.unaddressed.with(index, false);
+        // last, since the compiler reads the place anew after a write at an index that it doesn't know
+        self.keys[index] = key_in(place);
+        self.answering.set(index, answer_in(place));
     }
 
     /// Whatever stands in a slot now lost its address.
@@ -102,12 +103,13 @@ impl Marks {
         requires { index < SLOT_COUNT }
         ensures { (places : List (Option DeviceState)) → length places ≡ SLOT_COUNT → AreMarks self.old places → place.now ≡ option_map unaddressed_device (slice_index_or places index None) → AreMarks self.new (slice_set places index place.now) }
     {
-        self.keys[index] = key_in(place);
-        self.answering.set(index, answer_in(place));
         self.joining = self.joining.with(index, wishes_join(place));
         self.asking = self.asking.with(index, false);
         self.interrupting = self.interrupting.with(index, false);
         self.unaddressed = self.unaddressed.with(index, place.is_some());
+        // last, since the compiler reads the place anew after a write at an index that it doesn't know
+        self.keys[index] = key_in(place);
+        self.answering.set(index, answer_in(place));
     }
 
     /// Other interrupts wait at whatever stands in a slot now, which wishes to interrupt or doesn't.

@@ -351,6 +351,16 @@ pub(crate) fn wishes_role(place: &Option<Attached>) -> bool
     }
 }
 
+/// Whether a device that wishes for the role, with an address or without one, stands in this slot.
+pub(crate) fn has_role_wish(place: &Option<Attached>) -> bool
+    ensures { result ≡ in_slot (λ d. d.role_wish) place.now }
+{
+    match place {
+        Some(device) => device.has_role_wish(),
+        None => false,
+    }
+}
+
 /// Whether a device that wishes to join, and has no address, stands in this slot.
 pub(crate) fn wishes_join(place: &Option<Attached>) -> bool
     ensures { result ≡ in_slot wishes_join place.now }

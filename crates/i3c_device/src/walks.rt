@@ -14,8 +14,8 @@ ghost use Rattle.i3c_device.specs.Walks.{taken_from, willing_at, written_at};
 use crate::attached::Attached;
 use crate::marks::Marks;
 use crate::places::{
-    accept, is_willing, limit, lose_front, lose_role_wish, open, reaches, readdress, reset,
-    silence, win, wish_join, wish_role, wishes_interrupt, write,
+    accept, has_role_wish, is_willing, limit, lose_front, lose_role_wish, open, reaches, readdress,
+    reset, silence, win, wish_join, wish_role, wishes_interrupt, write,
 };
 use i3c_base::{Addr7, Datum, Direction, Length, Request, Slot};
 
@@ -137,8 +137,9 @@ pub(crate) struct RoleLost;
 impl SlotUpdate for RoleLost {
     ghost after = { λ h s place. option_map without_role place };
 
-    fn concerns(&self, _place: &Option<Attached>, _index: usize) -> bool {
-        true
+    // as a rule there is no such wish, and nothing to mark
+    fn concerns(&self, place: &Option<Attached>, _index: usize) -> bool {
+        has_role_wish(place)
     }
 
     fn happen(&self, place: &mut Option<Attached>, _index: usize) {

@@ -51,11 +51,13 @@ pub fn run_script<R: Read, W: Write>(
     // command says; all that they print goes out with `Ok`, and before a fault as much as that fault says
     ensures lines { LinesGoOut (R.remaining reader.old) (R.remaining reader.new) (W.contents writer.old) (W.contents writer.new) result }
 {
-    let mut script = Script::new(alloc);
+    // before the script, whose room would else be cleared twice
     let Ok(mut chunk) = vec![in alloc; 0u8; CHUNK] else {
-        let _none = script.retire();
+        // with no name given, as each script begins
+        let _none = Names::new(alloc);
         return Err(ScriptFault::Memory);
     };
+    let mut script = Script::new(alloc);
     let outcome = script.read_all(reader, &mut chunk, writer);
     let tally = script.retire();
     match outcome {

@@ -10,6 +10,8 @@ use i3c_base::{ADDRESSES, Addr7, Addresses, Identity};
 use i3c_legacy::Legacies;
 
 /// Keeps an address for an identity, or for nobody, and answers which addresses are kept then.
+// in line, since who calls it knows whether there is an identity, and has the address in a set of its own
+#[inline(always)]
 pub(crate) fn keep_for(
     identity: Option<Identity>,
     address: Addr7,

@@ -184,6 +184,7 @@ impl Table {
     }
 
     /// The address that is kept for an identity, if one is: the least, were there several.
+    #[inline(always)]
     pub fn address_known(&self, identity: &Identity) -> Option<Addr7>
         ensures kept { MatchOption result (IsUnknownIn self.now.given identity.now)
             (λ a. IsKeptIn self.now.given identity.now a) }
