@@ -557,6 +557,23 @@ enum daskreyf_result daskreyf_policy_of(struct daskreyf *bus, uint8_t kinds)
         kinds & DASKREYF_INTERRUPTS ? " interrupts" : "");
 }
 
+enum daskreyf_result daskreyf_policy_but(
+    struct daskreyf *bus, uint8_t kinds, const char *const *names, size_t count)
+{
+    char behind[LINE_ROOM] = "";
+    size_t length = 0, at;
+
+    if (!kinds || kinds & ~(DASKREYF_INTERRUPTS | DASKREYF_ROLES | DASKREYF_JOINS) || !count || count > DASKREYF_EXCEPTED)
+        return DASKREYF_BAD_ARGUMENT;
+    for (at = 0; at < count; at++) {
+        if (length + 1 + strlen(names[at]) >= sizeof behind)
+            return DASKREYF_BAD_ARGUMENT;
+        length += (size_t)sprintf(behind + length, " %s", names[at]);
+    }
+    return send_line(bus, "policy%s%s%s but%s", kinds & DASKREYF_JOINS ? " joins" : "",
+        kinds & DASKREYF_ROLES ? " roles" : "", kinds & DASKREYF_INTERRUPTS ? " interrupts" : "", behind);
+}
+
 enum daskreyf_result daskreyf_serve(struct daskreyf *bus)
 {
     return daskreyf_line(bus, "serve");
@@ -863,6 +880,11 @@ enum daskreyf_result daskreyf_show(struct daskreyf *bus, struct daskreyf_state *
 enum daskreyf_result daskreyf_show_from(struct daskreyf *bus, uint64_t first, struct daskreyf_state *state)
 {
     return shown(bus, send_line(bus, "show %" PRIu64, first), state);
+}
+
+enum daskreyf_result daskreyf_forget(struct daskreyf *bus, uint64_t last)
+{
+    return send_line(bus, "forget %" PRIu64, last);
 }
 
 enum daskreyf_result daskreyf_show_all(struct daskreyf *bus)

@@ -17,6 +17,7 @@ enum {
     DASKREYF_LEGACIES = 16,      /* legacy I2C targets at most */
     DASKREYF_REGISTERS = 16,     /* registers of a device, and bytes of one transfer at most */
     DASKREYF_NAME = 16,          /* letters of a name at most */
+    DASKREYF_EXCEPTED = 8,       /* devices that a policy may except */
     DASKREYF_NO_BYTE = -1,       /* an interrupt without a mandatory byte */
     DASKREYF_UNADDRESSED = -1,   /* a device without a dynamic address */
     DASKREYF_ALL = -1            /* ENEC, DISEC, SETMWL and SETMRL to all */
@@ -214,6 +215,10 @@ enum daskreyf_result daskreyf_policy(struct daskreyf *bus, enum daskreyf_policy 
 /* Accepts these kinds and no others: DASKREYF_INTERRUPTS, DASKREYF_ROLES and DASKREYF_JOINS, with `|` between. */
 enum daskreyf_result daskreyf_policy_of(struct daskreyf *bus, uint8_t kinds);
 
+/* The same, but turns a request down that one of these devices drives: 1 to DASKREYF_EXCEPTED names, each once. */
+enum daskreyf_result daskreyf_policy_but(
+    struct daskreyf *bus, uint8_t kinds, const char *const *names, size_t count);
+
 enum daskreyf_result daskreyf_serve(struct daskreyf *bus);
 
 /* Enables and disables kinds of events, of the device at an address or of DASKREYF_ALL. [5.1.9.3.1] */
@@ -285,6 +290,9 @@ enum daskreyf_result daskreyf_show(struct daskreyf *bus, struct daskreyf_state *
 
 /* The same, but of its log daskreyf_text has only the records from this number on, which is 1 at least. */
 enum daskreyf_result daskreyf_show_from(struct daskreyf *bus, uint64_t first, struct daskreyf_state *state);
+
+/* Takes the records up to this number, which is 1 at least, out of the log. The numbers of records go on. */
+enum daskreyf_result daskreyf_forget(struct daskreyf *bus, uint64_t last);
 
 /*
  * All of the bus, with what each device is, may and wants; the last symbols on the wire, 256 at most; and the last frames of

@@ -56,6 +56,7 @@ static void test_the_state(struct daskreyf *bus)
 static void test_requests(struct daskreyf *bus)
 {
     const struct daskreyf_served *served = daskreyf_served(bus);
+    static const char *const excepted[] = {"second", "t", "nobody"};
     unsigned long number = 0;
 
     CHECK(daskreyf_raise(bus, "t", DASKREYF_NO_BYTE, &number) == DASKREYF_BYTE_MISMATCH && number == 0);
@@ -69,6 +70,12 @@ static void test_requests(struct daskreyf *bus)
     CHECK(daskreyf_policy_of(bus, 0) == DASKREYF_OK);
     CHECK(daskreyf_serve(bus) == DASKREYF_OK && served->request == DASKREYF_TURNED_DOWN);
     CHECK(daskreyf_policy_of(bus, 4) == DASKREYF_BAD_ARGUMENT);
+    CHECK(daskreyf_policy_but(bus, DASKREYF_JOINS | DASKREYF_INTERRUPTS, excepted, 2) == DASKREYF_OK);
+    CHECK(daskreyf_serve(bus) == DASKREYF_OK && served->request == DASKREYF_TURNED_DOWN);
+    CHECK(daskreyf_policy_but(bus, DASKREYF_INTERRUPTS, excepted, 3) == DASKREYF_NO_NAME);
+    CHECK(daskreyf_policy_but(bus, 0, excepted, 1) == DASKREYF_BAD_ARGUMENT);
+    CHECK(daskreyf_policy_but(bus, DASKREYF_INTERRUPTS, excepted, 0) == DASKREYF_BAD_ARGUMENT);
+    CHECK(daskreyf_serve(bus) == DASKREYF_OK && served->request == DASKREYF_TURNED_DOWN);
     CHECK(daskreyf_policy_of(bus, DASKREYF_JOINS | DASKREYF_ROLES | DASKREYF_INTERRUPTS) == DASKREYF_OK);
     CHECK(daskreyf_ask_role(bus, "second") == DASKREYF_OK);
     CHECK(!strcmp(daskreyf_asking(bus), "t"));
@@ -121,6 +128,10 @@ static void test_a_cut_interrupt(struct daskreyf *bus)
     CHECK(daskreyf_show_from(bus, 2, &state) == DASKREYF_OK && state.device_count == 2 && state.record_count == 1);
     CHECK(!strstr(daskreyf_text(bus), "\nrecord 1 "));
     CHECK(daskreyf_show_from(bus, 0, &state) == DASKREYF_BAD_LINE && state.device_count == 0);
+    CHECK(daskreyf_forget(bus, 0) == DASKREYF_BAD_LINE);
+    CHECK(daskreyf_forget(bus, 1) == DASKREYF_OK && daskreyf_forget(bus, 1) == DASKREYF_OK);
+    CHECK(daskreyf_show(bus, &state) == DASKREYF_OK && state.device_count == 2 && state.record_count == 0);
+    CHECK(!strstr(daskreyf_text(bus), "\nrecord 1 "));
 }
 
 static void test_a_join_by_rounds(struct daskreyf *bus)

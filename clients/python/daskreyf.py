@@ -452,9 +452,14 @@ class Bus:
 
     # What the controller does
 
-    def policy(self, policy: Policy, *more: Policy) -> None:
-        """`policy`: which requests are accepted from here on. Several kinds are accepted together, `ALL` and `NONE` alone."""
-        self.line(" ".join(("policy", *(Policy(word).value for word in (policy, *more)))))
+    def policy(self, policy: Policy, *more: Policy, but: Sequence[Device] = ()) -> None:
+        """
+        `policy`: which requests are accepted from here on. Several kinds are accepted together, `ALL` and `NONE` alone. What
+        a device drives that stands behind `but` is turned down: 8 devices at most, each once, or none.
+        """
+        kinds = [Policy(word).value for word in (policy, *more)]
+        names = ["but", *(device.name for device in but)] if but else []
+        self.line(" ".join(("policy", *kinds, *names)))
 
     def serve(self) -> Served | None:
         """`serve`: a frame that serves the first request. None if nobody asks."""
@@ -573,6 +578,10 @@ class Bus:
     def show(self, first: int = 1) -> BusState:
         """`show`: the bus, with its whole log, or of that the records from a number on."""
         return _state(self.line("show" if first == 1 else f"show {_place(first)}").lines)
+
+    def forget(self, last: int) -> None:
+        """`forget`: the records up to this number leave the log. The numbers of records go on, and `records` stays as it is."""
+        self.line(f"forget {_place(last)}")
 
     def show_all(self) -> BusDetails:
         """`show all`: the same, what each device is, may and wants, and whether the list is current and a session open."""

@@ -51,6 +51,23 @@ class LinesTest(unittest.TestCase):
         self.assertEqual(self.bus.answer.lines[-1], "records 3")
         self.assertEqual(len(self.bus.records), 3)
 
+    def test_a_log_that_gets_shorter(self) -> None:
+        with_hub(self.bus)
+        target = with_target(self.bus)
+        self.bus.daa()
+        for byte in (0x11, 0x12, 0x13):
+            target.raise_interrupt(byte)
+            self.bus.serve()
+        self.bus.forget(2)
+        self.assertEqual(self.bus.show().records, (Record(3, 1, 3, 0x09, 0x13),))
+        self.assertEqual(self.bus.answer.lines[-2], "records 1")
+        self.bus.forget(1)
+        self.bus.forget(4)
+        self.assertEqual(self.bus.show().records, ())
+        target.raise_interrupt(0x14)
+        self.assertEqual(self.bus.serve(), Record(4, 1, 4, 0x09, 0x14))
+        self.assertEqual(len(self.bus.records), 4)
+
     def test_all_of_the_bus(self) -> None:
         with_hub(self.bus)
         joiner = with_target(self.bus)
@@ -241,6 +258,26 @@ class LinesTest(unittest.TestCase):
         self.bus.policy(Policy.ROLES, Policy.INTERRUPTS)
         self.assertEqual(self.bus.serve(), Record(1, 1, 1, 0x09, 0x11))
 
+    def test_a_policy_with_exceptions(self) -> None:
+        with_hub(self.bus)
+        target = with_target(self.bus)
+        light = self.bus.attach("light", 0x020400000011, 0x06, 0x45)
+        self.bus.daa()
+        target.raise_interrupt(0x11)
+        self.bus.policy(Policy.ALL, but=[target])
+        self.assertEqual(self.bus.serve(), TurnedDown())
+        self.bus.policy(Policy.JOINS, Policy.INTERRUPTS, but=[light, target])
+        self.assertEqual(self.bus.serve(), TurnedDown())
+        for wrong in ((Policy.NONE, [target]), (Policy.ALL, [target, target])):
+            with self.assertRaises(daskreyf.BadLine):
+                self.bus.policy(wrong[0], but=wrong[1])
+        light.drop()
+        with self.assertRaises(daskreyf.NoDevice):
+            self.bus.policy(Policy.ALL, but=[light])
+        self.assertEqual(self.bus.serve(), TurnedDown())
+        self.bus.policy(Policy.ALL)
+        self.assertEqual(self.bus.serve(), Record(1, 1, 1, 0x09, 0x11))
+
     def test_lines_of_ones_own(self) -> None:
         self.assertEqual(self.bus.line(""), Answer(1))
         self.assertEqual(self.bus.line("# a comment, \0 and \N{MICRO SIGN}"), Answer(2))
@@ -289,6 +326,8 @@ class FaultsTest(unittest.TestCase):
                 lambda: with_hub(bus).cut(65536),
                 lambda: bus.show(0),
                 lambda: bus.show(1 << 64),
+                lambda: bus.forget(0),
+                lambda: bus.forget(1 << 64),
                 lambda: bus.set_mwl(0),
                 lambda: bus.set_mrl(17, 0x09),
                 lambda: bus.policy("some"),  # type: ignore[arg-type]

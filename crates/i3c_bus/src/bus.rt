@@ -73,7 +73,7 @@ impl Model for Bus {
 }
 
 impl Bus {
-    ghost use Rattle.std.specs.Prelude.{◌↔◌, true, false, is_some, IfOk, IsOk, MatchOption, OnOk, OnErr};
+    ghost use Rattle.std.specs.Prelude.{◌↔◌, true, false, drop, is_some, IfOk, IsOk, MatchOption, OnOk, OnErr};
     ghost use Rattle.i3c_base.specs.Numbers.{is_capable};
     ghost use Rattle.i3c_base.specs.Covered.{IsTable};
     ghost use Rattle.i3c_bus.specs.Whole.{IsCopyOf};
@@ -210,6 +210,17 @@ impl Bus {
         ensures { result.now ≡ self.now.state.records }
     {
         self.records.as_slice()
+    }
+
+    /// Lets the oldest records go, as many as these, or all where there are fewer. Nothing else changes, and room stays.
+    ///
+    /// A reply counts the records that are left: the next one is at the place behind them.
+    pub fn forget(&mut self, count: usize)
+        ensures left { self.new.state ≡ record self.old.state { records = drop count self.old.state.records } }
+        ensures room { self.old.room ≡ true → self.new.room ≡ true }
+    {
+        let gone = count.min(self.records.len());
+        drop(self.records.drain(..gone));
     }
 
     /// The active controller's table: its rows are what was given, its identities what is kept, its legacy list the

@@ -63,18 +63,25 @@ impl Bus {
     #[inline(never)]
     pub fn key(&self) -> u64 {
         let mut key = mixed(self.records.len() as u64, self.active.slot().index() as u64);
+        key = mixed(key, with_flag(with_flag(0, self.in_session), self.listed()));
         let mut left = self.devices.present();
         while let Some(index) = left.take_lowest() {
-            let slot = Slot::from_index(index);
-            let address = match self.devices.address(slot) {
-                Some(address) => address.get(),
-                None => 0,
-            };
             key = mixed(key, self.raised[index]);
-            key = mixed(key, u64::from(address));
-            key = mixed(key, self.devices.waiting(slot) as u64);
+            key = mixed(key, self.device_key(Slot::from_index(index)));
         }
         key
+    }
+
+    /// The same of a slot's device: its address, how many of its interrupts wait, and which of its events are enabled.
+    fn device_key(&self, slot: Slot) -> u64 {
+        let address = match self.devices.address(slot) {
+            Some(address) => address.get(),
+            None => 0,
+        };
+        let mut key = u64::from(address) << 8 | self.devices.waiting(slot) as u64;
+        key = with_flag(key, self.devices.may_interrupt(slot));
+        key = with_flag(key, self.devices.may_join(slot));
+        with_flag(key, self.devices.may_ask_role(slot))
     }
 }
 
@@ -283,6 +290,11 @@ fn mixed(key: u64, more: u64) -> u64 {
     (key ^ more)
         .wrapping_mul(0x9E37_79B9_7F4A_7C15)
         .rotate_left(23)
+}
+
+/// A number with one bit more.
+fn with_flag(key: u64, flag: bool) -> u64 {
+    key << 1 | u64::from(flag)
 }
 
 /// Whether both are the same records, in the same order.

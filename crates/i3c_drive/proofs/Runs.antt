@@ -8,7 +8,7 @@ use Rattle.i3c_drive.specs.declared.driven.Driver.{Driver}
 use Rattle.i3c_drive.specs.declared.form.Form.{Form}
 use Rattle.i3c_drive.specs.declared.input.Input.{Input}
 use Rattle.i3c_base.specs.declared.requests.Record.{Record}
-use Rattle.i3c_drive.specs.Answers.{AreAnswered, AreLinesOf, Asks, DrivenDoes, IsAnswered, IsChange, IsDrivenPart, IsDrivenRun, IsNews, IsWritten, LacksFeed, StandFor, StandsFor, WentBefore, log_of}
+use Rattle.i3c_drive.specs.Answers.{AreAnswered, AreLinesOf, Asks, DrivenDoes, IsAnswered, IsChange, IsDrivenPart, IsDrivenRun, IsNews, IsWritten, LacksFeed, StandFor, StandsFor, WentBefore, forgotten_of, log_of}
 use Rattle.i3c_drive.specs.Inputs.{IsInHand, Takes, pending}
 use Rattle.i3c_drive.specs.Steps.{Closes, Fails, IsAnswer, IsCut, IsTold, Knows, RunsAll, RunsPart, RunsWhole, Tells, state}
 use Rattle.i3c_lines.specs.Capitals.{in_capitals}
@@ -299,12 +299,12 @@ line_answered form number line refused log from mid to does same logged knows ke
     let before = log_of (state from) in
     let asks = subst (λ st. Asks st to.asked) (sym same) closes.asks in
     let change : IsChange (state from) (state to) closes.news = record { before = from.asked; after = to.asked; asked = knows; asks = asks; is = subst (λ b. IsNews b to.asked closes.news) kept closes.is } in
-    let told = subst (λ l. IsWritten form number mid.answer (length l) (drop (length l) (log_of (state mid))) closes.news refused to.answer) logged closes.told in
+    let told = subst (λ l. IsWritten form number mid.answer (forgotten_of (state mid) + length l) (drop (length l) (log_of (state mid))) closes.news refused to.answer) logged closes.told in
     record {
       said = mid.answer;
       refused = refused;
       does = subst (DrivenDoes (state from) line mid.answer refused) (sym same) does;
-      text = (closes.news, change, subst (λ st. IsWritten form number mid.answer (length before) (drop (length before) (log_of st)) closes.news refused to.answer) (sym same) told);
+      text = (closes.news, change, subst (λ st. IsWritten form number mid.answer (forgotten_of st + length before) (drop (length before) (log_of st)) closes.news refused to.answer) (sym same) told);
       knows = asks;
       count = count;
     }

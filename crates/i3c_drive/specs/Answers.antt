@@ -1,5 +1,5 @@
 -- What a line of a driven bus is answered.
-use Rattle.std.specs.Prelude.{◌≡◌, ◌≢◌, ◌⊎◌, ℕ, suc, List, [], ◌∷◌, ◌++◌, codes, drop, length, min, Option, Some, None, IfSome, Result, MatchResult}
+use Rattle.std.specs.Prelude.{◌≡◌, ◌≢◌, ◌⊎◌, ℕ, ◌+◌, suc, List, [], ◌∷◌, ◌++◌, codes, drop, length, min, Option, Some, None, IfSome, Result, MatchResult}
 use Rattle.std.specs.Fmt.{decimal}
 use Rattle.std.specs.Io.KnownBytes.{Appends}
 use Rattle.i3c_base.specs.declared.requests.Record.{Record}
@@ -25,6 +25,14 @@ log_at (Stage.Running ran) = ran.state.records
 
 abbrev pub log_of : ScriptState → List Record
 log_of state = log_at state.stage
+
+-- how many records have left that log
+abbrev pub forgotten_at : Stage → ℕ
+forgotten_at (Stage.Before legacies) = 0
+forgotten_at (Stage.Running ran) = ran.settings.forgotten
+
+abbrev pub forgotten_of : ScriptState → ℕ
+forgotten_of state = forgotten_at state.stage
 
 -- the last line of an answer: the line's number, and why the line was refused, if it was
 abbrev pub last_line : ℕ → Option Refusal → List ℕ
@@ -67,10 +75,11 @@ abbrev pub IsWritten : Form → ℕ → List ℕ → ℕ → List Record → Opt
 IsWritten Form.Lines number said count added news refused answer = answer ≡ said ++ (numbered_text (suc count) added ++ (news_text news ++ last_line number refused))
 IsWritten Form.Json number said count added news refused answer = IsLineOf (answer_data number refused said (first_added count added) news) answer
 
--- the answer to a line
+-- the answer to a line; what it adds to the log has the numbers behind all that were recorded before: a line that adds a record
+-- lets none go
 abbrev pub IsAnswered : Form → ℕ → ScriptState → LineRun → ScriptState → List ℕ → Type 0
 IsAnswered form number old run new answer =
-    (news : Option (List ℕ)) × IsChange old new news × IsWritten form number run.said (length (log_of old)) (drop (length (log_of old)) (log_of new)) news run.refused answer
+    (news : Option (List ℕ)) × IsChange old new news × IsWritten form number run.said (forgotten_of new + length (log_of old)) (drop (length (log_of old)) (log_of new)) news run.refused answer
 
 -- the line of a script that a driven line stands for: itself, if it has a form, and otherwise the same in capitals
 abbrev pub StandsFor : List ℕ → List ℕ → Type 0

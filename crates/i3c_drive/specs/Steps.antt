@@ -3,7 +3,7 @@ use Rattle.std.specs.Prelude.{◌≡◌, ℕ, ◌+◌, Bool, true, false, List, 
 use Rattle.std.specs.Io.KnownBytes.{Appends}
 use Rattle.i3c_drive.specs.declared.driven.Driver.{Driver}
 use Rattle.i3c_drive.specs.declared.form.Form.{Form}
-use Rattle.i3c_drive.specs.Answers.{AreAnswered, AreLinesOf, Asks, DrivenDoes, IsAnswered, IsNews, IsWritten, WentBefore, log_of}
+use Rattle.i3c_drive.specs.Answers.{AreAnswered, AreLinesOf, Asks, DrivenDoes, IsAnswered, IsNews, IsWritten, WentBefore, forgotten_of, log_of}
 use Rattle.i3c_lines.specs.declared.refusals.Refusal.{Refusal}
 use Rattle.i3c_scenario.specs.declared.faults.ScriptFault.{ScriptFault}
 use Rattle.i3c_scenario.specs.Scripts.{LineRun, lines_bytes, lines_refused, refusals_of}
@@ -44,7 +44,7 @@ Asked old new changed = Asks (state old) new.asked × IsNews old.asked new.asked
 -- the answer is whole, of which there was what the line printed
 pub record Closes (form : Form) (number count : ℕ) (refused : Option Refusal) (old new : Driver) : Type 0 where
   pub news : Option (List ℕ)
-  pub told : IsWritten form number old.answer count (drop count (log_of (state old))) news refused new.answer
+  pub told : IsWritten form number old.answer (forgotten_of (state old) + count) (drop count (log_of (state old))) news refused new.answer
   pub is : IsNews old.asked new.asked news
   pub asks : Asks (state old) new.asked
 

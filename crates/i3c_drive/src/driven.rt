@@ -1,6 +1,6 @@
 ghost use Rattle.std.specs.Prelude.{◌≡◌, ℕ, ◌+◌, ◌≤◌, List, [], ◌∷◌, ◌++◌, drop, length, min, option_map, suc, IfOk, OnOk};
 ghost use Rattle.std.specs.Io.KnownBytes.{IsAtEnd};
-ghost use Rattle.i3c_drive.specs.Answers.{AnswersGoOut, AsksAt, IsWritten, first_added, last_line, log_of, news_text};
+ghost use Rattle.i3c_drive.specs.Answers.{AnswersGoOut, AsksAt, IsWritten, first_added, forgotten_of, last_line, log_of, news_text};
 ghost use Rattle.i3c_drive.specs.Inputs.{pending};
 ghost use Rattle.i3c_drive.specs.Steps.{Asked, Closes, IsAnswer, Knows, Reads, RunsAll, Tells, news_of, state};
 ghost use Rattle.i3c_lines.specs.Forms.{HasNoForm};
@@ -14,7 +14,7 @@ use i3c_base::Record;
 use i3c_json::{Answer, push_object};
 use i3c_lines::{Command, Names, Refusal, is_skipped, push_capitals};
 use i3c_scenario::{ScriptFault, Tally, write_out};
-use i3c_script::{Stage, Stop, show_askers, show_records_behind};
+use i3c_script::{Stage, Stop, show_askers, show_records_behind, sum_of};
 use i3c_text::Text;
 use std::alloc::{AllocError, Global};
 use std::io::{Read, Write};
@@ -198,7 +198,7 @@ impl Driver {
         changed: bool,
         refused: &Option<Refusal>,
     ) -> Result<(), AllocError>
-        ensures told { OnOk result (IsWritten Form.Lines number self.old.answer count (drop count (log_of (state self.old))) (news_of changed self.old.asked) refused.now self.new.answer) }
+        ensures told { OnOk result (IsWritten Form.Lines number self.old.answer (forgotten_of (state self.old) + count) (drop count (log_of (state self.old))) (news_of changed self.old.asked) refused.now self.new.answer) }
         ensures state { state self.new ≡ state self.old }
         ensures refused { self.new.refused ≡ self.old.refused }
         ensures asked { self.new.asked ≡ self.old.asked }
@@ -217,7 +217,7 @@ impl Driver {
         changed: bool,
         refused: Option<Refusal>,
     ) -> Result<(), AllocError>
-        ensures told { OnOk result (IsWritten Form.Json number self.old.answer count (drop count (log_of (state self.old))) (news_of changed self.old.asked) refused self.new.answer) }
+        ensures told { OnOk result (IsWritten Form.Json number self.old.answer (forgotten_of (state self.old) + count) (drop count (log_of (state self.old))) (news_of changed self.old.asked) refused self.new.answer) }
         ensures state { state self.new ≡ state self.old }
         ensures refused { self.new.refused ≡ self.old.refused }
         ensures asked { self.new.asked ≡ self.old.asked }
@@ -226,7 +226,7 @@ impl Driver {
             number,
             refused,
             said: self.answer.as_bytes(),
-            added: first_added(self.log(), count),
+            added: first_added(self.log(), count, self.forgotten())?,
             asking: news(changed, self.asked.as_bytes()),
         };
         let mut object = Text::new(self.alloc);
@@ -293,18 +293,31 @@ impl Driver {
         }
     }
 
+    /// How many records have left the log.
+    fn forgotten(&self) -> usize
+        ensures { result ≡ forgotten_of (state self.now) }
+    {
+        match &self.stage {
+            Stage::Before(_) => 0,
+            Stage::Running(running) => running.forgotten(),
+        }
+    }
+
     /// Appends the records behind the first `count` to the answer.
     fn push_added(&mut self, count: usize) -> Result<(), AllocError>
-        ensures told { OnOk result (self.new.answer ≡ self.old.answer ++ numbered_text (suc count) (drop count (log_of (state self.old)))) }
+        ensures told { OnOk result (self.new.answer ≡ self.old.answer ++ numbered_text (suc (forgotten_of (state self.old) + count)) (drop count (log_of (state self.old)))) }
         ensures state { state self.new ≡ state self.old }
         ensures refused { self.new.refused ≡ self.old.refused }
         ensures asked { self.new.asked ≡ self.old.asked }
     {
         match &self.stage {
             Stage::Before(_) => Ok(()),
-            Stage::Running(running) => {
-                show_records_behind(running.bus().records(), count, &mut self.answer)
-            }
+            Stage::Running(running) => show_records_behind(
+                running.bus().records(),
+                count,
+                running.forgotten(),
+                &mut self.answer,
+            ),
         }
     }
 
@@ -374,14 +387,19 @@ fn push_news(changed: bool, asks: &[u8], answer: &mut Text) -> Result<(), AllocE
     answer.end()
 }
 
-/// The first record behind the first `count` of a log, with its number.
-fn first_added(log: &[Record], count: usize) -> Option<(u64, Record)>
-    ensures { result ≡ first_added count (drop count log.now) }
+/// The first record behind the first `count` of a log, with its number, where `forgotten` have left the log.
+fn first_added(
+    log: &[Record],
+    count: usize,
+    forgotten: usize,
+) -> Result<Option<(u64, Record)>, AllocError>
+    ensures { IfOk result (λ first. first ≡ first_added (forgotten + count) (drop count log.now)) }
 {
-    match log.get(count) {
-        Some(record) => Some((count as u64 + 1, *record)),
-        None => None,
-    }
+    let Some(record) = log.get(count) else {
+        return Ok(None);
+    };
+    let number = sum_of(forgotten, count + 1)?;
+    Ok(Some((number as u64, *record)))
 }
 
 /// How many refusals a line is.

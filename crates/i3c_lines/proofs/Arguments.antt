@@ -1,5 +1,5 @@
 -- The words behind a command's first.
-use Rattle.std.proofs.Common.{◌≡◌, ◌∙◌, ℕ, ◌<◌, true, false, inl, inr, List, [], ◌∷◌, Option, Some, None, length, take, codes, ap, refl, sym, subst}
+use Rattle.std.proofs.Common.{◌≡◌, ◌∙◌, ◌⊎◌, ℕ, ◌<◌, true, false, inl, inr, List, [], ◌∷◌, Option, Some, None, length, map, take, codes, ap, refl, sym, subst}
 use Rattle.std.proofs.lemmas.Bool.{false≢true}
 use Rattle.std.specs.Option.{IfSome, IsSome}
 use Rattle.std.specs.Str.Parse.{digits_value}
@@ -12,12 +12,12 @@ use Rattle.i3c_base.specs.declared.requests.Fixed.{Fixed}
 use Rattle.i3c_lines.specs.declared.command.Command.{Command}
 use Rattle.i3c_lines.specs.declared.names.Name.{Name}
 use Rattle.i3c_lines.specs.Data.{length_word}
-use Rattle.i3c_lines.specs.Forms.{AreAddress, AreAddresses, AreByte, AreCount, AreDeclared, AreDevice, AreKinds, AreLength, AreWritten, IsForm, IsNamed, WritesAddress, tokens}
+use Rattle.i3c_lines.specs.Forms.{AreAddress, AreAddresses, AreByte, AreCount, AreDeclared, AreDevice, AreKinds, AreLength, ArePlace, AreWritten, IsForm, IsNamed, IsPolicyBut, WritesAddress, tokens}
 use Rattle.i3c_lines.specs.Policies.{IsPolicy}
 use Rattle.i3c_lines.specs.Parsing.{AreKept, AreNamed, Reads, joined}
 use Rattle.i3c_lines.specs.Words.{AreBytes, IsHex, pair_values}
 use Rattle.i3c_lines.proofs.LineLaws.{line_is, one_word, word_left}
-use Rattle.i3c_lines.proofs.Meanings.{as_meant, first_of, hex, identity_of, kinds_of, lengths_meant, named, number_of, policy_of, rest_of, setup_of, written_of}
+use Rattle.i3c_lines.proofs.Meanings.{as_meant, before_but, behind_but, either, first_of, has_but, hex, identity_of, kinds_of, lengths_meant, named, number_of, policy_of, rest_of, setup_of, written_of}
 use Rattle.i3c_lines.proofs.SplitLaws.{pairs_no_space, take_joined}
 
 pub drop_args : (rest : List (List ℕ)) (command : Command) → IsForm (codes "drop" ∷ rest) command → (name : Name) × AreNamed rest name
@@ -29,9 +29,13 @@ join_args rest command form = let f = as_meant (codes "ask-join" ∷ rest) comma
 pub role_args : (rest : List (List ℕ)) (command : Command) → IsForm (codes "ask-role" ∷ rest) command → (name : Name) × AreNamed rest name
 role_args rest command form = let f = as_meant (codes "ask-role" ∷ rest) command form in (named (first_of rest), (f.0, ap rest_of f.1, f.2))
 
-pub policy_args : (rest : List (List ℕ)) (command : Command) → IsForm (codes "policy" ∷ rest) command → (policy : Fixed) × IsPolicy rest policy
+-- the two lines that `policy` begins
+pub policy_args : (rest : List (List ℕ)) (command : Command) → IsForm (codes "policy" ∷ rest) command → ((policy : Fixed) × IsPolicy rest policy) ⊎ ((kinds : Fixed) × (but : ArrayVec Name) × IsPolicyBut rest kinds but.items)
 policy_args rest command form =
-    let f = as_meant (codes "policy" ∷ rest) command form in (policy_of rest, subst (λ ws. IsPolicy ws (policy_of rest)) (sym (ap rest_of f.1)) f.2)
+    elim (either (has_but rest) (Command.PolicyBut (policy_of (before_but rest)) (record { items = map named (behind_but rest) })) (Command.Policy (policy_of rest)) _ (as_meant (codes "policy" ∷ rest) command form)) [
+      | inl f ↦ inr (policy_of (before_but rest), record { items = map named (behind_but rest) }, subst (λ ws. IsPolicyBut ws (policy_of (before_but rest)) (map named (behind_but rest))) (sym (ap rest_of f.1)) f.2)
+      | inr f ↦ inl (policy_of rest, subst (λ ws. IsPolicy ws (policy_of rest)) (sym (ap rest_of f.1)) f.2)
+    ]
 
 pub main_args : (rest : List (List ℕ)) (command : Command) → IsForm (codes "main" ∷ rest) command → (name : Name) × (setup : Setup) × AreDevice rest name setup
 main_args rest command form =
@@ -76,6 +80,10 @@ length_args way rest command form =
 pub frames_args : (rest : List (List ℕ)) (command : Command) → IsForm (codes "frames" ∷ rest) command → (count : ℕ) × AreCount rest count
 frames_args rest command form =
     let f = as_meant (codes "frames" ∷ rest) command form in (digits_value 10 (first_of rest), subst (λ ws. AreCount ws (digits_value 10 (first_of rest))) (sym (ap rest_of f.1)) f.2)
+
+pub forget_args : (rest : List (List ℕ)) (command : Command) → IsForm (codes "forget" ∷ rest) command → (last : ℕ) × ArePlace rest last
+forget_args rest command form =
+    let f = as_meant (codes "forget" ∷ rest) command form in (digits_value 10 (first_of rest), subst (λ ws. ArePlace ws (digits_value 10 (first_of rest))) (sym (ap rest_of f.1)) f.2)
 
 pub raise_args : (rest : List (List ℕ)) (command : Command) → IsForm (codes "raise" ∷ rest) command
     → (name : Name) × (byte : Option ℕ) × (word : List ℕ) × (more : List (List ℕ)) × (rest ≡ word ∷ more) × IsNamed word name × AreByte more byte

@@ -10,16 +10,11 @@ use Rattle.i3c_lines.specs.Data.{datum_word, told_word}
 use Rattle.i3c_lines.specs.Forms.{AreAsked, ArePlace, IsForm, WritesAddress, WritesPlace, tokens, with_first}
 use Rattle.i3c_lines.specs.Parsing.{Becomes, BecomesOther, IsOther}
 use Rattle.i3c_lines.proofs.LineLaws.{line_is, line_of, some_word, word_left}
-use Rattle.i3c_lines.proofs.Meanings.{are_same, as_meant, first_of, hex, datum_of, identity_of, kinds_of, length_of, letter_of, meant, meant_is, named, number_of, rest_of, shown_by, written_of}
+use Rattle.i3c_lines.proofs.Meanings.{are_same, as_meant, first_of, hex, datum_of, either, identity_of, kinds_of, length_of, letter_of, meant, meant_is, named, number_of, rest_of, shown_by, written_of}
 
 abbrev tail_of : List ℕ → List ℕ
 tail_of [] = []
 tail_of (byte ∷ line) = line
-
--- a word's form is one of two commands'
-either : (b : Bool) (one other : Command) (words : List (List ℕ)) → IsForm words (cond b one other) → IsForm words one ⊎ IsForm words other
-either true one other words form = inl form
-either false one other words form = inr form
 
 abbrev first_letter : List (List ℕ) → ℕ
 first_letter [] = 0

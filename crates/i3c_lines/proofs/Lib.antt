@@ -3,6 +3,7 @@ pub mod NameLaws
 pub mod PieceLaws
 pub mod PairLaws
 pub mod Meanings
+pub mod Exceptions
 pub mod LineLaws
 pub mod Beginnings
 pub mod SplitLaws

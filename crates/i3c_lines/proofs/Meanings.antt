@@ -1,7 +1,8 @@
 -- The command that a line can be at most.
-use Rattle.std.proofs.Common.{◌≡◌, ◌∙◌, ℕ, ◌-◌, ◌<◌, ◌≤◌, Bool, true, false, cond, nat_eq, eqb, inl, inr, List, [], ◌∷◌, ◌++◌, Option, Some, None, drop, length, replicate, take, bit_and, codes, ap, arith, refl, sym, subst}
-use Rattle.std.proofs.lemmas.List.{length-append, length-replicate, length-take, length-take-le, take_all, take-append-drop}
-use Rattle.std.proofs.lemmas.Bool.{ne_eqb}
+use Rattle.std.proofs.Common.{◌≡◌, ◌∙◌, ◌⊎◌, ℕ, ◌-◌, ◌<◌, ◌≤◌, Bool, true, false, cond, nat_eq, eqb, inl, inr, List, [], ◌∷◌, ◌++◌, Option, Some, None, drop, length, map, replicate, take, bit_and, codes, ap, append_assoc, arith, refl, sym, subst}
+use Rattle.std.proofs.lemmas.List.{append-nil, length-append, length-replicate, length-take, length-take-le, take_all, take-append-drop}
+use Rattle.arrayvec.specs.ArrayVec.{ArrayVec}
+use Rattle.std.proofs.lemmas.Bool.{ne_eqb, true≢false}
 use Rattle.std.proofs.Math.Seq.{drop-append_seam, take-append_seam}
 use Rattle.std.specs.Cmp.Lexicographic.{pointwise}
 use Rattle.std.specs.Str.Parse.{digits_value}
@@ -19,7 +20,7 @@ use Rattle.i3c_base.specs.declared.requests.Verdict.TheVariants.{Accept, Refuse}
 use Rattle.i3c_step.specs.declared.events.Command.{Command as Frame}
 use Rattle.i3c_lines.specs.declared.command.Command.{Command}
 use Rattle.i3c_lines.specs.declared.names.Name.{Name}
-use Rattle.i3c_lines.specs.Forms.{AreAddress, AreByte, AreWritten, IsForm, IsFrameForm, IsNamed, WritesIdentity, WritesKinds, willing_words}
+use Rattle.i3c_lines.specs.Forms.{AreAddress, AreByte, AreWritten, IsForm, IsFrameForm, IsNamed, IsPolicyBut, NameEach, WritesIdentity, WritesKinds, willing_words}
 use Rattle.i3c_lines.specs.Data.{length_word, told_word}
 use Rattle.i3c_lines.specs.Naming.{letters}
 use Rattle.i3c_lines.specs.Policies.{AcceptEach, Accepts, IsPolicy, each_kind}
@@ -113,6 +114,22 @@ accepting_each (word ∷ words) policy = accepting_each words (accepting word po
 abbrev pub policy_of : List (List ℕ) → Fixed
 policy_of words = cond (are_same (first_of words) (codes "all")) (each_kind Accept) (cond (are_same (first_of words) (codes "none")) (each_kind Refuse) (accepting_each words (each_kind Refuse)))
 
+-- the words in front of the first `but`, those behind it, and whether there is one
+abbrev pub before_but : List (List ℕ) → List (List ℕ)
+before_but [] = []
+before_but (word ∷ words) = cond (are_same word (codes "but")) [] (word ∷ before_but words)
+
+abbrev pub behind_but : List (List ℕ) → List (List ℕ)
+behind_but [] = []
+behind_but (word ∷ words) = cond (are_same word (codes "but")) words (behind_but words)
+
+abbrev pub has_but : List (List ℕ) → Bool
+has_but [] = false
+has_but (word ∷ words) = cond (are_same word (codes "but")) true (has_but words)
+
+abbrev pub policy_by : List (List ℕ) → Command
+policy_by args = cond (has_but args) (Command.PolicyBut (policy_of (before_but args)) (record { items = map named (behind_but args) })) (Command.Policy (policy_of args))
+
 -- the datum that has this word, if one has
 abbrev pub datum_of : List ℕ → Datum
 datum_of word = cond (are_same word (codes "pid")) Datum.Pid
@@ -154,12 +171,13 @@ meant_by word args =
     (cond (are_same word (codes "ask-join")) (Command.AskJoin (named (first_of args)))
     (cond (are_same word (codes "ask-role")) (Command.AskRole (named (first_of args)))
     (cond (are_same word (codes "handover")) (Command.HandOver (hex (first_of args)))
-    (cond (are_same word (codes "policy")) (Command.Policy (policy_of args))
+    (cond (are_same word (codes "policy")) (policy_by args)
     (cond (are_same word (codes "cut")) (Command.Cut (named (first_of args)) (digits_value 10 (first_of (rest_of args))))
     (cond (are_same word (codes "frames")) (Command.Frames (digits_value 10 (first_of args)))
+    (cond (are_same word (codes "forget")) (Command.Forget (digits_value 10 (first_of args)))
     (cond (are_same (take 3 word) (codes "get")) (Command.Frame (Frame.Get (datum_of (drop 3 word)) (hex (first_of args))))
     (cond (are_same word (codes "setmwl")) (length_of Direction.Write args)
-    (cond (are_same word (codes "setmrl")) (length_of Direction.Read args) Command.Show)))))))))))))))))))))))))))))
+    (cond (are_same word (codes "setmrl")) (length_of Direction.Read args) Command.Show))))))))))))))))))))))))))))))
 
 -- the command that these words can be at most
 abbrev pub meant : List (List ℕ) → Command
@@ -181,7 +199,7 @@ willing_is : (willing : Bool) → willing_of (willing_words willing) ≡ willing
 willing_is true = refl
 willing_is false = refl
 
-accepting_is : (word : List ℕ) (old new : Fixed) → Accepts word old new → accepting word old ≡ new
+pub accepting_is : (word : List ℕ) (old new : Fixed) → Accepts word old new → accepting word old ≡ new
 accepting_is word old new (inl is) = ap (λ w. accepting w old) is.0 ∙ sym is.2
 accepting_is word old new (inr (inl is)) = ap (λ w. accepting w old) is.0 ∙ sym is.2
 accepting_is word old new (inr (inr is)) = ap (λ w. accepting w old) is.0 ∙ sym is.2
@@ -204,6 +222,58 @@ policy_is : (words : List (List ℕ)) (policy : Fixed) → IsPolicy words policy
 policy_is words policy (inl (word, e, inl is)) = ap policy_of (e ∙ ap (λ w. w ∷ []) is.0) ∙ sym is.1
 policy_is words policy (inl (word, e, inr is)) = ap policy_of (e ∙ ap (λ w. w ∷ []) is.0) ∙ sym is.1
 policy_is words policy (inr are) = kinds_are words policy are.0 are.1
+
+-- no word of a policy is `but`
+no_kind : (word : List ℕ) (old new : Fixed) → Accepts word old new → are_same word (codes "but") ≡ false
+no_kind word old new (inl is) = ap (λ w. are_same w (codes "but")) is.0
+no_kind word old new (inr (inl is)) = ap (λ w. are_same w (codes "but")) is.0
+no_kind word old new (inr (inr is)) = ap (λ w. are_same w (codes "but")) is.0
+
+none_of_kinds : (words : List (List ℕ)) (old new : Fixed) → AcceptEach words old new → has_but words ≡ false
+none_of_kinds [] old new are = refl
+none_of_kinds (word ∷ words) old new (next, is, are) = ap (λ b. cond b true (has_but words)) (no_kind word old next is) ∙ none_of_kinds words next new are
+
+pub no_but : (words : List (List ℕ)) (policy : Fixed) → IsPolicy words policy → has_but words ≡ false
+no_but words policy (inl (word, e, inl is)) = ap has_but (e ∙ ap (λ w. w ∷ []) is.0)
+no_but words policy (inl (word, e, inr is)) = ap has_but (e ∙ ap (λ w. w ∷ []) is.0)
+no_but words policy (inr are) = none_of_kinds words (each_kind Refuse) policy are.1
+
+-- so the first `but` is where it was put
+abbrev IsFirst : List (List ℕ) → List (List ℕ) → Type 0
+IsFirst front words = let all = front ++ codes "but" ∷ words in (has_but all ≡ true) × (before_but all ≡ front) × (behind_but all ≡ words)
+
+first_but : (front words : List (List ℕ)) → has_but front ≡ false → IsFirst front words
+first_but [] words none = (refl, refl, refl)
+first_but (word ∷ front) words none =
+    let (same, rest) = no_first (are_same word (codes "but")) (has_but front) none in
+    let later = first_but front words rest in (
+      ap (λ b. cond b true (has_but (front ++ codes "but" ∷ words))) same ∙ later.0,
+      ap (λ b. cond b [] (word ∷ before_but (front ++ codes "but" ∷ words))) same ∙ ap (λ ws. word ∷ ws) later.1,
+      ap (λ b. cond b (front ++ codes "but" ∷ words) (behind_but (front ++ codes "but" ∷ words))) same ∙ later.2,
+    )
+  where
+    no_first : (here later : Bool) → cond here true later ≡ false → (here ≡ false) × (later ≡ false)
+    no_first true later e = absurd (true≢false e)
+    no_first false later e = (refl, e)
+
+pub put_but : (front words all : List (List ℕ)) (policy : Fixed) → all ≡ front ++ codes "but" ∷ words → IsPolicy front policy → (has_but all ≡ true) × (before_but all ≡ front) × (behind_but all ≡ words)
+put_but front words all policy e is = let first = first_but front words (no_but front policy is) in (ap has_but e ∙ first.0, ap before_but e ∙ first.1, ap behind_but e ∙ first.2)
+
+-- names that words add to others
+pub names_are : (words : List (List ℕ)) (old new : List Name) → NameEach words old new → new ≡ old ++ map named words
+names_are [] old new are = are ∙ sym (append-nil old)
+names_are (word ∷ words) old new (name, is, once, are) =
+    names_are words (old ++ name ∷ []) new are ∙ append_assoc old (name ∷ []) (map named words) ∙ ap (λ n. old ++ n ∷ map named words) (sym (named_is word name is))
+
+policy_is_by : (args : List (List ℕ)) (policy : Fixed) → IsPolicy args policy → policy_by args ≡ Command.Policy policy
+policy_is_by args policy is = ap (λ b. cond b (Command.PolicyBut (policy_of (before_but args)) (record { items = map named (behind_but args) })) (Command.Policy (policy_of args))) (no_but args policy is)
+    ∙ ap Command.Policy (policy_is args policy is)
+
+policy_but_is : (args : List (List ℕ)) (kinds : Fixed) (but : ArrayVec Name) → IsPolicyBut args kinds but.items → policy_by args ≡ Command.PolicyBut kinds but
+policy_but_is args kinds but (front, words, e, is, some, are) =
+    let (has, front_is, words_are) = put_but front words args kinds e is in
+    ap (λ b. cond b (Command.PolicyBut (policy_of (before_but args)) (record { items = map named (behind_but args) })) (Command.Policy (policy_of args))) has
+    ∙ (λ i. Command.PolicyBut ((ap policy_of front_is ∙ policy_is front kinds is) i) (record { items = (ap (map named) words_are ∙ sym (names_are words [] but.items are.0)) i }))
 
 datum_is : (what : Datum) → datum_of (told_word what) ≡ what
 datum_is Datum.Pid = refl
@@ -274,15 +344,22 @@ meant_is words Command.Open e = ap meant e
 meant_is words Command.Round e = ap meant e
 meant_is words Command.End e = ap meant e
 meant_is words Command.Daa e = ap meant e
-meant_is words (Command.Policy policy) (rest, e, is) = ap meant e ∙ ap Command.Policy (policy_is rest policy is)
+meant_is words (Command.Policy policy) (rest, e, is) = ap meant e ∙ policy_is_by rest policy is
+meant_is words (Command.PolicyBut kinds but) (rest, e, is) = ap meant e ∙ policy_but_is rest kinds but is
 meant_is words (Command.Cut name bit) (word, digits, e, is, b) = ap meant e ∙ (λ i. Command.Cut (named_is word name is i) (sym b.1 i))
 meant_is words Command.Show e = ap meant e
 meant_is words Command.ShowAll e = ap meant e
 meant_is words (Command.ShowFrom first) (rest, e, (word, e', is)) =
     ap meant (e ∙ ap (λ ws. codes "show" ∷ ws) e') ∙ ap (λ b. cond b Command.ShowAll (Command.ShowFrom (digits_value 10 word))) (is_number word is.0) ∙ ap Command.ShowFrom (sym is.1)
+meant_is words (Command.Forget last) (rest, e, (word, e', is)) = ap meant (e ∙ ap (λ ws. codes "forget" ∷ ws) e') ∙ ap Command.Forget (sym is.1)
 meant_is words Command.Symbols e = ap meant e
 meant_is words (Command.Frames count) (rest, e, (word, e', is)) = ap meant (e ∙ ap (λ ws. codes "frames" ∷ ws) e') ∙ ap Command.Frames (sym is.0.1)
 
 -- so they have its form, if they have any
 pub as_meant : (words : List (List ℕ)) (command : Command) → IsForm words command → IsForm words (meant words)
 as_meant words command form = subst (λ c. IsForm words c) (sym (meant_is words command form)) form
+
+-- a word's form is one of two commands'
+pub either : (b : Bool) (one other : Command) (words : List (List ℕ)) → IsForm words (cond b one other) → IsForm words one ⊎ IsForm words other
+either true one other words form = inl form
+either false one other words form = inr form

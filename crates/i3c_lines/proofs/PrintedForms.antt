@@ -1,5 +1,5 @@
 -- A printed command has its own form.
-use Rattle.std.proofs.Common.{◌≡◌, ◌∙◌, ℕ, ◌^◌, ◌<◌, ◌≤◌, Bool, true, false, inl, inr, List, [], ◌∷◌, Option, Some, None, All, bit_and, codes, length, take, ap, arith, refl, sym, subst}
+use Rattle.std.proofs.Common.{◌≡◌, ◌∙◌, ℕ, ◌^◌, ◌<◌, ◌≤◌, Bool, true, false, inl, inr, List, [], ◌∷◌, ◌++◌, Option, Some, None, All, bit_and, codes, length, map, take, ap, arith, refl, sym, subst}
 use Rattle.std.proofs.lemmas.List.{take_all}
 use Rattle.std.proofs.lemmas.Nat.{and_le_r}
 use Rattle.std.specs.Fmt.{decimal}
@@ -15,12 +15,12 @@ use Rattle.i3c_base.specs.Numbers.{IsInRange}
 use Rattle.i3c_step.specs.declared.events.Command.{Command as Frame}
 use Rattle.i3c_lines.specs.declared.command.Command.{Command}
 use Rattle.i3c_lines.specs.declared.names.Name.{Name}
-use Rattle.i3c_lines.specs.Forms.{AreAddress, AreAddresses, AreByte, AreCount, AreDeclared, AreDevice, AreKinds, AreLength, ArePlace, AreWritten, IsCommand, IsForm, tokens, willing_words}
+use Rattle.i3c_lines.specs.Forms.{AreAddress, AreAddresses, AreByte, AreCount, AreDeclared, AreDevice, AreKinds, AreLength, ArePlace, AreWritten, IsCommand, IsForm, NameEach, tokens, willing_words}
 use Rattle.i3c_lines.specs.Policies.{IsAlone, IsPolicy, each_kind}
 use Rattle.i3c_text.specs.Hex.{byte_text, bytes_text, hex_text}
 use Rattle.i3c_lines.specs.Data.{datum_word, length_word}
 use Rattle.i3c_lines.specs.Naming.{letters}
-use Rattle.i3c_lines.specs.Printing.{AreKnown, HasLine, IsWithin, IsNamable, byte_words, command_text, command_words, device_words, identity_words, spaced, verdicts_words, written_words}
+use Rattle.i3c_lines.specs.Printing.{AreKnown, HasLine, IsWithin, IsNamable, but_words, byte_words, command_text, command_words, device_words, identity_words, spaced, verdicts_words, written_words}
 use Rattle.i3c_lines.proofs.Meanings.{as_meant}
 use Rattle.i3c_lines.proofs.PrintedLines.{Apart, byte_writes, decimal_writes, pairs_are, pairs_length, pid_writes, plain, spaced_length, tokens_spaced, total, place_writes}
 use Rattle.i3c_lines.proofs.SplitLaws.{HasNoSpace, hex_no_space, name_no_space, pairs_no_space}
@@ -142,9 +142,18 @@ place_fits place some few =
     let digits = place_writes place some few in
     ((decimal place, refl, digits.0), (digits.1, tt), omega (arith, digits.2))
 
+-- names have no spaces
+names_apart : (names : List Name) (words : List (List ℕ)) (old : List Name) → NameEach words old names → Apart words
+names_apart names [] old are = tt
+names_apart names (word ∷ words) old (name, is, once, are) = (name_no_space word is.0, names_apart names words (old ++ name ∷ []) are)
+
+both_apart : (words more : List (List ℕ)) → Apart words → Apart more → Apart (words ++ more)
+both_apart [] more first then = then
+both_apart (word ∷ words) more first then = (first.0, both_apart words more first.1 then)
+
 -- a command's words have its form, none has a space, and they are short
 abbrev Prints : Command → Type 0
-Prints command = Fit (IsForm (command_words command) command) (command_words command) 60
+Prints command = Fit (IsForm (command_words command) command) (command_words command) 257
 
 frame_prints : (frame : Frame) → HasLine (Command.Frame frame) → Prints (Command.Frame frame)
 frame_prints Frame.Serve h = (refl, (plain (codes "serve") tt, tt), omega arith)
@@ -195,6 +204,14 @@ prints Command.End h = (refl, (plain (codes "end") tt, tt), omega arith)
 prints Command.Daa h = (refl, (plain (codes "daa") tt, tt), omega arith)
 prints (Command.Policy policy) h =
     let fit = verdicts_fit policy.join policy.role policy.interrupt in ((verdicts_words policy.join policy.role policy.interrupt, refl, fit.0), (plain (codes "policy") tt, fit.1), omega (arith, fit.2))
+prints (Command.PolicyBut kinds but) h =
+    let fit = verdicts_fit kinds.join kinds.role kinds.interrupt in
+    let words = but_words kinds but.items in
+    let long = spaced_length (codes "policy") words in (
+      (words, refl, (verdicts_words kinds.join kinds.role kinds.interrupt, map letters but.items, refl, fit.0, h.0, h.1)),
+      (plain (codes "policy") tt, both_apart (verdicts_words kinds.join kinds.role kinds.interrupt) (codes "but" ∷ map letters but.items) fit.1 (plain (codes "but") tt, names_apart but.items (map letters but.items) [] h.1.0)),
+      omega (arith, long, h.2),
+    )
 prints (Command.Cut name bit) h =
     let fit = named_fits name h.0 in
     let digits = decimal_writes bit (omega (arith, h.1)) in
@@ -202,11 +219,12 @@ prints (Command.Cut name bit) h =
 prints Command.Show h = (refl, (plain (codes "show") tt, tt), omega arith)
 prints Command.ShowAll h = (refl, (plain (codes "show") tt, (plain (codes "all") tt, tt)), omega arith)
 prints (Command.ShowFrom first) h = let fit = place_fits first h.0 h.1 in ((decimal first ∷ [], refl, fit.0), (plain (codes "show") tt, fit.1), omega (arith, fit.2))
+prints (Command.Forget last) h = let fit = place_fits last h.0 h.1 in ((decimal last ∷ [], refl, fit.0), (plain (codes "forget") tt, fit.1), omega (arith, fit.2))
 prints Command.Symbols h = (refl, (plain (codes "symbols") tt, tt), omega arith)
 prints (Command.Frames count) h = let fit = count_fits count h.0 h.1 in ((decimal count ∷ [], refl, fit.0), (plain (codes "frames") tt, fit.1), omega (arith, fit.2))
 
 -- words that are apart are those of their line, and this is short
-read_again : (words : List (List ℕ)) → Apart words → total words ≤ 60 → (0 < length words) → (tokens (spaced words) ≡ words) × (length (spaced words) ≤ 256)
+read_again : (words : List (List ℕ)) → Apart words → total words ≤ 257 → (0 < length words) → (tokens (spaced words) ≡ words) × (length (spaced words) ≤ 256)
 read_again [] apart short some = absurd (omega (arith, some))
 read_again (word ∷ words) apart short some = let long = spaced_length word words in (tokens_spaced word words apart.0 apart.1, omega (arith, long, short))
 

@@ -89,7 +89,7 @@ behind_length : (words : List (List ℕ)) → length (behind words) ≡ total wo
 behind_length [] = refl
 behind_length (word ∷ words) = let before = behind_length words in omega (arith, before, length-append word (behind words))
 
-pub spaced_length : (word : List ℕ) (words : List (List ℕ)) → length (spaced (word ∷ words)) < total (word ∷ words)
+pub spaced_length : (word : List ℕ) (words : List (List ℕ)) → total (word ∷ words) ≡ length (spaced (word ∷ words)) + 1
 spaced_length word words = let rest = behind_length words in omega (arith, rest, length-append word (behind words))
 
 abbrev pub is_plain : List ℕ → Bool

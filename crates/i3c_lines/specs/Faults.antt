@@ -24,6 +24,7 @@ IsField Field.Bytes word = (0 < length word) × AreBytes word
 IsField Field.Bit word = IsDecimal word × (digits_value 10 word < 65536)
 IsField Field.Count word = IsDecimal word × (digits_value 10 word < 65536) × (0 < digits_value 10 word)
 IsField Field.Length word = IsDecimal word × (digits_value 10 word < 65536) × (0 < digits_value 10 word) × (digits_value 10 word ≤ 16)
+IsField Field.Place word = IsDecimal word × (digits_value 10 word < 2 ^ 64) × (0 < digits_value 10 word)
 IsField Field.Policy word = (policy : Fixed) × (IsAlone word policy ⊎ Accepts word (each_kind Refuse) policy)
 IsField Field.Kind word = (policy : Fixed) × Accepts word (each_kind Refuse) policy
 IsField Field.Decline word = word ≡ codes "decline"

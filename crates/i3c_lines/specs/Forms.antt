@@ -1,16 +1,18 @@
 -- Which bytes are which command.
-use Rattle.std.specs.Prelude.{◌≡◌, ◌⊎◌, ℕ, ◌<◌, ◌≤◌, ◌==◌, Bool, true, false, List, [], ◌∷◌, Option, Some, None, bit_and, codes, if◌then◌else◌, length, slice_get, take, ◌^◌}
+use Rattle.std.specs.Prelude.{◌≡◌, ◌⊎◌, ℕ, ◌<◌, ◌≤◌, ◌==◌, Bool, true, false, List, [], ◌∷◌, ◌++◌, Option, Some, None, bit_and, codes, if◌then◌else◌, length, slice_get, take, ◌^◌}
+use Rattle.std.specs.List.{list_any}
 use Rattle.std.specs.Str.Parse.{digits_value}
 use Rattle.i3c_base.specs.declared.device.Setup.{Setup}
 use Rattle.i3c_base.specs.declared.datum.Datum.{Datum}
 use Rattle.i3c_base.specs.declared.identity.Identity.{Identity}
 use Rattle.i3c_base.specs.declared.kinds.Kinds.{Kinds}
+use Rattle.i3c_base.specs.declared.requests.Fixed.{Fixed}
 use Rattle.i3c_step.specs.declared.events.Command.{Command as Frame}
 use Rattle.i3c_lines.specs.declared.command.Command.{Command}
 use Rattle.i3c_lines.specs.declared.names.Name.{Name}
 use Rattle.i3c_lines.specs.Data.{datum_word, length_word, told_word}
-use Rattle.i3c_lines.specs.Naming.{letters}
-use Rattle.i3c_lines.specs.Policies.{IsPolicy}
+use Rattle.i3c_lines.specs.Naming.{is_same, letters}
+use Rattle.i3c_lines.specs.Policies.{AcceptsSome, IsPolicy}
 use Rattle.i3c_lines.specs.Words.{AreBytes, IsDecimal, IsHex, IsName, pair_values}
 
 -- a byte in front of the first word
@@ -112,6 +114,21 @@ abbrev pub AreWritten : List (List ℕ) → List ℕ → Type 0
 AreWritten words bytes = ((words ≡ []) × (bytes ≡ []))
     ⊎ ((word : List ℕ) × (words ≡ word ∷ []) × (0 < length word) × AreBytes word × (bytes ≡ take 17 (pair_values word)))
 
+-- each of these words is a name that doesn't stand before it: so no name stands twice
+abbrev pub NameEach : List (List ℕ) → List Name → List Name → Type 0
+NameEach [] old new = new ≡ old
+NameEach (word ∷ words) old new =
+    (name : Name) × IsNamed word name × (list_any (λ other. is_same other name) old ≡ false) × NameEach words (old ++ name ∷ []) new
+
+-- 1 to 8 names, each once
+abbrev pub AreExcepted : List (List ℕ) → List Name → Type 0
+AreExcepted words names = NameEach words [] names × (0 < length names) × (length names ≤ 8)
+
+-- `KIND.. but NAME..` or `all but NAME..`: a policy that accepts some kind, and the devices that it excepts
+abbrev pub IsPolicyBut : List (List ℕ) → Fixed → List Name → Type 0
+IsPolicyBut words kinds names =
+    (front behind : List (List ℕ)) × (words ≡ front ++ codes "but" ∷ behind) × IsPolicy front kinds × AcceptsSome kinds × AreExcepted behind names
+
 -- these words are a frame's line
 abbrev pub IsFrameForm : List (List ℕ) → Frame → Type 0
 IsFrameForm words Frame.Serve = words ≡ codes "serve" ∷ []
@@ -144,10 +161,12 @@ IsForm words Command.Round = words ≡ codes "round" ∷ []
 IsForm words Command.End = words ≡ codes "end" ∷ []
 IsForm words Command.Daa = words ≡ codes "daa" ∷ []
 IsForm words (Command.Policy policy) = (rest : List (List ℕ)) × (words ≡ codes "policy" ∷ rest) × IsPolicy rest policy
+IsForm words (Command.PolicyBut kinds but) = (rest : List (List ℕ)) × (words ≡ codes "policy" ∷ rest) × IsPolicyBut rest kinds but.items
 IsForm words (Command.Cut name bit) = (word digits : List ℕ) × (words ≡ codes "cut" ∷ word ∷ digits ∷ []) × IsNamed word name × WritesBit digits bit
 IsForm words Command.Show = words ≡ codes "show" ∷ []
 IsForm words Command.ShowAll = words ≡ codes "show" ∷ codes "all" ∷ []
 IsForm words (Command.ShowFrom first) = (rest : List (List ℕ)) × (words ≡ codes "show" ∷ rest) × ArePlace rest first
+IsForm words (Command.Forget last) = (rest : List (List ℕ)) × (words ≡ codes "forget" ∷ rest) × ArePlace rest last
 IsForm words Command.Symbols = words ≡ codes "symbols" ∷ []
 IsForm words (Command.Frames count) = (rest : List (List ℕ)) × (words ≡ codes "frames" ∷ rest) × AreCount rest count
 

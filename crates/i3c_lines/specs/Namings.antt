@@ -1,5 +1,5 @@
 -- The names that commands give, and those by which they mean a device.
-use Rattle.std.specs.Prelude.{Option, Some, None}
+use Rattle.std.specs.Prelude.{List, [], ◌∷◌, Option, Some, None}
 use Rattle.i3c_lines.specs.declared.command.Command.{Command}
 use Rattle.i3c_lines.specs.declared.names.Name.{Name}
 
@@ -10,11 +10,12 @@ name_given (Command.Main name setup) = Some name
 name_given (Command.Attach name setup) = Some name
 name_given _ = None
 
--- the name by which a command means a device
-abbrev pub name_meant : Command → Option Name
-name_meant (Command.DropOff name) = Some name
-name_meant (Command.Raise name byte) = Some name
-name_meant (Command.AskJoin name) = Some name
-name_meant (Command.AskRole name) = Some name
-name_meant (Command.Cut name bit) = Some name
-name_meant _ = None
+-- the names by which a command means devices
+abbrev pub names_meant : Command → List Name
+names_meant (Command.DropOff name) = name ∷ []
+names_meant (Command.Raise name byte) = name ∷ []
+names_meant (Command.AskJoin name) = name ∷ []
+names_meant (Command.AskRole name) = name ∷ []
+names_meant (Command.Cut name bit) = name ∷ []
+names_meant (Command.PolicyBut kinds but) = but.items
+names_meant _ = []

@@ -1,12 +1,14 @@
 -- What functions promise that read the words of a line.
-use Rattle.std.specs.Prelude.{⊤, ◌≡◌, ℕ, Bool, List, [], ◌∷◌, ◌++◌, Option, Some, None, MatchOption}
+use Rattle.std.specs.Prelude.{⊤, ◌≡◌, ℕ, Bool, List, [], ◌∷◌, ◌++◌, ◌≤◌, Option, Some, None, MatchOption, codes, length}
 use Rattle.std.specs.Option.{option_copied}
 use Rattle.arrayvec.specs.ArrayVec.{ArrayVec}
 use Rattle.i3c_base.specs.declared.identity.Identity.{Identity}
+use Rattle.i3c_base.specs.declared.requests.Fixed.{Fixed}
 use Rattle.i3c_lines.specs.declared.command.Command.{Command}
 use Rattle.i3c_lines.specs.declared.names.Name.{Name}
 use Rattle.i3c_lines.specs.declared.tokens.Tokens.{Tokens}
-use Rattle.i3c_lines.specs.Forms.{AreWritten, IsForm, IsNamed, WritesIdentity, tokens, willing_words}
+use Rattle.i3c_lines.specs.Forms.{AreWritten, IsForm, IsNamed, NameEach, WritesIdentity, tokens, willing_words}
+use Rattle.i3c_lines.specs.Policies.{AcceptEach, AcceptsSome, IsPolicy}
 
 -- the words of some bytes, or no words
 abbrev pub words_of : Option (List ℕ) → List (List ℕ)
@@ -50,6 +52,22 @@ AreWilling words willing = words ≡ willing_words willing
 abbrev pub AreKept : List (List ℕ) → ArrayVec ℕ → Type 0
 AreKept words bytes = AreWritten words bytes.items
 
+-- a policy is read from the words in front of the first `but`, if it accepts some kind
+abbrev pub TakesPolicy : List (List ℕ) → List (List ℕ) → Option Fixed → Type 0
+TakesPolicy before after result =
+    MatchOption result ((kinds : Fixed) (front rest : List (List ℕ)) → before ≡ front ++ codes "but" ∷ rest → IsPolicy front kinds → AcceptsSome kinds → ⊥)
+    (λ kinds. (front : List (List ℕ)) × (before ≡ front ++ codes "but" ∷ after) × IsPolicy front kinds × AcceptsSome kinds)
+
+-- a policy accepts the kinds of the words in front of the first `but` as well
+abbrev pub AcceptsUntilBut : Fixed → List (List ℕ) → List (List ℕ) → Option Fixed → Type 0
+AcceptsUntilBut old before after result =
+    MatchOption result ((new : Fixed) (front rest : List (List ℕ)) → before ≡ front ++ codes "but" ∷ rest → AcceptEach front old new → ⊥)
+    (λ new. (front : List (List ℕ)) × (before ≡ front ++ codes "but" ∷ after) × AcceptEach front old new)
+
+-- names go on by those of more words, if there are 8 at most and none stands twice
+abbrev pub GoOn : List (List ℕ) → List Name → List Name → Option (Unit {0}) → Type 0
+GoOn words old new result = MatchOption result ((all : List Name) → NameEach words old all → length all ≤ 8 → ⊥) (λ _. NameEach words old new)
+
 -- a command becomes that of some words if they have a command's form, and stays what it was otherwise
 abbrev pub Becomes : List (List ℕ) → Option (Unit {0}) → Command → Command → Type 0
 Becomes words result old new = MatchOption result (((command : Command) → IsForm words command → ⊥) × (new ≡ old)) (λ _. IsForm words new)
@@ -71,10 +89,12 @@ IsOther Command.Round = ⊥
 IsOther Command.End = ⊥
 IsOther Command.Daa = ⊥
 IsOther (Command.Policy policy) = ⊤
+IsOther (Command.PolicyBut kinds but) = ⊤
 IsOther (Command.Cut name bit) = ⊤
 IsOther Command.Show = ⊥
 IsOther Command.ShowAll = ⊥
 IsOther (Command.ShowFrom first) = ⊥
+IsOther (Command.Forget last) = ⊤
 IsOther Command.Symbols = ⊥
 IsOther (Command.Frames count) = ⊤
 

@@ -23,6 +23,10 @@ AcceptEach (word ∷ words) old new = (next : Fixed) × Accepts word old next ×
 abbrev pub IsAlone : List ℕ → Fixed → Type 0
 IsAlone word policy = ((word ≡ codes "all") × (policy ≡ each_kind Accept)) ⊎ ((word ≡ codes "none") × (policy ≡ each_kind Refuse))
 
+-- a policy that accepts some kind
+abbrev pub AcceptsSome : Fixed → Type 0
+AcceptsSome policy = (policy.join ≡ Accept) ⊎ (policy.role ≡ Accept) ⊎ (policy.interrupt ≡ Accept)
+
 -- the words of a policy: `all` or `none`, or the kinds that it accepts, each once
 abbrev pub IsPolicy : List (List ℕ) → Fixed → Type 0
 IsPolicy words policy = ((word : List ℕ) × (words ≡ word ∷ []) × IsAlone word policy) ⊎ ((0 < length words) × AcceptEach words (each_kind Refuse) policy)

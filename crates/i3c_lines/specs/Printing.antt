@@ -1,16 +1,18 @@
 -- Commands as they are printed, each in a line of its form.
-use Rattle.std.specs.Prelude.{◌≡◌, ℕ, ◌^◌, ◌<◌, ◌≤◌, ⊤, All, List, [], ◌∷◌, ◌++◌, Option, Some, None, bit_and, codes, length}
+use Rattle.std.specs.Prelude.{◌≡◌, ℕ, ◌^◌, ◌<◌, ◌≤◌, ⊤, All, List, [], ◌∷◌, ◌++◌, Option, Some, None, bit_and, codes, length, map}
 use Rattle.std.specs.Fmt.{decimal}
 use Rattle.i3c_base.specs.Numbers.{IsInRange}
 use Rattle.i3c_base.specs.declared.device.Setup.{Setup}
 use Rattle.i3c_base.specs.declared.identity.Identity.{Identity}
 use Rattle.i3c_base.specs.declared.kinds.Kinds.{Kinds}
+use Rattle.i3c_base.specs.declared.requests.Fixed.{Fixed}
 use Rattle.i3c_base.specs.declared.requests.Verdict.{Verdict}
 use Rattle.i3c_base.specs.declared.requests.Verdict.TheVariants.{Accept, Refuse}
 use Rattle.i3c_step.specs.declared.events.Command.{Command as Frame}
 use Rattle.i3c_lines.specs.declared.command.Command.{Command}
 use Rattle.i3c_lines.specs.declared.names.Name.{Name}
-use Rattle.i3c_lines.specs.Forms.{willing_words}
+use Rattle.i3c_lines.specs.Forms.{AreExcepted, willing_words}
+use Rattle.i3c_lines.specs.Policies.{AcceptsSome}
 use Rattle.i3c_text.specs.Hex.{byte_text, bytes_text, hex_text}
 use Rattle.i3c_lines.specs.Data.{datum_word, length_word}
 use Rattle.i3c_lines.specs.Naming.{letters}
@@ -55,6 +57,10 @@ verdicts_words Refuse Accept Refuse = codes "roles" ∷ []
 verdicts_words Refuse Refuse Accept = codes "interrupts" ∷ []
 verdicts_words Refuse Refuse Refuse = codes "none" ∷ []
 
+-- the words of a policy, and the names of the devices that it excepts
+abbrev pub but_words : Fixed → List Name → List (List ℕ)
+but_words kinds names = verdicts_words kinds.join kinds.role kinds.interrupt ++ codes "but" ∷ map letters names
+
 -- the words of a frame's line
 abbrev pub frame_words : Frame → List (List ℕ)
 frame_words Frame.Serve = codes "serve" ∷ []
@@ -86,10 +92,12 @@ command_words Command.Round = codes "round" ∷ []
 command_words Command.End = codes "end" ∷ []
 command_words Command.Daa = codes "daa" ∷ []
 command_words (Command.Policy policy) = codes "policy" ∷ verdicts_words policy.join policy.role policy.interrupt
+command_words (Command.PolicyBut kinds but) = codes "policy" ∷ but_words kinds but.items
 command_words (Command.Cut name bit) = codes "cut" ∷ letters name ∷ decimal bit ∷ []
 command_words Command.Show = codes "show" ∷ []
 command_words Command.ShowAll = codes "show" ∷ codes "all" ∷ []
 command_words (Command.ShowFrom first) = codes "show" ∷ decimal first ∷ []
+command_words (Command.Forget last) = codes "forget" ∷ decimal last ∷ []
 command_words Command.Symbols = codes "symbols" ∷ []
 command_words (Command.Frames count) = codes "frames" ∷ decimal count ∷ []
 
@@ -124,7 +132,7 @@ FrameHasLine (Frame.SetNew at to) = (at < 128) × (to < 128)
 FrameHasLine (Frame.Get what at) = at < 128
 FrameHasLine (Frame.SetLength way most to) = (0 < most) × (most ≤ 16) × IsWithin 128 to
 
--- a command that a line can ask for: its names have letters, and its numbers are in range
+-- a command that a line can ask for: its names have letters, its numbers are in range, and the names behind `but` fit into a line
 abbrev pub HasLine : Command → Type 0
 HasLine (Command.Legacy name address lvr) = IsNamable name × (address < 128) × (lvr.0 < 256)
 HasLine (Command.Declare address identity) = (address < 128) × IsInRange identity
@@ -141,9 +149,11 @@ HasLine Command.Round = ⊤
 HasLine Command.End = ⊤
 HasLine Command.Daa = ⊤
 HasLine (Command.Policy policy) = ⊤
+HasLine (Command.PolicyBut kinds but) = AcceptsSome kinds × AreExcepted (map letters but.items) but.items × (length (spaced (codes "policy" ∷ but_words kinds but.items)) ≤ 256)
 HasLine (Command.Cut name bit) = IsNamable name × (bit < 2 ^ 16)
 HasLine Command.Show = ⊤
 HasLine Command.ShowAll = ⊤
 HasLine (Command.ShowFrom first) = (0 < first) × (first < 2 ^ 64)
+HasLine (Command.Forget last) = (0 < last) × (last < 2 ^ 64)
 HasLine Command.Symbols = ⊤
 HasLine (Command.Frames count) = (0 < count) × (count < 2 ^ 16)

@@ -5,7 +5,7 @@ ghost use Rattle.i3c_lines.specs.Parsing.{AreKept, AreNamed, AreWilling, Becomes
 
 use crate::data::datum;
 use crate::names::Name;
-use crate::policies::policy;
+use crate::policies::{EXCEPTED, policy, policy_but};
 use crate::tokens::{self, Tokens, after, is_word};
 use arrayvec::ArrayVec;
 use i3c_base::{Addr7, Bcr, Datum, Dcr, Direction, Fixed, Identity, Kinds, Length, Lvr, Setup};
@@ -77,6 +77,8 @@ const MAIN: &[u8] = b"main";
 
 const FRAMES: &[u8] = b"frames";
 
+const FORGET: &[u8] = b"forget";
+
 /// What a line asks for, with the names as they stand there.
 #[derive(Drop)]
 pub enum Command {
@@ -137,6 +139,12 @@ pub enum Command {
     /// `policy all`, `policy none` or `policy KIND..`: which requests the frames from now on accept. A KIND is `joins`,
     /// `roles` or `interrupts`, and no other kind is accepted.
     Policy(Fixed),
+    /// `policy all but NAME..`, `policy KIND.. but NAME..`: the same, but a request is turned down where one of these
+    /// devices drives it.
+    PolicyBut {
+        kinds: Fixed,
+        but: ArrayVec<Name, EXCEPTED>,
+    },
     /// `cut NAME BIT`: a device loses power at a bit of the next frame.
     Cut {
         name: Name,
@@ -148,6 +156,8 @@ pub enum Command {
     ShowAll,
     /// `show N`: the same as `show`, but of the records only those from this number on.
     ShowFrom(u64),
+    /// `forget N`: the records up to this number leave the log.
+    Forget(u64),
     /// `symbols`: the last symbols of the wire.
     Symbols,
     /// `frames N`: the last N whole frames of these symbols.
@@ -425,69 +435,185 @@ impl Command {
     fn read_words(&mut self, line: &[u8]) -> Option<()>
         ensures { BecomesOther (tokens line.now) result self.old self.new }
     {
-        *self = parse_words(&mut Tokens::of(line))?;
+        self.read_tokens(&mut Tokens::of(line))
+    }
+
+    /// Becomes the command of several words that has this first word, if the others have its form.
+    fn read_tokens(&mut self, words: &mut Tokens<'_>) -> Option<()>
+        ensures { BecomesOther (left_words words.old) result self.old self.new }
+    {
+        let word = words.next()?;
+        if is_word(word, DROP) {
+            return self.read_drop(words);
+        }
+        if is_word(word, ATTACH) {
+            return self.read_attach(words);
+        }
+        if is_word(word, ASK_JOIN) {
+            return self.read_ask_join(words);
+        }
+        if is_word(word, ASK_ROLE) {
+            return self.read_ask_role(words);
+        }
+        if is_word(word, HANDOVER) {
+            return self.read_handover(words);
+        }
+        if is_word(word, CUT) {
+            return self.read_cut(words);
+        }
+        self.read_rare(word, words)
+    }
+
+    /// Becomes the command that has this first word, which is none of those above, if the others have its form.
+    fn read_rare(&mut self, word: &[u8], words: &mut Tokens<'_>) -> Option<()>
+        requires drops { word.now ≡ codes "drop" → ⊥ }
+        requires attaches { word.now ≡ codes "attach" → ⊥ }
+        requires joins { word.now ≡ codes "ask-join" → ⊥ }
+        requires roles { word.now ≡ codes "ask-role" → ⊥ }
+        requires offers { word.now ≡ codes "handover" → ⊥ }
+        requires cuts { word.now ≡ codes "cut" → ⊥ }
+        ensures { BecomesOther (word.now ∷ left_words words.old) result self.old self.new }
+    {
+        if is_word(word, POLICY) {
+            return self.read_policy(words);
+        }
+        if is_word(word, LEGACY) {
+            return self.read_legacy(words);
+        }
+        if is_word(word, DECLARE) {
+            return self.read_declare(words);
+        }
+        if is_word(word, MAIN) {
+            return self.read_main(words);
+        }
+        if is_word(word, FRAMES) {
+            return self.read_frames(words);
+        }
+        if is_word(word, FORGET) {
+            return self.read_forget(words);
+        }
+        None
+    }
+
+    /// Becomes `legacy`, by the words behind it.
+    fn read_legacy(&mut self, words: &mut Tokens<'_>) -> Option<()>
+        ensures { Becomes (codes "legacy" ∷ left_words words.old) result self.old self.new }
+    {
+        let name = parse_name(words)?;
+        let address = tokens::address(words.next()?)?;
+        let lvr = Lvr(parse_byte(words)?);
+        words.end()?;
+        *self = Command::Legacy { name, address, lvr };
         Some(())
     }
-}
 
-/// The command of several words that has this first word, if the others have its form.
-fn parse_words(words: &mut Tokens<'_>) -> Option<Command>
-    ensures { Reads IsOtherForm (left_words words.old) result }
-{
-    let word = words.next()?;
-    if is_word(word, DROP) {
-        return parse_drop(words);
+    /// Becomes `declare`, by the words behind it.
+    fn read_declare(&mut self, words: &mut Tokens<'_>) -> Option<()>
+        ensures { Becomes (codes "declare" ∷ left_words words.old) result self.old self.new }
+    {
+        let (address, identity) = parse_declared(words)?;
+        *self = Command::Declare { address, identity };
+        Some(())
     }
-    if is_word(word, ATTACH) {
-        return parse_attach(words);
-    }
-    if is_word(word, ASK_JOIN) {
-        return parse_ask_join(words);
-    }
-    if is_word(word, ASK_ROLE) {
-        return parse_ask_role(words);
-    }
-    if is_word(word, HANDOVER) {
-        return parse_handover(words);
-    }
-    if is_word(word, CUT) {
-        return parse_cut(words);
-    }
-    if is_word(word, POLICY) {
-        return parse_policy(words);
-    }
-    if is_word(word, LEGACY) {
-        return parse_legacy(words);
-    }
-    if is_word(word, DECLARE) {
-        return parse_declare(words);
-    }
-    if is_word(word, MAIN) {
-        return parse_main(words);
-    }
-    if is_word(word, FRAMES) {
-        return parse_frames(words);
-    }
-    None
-}
 
-/// The words of `legacy`.
-fn parse_legacy(words: &mut Tokens<'_>) -> Option<Command>
-    ensures { Reads IsForm (codes "legacy" ∷ left_words words.old) result }
-{
-    let name = parse_name(words)?;
-    let address = tokens::address(words.next()?)?;
-    let lvr = Lvr(parse_byte(words)?);
-    words.end()?;
-    Some(Command::Legacy { name, address, lvr })
-}
+    /// Becomes `main`, by the words behind it.
+    fn read_main(&mut self, words: &mut Tokens<'_>) -> Option<()>
+        ensures { Becomes (codes "main" ∷ left_words words.old) result self.old self.new }
+    {
+        let (name, setup) = parse_device(words)?;
+        *self = Command::Main { name, setup };
+        Some(())
+    }
 
-/// The words of `declare`.
-fn parse_declare(words: &mut Tokens<'_>) -> Option<Command>
-    ensures { Reads IsForm (codes "declare" ∷ left_words words.old) result }
-{
-    let (address, identity) = parse_declared(words)?;
-    Some(Command::Declare { address, identity })
+    /// Becomes `attach`, by the words behind it.
+    fn read_attach(&mut self, words: &mut Tokens<'_>) -> Option<()>
+        ensures { Becomes (codes "attach" ∷ left_words words.old) result self.old self.new }
+    {
+        let (name, setup) = parse_device(words)?;
+        *self = Command::Attach { name, setup };
+        Some(())
+    }
+
+    /// Becomes `drop`, by the word behind it: a name.
+    fn read_drop(&mut self, words: &mut Tokens<'_>) -> Option<()>
+        ensures { Becomes (codes "drop" ∷ left_words words.old) result self.old self.new }
+    {
+        let name = parse_last_name(words)?;
+        *self = Command::DropOff { name };
+        Some(())
+    }
+
+    /// Becomes `ask-join`, by the word behind it: a name.
+    fn read_ask_join(&mut self, words: &mut Tokens<'_>) -> Option<()>
+        ensures { Becomes (codes "ask-join" ∷ left_words words.old) result self.old self.new }
+    {
+        let name = parse_last_name(words)?;
+        *self = Command::AskJoin { name };
+        Some(())
+    }
+
+    /// Becomes `ask-role`, by the word behind it: a name.
+    fn read_ask_role(&mut self, words: &mut Tokens<'_>) -> Option<()>
+        ensures { Becomes (codes "ask-role" ∷ left_words words.old) result self.old self.new }
+    {
+        let name = parse_last_name(words)?;
+        *self = Command::AskRole { name };
+        Some(())
+    }
+
+    /// Becomes `handover`, by the word behind it: an address.
+    fn read_handover(&mut self, words: &mut Tokens<'_>) -> Option<()>
+        ensures { Becomes (codes "handover" ∷ left_words words.old) result self.old self.new }
+    {
+        let to = tokens::address(words.next()?)?;
+        words.end()?;
+        *self = Command::HandOver { to };
+        Some(())
+    }
+
+    /// Becomes a policy, by the words behind its first: with exceptions if there is a `but` among them.
+    // kept apart, so that no other line pays for the room that names take on the stack
+    #[inline(never)]
+    fn read_policy(&mut self, words: &mut Tokens<'_>) -> Option<()>
+        ensures { Becomes (codes "policy" ∷ left_words words.old) result self.old self.new }
+    {
+        let mut all = *words;
+        if let Some(policy) = policy(&mut all) {
+            return self.set(Command::Policy(policy));
+        }
+        let (kinds, but) = policy_but(words)?;
+        *self = Command::PolicyBut { kinds, but };
+        Some(())
+    }
+
+    /// Becomes `cut`, by the words behind it: a name and a bit.
+    fn read_cut(&mut self, words: &mut Tokens<'_>) -> Option<()>
+        ensures { Becomes (codes "cut" ∷ left_words words.old) result self.old self.new }
+    {
+        let name = parse_name(words)?;
+        let bit = tokens::bit(words.next()?)?;
+        words.end()?;
+        *self = Command::Cut { name, bit };
+        Some(())
+    }
+
+    /// Becomes `frames`, by the word behind it: a count.
+    fn read_frames(&mut self, words: &mut Tokens<'_>) -> Option<()>
+        ensures { Becomes (codes "frames" ∷ left_words words.old) result self.old self.new }
+    {
+        let count = parse_count(words)?;
+        *self = Command::Frames(count);
+        Some(())
+    }
+
+    /// Becomes `forget`, by the word behind it: the number of a record.
+    fn read_forget(&mut self, words: &mut Tokens<'_>) -> Option<()>
+        ensures { Becomes (codes "forget" ∷ left_words words.old) result self.old self.new }
+    {
+        let last = parse_place(words)?;
+        *self = Command::Forget(last);
+        Some(())
+    }
 }
 
 /// A static address and the identity that is declared at it.
@@ -498,22 +624,6 @@ fn parse_declared(words: &mut Tokens<'_>) -> Option<(Addr7, Identity)>
     let identity = parse_identity(words)?;
     words.end()?;
     Some((address, identity))
-}
-
-/// The words of `main`.
-fn parse_main(words: &mut Tokens<'_>) -> Option<Command>
-    ensures { Reads IsForm (codes "main" ∷ left_words words.old) result }
-{
-    let (name, setup) = parse_device(words)?;
-    Some(Command::Main { name, setup })
-}
-
-/// The words of `attach`.
-fn parse_attach(words: &mut Tokens<'_>) -> Option<Command>
-    ensures { Reads IsForm (codes "attach" ∷ left_words words.old) result }
-{
-    let (name, setup) = parse_device(words)?;
-    Some(Command::Attach { name, setup })
 }
 
 /// The words of a device: its name and its identity, and `decline` if it doesn't take the controller role.
@@ -571,65 +681,6 @@ fn parse_byte(words: &mut Tokens<'_>) -> Option<u8>
     ensures { TakesWord (Writes 2) (left_words words.old) (left_words words.new) result }
 {
     tokens::byte(words.next()?)
-}
-
-/// The word of `drop`: a name.
-fn parse_drop(words: &mut Tokens<'_>) -> Option<Command>
-    ensures { Reads IsForm (codes "drop" ∷ left_words words.old) result }
-{
-    let name = parse_last_name(words)?;
-    Some(Command::DropOff { name })
-}
-
-/// The word of `ask-join`: a name.
-fn parse_ask_join(words: &mut Tokens<'_>) -> Option<Command>
-    ensures { Reads IsForm (codes "ask-join" ∷ left_words words.old) result }
-{
-    let name = parse_last_name(words)?;
-    Some(Command::AskJoin { name })
-}
-
-/// The word of `ask-role`: a name.
-fn parse_ask_role(words: &mut Tokens<'_>) -> Option<Command>
-    ensures { Reads IsForm (codes "ask-role" ∷ left_words words.old) result }
-{
-    let name = parse_last_name(words)?;
-    Some(Command::AskRole { name })
-}
-
-/// The word of `handover`: an address.
-fn parse_handover(words: &mut Tokens<'_>) -> Option<Command>
-    ensures { Reads IsForm (codes "handover" ∷ left_words words.old) result }
-{
-    let to = tokens::address(words.next()?)?;
-    words.end()?;
-    Some(Command::HandOver { to })
-}
-
-/// The words of `policy`.
-fn parse_policy(words: &mut Tokens<'_>) -> Option<Command>
-    ensures { Reads IsForm (codes "policy" ∷ left_words words.old) result }
-{
-    let policy = policy(words)?;
-    Some(Command::Policy(policy))
-}
-
-/// The words of `cut`: a name and a bit.
-fn parse_cut(words: &mut Tokens<'_>) -> Option<Command>
-    ensures { Reads IsForm (codes "cut" ∷ left_words words.old) result }
-{
-    let name = parse_name(words)?;
-    let bit = tokens::bit(words.next()?)?;
-    words.end()?;
-    Some(Command::Cut { name, bit })
-}
-
-/// The word of `frames`: a count.
-fn parse_frames(words: &mut Tokens<'_>) -> Option<Command>
-    ensures { Reads IsForm (codes "frames" ∷ left_words words.old) result }
-{
-    let count = parse_count(words)?;
-    Some(Command::Frames(count))
 }
 
 /// The last word, which is a count.

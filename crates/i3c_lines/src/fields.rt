@@ -41,6 +41,8 @@ pub enum Field {
     Length,
     /// What else of the bus is shown: all of it, or its records from a number on.
     Shown,
+    /// The number of a record.
+    Place,
     /// The first word of a policy.
     Policy,
     /// A kind of request, which a policy accepts.
@@ -65,6 +67,7 @@ impl Field {
             Field::Bit => tokens::bit(word).is_some(),
             Field::Count => tokens::count(word).is_some(),
             Field::Length => tokens::length(word).is_some(),
+            Field::Place => tokens::place(word).is_some(),
             Field::Policy => is_first(word),
             Field::Kind => is_kind(word),
             Field::Decline => is_word(word, DECLINE),
@@ -86,7 +89,7 @@ impl Field {
             Field::Byte => "BYTE",
             Field::Bytes => "BYTES",
             Field::Bit => "BIT",
-            Field::Count | Field::Length => "N",
+            Field::Count | Field::Length | Field::Place => "N",
             Field::Policy => "POLICY",
             Field::Kind => "KIND",
             Field::Decline | Field::Shown => "",
@@ -106,8 +109,9 @@ impl Field {
             Field::Bit => "decimal digits, up to 65535",
             Field::Count => "decimal digits, 1 to 65535",
             Field::Length => "decimal digits, 1 to 16",
+            Field::Place => "a record's number from 1 on",
             Field::Policy => "all, none, joins, roles or interrupts",
-            Field::Kind => "joins, roles or interrupts",
+            Field::Kind => "joins, roles, interrupts or but",
             Field::Decline => "'decline' or nothing",
             Field::Shown => "'all', a record's number from 1 on, or nothing",
         }
@@ -129,6 +133,7 @@ impl Field {
             | Field::Bit
             | Field::Count
             | Field::Length
+            | Field::Place
             | Field::Policy
             | Field::Kind
             | Field::Decline

@@ -4,9 +4,11 @@ ghost use Rattle.i3c_lines.specs.Faults.{IsSo};
 
 use crate::fields::Field;
 use crate::line::{LINE_LENGTH, read_line};
-use crate::policies::{REFUSE_ALL, accept};
+use crate::names::Name;
+use crate::policies::{ALL, BUT, EXCEPTED, REFUSE_ALL, accept};
 use crate::shapes::{Shape, nearest, shape_of};
-use crate::tokens::{SPACE, Tokens, after};
+use crate::tokens::{SPACE, Tokens, after, is_word};
+use arrayvec::ArrayVec;
 use i3c_text::Text;
 use std::alloc::{AllocError, Global};
 
@@ -47,7 +49,7 @@ pub enum FormFault<'a> {
     Misfit(Field, &'a [u8]),
     /// This word is one too many.
     Surplus(&'a [u8]),
-    /// This word names a kind of request that a word before it names.
+    /// This word names a kind of request, or a device, that a word before it names.
     Repeated(&'a [u8]),
 }
 
@@ -129,11 +131,17 @@ fn kind_misfit<'a>(first: &'a [u8], words: &mut Tokens<'a>) -> FormFault<'a>
     let Some(word) = words.next() else {
         return FormFault::Unknown(first);
     };
+    if is_word(word, ALL) {
+        return behind_all(first, words);
+    }
     let Some(mut policy) = accept(REFUSE_ALL, word) else {
-        // `all` or `none`, behind which nothing follows
+        // `none`, behind which nothing follows
         return last_misfit(first, None, words);
     };
     while let Some(word) = words.next() {
+        if is_word(word, BUT) {
+            return names_misfit(first, words);
+        }
         if let Some(fault) = misfit_at(Field::Kind, word) {
             return fault;
         }
@@ -143,6 +151,52 @@ fn kind_misfit<'a>(first: &'a [u8], words: &mut Tokens<'a>) -> FormFault<'a>
         }
     }
     FormFault::Unknown(first)
+}
+
+/// The first of the words behind a policy's `all` that may not stand there.
+fn behind_all<'a>(first: &'a [u8], words: &mut Tokens<'a>) -> FormFault<'a>
+    ensures { (line : List ℕ) → IsSo line result }
+{
+    let Some(word) = words.next() else {
+        return FormFault::Unknown(first);
+    };
+    if is_word(word, BUT) {
+        return names_misfit(first, words);
+    }
+    surplus(word)
+}
+
+/// The first of the words behind a policy's `but` that may not follow those before it.
+fn names_misfit<'a>(first: &'a [u8], words: &mut Tokens<'a>) -> FormFault<'a>
+    ensures { (line : List ℕ) → IsSo line result }
+{
+    let mut names = ArrayVec::new();
+    while let Some(word) = words.next() {
+        if let Some(fault) = misfit_among(&mut names, word) {
+            return fault;
+        }
+    }
+    if names.is_empty() {
+        return FormFault::Missing(Field::Name);
+    }
+    FormFault::Unknown(first)
+}
+
+/// What is wrong with a name behind others, if anything is. Otherwise it joins them.
+fn misfit_among<'a>(names: &mut ArrayVec<Name, EXCEPTED>, word: &'a [u8]) -> Option<FormFault<'a>>
+    ensures { IfSome result (λ fault. (line : List ℕ) → IsSo line fault) }
+{
+    let Some(name) = Name::parse(word) else {
+        return misfit_at(Field::Name, word);
+    };
+    if names.contains(&name) {
+        return Some(FormFault::Repeated(word));
+    }
+    if names.is_full() {
+        return Some(FormFault::Surplus(word));
+    }
+    names.push(name);
+    None
 }
 
 /// The first of the words behind those that a command needs that isn't as its shape has it.

@@ -33,5 +33,5 @@ pub use laws::{
 };
 pub use line::{Line, is_skipped, read_line};
 pub use names::{Name, Names, Place};
-pub use policies::ACCEPT_ALL;
+pub use policies::{ACCEPT_ALL, EXCEPTED};
 pub use refusals::Refusal;

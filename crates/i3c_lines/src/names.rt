@@ -109,6 +109,21 @@ impl Name {
     }
 }
 
+impl Default for Name {
+    ghost use Rattle.std.specs.Prelude.{◌≡◌, []};
+    ghost use Rattle.i3c_lines.specs.Naming.{letters};
+
+    ghost is_default = { λ name. letters name ≡ [] };
+
+    /// What fills the places of a list that hold no name: no letters.
+    fn default() -> Name {
+        Name {
+            bytes: [0; NAME_LENGTH],
+            length: 0,
+        }
+    }
+}
+
 impl PartialEq for Name {
     ghost use Rattle.std.specs.Cmp.{on_per, partial_equiv_from_equiv};
     ghost use Rattle.std.specs.Cmp.Lexicographic.{nat_list_eq_equiv};

@@ -1,8 +1,9 @@
 ghost use Rattle.std.specs.Prelude.{◌≡◌};
-ghost use Rattle.i3c_lines.specs.Namings.{name_given, name_meant};
+ghost use Rattle.i3c_lines.specs.Namings.{name_given, names_meant};
 
 use crate::command::Command;
 use crate::names::Name;
+use std::slice;
 
 impl Command {
     /// The name that its line gives to a device or a legacy target, if it gives one.
@@ -17,17 +18,18 @@ impl Command {
         }
     }
 
-    /// The name by which its line means a device, if it means one so.
-    pub fn name_meant(&self) -> Option<Name>
-        ensures { result ≡ name_meant self.now }
+    /// The names by which its line means devices.
+    pub fn names_meant(&self) -> &[Name]
+        ensures { result.now ≡ names_meant self.now }
     {
         match self {
-            Command::DropOff { name } => Some(*name),
-            Command::Raise { name, .. } => Some(*name),
-            Command::AskJoin { name } => Some(*name),
-            Command::AskRole { name } => Some(*name),
-            Command::Cut { name, .. } => Some(*name),
-            _ => None,
+            Command::DropOff { name } => slice::from_ref(name),
+            Command::Raise { name, .. } => slice::from_ref(name),
+            Command::AskJoin { name } => slice::from_ref(name),
+            Command::AskRole { name } => slice::from_ref(name),
+            Command::Cut { name, .. } => slice::from_ref(name),
+            Command::PolicyBut { but, .. } => but.as_slice(),
+            _ => &[],
         }
     }
 }

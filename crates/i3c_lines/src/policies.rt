@@ -1,11 +1,17 @@
 ghost use Rattle.std.specs.Prelude.{◌≡◌, ◌↔◌, ◌⊎◌, IsTrue, MatchOption};
-ghost use Rattle.i3c_lines.specs.Parsing.{Reads, left_words};
+ghost use Rattle.i3c_lines.specs.Forms.{AreExcepted, IsPolicyBut};
+ghost use Rattle.i3c_lines.specs.Parsing.{AcceptsUntilBut, GoOn, Reads, TakesPolicy, left_words};
 ghost use Rattle.i3c_lines.specs.Policies.{AcceptEach, Accepts, IsAlone, IsPolicy, each_kind};
 ghost use Rattle.i3c_base.specs.declared.requests.Fixed.{Fixed};
 ghost use Rattle.i3c_base.specs.declared.requests.Verdict.TheVariants.{Accept, Refuse};
 
+use crate::names::Name;
 use crate::tokens::{Tokens, is_word};
+use arrayvec::ArrayVec;
 use i3c_base::{Fixed, Verdict};
+
+/// How many devices a policy may except.
+pub const EXCEPTED: usize = 8;
 
 /// Each request is accepted, as at the start of a script.
 pub const ACCEPT_ALL: Fixed = Fixed {
@@ -21,7 +27,7 @@ pub(crate) const REFUSE_ALL: Fixed = Fixed {
     interrupt: Verdict::Refuse,
 };
 
-const ALL: &[u8] = b"all";
+pub(crate) const ALL: &[u8] = b"all";
 
 const NONE: &[u8] = b"none";
 
@@ -30,6 +36,9 @@ const JOINS: &[u8] = b"joins";
 const ROLES: &[u8] = b"roles";
 
 const INTERRUPTS: &[u8] = b"interrupts";
+
+/// The word in front of the names that a policy excepts.
+pub(crate) const BUT: &[u8] = b"but";
 
 /// The policy that words name: `all` or `none` alone, or the kinds of requests that alone are accepted, each once.
 pub(crate) fn policy(words: &mut Tokens<'_>) -> Option<Fixed>
@@ -43,6 +52,66 @@ pub(crate) fn policy(words: &mut Tokens<'_>) -> Option<Fixed>
         }
         None => accept_each(accept(REFUSE_ALL, first)?, words),
     }
+}
+
+/// The policy that words name in front of the first `but`, and the names behind it.
+pub(crate) fn policy_but(words: &mut Tokens<'_>) -> Option<(Fixed, ArrayVec<Name, EXCEPTED>)>
+    ensures { Reads (λ words parts. IsPolicyBut words parts.0 parts.1.items) (left_words words.old) result }
+{
+    let kinds = policy_before_but(words)?;
+    let names = excepted(words)?;
+    Some((kinds, names))
+}
+
+/// The policy that words name in front of the first `but`, which accepts some kind.
+fn policy_before_but(words: &mut Tokens<'_>) -> Option<Fixed>
+    ensures { TakesPolicy (left_words words.old) (left_words words.new) result }
+{
+    let first = words.next()?;
+    if is_word(first, ALL) {
+        return accept_until_but(ACCEPT_ALL, words);
+    }
+    let policy = accept(REFUSE_ALL, first)?;
+    accept_until_but(policy, words)
+}
+
+/// A policy that accepts the kinds of more words as well, up to the first `but`.
+fn accept_until_but(policy: Fixed, words: &mut Tokens<'_>) -> Option<Fixed>
+    ensures { AcceptsUntilBut policy (left_words words.old) (left_words words.new) result }
+{
+    let word = words.next()?;
+    if is_word(word, BUT) {
+        return Some(policy);
+    }
+    let next = accept(policy, word)?;
+    accept_until_but(next, words)
+}
+
+/// The names of the devices that a policy excepts, each once.
+fn excepted(words: &mut Tokens<'_>) -> Option<ArrayVec<Name, EXCEPTED>>
+    ensures { Reads (λ words names. AreExcepted words names.items) (left_words words.old) result }
+{
+    let mut names = ArrayVec::new();
+    push_names(words, &mut names)?;
+    match names.len() {
+        0 => None,
+        _ => Some(names),
+    }
+}
+
+/// Appends the names of more words, as long as there is a place and none stands twice.
+fn push_names(words: &mut Tokens<'_>, names: &mut ArrayVec<Name, EXCEPTED>) -> Option<()>
+    ensures { GoOn (left_words words.old) names.old.items names.new.items result }
+{
+    let Some(word) = words.next() else {
+        return Some(());
+    };
+    let name = Name::parse(word)?;
+    if names.is_full() || names.contains(&name) {
+        return None;
+    }
+    names.push(name);
+    push_names(words, names)
 }
 
 /// The policy of a word that stands alone.

@@ -1,10 +1,10 @@
-ghost use Rattle.std.specs.Prelude.{◌≡◌, [], ◌∷◌, ◌++◌, OnOk, codes};
+ghost use Rattle.std.specs.Prelude.{◌≡◌, [], ◌∷◌, ◌++◌, OnOk, codes, map};
 ghost use Rattle.std.specs.Fmt.{decimal};
 ghost use Rattle.i3c_lines.specs.Forms.{willing_words};
 ghost use Rattle.i3c_text.specs.Hex.{byte_text, hex_text};
 ghost use Rattle.i3c_lines.specs.Data.{datum_word, length_word};
 ghost use Rattle.i3c_lines.specs.Naming.{letters};
-ghost use Rattle.i3c_lines.specs.Printing.{behind, byte_words, command_text, device_words, frame_words, identity_words, spaced, verdicts_words, written_words};
+ghost use Rattle.i3c_lines.specs.Printing.{behind, but_words, byte_words, command_text, device_words, frame_words, identity_words, spaced, verdicts_words, written_words};
 
 use crate::command::Command;
 use crate::data::{length_word, told_word};
@@ -36,10 +36,12 @@ impl Command {
             Command::End => text.push(b"end"),
             Command::Daa => text.push(b"daa"),
             Command::Policy(policy) => push_policy(text, policy),
+            Command::PolicyBut { kinds, but } => push_policy_but(text, kinds, but.as_slice()),
             Command::Cut { name, bit } => push_cut(text, name, *bit),
             Command::Show => text.push(b"show"),
             Command::ShowAll => text.push(b"show all"),
             Command::ShowFrom(first) => push_counted(text, b"show", *first),
+            Command::Forget(last) => push_counted(text, b"forget", *last),
             Command::Symbols => text.push(b"symbols"),
             Command::Frames(count) => push_counted(text, b"frames", u64::from(*count)),
         }
@@ -234,6 +236,26 @@ fn push_policy(text: &mut Text, policy: &Fixed) -> Result<(), AllocError>
         text,
         verdicts_words(policy.join, policy.role, policy.interrupt).as_bytes(),
     )
+}
+
+/// Appends the line of a policy with the devices that it excepts.
+fn push_policy_but(text: &mut Text, kinds: &Fixed, but: &[Name]) -> Result<(), AllocError>
+    ensures { OnOk result (text.new ≡ text.old ++ spaced (codes "policy" ∷ but_words kinds.now but.now)) }
+{
+    push_policy(text, kinds)?;
+    push_word(text, b"but")?;
+    push_names(text, but)
+}
+
+/// Appends names, each behind a space.
+fn push_names(text: &mut Text, names: &[Name]) -> Result<(), AllocError>
+    ensures { OnOk result (text.new ≡ text.old ++ behind (map letters names.now)) }
+{
+    let Some((name, rest)) = names.split_first() else {
+        return Ok(());
+    };
+    push_word(text, name.as_bytes())?;
+    push_names(text, rest)
 }
 
 /// The words of a policy, with spaces between.

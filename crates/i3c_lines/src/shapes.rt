@@ -4,7 +4,7 @@ use std::str;
 use strsim::osa_distance;
 
 /// A command's first word, the fields that must follow it, and one that may follow these. A kind may be followed by
-/// others.
+/// others, and by `but` with names.
 pub(crate) struct Shape {
     word: &'static str,
     pub(crate) needed: &'static [Field],
@@ -12,7 +12,7 @@ pub(crate) struct Shape {
 }
 
 /// The commands, in the order of docs/FORMATS.md.
-static SHAPES: [Shape; 37] = [
+static SHAPES: [Shape; 38] = [
     Shape {
         word: "legacy",
         needed: &[Field::Name, Field::Addr, Field::Lvr],
@@ -187,6 +187,11 @@ static SHAPES: [Shape; 37] = [
         word: "show",
         needed: &[],
         further: Some(Field::Shown),
+    },
+    Shape {
+        word: "forget",
+        needed: &[Field::Place],
+        further: None,
     },
     Shape {
         word: "symbols",

@@ -7,7 +7,7 @@ use Rattle.i3c_lines.specs.declared.names.Name.{Name}
 use Rattle.i3c_lines.specs.declared.names.Names.{Names}
 use Rattle.i3c_lines.specs.Forms.{IsCommand, IsSkipped}
 use Rattle.i3c_lines.specs.Naming.{is_same, place_named}
-use Rattle.i3c_lines.specs.Namings.{name_given, name_meant}
+use Rattle.i3c_lines.specs.Namings.{name_given, names_meant}
 use Rattle.i3c_scenario.specs.declared.faults.ScriptFault.{ScriptFault}
 use Rattle.i3c_scenario.specs.declared.script.Tally.{Tally}
 use Rattle.i3c_scenario.specs.Expecting.{IsBad, IsTaken}
@@ -25,10 +25,10 @@ IsStart names = (name : Name) → place_named names name ≡ None
 abbrev pub IsToldLine : ℕ → List ℕ → Type 0
 IsToldLine number told = (reason : List ℕ) × (told ≡ decimal number ++ (codes ": " ++ (reason ++ 10 ∷ [])))
 
--- a line is told if it means a device by a name that isn't known
-abbrev pub NameTold : Names → ℕ → Option Name → List ℕ → Type 0
-NameTold names number None told = told ≡ []
-NameTold names number (Some name) told = MatchOption (place_named names name) (IsToldLine number told) (λ _. told ≡ [])
+-- a line is told if one of the names by which it means devices isn't known
+abbrev pub NameTold : Names → ℕ → List Name → List ℕ → Type 0
+NameTold names number [] told = told ≡ []
+NameTold names number (name ∷ rest) told = MatchOption (place_named names name) (IsToldLine number told) (λ _. NameTold names number rest told)
 
 -- a name is known from now on, if a line gives one
 abbrev pub Gives : Names → Names → Option Name → Type 0
@@ -40,7 +40,7 @@ abbrev pub LineChecked : Names → ℕ → List ℕ → List ℕ → Names → T
 LineChecked old number line told new = (IsBad line × IsToldLine number told × (new ≡ old))
     ⊎ (IsSkipped line × (told ≡ []) × (new ≡ old))
     ⊎ (IsTaken line × (told ≡ []) × (new ≡ old))
-    ⊎ ((command : Command) × IsCommand line command × NameTold old number (name_meant command) told × Gives old new (name_given command))
+    ⊎ ((command : Command) × IsCommand line command × NameTold old number (names_meant command) told × Gives old new (name_given command))
 
 -- a line that was checked: its bytes without the line feed, and what was told of it
 pub record LineCheck : Type 0 where

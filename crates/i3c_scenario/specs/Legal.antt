@@ -3,7 +3,7 @@ use Rattle.std.specs.Prelude.{◌≡◌, ℕ, List, [], ◌∷◌, ◌++◌, Opt
 use Rattle.std.proofs.Common.{inl, inr}
 use Rattle.i3c_lines.specs.declared.refusals.Refusal.{Refusal}
 use Rattle.i3c_script.specs.declared.stage.Stage.{Stage}
-use Rattle.i3c_script.specs.Leading.{AreLegal}
+use Rattle.i3c_script.specs.Leading.{AreLegalBehind}
 use Rattle.i3c_script.specs.Making.{Made, command_made}
 use Rattle.i3c_script.specs.Obeying.{IsBegun, ScriptState}
 use Rattle.i3c_script.specs.Ran.{Ran}
@@ -33,10 +33,10 @@ abbrev pub script_made : (old : Standing) (lines : List LineRun) (new : Standing
 script_made old [] new same = []
 script_made old (run ∷ rest) new (mid, is, lead) = counted_made (counted old) run.line run.said run.refused mid is.does ++ script_made mid rest new lead
 
--- Wherever lines of commands alone lead from a script's start to a bus, their steps are a legal run to the state of that bus.
+-- Wherever lines of commands alone lead from a script's start to a bus, their steps are a legal run to that bus with its whole log.
 abbrev pub CommandsAreLegalRuns : Type 0
-CommandsAreLegalRuns = (old : ScriptState) (lines : List LineRun) (new : ScriptState) (ran : Ran) → IsBegun old → (lead : Lead old lines new) → new.stage ≡ Stage.Running ran → AreLegal (lines_made old lines new lead) ran.state
+CommandsAreLegalRuns = (old : ScriptState) (lines : List LineRun) (new : ScriptState) (ran : Ran) → IsBegun old → (lead : Lead old lines new) → new.stage ≡ Stage.Running ran → AreLegalBehind (lines_made old lines new lead) ran
 
--- Wherever lines of a script lead from its start to a bus, their steps are a legal run to the state of that bus.
+-- Wherever lines of a script lead from its start to a bus, their steps are a legal run to that bus with its whole log.
 abbrev pub LinesAreLegalRuns : Type 0
-LinesAreLegalRuns = (old : Standing) (lines : List LineRun) (new : Standing) (ran : Ran) → HasBegun old → (lead : LinesLead old lines new) → new.script.stage ≡ Stage.Running ran → AreLegal (script_made old lines new lead) ran.state
+LinesAreLegalRuns = (old : Standing) (lines : List LineRun) (new : Standing) (ran : Ran) → HasBegun old → (lead : LinesLead old lines new) → new.script.stage ≡ Stage.Running ran → AreLegalBehind (script_made old lines new lead) ran

@@ -15,7 +15,8 @@ use std::alloc::{AllocError, Global};
 use std::io::{Read, Write};
 
 /// Checks a script without running it: tells each line that has no form and is no mark that a run takes, with its number, and
-/// why; and each line that means a device by a name that no line before it gives. It counts the lines that are told.
+/// why; and each line that means a device by a name that no line before it gives, with the first such name. It counts the lines that are
+/// told.
 ///
 /// Where a script is too large, or the reader fails, each line whose line feed came before that is checked.
 pub fn check_script<R: Read, W: Write>(
@@ -134,7 +135,7 @@ impl Check {
     {
         match read_line(line) {
             Ok(Some(command)) => {
-                self.check_meant(number, command.name_meant())?;
+                self.check_meant(number, command.names_meant())?;
                 self.give(command.name_given())
             }
             Ok(None) => Ok(()),
@@ -143,18 +144,18 @@ impl Check {
         }
     }
 
-    /// Tells a name that no line before gives, if a line means a device by one.
-    fn check_meant(&mut self, number: u64, meant: Option<Name>) -> Result<(), AllocError>
+    /// Tells the first of these names that no line before gives, if there is one.
+    fn check_meant(&mut self, number: u64, meant: &[Name]) -> Result<(), AllocError>
         requires { self.old.text ≡ [] }
-        ensures told { OnOk result (NameTold self.old.names number meant self.new.text × (min self.new.told u64.MAX ≡ min (self.old.told + tells self.new.text) u64.MAX)) }
+        ensures told { OnOk result (NameTold self.old.names number meant.now self.new.text × (min self.new.told u64.MAX ≡ min (self.old.told + tells self.new.text) u64.MAX)) }
         ensures names { self.new.names ≡ self.old.names }
     {
-        let Some(name) = meant else {
+        let Some((name, rest)) = meant.split_first() else {
             return Ok(());
         };
-        match self.names.place_of(&name) {
-            Some(_) => Ok(()),
-            None => self.tell_name(number, &name),
+        match self.names.place_of(name) {
+            Some(_) => self.check_meant(number, rest),
+            None => self.tell_name(number, name),
         }
     }
 

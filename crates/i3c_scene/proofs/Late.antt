@@ -28,6 +28,7 @@ use Rattle.i3c_script.specs.Assigning.{cuts_left}
 use Rattle.i3c_script.specs.Obeying.{cut_at}
 use Rattle.i3c_facts.specs.declared.holding.Before.{Before}
 use Rattle.i3c_scene.specs.declared.line.Line.{Line}
+use Rattle.i3c_script.specs.declared.settings.Settings.{Settings}
 use Rattle.i3c_scene.specs.declared.named.Named.{Named}
 use Rattle.i3c_scene.specs.Going.{Assigns, Does, Moves, cut_in, sends}
 use Rattle.i3c_scene.specs.Latest.{last_bit, last_of_frame, latest}
@@ -96,9 +97,9 @@ frame_late old (Frame.SetLength way most None) policy cuts reply new s bit more 
 frame_late old (Frame.SetLength way most (Some a)) policy cuts reply new s bit more late later h = step_late old (Event.SetLength way most (Some a) policy cuts) reply new s bit more late later h
 
 -- a step of events that take the same cuts
-moves_as : (st : State) (policy : Fixed) (c d : CutList) (names : List Named) (e f : Event) (reply : Reply) (new : Seen) → cuts_left e c ≡ cuts_left f d → (Step st e reply new.state → Step st f reply new.state)
-    → Moves (seen st policy c names) e reply new → Moves (seen st policy d names) f reply new
-moves_as st policy c d names e f reply new left step h = record { step = step h.step; fed = h.fed; policy = h.policy; cuts = h.cuts ∙ left; names = h.names }
+moves_as : (st : State) (settings : Settings) (c d : CutList) (names : List Named) (e f : Event) (reply : Reply) (new : Seen) → cuts_left e c ≡ cuts_left f d → (Step st e reply new.state → Step st f reply new.state)
+    → Moves (seen st settings c names) e reply new → Moves (seen st settings d names) f reply new
+moves_as st settings c d names e f reply new left step h = record { step = step h.step; fed = h.fed; settings = h.settings; cuts = h.cuts ∙ left; names = h.names }
 
 frame_left : (frame : Frame) (policy : Fixed) (c d : CutList) → cuts_left (event_of frame policy c) c ≡ cuts_left (event_of frame policy d) d
 frame_left Frame.Serve policy c d = refl
@@ -114,9 +115,9 @@ frame_left (Frame.Get what a) policy c d = refl
 frame_left (Frame.SetLength way most to) policy c d = refl
 
 -- and in a whole session, of whose frames the opening alone takes the cuts
-assigns_late : (st : State) (policy : Fixed) (cuts : CutList) (names : List Named) (refused : Option Refusal) (new : Seen) (s bit more : ℕ) → 18 < bit → 18 < more
-    → Assigns (seen st policy (cut_at cuts s bit) names) refused new → Assigns (seen st policy (cut_at cuts s more) names) refused new
-assigns_late st policy cuts names refused new s bit more late later (is, inl (complete, session, told)) = (
+assigns_late : (st : State) (settings : Settings) (cuts : CutList) (names : List Named) (refused : Option Refusal) (new : Seen) (s bit more : ℕ) → 18 < bit → 18 < more
+    → Assigns (seen st settings (cut_at cuts s bit) names) refused new → Assigns (seen st settings (cut_at cuts s more) names) refused new
+assigns_late st settings cuts names refused new s bit more late later (is, inl (complete, session, told)) = (
   is,
   inl (
     complete,
@@ -132,45 +133,51 @@ assigns_late st policy cuts names refused new s bit more late later (is, inl (co
     told,
   ),
 )
-assigns_late st policy cuts names refused new s bit more late later (is, inr (why, step, told)) =
+assigns_late st settings cuts names refused new s bit more late later (is, inr (why, step, told)) =
     (is, inr (why, step_late st (Event.OpenDaa cuts) (Reply.Refused why) new.state s bit more late later step, told))
 
 -- a command that sends a frame does the same with two late cuts of a slot
 does_late : (old : Seen) (command : Command) (refused : Option Refusal) (new : Seen) (s bit more : ℕ) → sends command ≡ true → last_bit old.state command < bit → last_bit old.state command < more
     → Does (cut_in old (Some s) (suc bit)) command refused new → Does (cut_in old (Some s) (suc more)) command refused new
-does_late old (Command.Frame frame) refused new s bit more e late later (reply, moves, told) = (
-  reply,
-  moves_as old.state old.policy (cut_at old.cuts s bit) (cut_at old.cuts s more) old.names (event_of frame old.policy (cut_at old.cuts s bit)) (event_of frame old.policy (cut_at old.cuts s more)) reply new
-      (frame_left frame old.policy (cut_at old.cuts s bit) (cut_at old.cuts s more)) (frame_late old.state frame old.policy old.cuts reply new.state s bit more late later) moves,
-  told,
+does_late old (Command.Frame frame) refused new s bit more e late later (fixed, accepts, (reply, moves, told)) = (
+  fixed,
+  accepts,
+  (
+    reply,
+    moves_as old.state old.settings (cut_at old.cuts s bit) (cut_at old.cuts s more) old.names (event_of frame fixed (cut_at old.cuts s bit)) (event_of frame fixed (cut_at old.cuts s more)) reply new
+        (frame_left frame fixed (cut_at old.cuts s bit) (cut_at old.cuts s more)) (frame_late old.state frame fixed old.cuts reply new.state s bit more late later) moves,
+    told,
+  ),
 )
 does_late old (Command.HandOver to) refused new s bit more e late later (reply, moves, told) = (
   reply,
-  moves_as old.state old.policy (cut_at old.cuts s bit) (cut_at old.cuts s more) old.names (Event.HandOver to (cut_at old.cuts s bit)) (Event.HandOver to (cut_at old.cuts s more)) reply new refl
+  moves_as old.state old.settings (cut_at old.cuts s bit) (cut_at old.cuts s more) old.names (Event.HandOver to (cut_at old.cuts s bit)) (Event.HandOver to (cut_at old.cuts s more)) reply new refl
       (step_late old.state (Event.HandOver to old.cuts) reply new.state s bit more late later) moves,
   told,
 )
 does_late old Command.Open refused new s bit more e late later (reply, moves, told) = (
   reply,
-  moves_as old.state old.policy (cut_at old.cuts s bit) (cut_at old.cuts s more) old.names (Event.OpenDaa (cut_at old.cuts s bit)) (Event.OpenDaa (cut_at old.cuts s more)) reply new refl
+  moves_as old.state old.settings (cut_at old.cuts s bit) (cut_at old.cuts s more) old.names (Event.OpenDaa (cut_at old.cuts s bit)) (Event.OpenDaa (cut_at old.cuts s more)) reply new refl
       (step_late old.state (Event.OpenDaa old.cuts) reply new.state s bit more late later) moves,
   told,
 )
 does_late old Command.Round refused new s bit more e late later (reply, moves, told) = (
   reply,
-  moves_as old.state old.policy (cut_at old.cuts s bit) (cut_at old.cuts s more) old.names (Event.Round (cut_at old.cuts s bit)) (Event.Round (cut_at old.cuts s more)) reply new refl
+  moves_as old.state old.settings (cut_at old.cuts s bit) (cut_at old.cuts s more) old.names (Event.Round (cut_at old.cuts s bit)) (Event.Round (cut_at old.cuts s more)) reply new refl
       (step_late old.state (Event.Round old.cuts) reply new.state s bit more late later) moves,
   told,
 )
-does_late old Command.Daa refused new s bit more e late later assigns = assigns_late old.state old.policy old.cuts old.names refused new s bit more late later assigns
+does_late old Command.Daa refused new s bit more e late later assigns = assigns_late old.state old.settings old.cuts old.names refused new s bit more late later assigns
 does_late old (Command.Attach name setup) refused new s bit more e late later does = absurd cc
 does_late old (Command.DropOff name) refused new s bit more e late later does = absurd cc
 does_late old (Command.Raise name byte) refused new s bit more e late later does = absurd cc
 does_late old (Command.AskJoin name) refused new s bit more e late later does = absurd cc
 does_late old (Command.AskRole name) refused new s bit more e late later does = absurd cc
 does_late old Command.End refused new s bit more e late later does = absurd cc
-does_late old (Command.Policy policy) refused new s bit more e late later does = absurd cc
+does_late old (Command.Policy kinds) refused new s bit more e late later does = absurd cc
 does_late old (Command.Cut name at) refused new s bit more e late later does = absurd cc
+does_late old (Command.PolicyBut kinds but) refused new s bit more e late later does = absurd cc
+does_late old (Command.Forget last) refused new s bit more e late later does = absurd cc
 does_late old Command.Show refused new s bit more e late later does = absurd cc
 does_late old Command.ShowAll refused new s bit more e late later does = absurd cc
 does_late old (Command.ShowFrom first) refused new s bit more e late later does = absurd cc

@@ -19,6 +19,7 @@ use Rattle.i3c_bus.specs.declared.assigning.Assignment.{Assignment}
 use Rattle.i3c_bus.specs.Assigning.{AreRounds, IsAssignment}
 use Rattle.i3c_lines.specs.declared.refusals.Refusal.{Refusal}
 use Rattle.i3c_script.specs.declared.faults.Stop.{Stop}
+use Rattle.i3c_script.specs.declared.settings.Settings.{Settings}
 use Rattle.i3c_script.specs.Assigning.{cuts_left}
 use Rattle.i3c_script.specs.Stops.{Ends, reply_refusal}
 use Rattle.i3c_script.proofs.Moving.{all_taken}
@@ -33,11 +34,11 @@ ends_by P Q (Err (Stop.Refused why)) follows h = follows (Some why) h
 ends_by P Q (Err Stop.Memory) follows h = tt
 
 -- a step of the bus, for whose reply there was memory
-pub answered : (old new : State) (policy : Fixed) (cuts : CutList) (names : List Named) (event : Event) (reply : Reply) (result : Result (Unit {0}) Stop) → Step old event reply new → cuts_left event cuts ≡ cuts
-    → Ends (λ refused. (reply ≢ Reply.OutOfMemory) × (refused ≡ reply_refusal reply)) result → Ends (λ refused. Answers (seen old policy cuts names) event refused (seen new policy cuts names)) result
-answered old new policy cuts names event reply result step kept ends =
-    ends_by (λ refused. (reply ≢ Reply.OutOfMemory) × (refused ≡ reply_refusal reply)) (λ refused. Answers (seen old policy cuts names) event refused (seen new policy cuts names)) result
-    (λ refused told. (reply, record { step = step; fed = told.0; policy = refl; cuts = sym kept; names = refl }, told.1)) ends
+pub answered : (old new : State) (settings : Settings) (cuts : CutList) (names : List Named) (event : Event) (reply : Reply) (result : Result (Unit {0}) Stop) → Step old event reply new → cuts_left event cuts ≡ cuts
+    → Ends (λ refused. (reply ≢ Reply.OutOfMemory) × (refused ≡ reply_refusal reply)) result → Ends (λ refused. Answers (seen old settings cuts names) event refused (seen new settings cuts names)) result
+answered old new settings cuts names event reply result step kept ends =
+    ends_by (λ refused. (reply ≢ Reply.OutOfMemory) × (refused ≡ reply_refusal reply)) (λ refused. Answers (seen old settings cuts names) event refused (seen new settings cuts names)) result
+    (λ refused told. (reply, record { step = step; fed = told.0; settings = refl; cuts = sym kept; names = refl }, told.1)) ends
 
 -- a frame takes the cuts that wait, so they may be taken before
 pub framed : (old taken new : Seen) (event : Event) (refused : Option Refusal) → is_some (cuts_in event) ≡ true → taken ≡ record old { cuts = no_cuts } → Answers taken event refused new → Answers old event refused new
@@ -46,7 +47,7 @@ framed old taken new event refused frame same (reply, moves, told) = (
   record {
     step = subst (λ (s : Seen). Step s.state event reply new.state) same moves.step;
     fed = moves.fed;
-    policy = moves.policy ∙ ap (λ (s : Seen). s.policy) same;
+    settings = moves.settings ∙ ap (λ (s : Seen). s.settings) same;
     cuts = moves.cuts ∙ (all_taken event taken.cuts frame ∙ sym (all_taken event old.cuts frame));
     names = moves.names ∙ ap (λ (s : Seen). s.names) same;
   },
@@ -73,13 +74,13 @@ carries_cuts (Frame.Get what a) policy cuts = refl
 carries_cuts (Frame.SetLength way most to) policy cuts = refl
 
 -- a whole session, or a refusal of its opening, as a line
-pub session_told : {T C : Type 0} (note : T → Symbol → T → Type 0) (before after : T) (st new : State) (policy : Fixed) (cuts : CutList) (names : List Named) (assigned : Result Assignment ActiveStays) (result : Result (Unit {0}) Stop)
+pub session_told : {T C : Type 0} (note : T → Symbol → T → Type 0) (before after : T) (st new : State) (settings : Settings) (cuts : CutList) (names : List Named) (assigned : Result Assignment ActiveStays) (result : Result (Unit {0}) Stop)
     → (C → Step st (Event.OpenDaa cuts) (Reply.Refused BusRefusal.ActiveStays) new)
     → IfOk assigned (λ all. Tells note before after (IsAssignment st cuts all.served all.given.items all.complete new)) → IfErr assigned (λ why. C)
     → Ends (λ refused. MatchResult assigned (λ all. refused ≡ session_refusal all.complete) (λ why. refused ≡ Some (Refusal.Bus BusRefusal.ActiveStays))) result
-    → Ends (λ refused. Assigns (seen st policy cuts names) refused (seen new policy no_cuts names)) result
-session_told note before after st new policy cuts names (Ok all) result stepped (wire, notes, a) refused told =
-    ends_by (λ refused. refused ≡ session_refusal all.complete) (λ refused. Assigns (seen st policy cuts names) refused (seen new policy no_cuts names)) result
+    → Ends (λ refused. Assigns (seen st settings cuts names) refused (seen new settings no_cuts names)) result
+session_told note before after st new settings cuts names (Ok all) result stepped (wire, notes, a) refused told =
+    ends_by (λ refused. refused ≡ session_refusal all.complete) (λ refused. Assigns (seen st settings cuts names) refused (seen new settings no_cuts names)) result
     (λ refused is. (
       refl,
       inl (
@@ -96,14 +97,14 @@ session_told note before after st new policy cuts names (Ok all) result stepped 
         is,
       ),
     )) told
-session_told note before after st new policy cuts names (Err why) result stepped assigned refused told =
-    ends_by (λ refused. refused ≡ Some (Refusal.Bus BusRefusal.ActiveStays)) (λ refused. Assigns (seen st policy cuts names) refused (seen new policy no_cuts names)) result
+session_told note before after st new settings cuts names (Err why) result stepped assigned refused told =
+    ends_by (λ refused. refused ≡ Some (Refusal.Bus BusRefusal.ActiveStays)) (λ refused. Assigns (seen st settings cuts names) refused (seen new settings no_cuts names)) result
     (λ told is. (refl, inr (BusRefusal.ActiveStays, stepped refused, is))) told
 
 -- the cuts that wait are taken before a session
-pub taken_before : (old : Seen) (st new : State) (policy : Fixed) (taken left : CutList) (names : List Named) (result : Result (Unit {0}) Stop) → taken ≡ old.cuts → seen st policy left names ≡ record old { cuts = no_cuts }
-    → Ends (λ refused. Assigns (seen st policy taken names) refused (seen new policy no_cuts names)) result → Ends (λ refused. Assigns old refused (seen new policy left names)) result
-taken_before old st new policy taken left names result same rest h =
-    subst (λ (s : Seen). Ends (λ refused. Assigns s refused (seen new policy left names)) result) (ap (λ (s : Seen). record s { cuts = old.cuts }) rest)
-    (subst (λ cuts. Ends (λ refused. Assigns (seen st policy old.cuts names) refused (seen new policy cuts names)) result) (sym (ap (λ (s : Seen). s.cuts) rest))
-    (subst (λ cuts. Ends (λ refused. Assigns (seen st policy cuts names) refused (seen new policy no_cuts names)) result) same h))
+pub taken_before : (old : Seen) (st new : State) (settings : Settings) (taken left : CutList) (names : List Named) (result : Result (Unit {0}) Stop) → taken ≡ old.cuts → seen st settings left names ≡ record old { cuts = no_cuts }
+    → Ends (λ refused. Assigns (seen st settings taken names) refused (seen new settings no_cuts names)) result → Ends (λ refused. Assigns old refused (seen new settings left names)) result
+taken_before old st new settings taken left names result same rest h =
+    subst (λ (s : Seen). Ends (λ refused. Assigns s refused (seen new settings left names)) result) (ap (λ (s : Seen). record s { cuts = old.cuts }) rest)
+    (subst (λ cuts. Ends (λ refused. Assigns (seen st settings old.cuts names) refused (seen new settings cuts names)) result) (sym (ap (λ (s : Seen). s.cuts) rest))
+    (subst (λ cuts. Ends (λ refused. Assigns (seen st settings cuts names) refused (seen new settings no_cuts names)) result) same h))

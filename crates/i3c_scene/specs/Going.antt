@@ -3,9 +3,11 @@ use Rattle.std.specs.Prelude.{◌≡◌, ◌≢◌, ◌⊎◌, ℕ, zero, suc, �
 use Rattle.i3c_base.specs.declared.answers.RoundReply.{RoundReply}
 use Rattle.i3c_base.specs.declared.device.Setup.{Setup}
 use Rattle.i3c_base.specs.declared.identity.Identity.{Identity}
+use Rattle.i3c_base.specs.declared.requests.Fixed.{Fixed}
 use Rattle.i3c_base.specs.declared.requests.Served.{Served}
 use Rattle.i3c_base.specs.Cutting.{no_cuts}
 use Rattle.i3c_base.specs.State.{State, device_at}
+use Rattle.i3c_step.specs.declared.events.Command.{Command as Frame}
 use Rattle.i3c_step.specs.declared.events.Event.{Event}
 use Rattle.i3c_step.specs.declared.replies.Refusal.{Refusal as BusRefusal}
 use Rattle.i3c_step.specs.declared.replies.Reply.{Reply}
@@ -17,7 +19,9 @@ use Rattle.i3c_lines.specs.declared.names.Name.{Name}
 use Rattle.i3c_lines.specs.declared.names.Place.{Place}
 use Rattle.i3c_lines.specs.declared.refusals.Refusal.{Refusal}
 use Rattle.i3c_lines.specs.Naming.{slot_named}
-use Rattle.i3c_script.specs.Asking.{IsEntrance, present_in}
+use Rattle.i3c_script.specs.declared.settings.Settings.{Settings}
+use Rattle.i3c_script.specs.Accepting.{Accepts, IsSet, counting, relieved}
+use Rattle.i3c_script.specs.Asking.{IsEntrance, present_in, slots_named}
 use Rattle.i3c_script.specs.Assigning.{cuts_left}
 use Rattle.i3c_script.specs.Obeying.{cut_at}
 use Rattle.i3c_script.specs.Stops.{reply_refusal}
@@ -27,7 +31,7 @@ use Rattle.i3c_scene.specs.Scenes.{Seen, given, place_in, seen}
 pub record Moves (old : Seen) (event : Event) (reply : Reply) (new : Seen) : Type 0 where
   pub step : Step old.state event reply new.state
   pub fed : reply ≢ Reply.OutOfMemory
-  pub policy : new.policy ≡ old.policy
+  pub settings : new.settings ≡ old.settings
   pub cuts : new.cuts ≡ cuts_left event old.cuts
   pub names : new.names ≡ old.names
 
@@ -50,7 +54,7 @@ AnswersIn old name event refused new = MatchResult (slot_named (place_in old.nam
 -- a device enters the lowest free slot, and has its name from then on
 abbrev pub Enters : Seen → Name → Setup → Option Refusal → Seen → Type 0
 Enters old name setup refused new = (entrance : Result ℕ Refusal) × IsEntrance old.state (place_in old.names name) entrance
-    × MatchResult entrance (λ slot. Answers (seen old.state old.policy old.cuts (given name slot old.names)) (Event.Attach slot setup) refused new) (λ why. IsRefused old why refused new)
+    × MatchResult entrance (λ slot. Answers (seen old.state old.settings old.cuts (given name slot old.names)) (Event.Attach slot setup) refused new) (λ why. IsRefused old why refused new)
 
 -- rounds with these answers, in order, in which nobody is cut
 abbrev pub Rounds : State → List RoundReply → State → Type 0
@@ -73,13 +77,29 @@ session_refusal complete = if complete then None else Some (Refusal.Bus BusRefus
 
 -- `daa`: a whole session, or its opening is refused. It takes the cuts that wait
 abbrev pub Assigns : Seen → Option Refusal → Seen → Type 0
-Assigns old refused new = (new ≡ seen new.state old.policy no_cuts old.names)
+Assigns old refused new = (new ≡ seen new.state old.settings no_cuts old.names)
     × (((complete : Bool) × IsSession old complete new.state × (refused ≡ session_refusal complete))
     ⊎ ((why : BusRefusal) × Step old.state (Event.OpenDaa old.cuts) (Reply.Refused why) new.state × (refused ≡ Some (Refusal.Bus why))))
 
+-- a frame under the role, which accepts what the lines have set
+abbrev pub Sends : Seen → Frame → Option Refusal → Seen → Type 0
+Sends old frame refused new = (fixed : Fixed) × Accepts old.settings old.state fixed × Answers old (event_of frame fixed old.cuts) refused new
+
+-- the slot of the present device that a name means
+abbrev pub slot_present : Seen → Name → Result ℕ Refusal
+slot_present old name = present_in old.state (slot_named (place_in old.names name))
+
+-- a line sets what frames accept
+abbrev pub Sets : Seen → Fixed → List ℕ → Option Refusal → Seen → Type 0
+Sets old kinds slots refused new = (settings : Settings) × IsSet kinds slots old.settings settings × Becomes (seen old.state settings old.cuts old.names) refused new
+
+-- the same, where devices are excepted
+abbrev pub Excepts : Seen → Fixed → List Name → Option Refusal → Seen → Type 0
+Excepts old kinds but refused new = MatchResult (slots_named (slot_present old) but) (λ slots. Sets old kinds slots refused new) (λ why. IsRefused old why refused new)
+
 -- what a command does, and why it is refused, if it is
 abbrev pub Does : Seen → Command → Option Refusal → Seen → Type 0
-Does old (Command.Frame frame) refused new = Answers old (event_of frame old.policy old.cuts) refused new
+Does old (Command.Frame frame) refused new = Sends old frame refused new
 Does old (Command.Attach name setup) refused new = Enters old name setup refused new
 Does old (Command.DropOff name) refused new = AnswersIn old name Event.DropOff refused new
 Does old (Command.Raise name byte) refused new = AnswersIn old name (λ slot. Event.Raise slot byte) refused new
@@ -90,12 +110,14 @@ Does old Command.Open refused new = Answers old (Event.OpenDaa old.cuts) refused
 Does old Command.Round refused new = Answers old (Event.Round old.cuts) refused new
 Does old Command.End refused new = Answers old Event.EndDaa refused new
 Does old Command.Daa refused new = Assigns old refused new
-Does old (Command.Policy policy) refused new = Becomes (seen old.state policy old.cuts old.names) refused new
-Does old (Command.Cut name bit) refused new = MatchResult (present_in old.state (slot_named (place_in old.names name)))
-    (λ slot. Becomes (seen old.state old.policy (cut_at old.cuts slot bit) old.names) refused new) (λ why. IsRefused old why refused new)
+Does old (Command.Policy kinds) refused new = Sets old kinds [] refused new
+Does old (Command.PolicyBut kinds but) refused new = Excepts old kinds but.items refused new
+Does old (Command.Cut name bit) refused new = MatchResult (slot_present old name)
+    (λ slot. Becomes (seen old.state old.settings (cut_at old.cuts slot bit) old.names) refused new) (λ why. IsRefused old why refused new)
 Does old Command.Show refused new = Becomes old refused new
 Does old Command.ShowAll refused new = Becomes old refused new
 Does old (Command.ShowFrom first) refused new = Becomes old refused new
+Does old (Command.Forget last) refused new = Becomes (seen (relieved last old.settings old.state) (counting last old.settings old.state) old.cuts old.names) refused new
 Does old Command.Symbols refused new = Becomes old refused new
 Does old (Command.Frames count) refused new = Becomes old refused new
 Does old (Command.Legacy name address lvr) refused new = IsRefused old Refusal.BusMade refused new
@@ -120,4 +142,4 @@ risked st _ = None
 abbrev pub cut_in : Seen → Option ℕ → ℕ → Seen
 cut_in old None way = old
 cut_in old (Some s) zero = old
-cut_in old (Some s) (suc bit) = seen old.state old.policy (cut_at old.cuts s bit) old.names
+cut_in old (Some s) (suc bit) = seen old.state old.settings (cut_at old.cuts s bit) old.names

@@ -1,23 +1,23 @@
 -- A bus between two lines, and what its names stand for.
 use Rattle.std.specs.Prelude.{ℕ, ◌==◌, Bool, false, List, [], ◌∷◌, map, Option, None, Some, if◌then◌else◌}
-use Rattle.i3c_base.specs.declared.requests.Fixed.{Fixed}
 use Rattle.i3c_base.specs.Cutting.{CutList}
 use Rattle.i3c_base.specs.State.{State}
 use Rattle.i3c_lines.specs.declared.names.Name.{Name}
 use Rattle.i3c_lines.specs.declared.names.Place.{Place}
 use Rattle.i3c_lines.specs.Naming.{is_same}
+use Rattle.i3c_script.specs.declared.settings.Settings.{Settings}
 use Rattle.i3c_scene.specs.declared.named.Named.{Named}
 
--- the bus's state, which requests its frames accept, the cuts that wait for the next frame, and the names that were given
+-- the bus's state, what its lines have set, the cuts that wait for the next frame, and the names that were given
 pub record Seen : Type 0 where
   pub state : State
-  pub policy : Fixed
+  pub settings : Settings
   pub cuts : CutList
   pub names : List Named
 
 -- the same of these
-abbrev pub seen : State → Fixed → CutList → List Named → Seen
-seen state policy cuts names = record { state = state; policy = policy; cuts = cuts; names = names }
+abbrev pub seen : State → Settings → CutList → List Named → Seen
+seen state settings cuts names = record { state = state; settings = settings; cuts = cuts; names = names }
 
 -- what a name stands for, if it was given
 abbrev pub place_in : List Named → Name → Option Place

@@ -36,4 +36,4 @@ StandFor known names = (slot_names names ≡ slots_of (replicate SLOTS None) kno
 
 -- what `show` prints, under the names that were given
 abbrev pub IsShown : Seen → List ℕ → Type 0
-IsShown scene text = (names : Names) × StandFor scene.names names × (text ≡ show_text scene.state names)
+IsShown scene text = (names : Names) × StandFor scene.names names × (text ≡ show_text scene.settings.forgotten scene.state names)

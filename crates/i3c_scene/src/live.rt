@@ -1,5 +1,5 @@
 ghost use Rattle.std.specs.Prelude.{◌≡◌, ◌≢◌, Some, None, Err, List, MatchResult};
-ghost use Rattle.i3c_base.specs.declared.requests.Fixed.{Fixed as FixedValue};
+ghost use Rattle.i3c_script.specs.declared.settings.Settings.{Settings as SettingsValue};
 ghost use Rattle.i3c_base.specs.Cutting.{no_cuts};
 ghost use Rattle.i3c_bus.specs.Hands.{HandFits};
 ghost use Rattle.i3c_bus.specs.declared.tokens.Hand.{Hand as HandValue};
@@ -17,14 +17,15 @@ ghost use Rattle.i3c_scene.specs.declared.named.Named.{Named as NamedValue};
 use crate::known::Known;
 use crate::line::{Expectation, Line};
 use crate::scene::Scene;
+use arrayvec::ArrayVec;
 use i3c_base::{Addr7, Cuts, Fixed, Setup, Slot};
 use i3c_bus::{
     ActiveStays, Assignment, Bus, Command as Frame, Event, Hand, Refusal as BusRefusal, Still,
 };
 use i3c_facts::{Before, Naming};
 use i3c_frame::Silent;
-use i3c_lines::{Command, Name, Place, Refusal};
-use i3c_script::{Stop, entrance_at, outcome_of};
+use i3c_lines::{Command, EXCEPTED, Name, Place, Refusal};
+use i3c_script::{Settings, Stop, entrance_at, outcome_of};
 use i3c_step::copy_of;
 use std::alloc::{AllocError, Global};
 use std::marker::Model;
@@ -36,7 +37,7 @@ use std::mem;
 pub struct Live {
     pub(crate) bus: Bus,
     hand: Option<Hand>,
-    pub(crate) policy: Fixed,
+    pub(crate) settings: Settings,
     pub(crate) cuts: Cuts,
     pub(crate) known: Known,
 }
@@ -49,7 +50,7 @@ impl Model for Live {
 
     ghost Value = { Seen };
 
-    ghost view = { λ l. seen l.bus.state l.policy l.cuts l.known };
+    ghost view = { λ l. seen l.bus.state l.settings l.cuts l.known };
 
     ghost invariant = { λ l. (hand : HandValue) × (l.hand ≡ Some hand) × HandFits hand l.bus.state };
 }
@@ -59,11 +60,12 @@ impl Drop for Live {
         let Live {
             bus,
             hand,
-            policy: _,
+            settings,
             cuts,
             known,
         } = self;
         let Some(hand) = hand else { unreachable!() };
+        drop(settings);
         drop(cuts);
         drop(known);
         let _records = bus.retire(hand);
@@ -83,7 +85,7 @@ impl Scene {
             Ok((bus, hand)) => Ok(Live {
                 bus,
                 hand: Some(hand),
-                policy: self.policy,
+                settings: self.settings.copied(),
                 cuts,
                 known,
             }),
@@ -93,7 +95,7 @@ impl Scene {
 }
 
 impl Live {
-    ghost use Rattle.std.specs.Prelude.{◌≡◌, ◌<◌, ◌^◌, IfOk, OnOk};
+    ghost use Rattle.std.specs.Prelude.{◌≡◌, ◌<◌, ◌≤◌, ◌+◌, ◌++◌, ◌^◌, length, None, Ok, Err, IfOk, MatchResult, OnOk};
     ghost use Rattle.i3c_base.specs.Cutting.{no_cuts};
     ghost use Rattle.i3c_step.specs.declared.events.Event.{Event as EventValue};
     ghost use Rattle.i3c_lines.specs.Naming.{slot_named};
@@ -102,7 +104,10 @@ impl Live {
     ghost use Rattle.i3c_facts.specs.declared.holding.Before.{Before as BeforeValue};
     ghost use Rattle.i3c_scene.specs.Scenes.{place_in};
     ghost use Rattle.i3c_scene.specs.Trying.{Runs, all_hold, slot_at_risk};
-    ghost use Rattle.i3c_scene.specs.Going.{Answers, AnswersIn, Assigns, Does, Enters, cut_in, risked};
+    ghost use Rattle.i3c_script.specs.Accepting.{counting, relieved};
+    ghost use Rattle.i3c_script.specs.Asking.{slots_named};
+    ghost use Rattle.i3c_scene.specs.Scenes.{seen};
+    ghost use Rattle.i3c_scene.specs.Going.{Answers, AnswersIn, Assigns, Does, Enters, Excepts, Sends, Sets, cut_in, risked, slot_present};
 
     /// It comes to a scene.
     pub(crate) fn wake_to(&mut self, alloc: Global, scene: &Scene) -> Result<(), AllocError>
@@ -114,7 +119,7 @@ impl Live {
         let Ok(()) = woken else {
             return Err(AllocError);
         };
-        self.policy = scene.policy;
+        self.settings = scene.settings.copied();
         self.cuts = scene.cuts.clone()?;
         self.known.copy_from(&scene.known)?;
         Ok(())
@@ -129,7 +134,7 @@ impl Live {
         };
         Ok(Scene {
             still,
-            policy: self.policy,
+            settings: self.settings.copied(),
             cuts: self.cuts.clone()?,
             known: self.known.copied()?,
         })
@@ -142,7 +147,7 @@ impl Live {
         let Ok(()) = scene.still.copy_from(alloc, &self.bus) else {
             return Err(AllocError);
         };
-        scene.policy = self.policy;
+        scene.settings = self.settings.copied();
         scene.cuts = self.cuts.clone()?;
         scene.known.copy_from(&self.known)?;
         Ok(())
@@ -153,6 +158,13 @@ impl Live {
         ensures { result.now.state ≡ self.now.state }
     {
         &self.bus
+    }
+
+    /// How many records have left the log.
+    pub(crate) fn forgotten(&self) -> usize
+        ensures { result ≡ self.now.settings.forgotten }
+    {
+        self.settings.forgotten
     }
 
     /// The names.
@@ -257,8 +269,13 @@ impl Live {
             Command::Round => self.round(),
             Command::End => self.answer(&Event::EndDaa),
             Command::Daa => self.assign(),
-            Command::Policy(policy) => {
-                self.policy = *policy;
+            Command::Policy(kinds) => {
+                self.set(*kinds, ArrayVec::new());
+                Ok(())
+            }
+            Command::PolicyBut { kinds, but } => self.except(*kinds, but.as_slice()),
+            Command::Forget(last) => {
+                self.forget(*last as usize);
                 Ok(())
             }
             Command::Cut { name, bit } => self.cut(name, *bit),
@@ -275,10 +292,11 @@ impl Live {
 
     /// A line that sends a frame under the role.
     fn send(&mut self, frame: &Frame) -> Result<(), Stop>
-        ensures { Ends (λ refused. Answers self.old (event_of frame.now self.old.policy self.old.cuts) refused self.new) result }
+        ensures { Ends (λ refused. Sends self.old frame.now refused self.new) result }
     {
         let cuts = self.take_cuts();
-        let event = event_of(frame, self.policy, cuts);
+        let accepted = self.settings.accepted(&self.bus);
+        let event = event_of(frame, accepted, cuts);
         self.answer(&event)
     }
 
@@ -325,16 +343,83 @@ impl Live {
     fn cut(&mut self, name: &Name, bit: u16) -> Result<(), Stop>
         ensures { Ends (λ refused. Does self.old (CommandValue.Cut name.now bit) refused self.new) result }
     {
-        match self.slot_meant(name) {
+        match self.slot_present(name) {
             Ok(slot) => {
-                if !self.bus.present(slot) {
-                    return Err(Stop::Refused(Refusal::Bus(BusRefusal::NoDevice)));
-                }
                 self.cuts.add(slot, bit);
                 Ok(())
             }
             Err(why) => Err(Stop::Refused(why)),
         }
+    }
+
+    /// The slot of the present device that a name stands for.
+    fn slot_present(&self, name: &Name) -> Result<Slot, Refusal>
+        ensures { result ≡ slot_present self.now name.now }
+    {
+        let slot = self.slot_meant(name)?;
+        if self.bus.present(slot) {
+            Ok(slot)
+        } else {
+            Err(Refusal::Bus(BusRefusal::NoDevice))
+        }
+    }
+
+    /// Puts the slots of the present devices that names stand for behind these. It answers why the first is refused that has
+    /// none.
+    fn slots_present(
+        &self,
+        named: &[Name],
+        slots: &mut ArrayVec<Slot, EXCEPTED>,
+    ) -> Result<(), Refusal>
+        requires { length slots.old.items + length named.now ≤ EXCEPTED }
+        ensures { MatchResult (slots_named (slot_present self.now) named.now)
+            (λ found. (result ≡ Ok tt) × (slots.new.items ≡ slots.old.items ++ found))
+            (λ why. result ≡ Err why) }
+    {
+        let Some((first, rest)) = named.split_first() else {
+            return Ok(());
+        };
+        match self.slot_present(first) {
+            Ok(slot) => {
+                slots.push(slot);
+                self.slots_present(rest, slots)
+            }
+            Err(why) => Err(why),
+        }
+    }
+
+    /// Sets which kinds of requests the frames accept, and the slots of excepted devices.
+    fn set(&mut self, kinds: Fixed, but: ArrayVec<Slot, EXCEPTED>)
+        ensures { Sets self.old kinds but.items None self.new }
+    {
+        self.settings.kinds = kinds;
+        self.settings.but = but;
+    }
+
+    /// `policy` with names: whatever devices are in their slots by then are excepted.
+    fn except(&mut self, kinds: Fixed, but: &[Name]) -> Result<(), Stop>
+        requires { length but.now ≤ EXCEPTED }
+        ensures { Ends (λ refused. Excepts self.old kinds but.now refused self.new) result }
+    {
+        let mut slots = ArrayVec::new();
+        match self.slots_present(but, &mut slots) {
+            Ok(()) => {
+                self.set(kinds, slots);
+                Ok(())
+            }
+            Err(why) => Err(Stop::Refused(why)),
+        }
+    }
+
+    /// `forget`: the records up to this number leave the log.
+    fn forget(&mut self, last: usize)
+        ensures { self.new ≡ seen (relieved last self.old.settings self.old.state) (counting last self.old.settings self.old.state) self.old.cuts self.old.names }
+    {
+        let count = last
+            .saturating_sub(self.settings.forgotten)
+            .min(self.bus.records().len());
+        self.bus.forget(count);
+        self.settings.forgotten += count;
     }
 
     /// `daa`: a whole session. The cuts that wait are its opening's.
@@ -418,7 +503,7 @@ impl Live {
 /// afterwards.
 fn assign(bus: &mut Bus, hand: Hand, cuts: &Cuts) -> (Hand, Result<(), Stop>)
     requires fits { HandFits hand bus.old.state }
-    ensures assigns { (policy : FixedValue) (names : List NamedValue) → Ends (λ refused. Assigns (seen bus.old.state policy cuts.now names) refused (seen bus.new.state policy no_cuts names)) result.1 }
+    ensures assigns { (settings : SettingsValue) (names : List NamedValue) → Ends (λ refused. Assigns (seen bus.old.state settings cuts.now names) refused (seen bus.new.state settings no_cuts names)) result.1 }
     ensures fits { HandFits result.0 bus.new.state }
 {
     let role = match hand {

@@ -1,23 +1,23 @@
-ghost use Rattle.std.specs.Prelude.{◌≡◌, ◌↔◌, IsTrue};
+ghost use Rattle.std.specs.Prelude.{◌≡◌, IsTrue};
 
 use crate::known::Known;
 use crate::live::Live;
 use crate::named::Named;
-use i3c_base::{Cuts, Fixed, Setup};
+use i3c_base::{Cuts, Setup};
 use i3c_bus::{Bus, Hand, Still};
 use i3c_legacy::Legacies;
-use i3c_lines::ACCEPT_ALL;
+use i3c_script::Settings;
 use std::alloc::{AllocError, Global};
 use std::marker::Model;
 
-/// A bus between two lines: at rest, with which requests its frames accept, the cuts that wait for the next frame, and the
-/// names that were given.
+/// A bus between two lines: at rest, with what its lines have set, the cuts that wait for the next frame, and the names that
+/// were given.
 ///
 /// Clauses see these.
 #[derive(Drop)]
 pub struct Scene {
     pub(crate) still: Box<Still>,
-    pub(crate) policy: Fixed,
+    pub(crate) settings: Settings,
     pub(crate) cuts: Cuts,
     pub(crate) known: Known,
 }
@@ -27,7 +27,7 @@ impl Model for Scene {
 
     ghost Value = { Seen };
 
-    ghost view = { λ s. seen s.still.value s.policy s.cuts s.known };
+    ghost view = { λ s. seen s.still.value s.settings s.cuts s.known };
 }
 
 /// Why a bus isn't begun.
@@ -45,8 +45,7 @@ impl Scene {
     ghost use Rattle.i3c_base.specs.Cutting.{no_cuts};
     ghost use Rattle.i3c_base.specs.Numbers.{is_capable};
     ghost use Rattle.i3c_base.specs.State.{IsStart};
-    ghost use Rattle.i3c_base.specs.declared.requests.Verdict.TheVariants.{Accept};
-    ghost use Rattle.i3c_lines.specs.Policies.{each_kind};
+    ghost use Rattle.i3c_script.specs.Accepting.{at_first};
 
     /// A bus with this main controller in slot 0, whose frames accept each request, and these names.
     ///
@@ -62,7 +61,7 @@ impl Scene {
         ensures capable { IsOk result → is_capable main.identity.bcr ≡ true }
         ensures fault { IfErr result (λ why. (why ≡ BeginFaultValue.NotCapable) ↔ (is_capable main.identity.bcr ≡ false)) }
         ensures start { IfOk result (λ scene. IsStart main legacies scene.state) }
-        ensures policy { IfOk result (λ scene. scene.policy ≡ each_kind Accept) }
+        ensures settings { IfOk result (λ scene. scene.settings ≡ at_first) }
         ensures cuts { IfOk result (λ scene. scene.cuts ≡ no_cuts) }
         ensures names { IfOk result (λ scene. scene.names ≡ names.items) }
     {
@@ -77,7 +76,7 @@ impl Scene {
         };
         Ok(Scene {
             still,
-            policy: ACCEPT_ALL,
+            settings: Settings::new(),
             cuts: Cuts::new(),
             known: Known::new(names),
         })
@@ -95,11 +94,11 @@ impl Scene {
         live.kept(alloc)
     }
 
-    /// Whether a bus that is awake is the same: in the same state, with the same policy, cuts and names.
+    /// Whether a bus that is awake is the same: in the same state, with the same settings, cuts and names.
     pub(crate) fn is_same(&self, live: &Live) -> bool
         ensures { IsTrue result → self.now ≡ live.now }
     {
-        is_same_policy(&self.policy, &live.policy)
+        self.settings.is_same(&live.settings)
             && are_same_cuts(&self.cuts, &live.cuts)
             && self.still.is_of(&live.bus)
             && self.known.is_same(&live.known)
@@ -109,18 +108,11 @@ impl Scene {
     pub(crate) fn is_equal(&self, other: &Scene) -> bool
         ensures { IsTrue result → self.now ≡ other.now }
     {
-        is_same_policy(&self.policy, &other.policy)
+        self.settings.is_same(&other.settings)
             && are_same_cuts(&self.cuts, &other.cuts)
             && self.still.is_same(&other.still)
             && self.known.is_same(&other.known)
     }
-}
-
-/// Whether two policies accept the same requests.
-fn is_same_policy(policy: &Fixed, other: &Fixed) -> bool
-    ensures { IsTrue result ↔ (policy.now ≡ other.now) }
-{
-    *policy == *other
 }
 
 /// Whether the same slots are cut at the same bits.

@@ -23,7 +23,7 @@ impl Scene {
     {
         let names = names_of(alloc, self.known.as_slice())?;
         let live = self.wake(alloc)?;
-        show_bus(live.bus(), &names, text)
+        show_bus(live.bus(), &names, live.forgotten(), text)
     }
 
     /// Runs a line in a way, as it is tried. Where it breaks an expectation, what is there is appended to the text, and the

@@ -4,7 +4,6 @@ use Rattle.std.proofs.lemmas.List.{append-nil}
 use Rattle.std.specs.Option.{is_some}
 use Rattle.i3c_base.specs.declared.answers.RoundReply.{RoundReply}
 use Rattle.i3c_base.specs.declared.range.TheConstants.{SLOTS}
-use Rattle.i3c_base.specs.declared.requests.Fixed.{Fixed}
 use Rattle.i3c_base.specs.declared.requests.Served.{Served}
 use Rattle.i3c_base.specs.Cutting.{CutList, cut_of, no_cuts}
 use Rattle.i3c_base.specs.State.{State}
@@ -18,6 +17,7 @@ use Rattle.i3c_bus.specs.declared.tokens.Hand.{Hand}
 use Rattle.i3c_bus.specs.Hands.{HandFits, is_session}
 use Rattle.i3c_lines.specs.declared.refusals.Refusal.{Refusal}
 use Rattle.i3c_script.specs.declared.faults.Stop.{Stop}
+use Rattle.i3c_script.specs.declared.settings.Settings.{Settings}
 use Rattle.i3c_script.specs.declared.tenures.Tenure.{Tenure}
 use Rattle.i3c_script.specs.Assigning.{Assigns, GoOn, HasRounds, HasSession, Moves, Rounds, goes_on, rounds_text}
 use Rattle.i3c_script.specs.Printed.{request_text, round_text}
@@ -42,15 +42,15 @@ not_refused st new cuts opened uncut step =
     open_round st new cuts st.in_session (cuts_active st cuts) opened (ap (λ list. is_some (cut_of list st.active)) uncut ∙ ap (λ one. is_some one) (none_uncut st.active)) step
 
 -- while a session is open none is opened
-pub stays_open : (hand : Hand) (session : ℕ) (st : State) (policy : Fixed) (cuts : CutList) (symbols : List Symbol) (ended : List Tenure) (text : List ℕ) → hand ≡ Hand.Session session → HandFits hand st
-    → Prints (λ said refused. Assigns (ran_of st policy cuts symbols ended) said refused (ran_of st policy no_cuts symbols ended)) text text (Err (Stop.Refused (Refusal.Bus BusRefusal.SessionOpen)))
-stays_open hand session st policy cuts symbols ended text is fits =
+pub stays_open : (hand : Hand) (session : ℕ) (st : State) (settings : Settings) (cuts : CutList) (symbols : List Symbol) (ended : List Tenure) (text : List ℕ) → hand ≡ Hand.Session session → HandFits hand st
+    → Prints (λ said refused. Assigns (ran_of st settings cuts symbols ended) said refused (ran_of st settings no_cuts symbols ended)) text text (Err (Stop.Refused (Refusal.Bus BusRefusal.SessionOpen)))
+stays_open hand session st settings cuts symbols ended text is fits =
     let opened : st.in_session ≡ true = fits.1 ∙ ap is_session is in
     let refused : Step st (Event.OpenDaa cuts) (Reply.Refused BusRefusal.SessionOpen) st =
     subst (λ b. MatchOption (first_refusal ((b, BusRefusal.SessionOpen) ∷ (cuts_active st cuts, BusRefusal.ActiveStays) ∷ []))
     (IsShort st (Event.OpenDaa cuts) (Reply.Refused BusRefusal.SessionOpen) st ⊎ Acts st (Event.OpenDaa cuts) (Reply.Refused BusRefusal.SessionOpen) st)
     (λ why. (Reply.Refused BusRefusal.SessionOpen ≡ Reply.Refused why) × (st ≡ st))) (sym opened) (refl, refl) in
-    ([], sym (append-nil text), (ran_of st policy no_cuts symbols ended, Reply.Refused BusRefusal.SessionOpen, unsent st st policy cuts symbols ended (Event.OpenDaa cuts) (Reply.Refused BusRefusal.SessionOpen) refl refused refl, (refl, refl, refl)))
+    ([], sym (append-nil text), (ran_of st settings no_cuts symbols ended, Reply.Refused BusRefusal.SessionOpen, unsent st st settings cuts symbols ended (Event.OpenDaa cuts) (Reply.Refused BusRefusal.SessionOpen) refl refused refl, (refl, refl, refl)))
 
 -- so many rounds, each of which goes on, and what they printed
 pub record SoFar (old now : Ran) (before after : List ℕ) (count : ℕ) : Type 0 where
@@ -115,9 +115,9 @@ opened_on old opened new served before text next (Err (Stop.Refused why)) move t
 opened_on old opened new served before text next (Err Stop.Memory) move told h = tt
 
 -- a session uses up the cuts that waited
-pub used_up : (old : Ran) (st new : State) (policy : Fixed) (cuts left : CutList) (symbols later : List Symbol) (ended : List Tenure) (before after : List ℕ) (result : Result (Unit {0}) Stop) → ran_of st policy cuts symbols ended ≡ old
-    → left ≡ no_cuts → Prints (λ said refused. Assigns (ran_of st policy cuts symbols ended) said refused (ran_of new policy no_cuts later ended)) before after result
-    → Prints (λ said refused. Assigns old said refused (ran_of new policy left later ended)) before after result
-used_up old st new policy cuts left symbols later ended before after result is none assigns =
-    subst (λ ran. Prints (λ said refused. Assigns ran said refused (ran_of new policy left later ended)) before after result) is
-    (subst (λ waiting. Prints (λ said refused. Assigns (ran_of st policy cuts symbols ended) said refused (ran_of new policy waiting later ended)) before after result) (sym none) assigns)
+pub used_up : (old : Ran) (st new : State) (settings : Settings) (cuts left : CutList) (symbols later : List Symbol) (ended : List Tenure) (before after : List ℕ) (result : Result (Unit {0}) Stop) → ran_of st settings cuts symbols ended ≡ old
+    → left ≡ no_cuts → Prints (λ said refused. Assigns (ran_of st settings cuts symbols ended) said refused (ran_of new settings no_cuts later ended)) before after result
+    → Prints (λ said refused. Assigns old said refused (ran_of new settings left later ended)) before after result
+used_up old st new settings cuts left symbols later ended before after result is none assigns =
+    subst (λ ran. Prints (λ said refused. Assigns ran said refused (ran_of new settings left later ended)) before after result) is
+    (subst (λ waiting. Prints (λ said refused. Assigns (ran_of st settings cuts symbols ended) said refused (ran_of new settings waiting later ended)) before after result) (sym none) assigns)

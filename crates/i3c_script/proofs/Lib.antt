@@ -6,4 +6,5 @@ pub mod Assigned
 pub mod Starting
 pub mod Reaching
 pub mod Asked
+pub mod Gathering
 pub mod Framed

@@ -19,6 +19,7 @@ use Rattle.i3c_base.specs.declared.refusals.RoleRefusal.{RoleRefusal}
 use Rattle.i3c_step.specs.declared.replies.DropRefusal.{DropRefusal}
 use Rattle.i3c_step.specs.declared.replies.SlotTaken.{SlotTaken}
 use Rattle.i3c_step.specs.Commands.{event_of}
+use Rattle.i3c_log_laws.specs.Behind.{reply_from}
 use Rattle.i3c_step.specs.Replies.{attached_reply, dropped_reply, joins_reply, raised_reply, role_reply}
 use Rattle.i3c_step.specs.Slots.{is_handed}
 use Rattle.i3c_step.specs.Step.{Step, cuts_in}
@@ -29,12 +30,14 @@ use Rattle.i3c_lines.specs.declared.names.Names.{Names}
 use Rattle.i3c_lines.specs.declared.refusals.Refusal.{Refusal}
 use Rattle.i3c_script.specs.declared.faults.Stop.{Stop}
 use Rattle.i3c_script.specs.declared.telling.Subject.{Subject}
+use Rattle.i3c_script.specs.declared.settings.Settings.{Settings}
 use Rattle.i3c_script.specs.declared.tenures.Tenure.{Tenure}
 use Rattle.i3c_script.specs.declared.wires.TheConstants.{SYMBOLS}
 use Rattle.i3c_script.specs.Asking.{slot_meant}
 use Rattle.i3c_script.specs.Printed.{frame_subject, subject_of}
 use Rattle.i3c_script.specs.Assigning.{Moves, cuts_left}
-use Rattle.i3c_script.specs.Obeying.{Answers, AnswersIn, IsRefused}
+use Rattle.i3c_script.specs.Accepting.{Accepts}
+use Rattle.i3c_script.specs.Obeying.{Answers, AnswersIn, IsRefused, Sends}
 use Rattle.i3c_script.specs.Ran.{Ran, ran_of}
 use Rattle.i3c_script.specs.Telling.{IsTold, Prints}
 use Rattle.i3c_script.specs.Tenures.{ended_by}
@@ -66,25 +69,25 @@ kept_by old (symbol ∷ wire) new (mid, noted, rest) =
     ∙ ap (λ l. keep_last SYMBOLS l) (append_assoc old (symbol ∷ []) wire) ∙ sym (keep_twice SYMBOLS old (symbol ∷ wire))
 
 -- a step of the bus, whose wire the symbols were told
-pub moved : (old new : State) (policy : Fixed) (cuts : CutList) (before after : List Symbol) (ended : List Tenure) (event : Event) (reply : Reply) → Step old event reply new → Tells note before after (IsWire old event reply new)
-    → Moves (ran_of old policy cuts before ended) event reply (ran_of new policy (cuts_left event cuts) after (ended_by reply old.active (length new.records) ended))
-moved old new policy cuts before after ended event reply step (wire, notes, is) = record { wire = wire; step = step; sent = is; kept = kept_by before wire after notes; policy = refl; cuts = refl; ended = refl }
+pub moved : (old new : State) (settings : Settings) (cuts : CutList) (before after : List Symbol) (ended : List Tenure) (event : Event) (reply : Reply) → Step old event reply new → Tells note before after (IsWire old event reply new)
+    → Moves (ran_of old settings cuts before ended) event reply (ran_of new settings (cuts_left event cuts) after (ended_by reply old.active (settings.forgotten + length new.records) ended))
+moved old new settings cuts before after ended event reply step (wire, notes, is) = record { wire = wire; step = step; sent = is; kept = kept_by before wire after notes; settings = refl; cuts = refl; ended = refl }
 
 -- where the role isn't handed over, nobody's time ends
 ended_still : (reply : Reply) (slot records : ℕ) (ended : List Tenure) → is_handed reply ≡ false → ended_by reply slot records ended ≡ ended
 ended_still reply slot records ended same = ap (λ b. cond b (ended ++ record { slot = slot; records = records } ∷ []) ended) same
 
 -- a step that sends nothing
-pub unsent : (old new : State) (policy : Fixed) (cuts : CutList) (symbols : List Symbol) (ended : List Tenure) (event : Event) (reply : Reply) → is_handed reply ≡ false → Step old event reply new → IsWire old event reply new []
-    → Moves (ran_of old policy cuts symbols ended) event reply (ran_of new policy (cuts_left event cuts) symbols ended)
-unsent old new policy cuts symbols ended event reply still step is = record {
+pub unsent : (old new : State) (settings : Settings) (cuts : CutList) (symbols : List Symbol) (ended : List Tenure) (event : Event) (reply : Reply) → is_handed reply ≡ false → Step old event reply new → IsWire old event reply new []
+    → Moves (ran_of old settings cuts symbols ended) event reply (ran_of new settings (cuts_left event cuts) symbols ended)
+unsent old new settings cuts symbols ended event reply still step is = record {
   wire = [];
   step = step;
   sent = is;
   kept = keep_still SYMBOLS symbols;
-  policy = refl;
+  settings = refl;
   cuts = refl;
-  ended = sym (ended_still reply old.active (length new.records) ended still);
+  ended = sym (ended_still reply old.active (settings.forgotten + length new.records) ended still);
 }
 
 -- a frame takes all cuts that wait
@@ -93,7 +96,7 @@ all_taken event cuts frame = ap (λ b. cond b no_cuts cuts) frame
 
 -- so its cuts may be taken before
 pub framed : (old new : Ran) (event : Event) (reply : Reply) → is_some (cuts_in event) ≡ true → Moves (record old { cuts = no_cuts }) event reply new → Moves old event reply new
-framed old new event reply frame m = record { wire = m.wire; step = m.step; sent = m.sent; kept = m.kept; policy = m.policy; cuts = m.cuts ∙ all_taken event no_cuts frame ∙ sym (all_taken event old.cuts frame); ended = m.ended }
+framed old new event reply frame m = record { wire = m.wire; step = m.step; sent = m.sent; kept = m.kept; settings = m.settings; cuts = m.cuts ∙ all_taken event no_cuts frame ∙ sym (all_taken event old.cuts frame); ended = m.ended }
 
 -- what is printed is such, where it is something more exact
 pub prints_by : (Is Of : List ℕ → Option Refusal → Type 0) → ((said : List ℕ) (refused : Option Refusal) → Is said refused → Of said refused)
@@ -107,13 +110,13 @@ pub answers_framed : (old mid new : Ran) (names : Names) (event : Event) (before
     → Prints (λ said refused. Answers mid names event said refused new) before after result → Prints (λ said refused. Answers old names event said refused new) before after result
 answers_framed old mid new names event before after result frame same h =
     prints_by (λ said refused. Answers mid names event said refused new) (λ said refused. Answers old names event said refused new)
-    (λ said refused a. (a.0, framed old new event a.0 frame (subst (λ r. Moves r event a.0 new) same a.1), a.2)) before after result h
+    (λ said refused a. (a.0, framed old new event a.0 frame (subst (λ r. Moves r event a.0 new) same a.1), subst (λ (r : Ran). IsTold names (subject_of event) (reply_from r.settings.forgotten a.0) said refused) same a.2)) before after result h
 
 -- a step whose reply is told
 pub answered : (old new : Ran) (names : Names) (event : Event) (reply : Reply) (before after : List ℕ) (result : Result (Unit {0}) Stop) → Moves old event reply new
-    → Prints (IsTold names (subject_of event) reply) before after result → Prints (λ said refused. Answers old names event said refused new) before after result
+    → Prints (IsTold names (subject_of event) (reply_from old.settings.forgotten reply)) before after result → Prints (λ said refused. Answers old names event said refused new) before after result
 answered old new names event reply before after result move told =
-    prints_by (IsTold names (subject_of event) reply) (λ said refused. Answers old names event said refused new) (λ said refused one. (reply, move, one)) before after result told
+    prints_by (IsTold names (subject_of event) (reply_from old.settings.forgotten reply)) (λ said refused. Answers old names event said refused new) (λ said refused one. (reply, move, one)) before after result told
 
 -- a line whose name means this slot
 pub in_slot : (old new : Ran) (names : Names) (name : Name) (event : ℕ → Event) (slot : ℕ) (before after : List ℕ) (result : Result (Unit {0}) Stop) → Ok slot ≡ slot_meant names name
@@ -176,27 +179,33 @@ unhanded old new frame policy cuts reply step = go (is_handed reply) refl
         absurd (false≢true (sym (no_handover frame policy cuts) ∙ ap is_handover is))
 
 -- a frame under the role
-pub sent : (old new : State) (policy : Fixed) (cuts left : CutList) (symbols later : List Symbol) (ended : List Tenure) (names : Names) (frame : Frame) (reply : Reply) (before after : List ℕ) (result : Result (Unit {0}) Stop)
-    → left ≡ no_cuts → Step old (event_of frame policy cuts) reply new → Tells note symbols later (IsWire old (event_of frame policy cuts) reply new) → Prints (IsTold names (frame_subject frame) reply) before after result
-    → Prints (λ said refused. Answers (ran_of old policy cuts symbols ended) names (event_of frame policy cuts) said refused (ran_of new policy left later ended)) before after result
-sent old new policy cuts left symbols later ended names frame reply before after result none step wire told =
-    answered (ran_of old policy cuts symbols ended) (ran_of new policy left later ended) names (event_of frame policy cuts) reply before after result
-    (subst (λ times. Moves (ran_of old policy cuts symbols ended) (event_of frame policy cuts) reply (ran_of new policy left later times)) (ended_still reply old.active (length new.records) ended (unhanded old new frame policy cuts reply step))
-    (subst (λ rest. Moves (ran_of old policy cuts symbols ended) (event_of frame policy cuts) reply (ran_of new policy rest later (ended_by reply old.active (length new.records) ended)))
-    (all_taken (event_of frame policy cuts) cuts (carries_cuts frame policy cuts) ∙ sym none)
-    (moved old new policy cuts symbols later ended (event_of frame policy cuts) reply step wire)))
-    (subst (λ subject. Prints (IsTold names subject reply) before after result) (one_subject frame policy cuts) told)
+pub sent : (old new : State) (settings : Settings) (fixed : Fixed) (cuts left : CutList) (symbols later : List Symbol) (ended : List Tenure) (names : Names) (frame : Frame) (reply : Reply) (before after : List ℕ) (result : Result (Unit {0}) Stop)
+    → Accepts settings old fixed → left ≡ no_cuts → Step old (event_of frame fixed cuts) reply new → Tells note symbols later (IsWire old (event_of frame fixed cuts) reply new)
+    → Prints (IsTold names (frame_subject frame) (reply_from settings.forgotten reply)) before after result
+    → Prints (λ said refused. Sends (ran_of old settings cuts symbols ended) names frame said refused (ran_of new settings left later ended)) before after result
+sent old new settings fixed cuts left symbols later ended names frame reply before after result accepts none step wire told =
+    let event = event_of frame fixed cuts in
+    let from = ran_of old settings cuts symbols ended in
+    let to = ran_of new settings left later ended in
+    prints_by (λ said refused. Answers from names event said refused to) (λ said refused. Sends from names frame said refused to) (λ said refused answers. (fixed, accepts, answers)) before after result
+    (answered from to names event reply before after result
+    (subst (λ times. Moves from event reply (ran_of new settings left later times)) (ended_still reply old.active (settings.forgotten + length new.records) ended (unhanded old new frame fixed cuts reply step))
+    (subst (λ rest. Moves from event reply (ran_of new settings rest later (ended_by reply old.active (settings.forgotten + length new.records) ended)))
+    (all_taken event cuts (carries_cuts frame fixed cuts) ∙ sym none)
+    (moved old new settings cuts symbols later ended event reply step wire)))
+    (subst (λ subject. Prints (IsTold names subject (reply_from settings.forgotten reply)) before after result) (one_subject frame fixed cuts) told))
 
 -- a line that sends nothing and takes no cuts, in the slot that its name means
-pub quietly : (old new : State) (policy : Fixed) (cuts : CutList) (symbols : List Symbol) (ended : List Tenure) (names : Names) (name : Name) (event : ℕ → Event) (slot : ℕ) (reply : Reply) (before after : List ℕ) (result : Result (Unit {0}) Stop)
-    → Ok slot ≡ slot_meant names name → is_some (cuts_in (event slot)) ≡ false → is_handed reply ≡ false → Step old (event slot) reply new → IsWire old (event slot) reply new []
+pub quietly : (old new : State) (settings : Settings) (cuts : CutList) (symbols : List Symbol) (ended : List Tenure) (names : Names) (name : Name) (event : ℕ → Event) (slot : ℕ) (reply : Reply) (before after : List ℕ) (result : Result (Unit {0}) Stop)
+    → Ok slot ≡ slot_meant names name → is_some (cuts_in (event slot)) ≡ false → is_handed reply ≡ false → reply_from settings.forgotten reply ≡ reply → Step old (event slot) reply new → IsWire old (event slot) reply new []
     → Prints (IsTold names (subject_of (event slot)) reply) before after result
-    → Prints (λ said refused. AnswersIn (ran_of old policy cuts symbols ended) names name event said refused (ran_of new policy cuts symbols ended)) before after result
-quietly old new policy cuts symbols ended names name event slot reply before after result is uncut still step wire told =
-    in_slot (ran_of old policy cuts symbols ended) (ran_of new policy cuts symbols ended) names name event slot before after result is
-    (answered (ran_of old policy cuts symbols ended) (ran_of new policy cuts symbols ended) names (event slot) reply before after result
-    (subst (λ left. Moves (ran_of old policy cuts symbols ended) (event slot) reply (ran_of new policy left symbols ended)) (ap (λ b. cond b no_cuts cuts) uncut)
-    (unsent old new policy cuts symbols ended (event slot) reply still step wire)) told)
+    → Prints (λ said refused. AnswersIn (ran_of old settings cuts symbols ended) names name event said refused (ran_of new settings cuts symbols ended)) before after result
+quietly old new settings cuts symbols ended names name event slot reply before after result is uncut still same step wire told =
+    in_slot (ran_of old settings cuts symbols ended) (ran_of new settings cuts symbols ended) names name event slot before after result is
+    (answered (ran_of old settings cuts symbols ended) (ran_of new settings cuts symbols ended) names (event slot) reply before after result
+    (subst (λ left. Moves (ran_of old settings cuts symbols ended) (event slot) reply (ran_of new settings left symbols ended)) (ap (λ b. cond b no_cuts cuts) uncut)
+    (unsent old new settings cuts symbols ended (event slot) reply still step wire))
+    (subst (λ r. Prints (IsTold names (subject_of (event slot)) r) before after result) (sym same) told))
 
 -- what a device does by itself sends nothing
 pub attached_still : (old new : State) (event : Event) (attached : Result (Unit {0}) SlotTaken) → IsWire old event (attached_reply attached) new []
@@ -239,3 +248,24 @@ join_unhanded (Err why) = refl
 pub role_unhanded : (asked : Result (Unit {0}) RoleRefusal) → is_handed (role_reply asked) ≡ false
 role_unhanded (Ok done) = refl
 role_unhanded (Err why) = refl
+
+-- and counts no record
+pub attached_counted : (forgotten : ℕ) (attached : Result (Unit {0}) SlotTaken) → reply_from forgotten (attached_reply attached) ≡ attached_reply attached
+attached_counted forgotten (Ok done) = refl
+attached_counted forgotten (Err why) = refl
+
+pub dropped_counted : (forgotten : ℕ) (dropped : Result (Unit {0}) DropRefusal) → reply_from forgotten (dropped_reply dropped) ≡ dropped_reply dropped
+dropped_counted forgotten (Ok done) = refl
+dropped_counted forgotten (Err why) = refl
+
+pub raised_counted : (forgotten : ℕ) (raised : Result ℕ RaiseRefusal) → reply_from forgotten (raised_reply raised) ≡ raised_reply raised
+raised_counted forgotten (Ok number) = refl
+raised_counted forgotten (Err why) = refl
+
+pub join_counted : (forgotten : ℕ) (asked : Result (Unit {0}) JoinRefusal) → reply_from forgotten (joins_reply asked) ≡ joins_reply asked
+join_counted forgotten (Ok done) = refl
+join_counted forgotten (Err why) = refl
+
+pub role_counted : (forgotten : ℕ) (asked : Result (Unit {0}) RoleRefusal) → reply_from forgotten (role_reply asked) ≡ role_reply asked
+role_counted forgotten (Ok done) = refl
+role_counted forgotten (Err why) = refl

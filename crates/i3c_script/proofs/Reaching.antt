@@ -1,24 +1,31 @@
 -- The steps of a script's commands are a legal run, whatever these commands are.
-use Rattle.std.proofs.Common.{◌≡◌, ◌∙◌, ℕ, List, [], ◌∷◌, ◌++◌, Option, None, Some, MatchOption, Result, Ok, Err, MatchResult, ap, append_assoc, append-nil, refl, subst, sym}
+use Rattle.std.proofs.Common.{◌≡◌, ◌∙◌, ℕ, ◌+◌, List, [], ◌∷◌, ◌++◌, drop, length, take, Option, None, Some, MatchOption, Result, Ok, Err, MatchResult, ap, append_assoc, append-nil, arith, length-append, refl, subst, sym}
+use Rattle.std.proofs.lemmas.List.{length-take-le, take-append-drop}
 use Rattle.i3c_base.specs.declared.answers.RoundReply.{RoundReply}
 use Rattle.i3c_base.specs.declared.device.Setup.{Setup}
 use Rattle.i3c_base.specs.declared.identity.Identity.{Identity}
 use Rattle.i3c_base.specs.declared.identity.Lvr.{Lvr}
+use Rattle.i3c_base.specs.declared.requests.Fixed.{Fixed}
 use Rattle.i3c_base.specs.State.{Board, State}
 use Rattle.i3c_step.specs.declared.events.Event.{Event}
 use Rattle.i3c_step.specs.declared.replies.Reply.{Reply}
 use Rattle.i3c_step.specs.Runs.{IsLegalRun}
+use Rattle.i3c_step.specs.Step.{Step}
 use Rattle.i3c_step.proofs.RunLaws.{legal_more, legal_none}
+use Rattle.i3c_log_laws.specs.Behind.{behind, reply_from}
+use Rattle.i3c_log_laws.proofs.Steps.{steps_go_on_alike}
 use Rattle.i3c_lines.specs.declared.command.Command.{Command}
 use Rattle.i3c_lines.specs.declared.names.Name.{Name}
 use Rattle.i3c_lines.specs.declared.names.Names.{Names}
 use Rattle.i3c_lines.specs.declared.refusals.Refusal.{Refusal}
+use Rattle.i3c_script.specs.declared.settings.Settings.{Settings}
 use Rattle.i3c_script.specs.declared.stage.Stage.{Stage}
-use Rattle.i3c_script.specs.Asking.{slot_meant, slot_of_device}
+use Rattle.i3c_script.specs.Accepting.{counting, leaving, relieved}
+use Rattle.i3c_script.specs.Asking.{slot_meant, slot_of_device, slots_named}
 use Rattle.i3c_script.specs.Assigning.{Assigns, Follows, HasSession, Moves, Rounds}
-use Rattle.i3c_script.specs.Leading.{AreLegal, Lead, Obeyed, made}
+use Rattle.i3c_script.specs.Leading.{AreLegal, AreLegalBehind, Lead, Obeyed, made}
 use Rattle.i3c_script.specs.Making.{Made, assigns_made, command_made, does_made, enters_made, events_of, follows_made, on_bus_made, one, replies_of, rounds_made, session_made, slot_made}
-use Rattle.i3c_script.specs.Obeying.{AddsLegacy, Answers, Declares, Does, IsBegun, IsDone, IsRefused, NamesSlot, ObeysAt, ObeysBefore, ObeysOn, ScriptState, Starts, declare_refusal, legacy_refusal, main_refusal, script}
+use Rattle.i3c_script.specs.Obeying.{AddsLegacy, Answers, Declares, Does, Forgets, IsBegun, IsDone, IsRefused, NamesSlot, ObeysAt, ObeysBefore, ObeysOn, ScriptState, Sets, Starts, declare_refusal, legacy_refusal, main_refusal, script}
 use Rattle.i3c_script.specs.Printed.{declared_text, main_text}
 use Rattle.i3c_script.specs.Ran.{Ran}
 
@@ -31,37 +38,46 @@ replies_both : (a b : List Made) → replies_of (a ++ b) ≡ replies_of a ++ rep
 replies_both [] b = refl
 replies_both (m ∷ a) b = ap (λ replies. m.reply ∷ replies) (replies_both a b)
 
-none_more : (steps : List Made) (st : State) → AreLegal steps st → AreLegal (steps ++ []) st
-none_more steps st r = subst (λ s. AreLegal s st) (sym (append-nil steps)) r
+none_more : (steps : List Made) (ran : Ran) → AreLegalBehind steps ran → AreLegalBehind (steps ++ []) ran
+none_more steps ran r = subst (λ s. AreLegalBehind s ran) (sym (append-nil steps)) r
 
-regroup : (a b c : List Made) (st : State) → AreLegal ((a ++ b) ++ c) st → AreLegal (a ++ (b ++ c)) st
-regroup a b c st r = subst (λ s. AreLegal s st) (append_assoc a b c) r
+regroup : (a b c : List Made) (ran : Ran) → AreLegalBehind ((a ++ b) ++ c) ran → AreLegalBehind (a ++ (b ++ c)) ran
+regroup a b c ran r = subst (λ s. AreLegalBehind s ran) (append_assoc a b c) r
 
--- a step goes on
-moves_on : (steps : List Made) (old new : Ran) (event : Event) (reply : Reply) → AreLegal steps old.state → Moves old event reply new → AreLegal (steps ++ one event reply) new.state
-moves_on steps old new event reply (main, board, run) m = (
+-- a legal run goes on with a step
+step_more : (steps : List Made) (old new : State) (event : Event) (reply : Reply) → AreLegal steps old → Step old event reply new → AreLegal (steps ++ one event reply) new
+step_more steps old new event reply (main, board, run) step = (
   main,
   board,
-  subst (λ events. IsLegalRun main board events (replies_of (steps ++ one event reply)) new.state) (sym (events_both steps (one event reply)))
-      (subst (λ replies. IsLegalRun main board (events_of steps ++ event ∷ []) replies new.state) (sym (replies_both steps (one event reply)))
-      (legal_more main board (events_of steps) (replies_of steps) old.state event reply new.state run m.step)),
+  subst (λ events. IsLegalRun main board events (replies_of (steps ++ one event reply)) new) (sym (events_both steps (one event reply)))
+      (subst (λ replies. IsLegalRun main board (events_of steps ++ event ∷ []) replies new) (sym (replies_both steps (one event reply)))
+      (legal_more main board (events_of steps) (replies_of steps) old event reply new run step)),
 )
 
-stays : (steps : List Made) (old new : Ran) → AreLegal steps old.state → new ≡ old → AreLegal (steps ++ []) new.state
-stays steps old new r same = none_more steps new.state (subst (λ (ran : Ran). AreLegal steps ran.state) (sym same) r)
+-- and so it does where the first records are gone
+moves_on : (steps : List Made) (old new : Ran) (event : Event) (reply : Reply) → AreLegalBehind steps old → Moves old event reply new → AreLegalBehind (steps ++ one event (reply_from old.settings.forgotten reply)) new
+moves_on steps old new event reply (gone, many, legal) m = (
+  gone,
+  many ∙ sym (ap (λ (settings : Settings). settings.forgotten) m.settings),
+  subst (λ count. AreLegal (steps ++ one event (reply_from count reply)) (behind gone new.state)) many
+      (step_more steps (behind gone old.state) (behind gone new.state) event (reply_from (length gone) reply) legal (steps_go_on_alike gone old.state new.state event reply m.step)),
+)
 
-rounds_on : (steps : List Made) (old new : Ran) (answers : List RoundReply) → AreLegal steps old.state → (h : Rounds old answers new) → AreLegal (steps ++ rounds_made old answers new h) new.state
+stays : (steps : List Made) (old new : Ran) → AreLegalBehind steps old → new ≡ old → AreLegalBehind (steps ++ []) new
+stays steps old new r same = none_more steps new (subst (AreLegalBehind steps) (sym same) r)
+
+rounds_on : (steps : List Made) (old new : Ran) (answers : List RoundReply) → AreLegalBehind steps old → (h : Rounds old answers new) → AreLegalBehind (steps ++ rounds_made old answers new h) new
 rounds_on steps old new [] r same = stays steps old new r same
 rounds_on steps old new (answer ∷ earlier) r (mid, before, m) =
-    regroup steps (rounds_made old earlier mid before) (one (Event.Round mid.cuts) (Reply.Round answer)) new.state
+    regroup steps (rounds_made old earlier mid before) (one (Event.Round mid.cuts) (Reply.Round answer)) new
     (moves_on (steps ++ rounds_made old earlier mid before) mid new (Event.Round mid.cuts) (Reply.Round answer) (rounds_on steps old mid earlier r before) m)
 
-session_on : (steps : List Made) (old new : Ran) (said : List ℕ) (refused : Option Refusal) → AreLegal steps old.state → (h : HasSession old said refused new) → AreLegal (steps ++ session_made old said refused new h) new.state
+session_on : (steps : List Made) (old new : Ran) (said : List ℕ) (refused : Option Refusal) → AreLegalBehind steps old → (h : HasSession old said refused new) → AreLegalBehind (steps ++ session_made old said refused new h) new
 session_on steps old new said refused r (last, rounds, ended) =
-    regroup steps (rounds_made old rounds.0 last rounds.1) (one Event.EndDaa Reply.Ended) new.state
+    regroup steps (rounds_made old rounds.0 last rounds.1) (one Event.EndDaa Reply.Ended) new
     (moves_on (steps ++ rounds_made old rounds.0 last rounds.1) last new Event.EndDaa Reply.Ended (rounds_on steps old last rounds.0 r rounds.1) ended)
 
-follows_on : (steps : List Made) (reply : Reply) (opened new : Ran) (said : List ℕ) (refused : Option Refusal) → AreLegal steps opened.state → (h : Follows reply opened said refused new) → AreLegal (steps ++ follows_made reply opened said refused new h) new.state
+follows_on : (steps : List Made) (reply : Reply) (opened new : Ran) (said : List ℕ) (refused : Option Refusal) → AreLegalBehind steps opened → (h : Follows reply opened said refused new) → AreLegalBehind (steps ++ follows_made reply opened said refused new h) new
 follows_on steps (Reply.Opened served) opened new said refused r (text, session, told) = session_on steps opened new text refused r session
 follows_on steps (Reply.Refused why) opened new said refused r h = stays steps opened new r h.0
 follows_on steps Reply.OutOfMemory opened new said refused r h = absurd h
@@ -75,23 +91,43 @@ follows_on steps (Reply.Handed served) opened new said refused r h = absurd h
 follows_on steps (Reply.Round answer) opened new said refused r h = absurd h
 follows_on steps Reply.Ended opened new said refused r h = absurd h
 
-assigns_on : (steps : List Made) (old new : Ran) (said : List ℕ) (refused : Option Refusal) → AreLegal steps old.state → (h : Assigns old said refused new) → AreLegal (steps ++ assigns_made old said refused new h) new.state
+assigns_on : (steps : List Made) (old new : Ran) (said : List ℕ) (refused : Option Refusal) → AreLegalBehind steps old → (h : Assigns old said refused new) → AreLegalBehind (steps ++ assigns_made old said refused new h) new
 assigns_on steps old new said refused r (opened, reply, m, follows) =
-    regroup steps (one (Event.OpenDaa old.cuts) reply) (follows_made reply opened said refused new follows) new.state
-    (follows_on (steps ++ one (Event.OpenDaa old.cuts) reply) reply opened new said refused (moves_on steps old opened (Event.OpenDaa old.cuts) reply r m) follows)
+    regroup steps (one (Event.OpenDaa old.cuts) (reply_from old.settings.forgotten reply)) (follows_made reply opened said refused new follows) new
+    (follows_on (steps ++ one (Event.OpenDaa old.cuts) (reply_from old.settings.forgotten reply)) reply opened new said refused (moves_on steps old opened (Event.OpenDaa old.cuts) reply r m) follows)
 
-in_on : (steps : List Made) (slot : Result ℕ Refusal) (old new : Ran) (names : Names) (event : ℕ → Event) (said : List ℕ) (refused : Option Refusal) → AreLegal steps old.state
-    → (h : MatchResult slot (λ s. Answers old names (event s) said refused new) (λ why. (new ≡ old) × IsRefused why said refused)) → AreLegal (steps ++ slot_made slot old names event said refused new h) new.state
+in_on : (steps : List Made) (slot : Result ℕ Refusal) (old new : Ran) (names : Names) (event : ℕ → Event) (said : List ℕ) (refused : Option Refusal) → AreLegalBehind steps old
+    → (h : MatchResult slot (λ s. Answers old names (event s) said refused new) (λ why. (new ≡ old) × IsRefused why said refused)) → AreLegalBehind (steps ++ slot_made slot old names event said refused new h) new
 in_on steps (Ok slot) old new names event said refused r (reply, m, told) = moves_on steps old new (event slot) reply r m
 in_on steps (Err why) old new names event said refused r h = stays steps old new r h.0
 
-cut_on : (steps : List Made) (slot : Result ℕ Refusal) (old new : Ran) (Cut : ℕ → Ran) (said : List ℕ) (refused : Option Refusal) → ((s : ℕ) → (Cut s).state ≡ old.state) → AreLegal steps old.state
-    → MatchResult slot (λ s. (new ≡ Cut s) × IsDone [] said refused) (λ why. (new ≡ old) × IsRefused why said refused) → AreLegal (steps ++ []) new.state
-cut_on steps (Ok slot) old new Cut said refused same r h = none_more steps new.state (subst (AreLegal steps) (sym (ap (λ (ran : Ran). ran.state) h.0 ∙ same slot)) r)
-cut_on steps (Err why) old new Cut said refused same r h = stays steps old new r h.0
+cut_on : (steps : List Made) (slot : Result ℕ Refusal) (old new : Ran) (Cut : ℕ → Ran) (said : List ℕ) (refused : Option Refusal) → ((s : ℕ) → AreLegalBehind steps (Cut s)) → AreLegalBehind steps old
+    → MatchResult slot (λ s. (new ≡ Cut s) × IsDone [] said refused) (λ why. (new ≡ old) × IsRefused why said refused) → AreLegalBehind (steps ++ []) new
+cut_on steps (Ok slot) old new Cut said refused legal r h = stays steps (Cut slot) new (legal slot) h.0
+cut_on steps (Err why) old new Cut said refused legal r h = stays steps old new r h.0
 
-does_on : (steps : List Made) (old new : Ran) (names : Names) (command : Command) (said : List ℕ) (refused : Option Refusal) → AreLegal steps old.state → (h : Does old names command said refused new) → AreLegal (steps ++ does_made old names command said refused new h) new.state
-does_on steps old new names (Command.Frame frame) said refused r (reply, m, told) = moves_on steps old new _ reply r m
+-- what frames accept changes no log
+sets_on : (steps : List Made) (old new : Ran) (kinds : Fixed) (slots : List ℕ) → AreLegalBehind steps old → Sets old kinds slots new → AreLegalBehind (steps ++ []) new
+sets_on steps old new kinds slots (gone, many, legal) (settings, set, same) = stays steps (record old { settings = settings }) new (gone, many ∙ sym set.forgotten, legal) same
+
+excepts_on : (steps : List Made) (slots : Result (List ℕ) Refusal) (old new : Ran) (kinds : Fixed) (said : List ℕ) (refused : Option Refusal) → AreLegalBehind steps old
+    → MatchResult slots (λ s. Sets old kinds s new × IsDone [] said refused) (λ why. (new ≡ old) × IsRefused why said refused) → AreLegalBehind (steps ++ []) new
+excepts_on steps (Ok slots) old new kinds said refused r h = sets_on steps old new kinds slots r h.0
+excepts_on steps (Err why) old new kinds said refused r h = stays steps old new r h.0
+
+-- records that leave the log are among those that are gone
+forgets_on : (steps : List Made) (old new : Ran) (last : ℕ) → AreLegalBehind steps old → Forgets old last new → AreLegalBehind (steps ++ []) new
+forgets_on steps old new last (gone, many, legal) same =
+    let records = old.state.records in
+    let count = leaving last old.settings old.state in
+    let taken : length (take count records) ≡ count = length-take-le count records (omega arith) in
+    let all : length (gone ++ take count records) ≡ old.settings.forgotten + count = length-append gone (take count records) ∙ (λ i. many i + taken i) in
+    let whole : gone ++ records ≡ (gone ++ take count records) ++ drop count records = sym (append_assoc gone (take count records) (drop count records) ∙ ap (λ l. gone ++ l) (take-append-drop count records)) in
+    stays steps (record old { state = relieved last old.settings old.state; settings = counting last old.settings old.state }) new
+    (gone ++ take count records, all, subst (λ l. AreLegal steps (record old.state { records = l })) whole legal) same
+
+does_on : (steps : List Made) (old new : Ran) (names : Names) (command : Command) (said : List ℕ) (refused : Option Refusal) → AreLegalBehind steps old → (h : Does old names command said refused new) → AreLegalBehind (steps ++ does_made old names command said refused new h) new
+does_on steps old new names (Command.Frame frame) said refused r (fixed, accepts, (reply, m, told)) = moves_on steps old new _ reply r m
 does_on steps old new names (Command.DropOff name) said refused r h = in_on steps (slot_meant names name) old new names Event.DropOff said refused r h
 does_on steps old new names (Command.Raise name byte) said refused r h = in_on steps (slot_meant names name) old new names (λ slot. Event.Raise slot byte) said refused r h
 does_on steps old new names (Command.AskJoin name) said refused r h = in_on steps (slot_meant names name) old new names Event.AskJoin said refused r h
@@ -101,11 +137,13 @@ does_on steps old new names Command.Open said refused r (reply, m, told) = moves
 does_on steps old new names Command.Round said refused r (reply, m, told) = moves_on steps old new _ reply r m
 does_on steps old new names Command.End said refused r (reply, m, told) = moves_on steps old new _ reply r m
 does_on steps old new names Command.Daa said refused r h = assigns_on steps old new said refused r h
-does_on steps old new names (Command.Policy policy) said refused r h = none_more steps new.state (subst (AreLegal steps) (sym (ap (λ (ran : Ran). ran.state) h.0)) r)
-does_on steps old new names (Command.Cut name bit) said refused r h = cut_on steps (slot_of_device old.state names name) old new _ said refused (λ slot. refl) r h
+does_on steps old new names (Command.Policy kinds) said refused r h = sets_on steps old new kinds [] r h.0
+does_on steps old new names (Command.PolicyBut kinds but) said refused r h = excepts_on steps (slots_named (slot_of_device old.state names) but.items) old new kinds said refused r h
+does_on steps old new names (Command.Cut name bit) said refused r h = cut_on steps (slot_of_device old.state names name) old new _ said refused (λ slot. r) r h
 does_on steps old new names Command.Show said refused r h = stays steps old new r h.0
 does_on steps old new names Command.ShowAll said refused r h = stays steps old new r h.0
 does_on steps old new names (Command.ShowFrom first) said refused r h = stays steps old new r h.0
+does_on steps old new names (Command.Forget last) said refused r h = forgets_on steps old new last r h.0
 does_on steps old new names Command.Symbols said refused r h = stays steps old new r h.0
 does_on steps old new names (Command.Frames count) said refused r h = stays steps old new r h.0
 does_on steps old new names (Command.Legacy name address lvr) said refused r h = stays steps old new r h.0
@@ -113,13 +151,13 @@ does_on steps old new names (Command.Declare address identity) said refused r h 
 does_on steps old new names (Command.Main name setup) said refused r h = stays steps old new r h.0
 does_on steps old new names (Command.Attach name setup) said refused r h = absurd h
 
-enters_on : (steps : List Made) (entrance : Result ℕ Refusal) (old new : Ran) (names named : Names) (name : Name) (event : ℕ → Event) (said : List ℕ) (refused : Option Refusal) → AreLegal steps old.state
+enters_on : (steps : List Made) (entrance : Result ℕ Refusal) (old new : Ran) (names named : Names) (name : Name) (event : ℕ → Event) (said : List ℕ) (refused : Option Refusal) → AreLegalBehind steps old
     → (h : MatchResult entrance (λ slot. NamesSlot names named name slot × Answers old named (event slot) said refused new) (λ why. (named ≡ names) × (new ≡ old) × IsRefused why said refused))
-    → AreLegal (steps ++ enters_made entrance old names named name event said refused new h) new.state
+    → AreLegalBehind (steps ++ enters_made entrance old names named name event said refused new h) new
 enters_on steps (Ok slot) old new names named name event said refused r (given, (reply, m, told)) = moves_on steps old new (event slot) reply r m
 enters_on steps (Err why) old new names named name event said refused r h = stays steps old new r h.1
 
-obeys_on : (steps : List Made) (old new : Ran) (names named : Names) (command : Command) (said : List ℕ) (refused : Option Refusal) → AreLegal steps old.state → (h : ObeysOn old names command said refused new named) → AreLegal (steps ++ on_bus_made old names command said refused new named h) new.state
+obeys_on : (steps : List Made) (old new : Ran) (names named : Names) (command : Command) (said : List ℕ) (refused : Option Refusal) → AreLegalBehind steps old → (h : ObeysOn old names command said refused new named) → AreLegalBehind (steps ++ on_bus_made old names command said refused new named h) new
 obeys_on steps old new names named (Command.Attach name setup) said refused r (entrance, is, h) = enters_on steps entrance old new names named name (λ slot. Event.Attach slot setup) said refused r h
 obeys_on steps old new names named (Command.Frame frame) said refused r (same, h) = does_on steps old new names (Command.Frame frame) said refused r h
 obeys_on steps old new names named (Command.DropOff name) said refused r (same, h) = does_on steps old new names (Command.DropOff name) said refused r h
@@ -132,20 +170,22 @@ obeys_on steps old new names named Command.Round said refused r (same, h) = does
 obeys_on steps old new names named Command.End said refused r (same, h) = does_on steps old new names Command.End said refused r h
 obeys_on steps old new names named Command.Daa said refused r (same, h) = does_on steps old new names Command.Daa said refused r h
 obeys_on steps old new names named (Command.Policy policy) said refused r (same, h) = does_on steps old new names (Command.Policy policy) said refused r h
+obeys_on steps old new names named (Command.PolicyBut kinds but) said refused r (same, h) = does_on steps old new names (Command.PolicyBut kinds but) said refused r h
 obeys_on steps old new names named (Command.Cut name bit) said refused r (same, h) = does_on steps old new names (Command.Cut name bit) said refused r h
 obeys_on steps old new names named Command.Show said refused r (same, h) = does_on steps old new names Command.Show said refused r h
 obeys_on steps old new names named Command.ShowAll said refused r (same, h) = does_on steps old new names Command.ShowAll said refused r h
 obeys_on steps old new names named (Command.ShowFrom first) said refused r (same, h) = does_on steps old new names (Command.ShowFrom first) said refused r h
+obeys_on steps old new names named (Command.Forget last) said refused r (same, h) = does_on steps old new names (Command.Forget last) said refused r h
 obeys_on steps old new names named Command.Symbols said refused r (same, h) = does_on steps old new names Command.Symbols said refused r h
 obeys_on steps old new names named (Command.Frames count) said refused r (same, h) = does_on steps old new names (Command.Frames count) said refused r h
 obeys_on steps old new names named (Command.Legacy name address lvr) said refused r (same, h) = does_on steps old new names (Command.Legacy name address lvr) said refused r h
 obeys_on steps old new names named (Command.Declare address identity) said refused r (same, h) = does_on steps old new names (Command.Declare address identity) said refused r h
 obeys_on steps old new names named (Command.Main name setup) said refused r (same, h) = does_on steps old new names (Command.Main name setup) said refused r h
 
--- before the bus there was no step; where the script has a bus, its steps are a legal run to its state
+-- before the bus there was no step; where the script has a bus, its steps are a legal run to it with its whole log
 abbrev pub IsSound : List Made → Stage → Type 0
 IsSound steps (Stage.Before board) = steps ≡ []
-IsSound steps (Stage.Running ran) = AreLegal steps ran.state
+IsSound steps (Stage.Running ran) = AreLegalBehind steps ran
 
 before : (steps : List Made) (board : Board) (stage : Stage) → steps ≡ [] → stage ≡ Stage.Before board → IsSound (steps ++ []) stage
 before steps board stage none is = subst (IsSound (steps ++ [])) (sym is) (append-nil steps ∙ none)
@@ -166,7 +206,7 @@ declares_on steps (Some why) board names address identity text said refused new 
 starts_on : (steps : List Made) (why : Option Refusal) (board : Board) (names : Names) (name : Name) (setup : Setup) (text : State → List ℕ) (said : List ℕ) (refused : Option Refusal) (new : ScriptState) → steps ≡ []
     → MatchOption why ((ran : Ran) × Starts board names name setup ran new × IsDone (text ran.state) said refused) (λ one. (new ≡ script (Stage.Before board) names) × IsRefused one said refused) → IsSound (steps ++ []) new.stage
 starts_on steps None board names name setup text said refused new none (ran, s, told) =
-    subst (IsSound (steps ++ [])) (sym s.stage) (subst (λ made. AreLegal made ran.state) (sym (append-nil steps ∙ none)) (setup, board, legal_none setup board ran.state s.start))
+    subst (IsSound (steps ++ [])) (sym s.stage) (subst (λ made. AreLegalBehind made ran) (sym (append-nil steps ∙ none)) ([], sym (ap (λ (settings : Settings). settings.forgotten) s.settings), (setup, board, legal_none setup board ran.state s.start)))
 starts_on steps (Some why) board names name setup text said refused new none h = same_before steps board names new none h.0
 
 before_on : (steps : List Made) (board : Board) (names : Names) (command : Command) (said : List ℕ) (refused : Option Refusal) (new : ScriptState) → steps ≡ [] → ObeysBefore board names command said refused new → IsSound (steps ++ []) new.stage
@@ -189,6 +229,8 @@ before_on steps board names (Command.Cut name bit) said refused new none h = sam
 before_on steps board names Command.Show said refused new none h = same_before steps board names new none h.0
 before_on steps board names Command.ShowAll said refused new none h = same_before steps board names new none h.0
 before_on steps board names (Command.ShowFrom first) said refused new none h = same_before steps board names new none h.0
+before_on steps board names (Command.PolicyBut kinds but) said refused new none h = same_before steps board names new none h.0
+before_on steps board names (Command.Forget last) said refused new none h = same_before steps board names new none h.0
 before_on steps board names Command.Symbols said refused new none h = same_before steps board names new none h.0
 before_on steps board names (Command.Frames count) said refused new none h = same_before steps board names new none h.0
 
@@ -206,6 +248,6 @@ leads_on steps old (first ∷ rest) new s (mid, obeys, lead) =
     subst (λ all. IsSound all new.stage) (append_assoc steps here (made mid rest new lead))
     (leads_on (steps ++ here) mid rest new (at_on steps old.stage old.names first.command first.said first.refused mid s obeys) lead)
 
-pub reached : (old : ScriptState) (commands : List Obeyed) (new : ScriptState) (ran : Ran) → IsBegun old → (lead : Lead old commands new) → new.stage ≡ Stage.Running ran → AreLegal (made old commands new lead) ran.state
+pub reached : (old : ScriptState) (commands : List Obeyed) (new : ScriptState) (ran : Ran) → IsBegun old → (lead : Lead old commands new) → new.stage ≡ Stage.Running ran → AreLegalBehind (made old commands new lead) ran
 reached old commands new ran begun lead is =
     subst (IsSound (made old commands new lead)) is (leads_on [] old commands new (subst (IsSound []) (sym begun.stage) refl) lead)

@@ -1,5 +1,5 @@
 -- The slots that a line's names stand for, and where a device enters.
-use Rattle.std.specs.Prelude.{ℕ, ◌<◌, Option, Some, None, Result, Ok, Err, if◌then◌else◌, is_some}
+use Rattle.std.specs.Prelude.{ℕ, ◌<◌, List, [], ◌∷◌, Option, Some, None, Result, Ok, Err, if◌then◌else◌, is_some}
 use Rattle.i3c_base.specs.declared.range.TheConstants.{SLOTS}
 use Rattle.i3c_base.specs.State.{State, IsPresent, device_at}
 use Rattle.i3c_step.specs.declared.replies.Refusal.{Refusal as BusRefusal}
@@ -22,6 +22,17 @@ present_in st (Err why) = Err why
 -- the slot of the present device that a name means
 abbrev pub slot_of_device : State → Names → Name → Result ℕ Refusal
 slot_of_device st names name = present_in st (slot_meant names name)
+
+-- a slot and those of other names, unless one is refused
+abbrev pub with_others : Result ℕ Refusal → Result (List ℕ) Refusal → Result (List ℕ) Refusal
+with_others (Ok slot) (Ok slots) = Ok (slot ∷ slots)
+with_others (Ok slot) (Err why) = Err why
+with_others (Err why) others = Err why
+
+-- the slots of names, or why the first is refused that has none
+abbrev pub slots_named : (Name → Result ℕ Refusal) → List Name → Result (List ℕ) Refusal
+slots_named slot [] = Ok []
+slots_named slot (name ∷ rest) = with_others (slot name) (slots_named slot rest)
 
 -- a name at this place belongs to a present device or to a legacy target
 abbrev pub IsTaken : State → Option Place → Type 0

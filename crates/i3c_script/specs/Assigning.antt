@@ -11,7 +11,7 @@ use Rattle.i3c_step.specs.Step.{Step, cuts_in}
 use Rattle.i3c_bus.specs.Wire.{IsWire}
 use Rattle.i3c_lines.specs.declared.refusals.Refusal.{Refusal}
 use Rattle.i3c_script.specs.Printed.{request_text, round_text}
-use Rattle.i3c_script.specs.Ran.{Ran}
+use Rattle.i3c_script.specs.Ran.{Ran, recorded_in}
 use Rattle.i3c_script.specs.Stops.{round_refusal}
 use Rattle.i3c_script.specs.Tenures.{ended_by}
 
@@ -25,9 +25,9 @@ pub record Moves (old : Ran) (event : Event) (reply : Reply) (new : Ran) : Type 
   pub step : Step old.state event reply new.state
   pub sent : IsWire old.state event reply new.state wire
   pub kept : new.wire ≡ keep_last 256 (old.wire ++ wire)
-  pub policy : new.policy ≡ old.policy
+  pub settings : new.settings ≡ old.settings
   pub cuts : new.cuts ≡ cuts_left event old.cuts
-  pub ended : new.ended ≡ ended_by reply old.state.active (length new.state.records) old.ended
+  pub ended : new.ended ≡ ended_by reply old.state.active (recorded_in new) old.ended
 
 -- whether another round follows: one got an address, or didn't acknowledge it
 abbrev pub goes_on : RoundReply → Bool

@@ -1,5 +1,5 @@
 -- What `show all` prints.
-use Rattle.std.specs.Prelude.{ℕ, zero, suc, Bool, true, false, List, [], ◌∷◌, ◌++◌, codes, length, Option, Some, None, slice_index_or}
+use Rattle.std.specs.Prelude.{ℕ, ◌+◌, zero, suc, Bool, true, false, List, [], ◌∷◌, ◌++◌, codes, length, Option, Some, None, slice_index_or}
 use Rattle.i3c_base.specs.declared.identity.Identity.{Identity}
 use Rattle.i3c_base.specs.declared.range.TheConstants.{SLOTS}
 use Rattle.i3c_base.specs.declared.requests.Request.{Request}
@@ -62,6 +62,6 @@ session_text true = codes "session open" ++ 10 ∷ []
 session_text false = codes "session closed" ++ 10 ∷ []
 
 -- `show all`: what `show` prints, then the present devices, the list, the session, and who was active at which records
-abbrev pub show_all_text : State → Names → List Tenure → List ℕ
-show_all_text st names ended =
-    show_text st names ++ (all_details_text st names SLOTS ++ (list_text st.listed ++ (session_text st.in_session ++ tenures_text ended st.active (length st.records))))
+abbrev pub show_all_text : ℕ → State → Names → List Tenure → List ℕ
+show_all_text forgotten st names ended =
+    show_text forgotten st names ++ (all_details_text st names SLOTS ++ (list_text st.listed ++ (session_text st.in_session ++ tenures_text ended st.active (forgotten + length st.records))))

@@ -1,7 +1,9 @@
 -- Where the commands of a script lead.
-use Rattle.std.specs.Prelude.{◌≡◌, ℕ, List, [], ◌∷◌, ◌++◌, Option}
+use Rattle.std.specs.Prelude.{◌≡◌, ℕ, List, [], ◌∷◌, ◌++◌, length, Option}
 use Rattle.i3c_base.specs.declared.device.Setup.{Setup}
+use Rattle.i3c_base.specs.declared.requests.Record.{Record}
 use Rattle.i3c_base.specs.State.{Board, State}
+use Rattle.i3c_log_laws.specs.Behind.{behind}
 use Rattle.i3c_step.specs.Runs.{IsLegalRun}
 use Rattle.i3c_lines.specs.declared.command.Command.{Command}
 use Rattle.i3c_lines.specs.declared.refusals.Refusal.{Refusal}
@@ -30,6 +32,10 @@ made old (one ∷ rest) new (mid, obeys, lead) = command_made old.stage old.name
 abbrev pub AreLegal : List Made → State → Type 0
 AreLegal steps st = (main : Setup) × (board : Board) × IsLegalRun main board (events_of steps) (replies_of steps) st
 
--- Wherever commands lead from a script's start to a bus, their steps are a legal run to the state of that bus.
+-- these steps are a legal run to a bus whose log has the records that left it still, in front of its own
+abbrev pub AreLegalBehind : List Made → Ran → Type 0
+AreLegalBehind steps ran = (gone : List Record) × (length gone ≡ ran.settings.forgotten) × AreLegal steps (behind gone ran.state)
+
+-- Wherever commands lead from a script's start to a bus, their steps are a legal run to that bus with its whole log.
 abbrev pub ScriptsAreLegalRuns : Type 0
-ScriptsAreLegalRuns = (old : ScriptState) (commands : List Obeyed) (new : ScriptState) (ran : Ran) → IsBegun old → (lead : Lead old commands new) → new.stage ≡ Stage.Running ran → AreLegal (made old commands new lead) ran.state
+ScriptsAreLegalRuns = (old : ScriptState) (commands : List Obeyed) (new : ScriptState) (ran : Ran) → IsBegun old → (lead : Lead old commands new) → new.stage ≡ Stage.Running ran → AreLegalBehind (made old commands new lead) ran

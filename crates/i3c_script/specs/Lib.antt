@@ -1,5 +1,6 @@
 pub mod Slots
 pub mod Stops
+pub mod Accepting
 pub mod Ran
 pub mod Framing
 pub mod Asking

@@ -4,6 +4,7 @@ use Rattle.i3c_base.specs.declared.answers.RoundReply.{RoundReply}
 use Rattle.i3c_step.specs.declared.events.Event.{Event}
 use Rattle.i3c_step.specs.declared.replies.Reply.{Reply}
 use Rattle.i3c_step.specs.Commands.{event_of}
+use Rattle.i3c_log_laws.specs.Behind.{reply_from}
 use Rattle.i3c_lines.specs.declared.command.Command.{Command}
 use Rattle.i3c_lines.specs.declared.names.Name.{Name}
 use Rattle.i3c_lines.specs.declared.names.Names.{Names}
@@ -46,11 +47,11 @@ follows_made _ opened said refused new follows = []
 
 -- those of `daa`: its opening, and what follows
 abbrev pub assigns_made : (old : Ran) (said : List ℕ) (refused : Option Refusal) (new : Ran) → Assigns old said refused new → List Made
-assigns_made old said refused new (opened, reply, moved, follows) = one (Event.OpenDaa old.cuts) reply ++ follows_made reply opened said refused new follows
+assigns_made old said refused new (opened, reply, moved, follows) = one (Event.OpenDaa old.cuts) (reply_from old.settings.forgotten reply) ++ follows_made reply opened said refused new follows
 
--- that of an event which a command asks for
+-- that of an event which a command asks for; its reply counts the records that left the log too
 abbrev pub answer_made : (old : Ran) (names : Names) (event : Event) (said : List ℕ) (refused : Option Refusal) (new : Ran) → Answers old names event said refused new → List Made
-answer_made old names event said refused new (reply, moved, told) = one event reply
+answer_made old names event said refused new (reply, moved, told) = one event (reply_from old.settings.forgotten reply)
 
 -- the same of the slot that a name means: none where the name is refused
 abbrev pub slot_made : (slot : Result ℕ Refusal) (old : Ran) (names : Names) (event : ℕ → Event) (said : List ℕ) (refused : Option Refusal) (new : Ran)
@@ -66,7 +67,7 @@ enters_made (Err why) old names named name event said refused new refuses = []
 
 -- those of a command other than `attach` on a bus
 abbrev pub does_made : (old : Ran) (names : Names) (command : Command) (said : List ℕ) (refused : Option Refusal) (new : Ran) → Does old names command said refused new → List Made
-does_made old names (Command.Frame frame) said refused new does = answer_made old names (event_of frame old.policy old.cuts) said refused new does
+does_made old names (Command.Frame frame) said refused new (fixed, accepts, answers) = answer_made old names (event_of frame fixed old.cuts) said refused new answers
 does_made old names (Command.DropOff name) said refused new does = slot_made (slot_meant names name) old names Event.DropOff said refused new does
 does_made old names (Command.Raise name byte) said refused new does = slot_made (slot_meant names name) old names (λ slot. Event.Raise slot byte) said refused new does
 does_made old names (Command.AskJoin name) said refused new does = slot_made (slot_meant names name) old names Event.AskJoin said refused new does
@@ -92,10 +93,12 @@ on_bus_made old names Command.Round said refused new named (same, does) = does_m
 on_bus_made old names Command.End said refused new named (same, does) = does_made old names Command.End said refused new does
 on_bus_made old names Command.Daa said refused new named (same, does) = does_made old names Command.Daa said refused new does
 on_bus_made old names (Command.Policy policy) said refused new named (same, does) = does_made old names (Command.Policy policy) said refused new does
+on_bus_made old names (Command.PolicyBut kinds but) said refused new named (same, does) = does_made old names (Command.PolicyBut kinds but) said refused new does
 on_bus_made old names (Command.Cut name bit) said refused new named (same, does) = does_made old names (Command.Cut name bit) said refused new does
 on_bus_made old names Command.Show said refused new named (same, does) = does_made old names Command.Show said refused new does
 on_bus_made old names Command.ShowAll said refused new named (same, does) = does_made old names Command.ShowAll said refused new does
 on_bus_made old names (Command.ShowFrom first) said refused new named (same, does) = does_made old names (Command.ShowFrom first) said refused new does
+on_bus_made old names (Command.Forget last) said refused new named (same, does) = does_made old names (Command.Forget last) said refused new does
 on_bus_made old names Command.Symbols said refused new named (same, does) = does_made old names Command.Symbols said refused new does
 on_bus_made old names (Command.Frames count) said refused new named (same, does) = does_made old names (Command.Frames count) said refused new does
 on_bus_made old names (Command.Legacy name address lvr) said refused new named (same, does) = does_made old names (Command.Legacy name address lvr) said refused new does

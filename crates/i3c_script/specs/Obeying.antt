@@ -5,26 +5,29 @@ use Rattle.i3c_base.specs.declared.identity.Bcr.{Bcr}
 use Rattle.i3c_base.specs.declared.identity.Identity.{Identity}
 use Rattle.i3c_base.specs.declared.identity.Lvr.{Lvr}
 use Rattle.i3c_base.specs.declared.range.TheConstants.{ADDRESSES, SLOTS}
-use Rattle.i3c_base.specs.declared.requests.Verdict.{Verdict}
+use Rattle.i3c_base.specs.declared.requests.Fixed.{Fixed}
 use Rattle.i3c_base.specs.Cutting.{CutList, cut_of, earlier, no_cuts}
 use Rattle.i3c_base.specs.Numbers.{is_capable}
 use Rattle.i3c_base.specs.State.{Board, IsStart, no_board}
 use Rattle.i3c_frame.specs.declared.symbols.Symbol.{Symbol}
 use Rattle.i3c_legacy.specs.Declaring.{first_declare_fault, first_fault}
+use Rattle.i3c_step.specs.declared.events.Command.{Command as Frame}
 use Rattle.i3c_step.specs.declared.events.Event.{Event}
 use Rattle.i3c_step.specs.declared.replies.Refusal.{Refusal as BusRefusal}
 use Rattle.i3c_step.specs.declared.replies.Reply.{Reply}
 use Rattle.i3c_step.specs.Commands.{event_of}
+use Rattle.i3c_log_laws.specs.Behind.{reply_from}
 use Rattle.i3c_lines.specs.declared.command.Command.{Command}
 use Rattle.i3c_lines.specs.declared.names.Name.{Name}
 use Rattle.i3c_lines.specs.declared.names.Names.{Names}
 use Rattle.i3c_lines.specs.declared.names.Place.{Place}
 use Rattle.i3c_lines.specs.declared.refusals.Refusal.{Refusal}
 use Rattle.i3c_lines.specs.Naming.{GivesAlone, GivesSlot, legacy_names, place_named, slot_names}
-use Rattle.i3c_lines.specs.Policies.{each_kind}
 use Rattle.i3c_script.specs.declared.faults.Stop.{Stop}
+use Rattle.i3c_script.specs.declared.settings.Settings.{Settings}
 use Rattle.i3c_script.specs.declared.stage.Stage.{Stage}
-use Rattle.i3c_script.specs.Asking.{IsEntrance, slot_meant, slot_of_device}
+use Rattle.i3c_script.specs.Accepting.{Accepts, IsSet, at_first, counting, relieved}
+use Rattle.i3c_script.specs.Asking.{IsEntrance, slot_meant, slot_of_device, slots_named}
 use Rattle.i3c_script.specs.Assigning.{Assigns, Moves}
 use Rattle.i3c_script.specs.Details.{show_all_text}
 use Rattle.i3c_script.specs.Printed.{added_text, declared_text, frames_text, main_text, show_behind_text, show_text, subject_of, symbols_text}
@@ -100,7 +103,7 @@ Declares board names address identity new = new ≡ script (Stage.Before (record
 pub record Starts (board : Board) (names : Names) (name : Name) (setup : Setup) (ran : Ran) (new : ScriptState) : Type 0 where
   pub stage : new.stage ≡ Stage.Running ran
   pub start : IsStart setup board ran.state
-  pub policy : ran.policy ≡ each_kind Verdict.Accept
+  pub settings : ran.settings ≡ at_first
   pub cuts : ran.cuts ≡ no_cuts
   pub wire : ran.wire ≡ []
   pub ended : ran.ended ≡ []
@@ -119,9 +122,9 @@ ObeysBefore board names (Command.Main name setup) said refused new = MatchOption
     (λ why. (new ≡ script (Stage.Before board) names) × IsRefused why said refused)
 ObeysBefore board names _ said refused new = (new ≡ script (Stage.Before board) names) × IsRefused Refusal.NoBus said refused
 
--- one step of the bus, whose reply is told
+-- one step of the bus, whose reply is told; it counts the records that left the log too
 abbrev pub Answers : Ran → Names → Event → List ℕ → Option Refusal → Ran → Type 0
-Answers old names event said refused new = (reply : Reply) × Moves old event reply new × IsTold names (subject_of event) reply said refused
+Answers old names event said refused new = (reply : Reply) × Moves old event reply new × IsTold names (subject_of event) (reply_from old.settings.forgotten reply) said refused
 
 -- the same with the event of the slot that a name means
 abbrev pub AnswersIn : Ran → Names → Name → (ℕ → Event) → List ℕ → Option Refusal → Ran → Type 0
@@ -138,9 +141,21 @@ Enters old names name setup said refused new named = (entrance : Result ℕ Refu
 abbrev pub cut_at : CutList → ℕ → ℕ → CutList
 cut_at cuts slot bit = slice_set cuts slot (Some (earlier (cut_of cuts slot) bit))
 
+-- a frame under the role, which accepts what the script's lines have set
+abbrev pub Sends : Ran → Names → Frame → List ℕ → Option Refusal → Ran → Type 0
+Sends old names frame said refused new = (fixed : Fixed) × Accepts old.settings old.state fixed × Answers old names (event_of frame fixed old.cuts) said refused new
+
+-- a line sets what frames accept
+abbrev pub Sets : Ran → Fixed → List ℕ → Ran → Type 0
+Sets old kinds slots new = (settings : Settings) × IsSet kinds slots old.settings settings × (new ≡ record old { settings = settings })
+
+-- the records up to a number leave the log
+abbrev pub Forgets : Ran → ℕ → Ran → Type 0
+Forgets old last new = new ≡ record old { state = relieved last old.settings old.state; settings = counting last old.settings old.state }
+
 -- what a command other than `attach` does with a bus
 abbrev pub Does : Ran → Names → Command → List ℕ → Option Refusal → Ran → Type 0
-Does old names (Command.Frame frame) said refused new = Answers old names (event_of frame old.policy old.cuts) said refused new
+Does old names (Command.Frame frame) said refused new = Sends old names frame said refused new
 Does old names (Command.DropOff name) said refused new = AnswersIn old names name Event.DropOff said refused new
 Does old names (Command.Raise name byte) said refused new = AnswersIn old names name (λ slot. Event.Raise slot byte) said refused new
 Does old names (Command.AskJoin name) said refused new = AnswersIn old names name Event.AskJoin said refused new
@@ -150,13 +165,17 @@ Does old names Command.Open said refused new = Answers old names (Event.OpenDaa 
 Does old names Command.Round said refused new = Answers old names (Event.Round old.cuts) said refused new
 Does old names Command.End said refused new = Answers old names Event.EndDaa said refused new
 Does old names Command.Daa said refused new = Assigns old said refused new
-Does old names (Command.Policy policy) said refused new = (new ≡ record old { policy = policy }) × IsDone [] said refused
+Does old names (Command.Policy kinds) said refused new = Sets old kinds [] new × IsDone [] said refused
+Does old names (Command.PolicyBut kinds but) said refused new = MatchResult (slots_named (slot_of_device old.state names) but.items)
+    (λ slots. Sets old kinds slots new × IsDone [] said refused)
+    (λ why. (new ≡ old) × IsRefused why said refused)
 Does old names (Command.Cut name bit) said refused new = MatchResult (slot_of_device old.state names name)
     (λ slot. (new ≡ record old { cuts = cut_at old.cuts slot bit }) × IsDone [] said refused)
     (λ why. (new ≡ old) × IsRefused why said refused)
-Does old names Command.Show said refused new = (new ≡ old) × IsDone (show_text old.state names) said refused
-Does old names Command.ShowAll said refused new = (new ≡ old) × IsDone (show_all_text old.state names old.ended) said refused
-Does old names (Command.ShowFrom first) said refused new = (new ≡ old) × IsDone (show_behind_text (first - 1) old.state names) said refused
+Does old names Command.Show said refused new = (new ≡ old) × IsDone (show_text old.settings.forgotten old.state names) said refused
+Does old names Command.ShowAll said refused new = (new ≡ old) × IsDone (show_all_text old.settings.forgotten old.state names old.ended) said refused
+Does old names (Command.ShowFrom first) said refused new = (new ≡ old) × IsDone (show_behind_text (first - 1 - old.settings.forgotten) old.settings.forgotten old.state names) said refused
+Does old names (Command.Forget last) said refused new = Forgets old last new × IsDone [] said refused
 Does old names Command.Symbols said refused new = (new ≡ old) × IsDone (symbols_text old.wire) said refused
 Does old names (Command.Frames count) said refused new = (new ≡ old) × IsDone (frames_text count old.wire) said refused
 Does old names (Command.Legacy name address lvr) said refused new = (new ≡ old) × IsRefused Refusal.BusMade said refused

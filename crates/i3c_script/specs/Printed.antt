@@ -1,5 +1,5 @@
 -- What lines print.
-use Rattle.std.specs.Prelude.{◌≡◌, ℕ, zero, suc, if◌then◌else◌, List, [], ◌∷◌, ◌++◌, codes, drop, length, map, Option, Some, None, Result, Ok, Err, slice_index_or}
+use Rattle.std.specs.Prelude.{◌≡◌, ℕ, zero, suc, ◌+◌, if◌then◌else◌, List, [], ◌∷◌, ◌++◌, codes, drop, length, map, Option, Some, None, Result, Ok, Err, slice_index_or}
 use Rattle.std.specs.Fmt.{decimal}
 use Rattle.std.specs.List.{flat_map, join_with_byte}
 use Rattle.circular_buffer.specs.Buffer.{keep_last}
@@ -219,18 +219,23 @@ abbrev pub numbered_text : ℕ → List Record → List ℕ
 numbered_text number [] = []
 numbered_text number (r ∷ rest) = codes "record " ++ (decimal number ++ (record_text r ++ numbered_text (suc number) rest))
 
--- how many interrupts were recorded, and each behind the first so many, the oldest first
-abbrev pub records_text : ℕ → List Record → List ℕ
-records_text passed records = number_text (codes "records ") (length records) ++ numbered_text (suc passed) (drop passed records)
+-- the records behind the first so many, the oldest first, each with its number, where so many have left the log before
+abbrev pub behind_text : ℕ → ℕ → List Record → List ℕ
+behind_text count forgotten records = numbered_text (suc (forgotten + count)) (drop count records)
 
--- the active controller's address, the present devices, the legacy targets, and the records behind the first so many
-abbrev pub show_behind_text : ℕ → State → Names → List ℕ
-show_behind_text passed st names =
-    codes "active " ++ (byte_or_none (address_of (device_at st st.active)) ++ (10 ∷ (devices_text st names SLOTS ++ (legacies_text names ADDRESSES ++ records_text passed st.records))))
+-- how many records are in the log, and each behind the first so many, where so many have left the log before
+abbrev pub records_text : ℕ → ℕ → List Record → List ℕ
+records_text count forgotten records = number_text (codes "records ") (length records) ++ behind_text count forgotten records
 
--- `show`: the same with all records
-abbrev pub show_text : State → Names → List ℕ
-show_text st names = show_behind_text 0 st names
+-- the active controller's address, the present devices, the legacy targets, and the records of the log behind the first so
+-- many, where so many have left it before
+abbrev pub show_behind_text : ℕ → ℕ → State → Names → List ℕ
+show_behind_text count forgotten st names =
+    codes "active " ++ (byte_or_none (address_of (device_at st st.active)) ++ (10 ∷ (devices_text st names SLOTS ++ (legacies_text names ADDRESSES ++ records_text count forgotten st.records))))
+
+-- `show`: the same with all records of the log
+abbrev pub show_text : ℕ → State → Names → List ℕ
+show_text forgotten st names = show_behind_text 0 forgotten st names
 
 -- `symbols`: these, with a space between each two
 abbrev pub symbols_text : List Symbol → List ℕ

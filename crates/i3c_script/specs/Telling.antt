@@ -1,6 +1,7 @@
 -- What a line's reply prints, and the refusal that it is.
-use Rattle.std.specs.Prelude.{◌≡◌, ◌≢◌, ℕ, List, ◌++◌, Option, Result}
+use Rattle.std.specs.Prelude.{◌≡◌, ◌≢◌, ℕ, List, ◌++◌, Option, Result, Ok, Err, ⊤}
 use Rattle.i3c_step.specs.declared.replies.Reply.{Reply}
+use Rattle.i3c_log_laws.specs.Behind.{reply_from}
 use Rattle.i3c_lines.specs.declared.names.Names.{Names}
 use Rattle.i3c_lines.specs.declared.refusals.Refusal.{Refusal}
 use Rattle.i3c_script.specs.declared.faults.Stop.{Stop}
@@ -17,3 +18,9 @@ pub record IsTold (names : Names) (subject : Subject) (reply : Reply) (said : Li
 -- a text is printed behind the old one, and holds this with the refusal; of a line that is short of memory nothing is said
 abbrev pub Prints : (List ℕ → Option Refusal → Type 0) → List ℕ → List ℕ → Result (Unit {0}) Stop → Type 0
 Prints Is old new result = Ends (λ refused. (said : List ℕ) × (new ≡ old ++ said) × Is said refused) result
+
+-- a reply counts so many more records, unless the number is too large
+abbrev pub Counts : ℕ → Reply → Reply → Result (Unit {0}) Stop → Type 0
+Counts forgotten old new (Ok done) = new ≡ reply_from forgotten old
+Counts forgotten old new (Err Stop.Memory) = ⊤
+Counts forgotten old new (Err (Stop.Refused why)) = ⊥

@@ -1,12 +1,13 @@
-ghost use Rattle.std.specs.Prelude.{◌≡◌, ◌<◌, ◌↔◌, IsTrue, MatchOption};
+ghost use Rattle.std.specs.Prelude.{◌≡◌, ◌<◌, ◌≤◌, ◌+◌, ◌++◌, ◌↔◌, length, Ok, Err, IsTrue, MatchOption, MatchResult};
 ghost use Rattle.i3c_base.specs.State.{IsPresent};
-ghost use Rattle.i3c_script.specs.Asking.{IsEntrance, IsTaken, slot_of_device};
+ghost use Rattle.i3c_script.specs.Asking.{IsEntrance, IsTaken, slot_of_device, slots_named};
 ghost use Rattle.i3c_lines.specs.Naming.{place_named};
 ghost use Rattle.i3c_script.specs.Slots.{AllPresentBelow};
 
+use arrayvec::ArrayVec;
 use i3c_base::{SLOTS, Slot};
 use i3c_bus::{Bus, Refusal as BusRefusal};
-use i3c_lines::{Name, Names, Place, Refusal};
+use i3c_lines::{EXCEPTED, Name, Names, Place, Refusal};
 
 /// The slot that a device with this name enters: the lowest free one, if the name isn't taken.
 pub(crate) fn entrance(bus: &Bus, names: &Names, name: &Name) -> Result<Slot, Refusal>
@@ -37,6 +38,30 @@ pub(crate) fn slot_of_device(bus: &Bus, names: &Names, name: &Name) -> Result<Sl
         Ok(slot)
     } else {
         Err(Refusal::Bus(BusRefusal::NoDevice))
+    }
+}
+
+/// Puts the slots of the present devices that names stand for behind these. It answers why the first is refused that has none.
+pub(crate) fn slots_of_devices(
+    bus: &Bus,
+    names: &Names,
+    named: &[Name],
+    slots: &mut ArrayVec<Slot, EXCEPTED>,
+) -> Result<(), Refusal>
+    requires { length slots.old.items + length named.now ≤ EXCEPTED }
+    ensures { MatchResult (slots_named (slot_of_device bus.now.state names.now) named.now)
+        (λ found. (result ≡ Ok tt) × (slots.new.items ≡ slots.old.items ++ found))
+        (λ why. result ≡ Err why) }
+{
+    let Some((first, rest)) = named.split_first() else {
+        return Ok(());
+    };
+    match slot_of_device(bus, names, first) {
+        Ok(slot) => {
+            slots.push(slot);
+            slots_of_devices(bus, names, rest, slots)
+        }
+        Err(why) => Err(why),
     }
 }
 

@@ -1,5 +1,5 @@
 ghost use Rattle.std.specs.Prelude.{◌≡◌, ◌++◌, List, IfOk};
-ghost use Rattle.i3c_base.specs.declared.requests.Fixed.{Fixed as FixedValue};
+ghost use Rattle.i3c_script.specs.declared.settings.Settings.{Settings as SettingsValue};
 ghost use Rattle.i3c_base.specs.Cutting.{no_cuts};
 ghost use Rattle.i3c_bus.specs.Hands.{HandFits};
 ghost use Rattle.i3c_bus.specs.declared.tokens.Hand.{Hand as HandValue};
@@ -30,7 +30,7 @@ pub(crate) fn assign(
     text: &mut Text,
 ) -> (Hand, Result<(), Stop>)
     requires fits { HandFits hand bus.old.state }
-    ensures assigns { (policy : FixedValue) (ended : List TenureValue) → Prints (λ said refused. Assigns (ran_of bus.old.state policy cuts.now wires.old ended) said refused (ran_of bus.new.state policy no_cuts wires.new ended)) text.old text.new result.1 }
+    ensures assigns { (settings : SettingsValue) (ended : List TenureValue) → Prints (λ said refused. Assigns (ran_of bus.old.state settings cuts.now wires.old ended) said refused (ran_of bus.new.state settings no_cuts wires.new ended)) text.old text.new result.1 }
     ensures fits { HandFits result.0 bus.new.state }
 {
     let role = match hand {
@@ -62,7 +62,7 @@ fn finish(
     text: &mut Text,
 ) -> (Hand, Result<(), Stop>)
     requires fits { HandFits (HandValue.Session session) bus.old.state }
-    ensures session { (policy : FixedValue) (ended : List TenureValue) → Prints (λ said refused. HasSession (ran_of bus.old.state policy no_cuts wires.old ended) said refused (ran_of bus.new.state policy no_cuts wires.new ended)) text.old text.new result.1 }
+    ensures session { (settings : SettingsValue) (ended : List TenureValue) → Prints (λ said refused. HasSession (ran_of bus.old.state settings no_cuts wires.old ended) said refused (ran_of bus.new.state settings no_cuts wires.new ended)) text.old text.new result.1 }
     ensures fits { HandFits result.0 bus.new.state }
 {
     let outcome = run_rounds(&session, bus, wires, text);
@@ -79,7 +79,7 @@ fn run_rounds(
     text: &mut Text,
 ) -> Result<(), Stop>
     requires fits { HandFits (HandValue.Session session.now) bus.old.state }
-    ensures rounds { (policy : FixedValue) (ended : List TenureValue) → Prints (λ said refused. HasRounds (ran_of bus.old.state policy no_cuts wires.old ended) said refused (ran_of bus.new.state policy no_cuts wires.new ended)) text.old text.new result }
+    ensures rounds { (settings : SettingsValue) (ended : List TenureValue) → Prints (λ said refused. HasRounds (ran_of bus.old.state settings no_cuts wires.old ended) said refused (ran_of bus.new.state settings no_cuts wires.new ended)) text.old text.new result }
     ensures fits { HandFits (HandValue.Session session.now) bus.new.state }
 {
     let cuts = Cuts::new();
@@ -105,7 +105,7 @@ fn run_round(
 ) -> Result<RoundReply, AllocError>
     requires fits { HandFits (HandValue.Session session.now) bus.old.state }
     requires uncut { cuts.now ≡ no_cuts }
-    ensures moved { IfOk result (λ answer. (policy : FixedValue) (ended : List TenureValue) → Moves (ran_of bus.old.state policy no_cuts wires.old ended) (EventValue.Round no_cuts) (ReplyValue.Round answer) (ran_of bus.new.state policy no_cuts wires.new ended)) }
+    ensures moved { IfOk result (λ answer. (settings : SettingsValue) (ended : List TenureValue) → Moves (ran_of bus.old.state settings no_cuts wires.old ended) (EventValue.Round no_cuts) (ReplyValue.Round answer) (ran_of bus.new.state settings no_cuts wires.new ended)) }
     ensures told { IfOk result (λ answer. text.new ≡ text.old ++ round_text answer) }
     ensures fits { HandFits (HandValue.Session session.now) bus.new.state }
 {

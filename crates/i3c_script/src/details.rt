@@ -1,10 +1,12 @@
-ghost use Rattle.std.specs.Prelude.{◌≡◌, ◌++◌, None, Some, OnOk, slice_index_or};
+ghost use Rattle.std.specs.Prelude.{◌≡◌, ◌+◌, ◌++◌, length, None, Some, OnOk, slice_index_or};
 ghost use Rattle.i3c_base.specs.declared.range.TheConstants.{SLOTS};
 ghost use Rattle.i3c_base.specs.State.{IsPresent, device_at};
 ghost use Rattle.i3c_lines.specs.Naming.{slot_names};
 ghost use Rattle.i3c_text.specs.Hex.{byte_text};
+ghost use Rattle.i3c_script.specs.Tenures.{tenures_text};
 ghost use Rattle.i3c_script.specs.Details.{all_details_text, described_text, details_text, kinds_words, list_text, registers_text, session_text, show_all_text, wish_word};
 
+use crate::settings::Settings;
 use crate::show::show_bus;
 use crate::tenures::{Tenure, show_tenures};
 use i3c_base::{Identity, SLOTS, Slot};
@@ -18,16 +20,30 @@ use std::alloc::AllocError;
 pub(crate) fn show_all(
     bus: &Bus,
     names: &Names,
+    settings: &Settings,
     ended: &[Tenure],
     text: &mut Text,
 ) -> Result<(), AllocError>
-    ensures { OnOk result (text.new ≡ text.old ++ show_all_text bus.now.state names.now ended.now) }
+    ensures { OnOk result (text.new ≡ text.old ++ show_all_text settings.now.forgotten bus.now.state names.now ended.now) }
 {
-    show_bus(bus, names, text)?;
+    show_bus(bus, names, settings.forgotten, text)?;
     show_details(bus, names, text)?;
     text.push(list_line(bus.listed()).as_bytes())?;
     text.push(session_line(bus.in_session()).as_bytes())?;
-    show_tenures(ended, bus.active(), bus.records().len(), text)
+    show_times(bus, settings, ended, text)
+}
+
+/// Prints who was active when interrupts were recorded.
+fn show_times(
+    bus: &Bus,
+    settings: &Settings,
+    ended: &[Tenure],
+    text: &mut Text,
+) -> Result<(), AllocError>
+    ensures { OnOk result (text.new ≡ text.old ++ tenures_text ended.now bus.now.state.active (settings.now.forgotten + length bus.now.state.records)) }
+{
+    let recorded = settings.recorded(bus.records())?;
+    show_tenures(ended, bus.active(), recorded, text)
 }
 
 /// Prints what each present device is, by slot.

@@ -2,35 +2,38 @@ ghost use Rattle.std.specs.Prelude.{◌≡◌, Some, None};
 ghost use Rattle.i3c_base.specs.Cutting.{no_cuts};
 ghost use Rattle.i3c_bus.specs.declared.tokens.Hand.{Hand as HandValue};
 
-use crate::asking::{entrance, slot_of_device};
+use crate::asking::{entrance, slot_of_device, slots_of_devices};
 use crate::assigning;
 use crate::details::show_all;
 use crate::faults::Stop;
+use crate::settings::Settings;
 use crate::show::{show_bus, show_bus_behind};
 use crate::telling::{
-    frame_subject, subject_of, tell, tell_attached, tell_dropped, tell_join, tell_raised, tell_role,
+    count_from, frame_subject, subject_of, tell, tell_attached, tell_dropped, tell_join,
+    tell_raised, tell_role,
 };
 use crate::tenures::{Tenure, end_tenure};
 use crate::wires::Wires;
-use i3c_base::{Addr7, Cuts, Fixed, Setup};
+use arrayvec::ArrayVec;
+use i3c_base::{Addr7, Cuts, Fixed, Setup, Slot};
 use i3c_bus::{Bus, Command as Frame, Event, Hand, Reply};
 use i3c_frame::Symbol;
 use i3c_legacy::Legacies;
-use i3c_lines::{ACCEPT_ALL, Command, Name, Names, Refusal};
+use i3c_lines::{Command, EXCEPTED, Name, Names, Refusal};
 use i3c_text::Text;
 use std::alloc::{AllocError, Global};
 use std::marker::Model;
 use std::mem;
 
-/// A bus, its role or session, the last symbols of its wire, which requests its frames accept, the cuts that wait for the
-/// next frame, and who was active before.
+/// A bus, its role or session, the last symbols of its wire, what its lines have set, the cuts that wait for the next frame,
+/// and who was active before.
 ///
 /// Its role stands in an `Option`, so that an event can take it from a stage that is lent, and give one back.
 pub struct Running {
     bus: Bus,
     hand: Option<Hand>,
     wires: Wires,
-    policy: Fixed,
+    settings: Settings,
     cuts: Cuts,
     // the times of controllers that ended
     ended: Vec<Tenure>,
@@ -44,27 +47,25 @@ impl Model for Running {
 
     ghost Value = { Ran };
 
-    ghost view = { λ r. ran_of r.bus.state r.policy r.cuts r.wires r.ended.items };
+    ghost view = { λ r. ran_of r.bus.state r.settings r.cuts r.wires r.ended.items };
 
     ghost invariant = { λ r. (hand : HandValue) × (r.hand ≡ Some hand) × HandFits hand r.bus.state };
 }
 
 impl Running {
-    ghost use Rattle.std.specs.Prelude.{◌≡◌, ◌-◌, [], true, Ok, Err, IfOk, MatchResult, OnOk};
+    ghost use Rattle.std.specs.Prelude.{◌≡◌, ◌≤◌, ◌-◌, [], length, true, Ok, Err, IfOk, MatchResult, OnOk};
     ghost use Rattle.i3c_base.specs.Numbers.{is_capable};
     ghost use Rattle.i3c_base.specs.Cutting.{no_cuts};
     ghost use Rattle.i3c_base.specs.State.{IsStart};
-    ghost use Rattle.i3c_base.specs.declared.requests.Verdict.TheVariants.{Accept};
-    ghost use Rattle.i3c_step.specs.Commands.{event_of};
+    ghost use Rattle.i3c_script.specs.Accepting.{at_first};
     ghost use Rattle.i3c_step.specs.declared.events.Event.{Event as EventValue};
-    ghost use Rattle.i3c_script.specs.Asking.{slot_of_device};
+    ghost use Rattle.i3c_script.specs.Asking.{slot_of_device, slots_named};
     ghost use Rattle.i3c_script.specs.Assigning.{Assigns, Moves, cuts_left};
-    ghost use Rattle.i3c_script.specs.Obeying.{Answers, AnswersIn, Enters, IsDone, ObeysOn, cut_at};
+    ghost use Rattle.i3c_script.specs.Obeying.{Answers, AnswersIn, Enters, Forgets, IsDone, ObeysOn, Sends, Sets, cut_at};
     ghost use Rattle.i3c_script.specs.Details.{show_all_text};
     ghost use Rattle.i3c_script.specs.Printed.{frames_text, show_behind_text, show_text, symbols_text};
     ghost use Rattle.i3c_script.specs.Ran.{IsEnd};
     ghost use Rattle.i3c_script.specs.Telling.{Prints};
-    ghost use Rattle.i3c_lines.specs.Policies.{each_kind};
 
     /// A bus with this main controller, whose frames accept each request.
     #[inline(always)]
@@ -72,7 +73,7 @@ impl Running {
         requires capable { is_capable main.identity.bcr ≡ true }
         requires unused { wires ≡ [] }
         ensures start { IsStart main legacies result.state }
-        ensures policy { result.policy ≡ each_kind Accept }
+        ensures settings { result.settings ≡ at_first }
         ensures cuts { result.cuts ≡ no_cuts }
         ensures wire { result.wire ≡ [] }
         ensures ended { result.ended ≡ [] }
@@ -84,7 +85,7 @@ impl Running {
             bus,
             hand: Some(Hand::Role(role)),
             wires,
-            policy: ACCEPT_ALL,
+            settings: Settings::new(),
             cuts: Cuts::new(),
             ended: Vec::new(alloc),
         }
@@ -95,6 +96,13 @@ impl Running {
         ensures { result.now.state ≡ self.now.state }
     {
         &self.bus
+    }
+
+    /// How many records have left the log.
+    pub fn forgotten(&self) -> usize
+        ensures { result ≡ self.now.settings.forgotten }
+    {
+        self.settings.forgotten
     }
 
     /// The cuts that wait for the next frame.
@@ -125,14 +133,19 @@ impl Running {
             Command::Round => self.round(names, text),
             Command::End => self.end(names, text),
             Command::Daa => self.assign(text),
-            Command::Policy(named) => {
-                self.policy = *named;
+            Command::Policy(kinds) => {
+                self.set(*kinds, ArrayVec::new());
                 Ok(())
             }
+            Command::PolicyBut { kinds, but } => self.except(names, *kinds, but.as_slice()),
             Command::Cut { name, bit } => self.cut(names, name, *bit),
             Command::Show => self.show(names, text),
             Command::ShowAll => self.show_all(names, text),
             Command::ShowFrom(first) => self.show_from(names, *first, text),
+            Command::Forget(last) => {
+                self.forget(*last as usize);
+                Ok(())
+            }
             Command::Symbols => self.show_symbols(text),
             Command::Frames(count) => self.show_frames(*count, text),
             Command::Legacy { .. } | Command::Declare { .. } | Command::Main { .. } => Err(
@@ -162,16 +175,17 @@ impl Running {
 
     /// A line that sends a frame under the role. The frame takes the cuts that wait.
     fn send<K>(&mut self, names: &Names, frame: &Frame, text: &mut Text) -> Result<(), Stop>
-        ensures { Prints (λ said refused. Answers self.old names.now (event_of frame.now self.old.policy self.old.cuts) said refused self.new) text.old text.new result }
+        ensures { Prints (λ said refused. Sends self.old names.now frame.now said refused self.new) text.old text.new result }
     {
         let Some(hand) = &self.hand else {
             unreachable!()
         };
-        let mut policy = self.policy;
-        let reply = self
+        let mut accepted = self.settings.accepted(&self.bus);
+        let mut reply = self
             .bus
-            .command(hand, frame, &mut policy, &mut self.wires, &self.cuts);
+            .command(hand, frame, &mut accepted, &mut self.wires, &self.cuts);
         self.cuts.clear();
+        count_from(self.settings.forgotten, &mut reply)?;
         tell(names, frame_subject(frame), &reply, text)
     }
 
@@ -285,7 +299,10 @@ impl Running {
         ensures { Prints (λ said refused. Answers self.old names.now event.now said refused self.new) text.old text.new result }
     {
         match self.step(event) {
-            Ok(reply) => tell(names, subject_of(event), &reply, text),
+            Ok(mut reply) => {
+                count_from(self.settings.forgotten, &mut reply)?;
+                tell(names, subject_of(event), &reply, text)
+            }
             Err(_) => Err(Stop::Memory),
         }
     }
@@ -299,8 +316,47 @@ impl Running {
         let hand = take(&mut self.hand);
         let (hand, reply) = self.bus.step(hand, event, &mut self.wires);
         give(&mut self.hand, hand);
-        end_tenure(&mut self.ended, &reply, active, self.bus.records().len())?;
+        let recorded = self.settings.recorded(self.bus.records())?;
+        end_tenure(&mut self.ended, &reply, active, recorded)?;
         Ok(reply)
+    }
+
+    /// Sets which kinds of requests the frames accept, and the slots of excepted devices.
+    fn set(&mut self, kinds: Fixed, but: ArrayVec<Slot, EXCEPTED>)
+        ensures { Sets self.old kinds but.items self.new }
+    {
+        self.settings.kinds = kinds;
+        self.settings.but = but;
+    }
+
+    /// `policy` with names: whatever devices are in their slots by then are excepted.
+    #[inline(never)]
+    fn except(&mut self, names: &Names, kinds: Fixed, but: &[Name]) -> Result<(), Stop>
+        requires { length but.now ≤ EXCEPTED }
+        ensures { MatchResult (slots_named (slot_of_device self.old.state names.now) but.now)
+            (λ slots. (result ≡ Ok tt) × Sets self.old kinds slots self.new)
+            (λ why. (result ≡ Err (Stop.Refused why)) × (self.new ≡ self.old)) }
+    {
+        let mut slots = ArrayVec::new();
+        match slots_of_devices(&self.bus, names, but, &mut slots) {
+            Ok(()) => {
+                self.set(kinds, slots);
+                Ok(())
+            }
+            Err(why) => Err(Stop::Refused(why)),
+        }
+    }
+
+    /// `forget`: the records up to this number leave the log.
+    #[inline(never)]
+    fn forget(&mut self, last: usize)
+        ensures { Forgets self.old last self.new }
+    {
+        let count = last
+            .saturating_sub(self.settings.forgotten)
+            .min(self.bus.records().len());
+        self.bus.forget(count);
+        self.settings.forgotten += count;
     }
 
     /// The cuts that wait, of which none is left.
@@ -348,9 +404,9 @@ impl Running {
     /// `show`: the bus as it is.
     #[inline(never)]
     fn show(&self, names: &Names, text: &mut Text) -> Result<(), Stop>
-        ensures { Prints (IsDone (show_text self.now.state names.now)) text.old text.new result }
+        ensures { Prints (IsDone (show_text self.now.settings.forgotten self.now.state names.now)) text.old text.new result }
     {
-        match show_bus(&self.bus, names, text) {
+        match show_bus(&self.bus, names, self.settings.forgotten, text) {
             Ok(()) => Ok(()),
             Err(_) => Err(Stop::Memory),
         }
@@ -359,10 +415,11 @@ impl Running {
     /// `show N`: the bus with its records from this number on.
     #[inline(never)]
     fn show_from(&self, names: &Names, first: u64, text: &mut Text) -> Result<(), Stop>
-        ensures { Prints (IsDone (show_behind_text (first - 1) self.now.state names.now)) text.old text.new result }
+        ensures { Prints (IsDone (show_behind_text (first - 1 - self.now.settings.forgotten) self.now.settings.forgotten self.now.state names.now)) text.old text.new result }
     {
-        let passed = first.saturating_sub(1) as usize;
-        match show_bus_behind(&self.bus, names, passed, text) {
+        let forgotten = self.settings.forgotten;
+        let count = (first.saturating_sub(1) as usize).saturating_sub(forgotten);
+        match show_bus_behind(&self.bus, names, count, forgotten, text) {
             Ok(()) => Ok(()),
             Err(_) => Err(Stop::Memory),
         }
@@ -371,9 +428,15 @@ impl Running {
     /// `show all`: the bus with all of its devices.
     #[inline(never)]
     fn show_all(&self, names: &Names, text: &mut Text) -> Result<(), Stop>
-        ensures { Prints (IsDone (show_all_text self.now.state names.now self.now.ended)) text.old text.new result }
+        ensures { Prints (IsDone (show_all_text self.now.settings.forgotten self.now.state names.now self.now.ended)) text.old text.new result }
     {
-        match show_all(&self.bus, names, self.ended.as_slice(), text) {
+        match show_all(
+            &self.bus,
+            names,
+            &self.settings,
+            self.ended.as_slice(),
+            text,
+        ) {
             Ok(()) => Ok(()),
             Err(_) => Err(Stop::Memory),
         }
@@ -425,7 +488,7 @@ impl Running {
             bus,
             hand,
             wires: _,
-            policy: _,
+            settings: _,
             cuts: _,
             ended: _,
         } = self;

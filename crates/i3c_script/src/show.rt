@@ -5,8 +5,9 @@ ghost use Rattle.i3c_bus.specs.Readings.{AreAskers, address_of};
 ghost use Rattle.i3c_device.specs.Sets.{IsLowestOf};
 ghost use Rattle.i3c_base.specs.State.{IsPresent, device_at};
 ghost use Rattle.i3c_lines.specs.Naming.{legacy_names, letters, slot_names};
-ghost use Rattle.i3c_script.specs.Printed.{TellsAskers, added_text, asker_text, askers_text, byte_or_none, declared_text, device_text, devices_text, legacies_text, legacy_text, numbered_text, record_text, recorded_text, records_text, show_behind_text, show_text};
+ghost use Rattle.i3c_script.specs.Printed.{TellsAskers, added_text, asker_text, askers_text, behind_text, byte_or_none, declared_text, device_text, devices_text, legacies_text, legacy_text, record_text, recorded_text, records_text, show_behind_text, show_text};
 
+use crate::settings::sum_of;
 use i3c_base::{ADDRESSES, Addr7, Record, SLOTS, Slot};
 use i3c_bus::{Bus, Request, SlotSet};
 use i3c_lines::{Name, Names};
@@ -72,26 +73,33 @@ pub(crate) fn show_main(
     show_place(b" slot 0 at ", address, text)
 }
 
-/// Prints the bus: who is active, the present devices by slot, the legacy targets by address, and the records.
-pub fn show_bus(bus: &Bus, names: &Names, text: &mut Text) -> Result<(), AllocError>
-    ensures { OnOk result (text.new ≡ text.old ++ show_text bus.now.state names.now) }
+/// Prints the bus: who is active, the present devices by slot, the legacy targets by address, and the records, where so many
+/// have left the log.
+pub fn show_bus(
+    bus: &Bus,
+    names: &Names,
+    forgotten: usize,
+    text: &mut Text,
+) -> Result<(), AllocError>
+    ensures { OnOk result (text.new ≡ text.old ++ show_text forgotten bus.now.state names.now) }
 {
-    show_bus_behind(bus, names, 0, text)
+    show_bus_behind(bus, names, 0, forgotten, text)
 }
 
-/// Prints the same, but of the records only those behind the first `passed`.
+/// Prints the same, but of the log only what is behind its first `count` records.
 pub(crate) fn show_bus_behind(
     bus: &Bus,
     names: &Names,
-    passed: usize,
+    count: usize,
+    forgotten: usize,
     text: &mut Text,
 ) -> Result<(), AllocError>
-    ensures { OnOk result (text.new ≡ text.old ++ show_behind_text passed bus.now.state names.now) }
+    ensures { OnOk result (text.new ≡ text.old ++ show_behind_text count forgotten bus.now.state names.now) }
 {
     show_place(b"active ", bus.address(bus.active()), text)?;
     show_devices(bus, names, text)?;
     show_legacies(names, text)?;
-    show_records(bus.records(), passed, text)
+    show_records(bus.records(), count, forgotten, text)
 }
 
 /// Prints each present device, by slot.
@@ -152,24 +160,31 @@ fn show_legacy(names: &Names, address: Addr7, text: &mut Text) -> Result<(), All
     }
 }
 
-/// Prints how many interrupts were recorded, and each behind the first `passed`, the oldest first.
-fn show_records(records: &[Record], passed: usize, text: &mut Text) -> Result<(), AllocError>
-    ensures { OnOk result (text.new ≡ text.old ++ records_text passed records.now) }
+/// Prints how many records are in the log, and each behind the first `count`, the oldest first.
+fn show_records(
+    records: &[Record],
+    count: usize,
+    forgotten: usize,
+    text: &mut Text,
+) -> Result<(), AllocError>
+    ensures { OnOk result (text.new ≡ text.old ++ records_text count forgotten records.now) }
 {
     text.push_numbered(b"records ", records.len() as u64)?;
-    show_records_behind(records, passed, text)
+    show_records_behind(records, count, forgotten, text)
 }
 
-/// Prints the records behind the first `count`, each with its number, as `show` does.
+/// Prints the records behind the first `count`, each with its number, as `show` does: `forgotten` have left the log before.
 pub fn show_records_behind(
     records: &[Record],
     count: usize,
+    forgotten: usize,
     text: &mut Text,
 ) -> Result<(), AllocError>
-    ensures { OnOk result (text.new ≡ text.old ++ numbered_text (suc count) (drop count records.now)) }
+    ensures { OnOk result (text.new ≡ text.old ++ behind_text count forgotten records.now) }
 {
     for index in count..records.len() {
-        show_number(b"record ", index as u64 + 1, text)?;
+        let number = sum_of(forgotten, index + 1)?;
+        show_number(b"record ", number as u64, text)?;
         show_record(&records[index], text)?;
     }
     Ok(())

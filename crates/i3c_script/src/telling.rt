@@ -4,7 +4,8 @@ ghost use Rattle.i3c_script.specs.Printed.{assigned_text, attached_text, field_t
 ghost use Rattle.i3c_step.specs.Replies.{attached_reply, dropped_reply, joins_reply, raised_reply, role_reply};
 ghost use Rattle.i3c_lines.specs.declared.names.Names.{Names as NamesValue};
 ghost use Rattle.i3c_script.specs.declared.telling.Subject.{Subject as SubjectValue};
-ghost use Rattle.i3c_script.specs.Telling.{IsTold, Prints};
+ghost use Rattle.i3c_script.specs.Telling.{Counts, IsTold, Prints};
+ghost use Rattle.i3c_log_laws.specs.Behind.{counted_from, reply_from};
 
 use crate::faults::{Stop, outcome_of};
 use i3c_base::{
@@ -72,6 +73,52 @@ pub(crate) fn tell(
         Ok(()) => outcome_of(reply),
         Err(_) => Err(Stop::Memory),
     }
+}
+
+/// Counts the records that have left the log in a reply's record too, if it has one.
+///
+/// # Errors
+///
+/// The number is more than a `usize` holds.
+#[inline(always)]
+pub(crate) fn count_from(forgotten: usize, reply: &mut Reply) -> Result<(), Stop>
+    ensures { Counts forgotten reply.old reply.new result }
+{
+    if forgotten == 0 {
+        return Ok(());
+    }
+    match number_from(forgotten, reply) {
+        Ok(()) => Ok(()),
+        Err(_) => Err(Stop::Memory),
+    }
+}
+
+/// The same where some have left.
+// kept apart, so that a line pays for no more than the question whether any has
+#[inline(never)]
+fn number_from(forgotten: usize, reply: &mut Reply) -> Result<(), AllocError>
+    ensures { OnOk result (reply.new ≡ reply_from forgotten reply.old) }
+{
+    match reply {
+        Reply::Served(served) => number_served(forgotten, served),
+        Reply::Framed(framed) => number_served(forgotten, &mut framed.served),
+        Reply::Opened(served) => number_served(forgotten, served),
+        Reply::Handed(served) => number_served(forgotten, served),
+        _ => Ok(()),
+    }
+}
+
+/// The same of what became of a request.
+fn number_served(forgotten: usize, served: &mut Served) -> Result<(), AllocError>
+    ensures { OnOk result (served.new ≡ counted_from forgotten served.old) }
+{
+    if let Served::Recorded(place) = served {
+        let Some(number) = place.checked_add(forgotten) else {
+            return Err(AllocError);
+        };
+        *place = number;
+    }
+    Ok(())
 }
 
 /// Prints what a raise came to, as `tell` does for a reply.

@@ -63,10 +63,10 @@ one_start main board one other (a, pick, is, all) (b, picked, same, every) =
 begun_once : (out : Outline) (one other : Seen) → IsStartOf out one → IsStartOf out other → one ≡ other
 begun_once out one other a b =
     let state : one.state ≡ other.state = one_start out.main out.board one.state other.state a.state b.state in
-    let policy : one.policy ≡ other.policy = a.policy ∙ sym b.policy in
+    let settings : one.settings ≡ other.settings = a.settings ∙ sym b.settings in
     let cuts : one.cuts ≡ other.cuts = a.cuts ∙ sym b.cuts in
     let names : one.names ≡ other.names = a.names ∙ sym b.names in
-    ap (λ (s : State). seen s one.policy one.cuts one.names) state ∙ ap (λ p. seen other.state p one.cuts one.names) policy ∙ ap (λ c. seen other.state other.policy c one.names) cuts ∙ ap (λ n. seen other.state other.policy other.cuts n) names
+    ap (λ (s : State). seen s one.settings one.cuts one.names) state ∙ ap (λ p. seen other.state p one.cuts one.names) settings ∙ ap (λ c. seen other.state other.settings c one.names) cuts ∙ ap (λ n. seen other.state other.settings other.cuts n) names
 
 pub one_plan : FilesHaveOnePlan
 one_plan lines one other blocks more first second =

@@ -74,7 +74,7 @@ if_ok P Q (Err e) follows h = tt
 
 -- the blocks have no part in a start
 pub same_start : (first : Outline) (blocks : List (List (List Step))) (start later : Seen) → later ≡ start → IsStartOf first start → IsStartOf (record first { blocks = blocks }) later
-same_start first blocks start later same is = subst (IsStartOf (record first { blocks = blocks })) (sym same) (record { state = is.state; policy = is.policy; cuts = is.cuts; names = is.names })
+same_start first blocks start later same is = subst (IsStartOf (record first { blocks = blocks })) (sym same) (record { state = is.state; settings = is.settings; cuts = is.cuts; names = is.names })
 
 -- behind the last line no block is open
 pub none_left : (body : Body) (first : Option Outline) (out : Outline) (front : Front) → body.block ≡ None → first ≡ Some out → comes_on (Some body) front first [] ≡ Some (record out { blocks = comes_to body [] })

@@ -2,7 +2,6 @@
 use Rattle.std.specs.Prelude.{◌≡◌, ◌≢◌, ℕ, ◌+◌, Bool, true, false, List, [], ◌∷◌, ◌++◌, All, Option, Some, None, IfSome, is_some, if◌then◌else◌, map, slice_set}
 use Rattle.std.specs.Global.{Vec}
 use Rattle.i3c_base.specs.declared.device.Setup.{Setup}
-use Rattle.i3c_base.specs.declared.requests.Verdict.{Verdict}
 use Rattle.i3c_base.specs.Cutting.{no_cuts}
 use Rattle.i3c_base.specs.Numbers.{is_capable}
 use Rattle.i3c_base.specs.State.{Board, IsStart, no_board}
@@ -12,7 +11,7 @@ use Rattle.i3c_facts.specs.declared.marks.Mark.{Mark}
 use Rattle.i3c_lines.specs.declared.command.Command.{Command}
 use Rattle.i3c_lines.specs.declared.names.Name.{Name}
 use Rattle.i3c_lines.specs.declared.names.Place.{Place}
-use Rattle.i3c_lines.specs.Policies.{each_kind}
+use Rattle.i3c_script.specs.Accepting.{at_first}
 use Rattle.i3c_scenario.specs.Outcomes.{HasNoFeed}
 use Rattle.i3c_scene.specs.declared.line.Expectation.{Expectation}
 use Rattle.i3c_scene.specs.declared.line.Line.{Line}
@@ -161,7 +160,7 @@ outline board names (line ∷ rest) = outline board names rest
 -- the start of an outline's bus: its frames accept each request, and no cut waits
 pub record IsStartOf (outline : Outline) (start : Seen) : Type 0 where
   pub state : IsStart outline.main outline.board start.state
-  pub policy : start.policy ≡ each_kind Verdict.Accept
+  pub settings : start.settings ≡ at_first
   pub cuts : start.cuts ≡ no_cuts
   pub names : start.names ≡ outline.names
 

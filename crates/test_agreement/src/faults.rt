@@ -15,6 +15,8 @@ pub(crate) enum Fault {
     Memory,
     #[error("test_agreement: the main device can't be a controller\n")]
     Start,
+    #[error("test_agreement: the plain machine's policies except no device\n")]
+    Exceptions,
 }
 
 impl From<AllocError> for Fault {

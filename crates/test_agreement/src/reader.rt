@@ -179,6 +179,7 @@ impl Running {
                 self.policy = *policy;
                 Ok(())
             }
+            Command::PolicyBut { .. } => Err(Fault::Exceptions),
             Command::Cut { name, bit } => {
                 if let Ok(slot) = names.slot_of(name) {
                     self.cuts.add(slot, *bit);

@@ -106,22 +106,27 @@ def rounds(plan):
 
 
 class Followed:
-    """What lines leave behind that nothing prints later: names, accepted raises, the policy, and cuts that wait."""
+    """What lines leave behind that nothing prints later: names, accepted raises, the policy, cuts that wait, and how many
+    interrupts were ever recorded, of which the log may have forgotten some."""
 
     def __init__(self):
         self.places = {}
         self.raised = {}
         self.policy = 'all'
         self.cuts = {}
+        self.recorded = 0
 
     def follow(self, line, printed):
         words = line.split(' ')
         if plans.sends_frame(line):
             self.cuts = {}
-        if words[0] == 'policy':
-            self.policy = words[1]
-        elif is_refused(printed):
+        for told in printed:
+            if told.startswith('recorded '):
+                self.recorded = int(told.split(' ')[1])
+        if is_refused(printed):
             return
+        if words[0] == 'policy':
+            self.policy = self.meant(words[1:])
         elif words[0] in ('main', 'attach'):
             self.give(words[1], int(printed[0].split(' ')[2]))
         elif words[0] == 'raise':
@@ -130,6 +135,11 @@ class Followed:
         elif words[0] == 'cut':
             slot = self.places[words[1]]
             self.cuts[slot] = min(int(words[2]), self.cuts.get(slot, 65535))
+
+    def meant(self, words):
+        """A policy, with the slots of the devices that it excepts."""
+        kinds, _, names = ' '.join(words).partition(' but ')
+        return f'{kinds} but {sorted(self.places[name] for name in names.split())}' if names else kinds
 
     def give(self, name, slot):
         """A name stands for a slot; who stood there stands there no more."""
@@ -145,7 +155,7 @@ class Followed:
             slot = self.places[name]
             queues[slot] = self.raised.get(slot, [])[-count:] if count else []
         counts = {slot: raises[-1][0] for slot, raises in sorted(self.raised.items())}
-        return f'{self.policy} {sorted(self.cuts.items())} {list(self.places.items())} {sorted(queues.items())} {counts}'
+        return f'{self.policy} {self.recorded} {sorted(self.cuts.items())} {list(self.places.items())} {sorted(queues.items())} {counts}'
 
 
 @dataclass

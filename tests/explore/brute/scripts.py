@@ -133,7 +133,12 @@ def transfers(bus):
 
 
 def policies(bus):
-    return ['policy ' + bus.dice.pick(['none', 'joins', 'roles', 'interrupts']), 'serve', 'policy all']
+    but = [f'all but {bus.name()}', f'joins interrupts but {bus.name()}']
+    return ['policy ' + bus.dice.pick(['none', 'joins', 'roles', 'interrupts', *but]), 'serve', 'policy all']
+
+
+def forgets(bus):
+    return [['forget 1'], ['serve', 'forget 2'], ['forget 1', 'serve']][bus.dice.below(3)]
 
 
 def resets(bus):
@@ -161,7 +166,7 @@ def cuts(bus):
 
 
 TRACKS = [raises, raises, serves, serves, masks, masks, hands, hands, roles, drops, drops, joins, joins, sessions,
-          assigns, transfers, transfers, policies, resets, moves, asks, limits, cuts]
+          assigns, transfers, transfers, policies, policies, forgets, resets, moves, asks, limits, cuts]
 
 
 def track_of(bus):

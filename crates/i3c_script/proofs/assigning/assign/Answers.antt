@@ -10,21 +10,21 @@ use Rattle.i3c_script.proofs.Moving.{moved}
 use Rattle.i3c_script.proofs.assigning.assign.Goals as goal
 
 pub returns-in-Session-clause-assigns : goal.returns-in-Session-clause-assigns
-returns-in-Session-clause-assigns c = λ policy ended.
-    stays_open c.args.hand c.in-Session.session c.args.bus.now.state policy c.args.cuts.now c.args.wires.now ended c.args.text.now c.in-Session.is c.requires.fits
+returns-in-Session-clause-assigns c = λ settings ended.
+    stays_open c.args.hand c.in-Session.session c.args.bus.now.state settings c.args.cuts.now c.args.wires.now ended c.args.text.now c.in-Session.is c.requires.fits
 
 pub returns-in-Ok-show_request-clause-assigns : goal.returns-in-Ok-show_request-clause-assigns
-returns-in-Ok-show_request-clause-assigns c = λ policy ended.
+returns-in-Ok-show_request-clause-assigns c = λ settings ended.
     let st = c.args.bus.now.state in
     let cuts = c.args.cuts.now in
     let mid = c.open_daa.new.self.state in
     let reply = Reply.Opened c.in-Ok.served in
-    opened_on (ran_of st policy cuts c.args.wires.now ended) (ran_of mid policy no_cuts c.open_daa.new.tap ended) (ran_of c.finish.new.bus.state policy no_cuts c.finish.new.wires ended) c.in-Ok.served
+    opened_on (ran_of st settings cuts c.args.wires.now ended) (ran_of mid settings no_cuts c.open_daa.new.tap ended) (ran_of c.finish.new.bus.state settings no_cuts c.finish.new.wires ended) c.in-Ok.served
     c.args.text.now c.show_request.new.text c.finish.new.text c.finish.result.1
-    (moved st mid policy cuts c.args.wires.now c.open_daa.new.tap ended (Event.OpenDaa cuts) reply c.in-Ok.ensures.carried.step c.in-Ok.ensures.carried.told) c.in-Ok-show_request.ensures (c.finish.ensures.session policy ended)
+    (moved st mid settings cuts c.args.wires.now c.open_daa.new.tap ended (Event.OpenDaa cuts) reply c.in-Ok.ensures.carried.step c.in-Ok.ensures.carried.told) c.in-Ok-show_request.ensures (c.finish.ensures.session settings ended)
 
 pub returns-in-Err-clause-assigns : goal.returns-in-Err-clause-assigns
-returns-in-Err-clause-assigns c = λ policy ended.
+returns-in-Err-clause-assigns c = λ settings ended.
     let st = c.args.bus.now.state in
     let cuts = c.args.cuts.now in
     let new = c.open_daa.new.self.state in
@@ -32,9 +32,9 @@ returns-in-Err-clause-assigns c = λ policy ended.
       [],
       sym (append-nil c.args.text.now),
       (
-        ran_of new policy no_cuts c.open_daa.new.tap ended,
+        ran_of new settings no_cuts c.open_daa.new.tap ended,
         reply,
-        moved st new policy cuts c.args.wires.now c.open_daa.new.tap ended (Event.OpenDaa cuts) reply c.in-Err.ensures.carried.step c.in-Err.ensures.carried.told,
+        moved st new settings cuts c.args.wires.now c.open_daa.new.tap ended (Event.OpenDaa cuts) reply c.in-Err.ensures.carried.step c.in-Err.ensures.carried.told,
         (refl, refl, refl),
       ),
     )

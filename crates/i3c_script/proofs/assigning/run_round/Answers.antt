@@ -18,10 +18,10 @@ unreachable-requires c =
     (subst (λ r. Step c.args.bus.now.state (Event.Round c.args.cuts.now) (rounded_reply r) c.round.new.bus.state) c.in_default.is c.round.ensures.carried.step)
 
 pub returns-in-Ok-show_round-clause-moved : goal.returns-in-Ok-show_round-clause-moved
-returns-in-Ok-show_round-clause-moved c = λ policy ended.
+returns-in-Ok-show_round-clause-moved c = λ settings ended.
     let old = c.args.bus.now.state in
     let new = c.round.new.bus.state in
-    subst (λ cuts. Moves (ran_of old policy no_cuts c.args.wires.now ended) (Event.Round cuts) (Reply.Round c.in-Ok.answer) (ran_of new policy no_cuts c.round.new.tap ended)) c.requires.uncut
-    (moved old new policy no_cuts c.args.wires.now c.round.new.tap ended (Event.Round c.args.cuts.now) (Reply.Round c.in-Ok.answer)
+    subst (λ cuts. Moves (ran_of old settings no_cuts c.args.wires.now ended) (Event.Round cuts) (Reply.Round c.in-Ok.answer) (ran_of new settings no_cuts c.round.new.tap ended)) c.requires.uncut
+    (moved old new settings no_cuts c.args.wires.now c.round.new.tap ended (Event.Round c.args.cuts.now) (Reply.Round c.in-Ok.answer)
     (subst (λ r. Step old (Event.Round c.args.cuts.now) (rounded_reply r) new) c.in-Ok.is c.round.ensures.carried.step)
     (subst (λ r. Tells note c.args.wires.now c.round.new.tap (IsWire old (Event.Round c.args.cuts.now) (rounded_reply r) new)) c.in-Ok.is c.round.ensures.carried.told))

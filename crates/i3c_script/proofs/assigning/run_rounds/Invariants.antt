@@ -1,5 +1,5 @@
 use Rattle.std.proofs.Common.{List}
-use Rattle.i3c_base.specs.declared.requests.Fixed.{Fixed}
+use Rattle.i3c_script.specs.declared.settings.Settings.{Settings}
 use Rattle.i3c_base.specs.Cutting.{no_cuts}
 use Rattle.i3c_bus.specs.declared.tokens.Hand.{Hand}
 use Rattle.i3c_bus.specs.Hands.{HandFits}
@@ -11,4 +11,4 @@ use Rattle.i3c_script.proofs.assigning.run_rounds.Given as goal
 abbrev pub invariant-loop : goal.invariant-loop
 invariant-loop l =
     HandFits (Hand.Session l.initial.session) l.bus.state
-    × ((policy : Fixed) (ended : List Tenure) → SoFar (ran_of l.initial.bus.state policy no_cuts l.initial.wires ended) (ran_of l.bus.state policy no_cuts l.wires ended) l.initial.text l.text l.counter)
+    × ((settings : Settings) (ended : List Tenure) → SoFar (ran_of l.initial.bus.state settings no_cuts l.initial.wires ended) (ran_of l.bus.state settings no_cuts l.wires ended) l.initial.text l.text l.counter)

@@ -1,4 +1,4 @@
-use Rattle.std.proofs.Common.{◌≡◌, ◌++◌, OnOk, subst, sym}
+use Rattle.std.proofs.Common.{◌≡◌, ◌++◌, OnOk, rules, subst, sym}
 use Rattle.i3c_lines.specs.Printing.{command_text}
 use Rattle.i3c_lines.proofs.command.Command.push.Goals as goal
 
@@ -12,3 +12,6 @@ returns-in-Attach c =
 pub returns-in-HandOver : goal.returns-in-HandOver
 returns-in-HandOver c =
     subst (λ command. OnOk c.push_addressed.result (c.push_addressed.new.text ≡ c.args.text.now ++ command_text command)) (sym c.in-HandOver.is) c.push_addressed.ensures
+
+pub returns-in-Forget : goal.returns-in-Forget
+returns-in-Forget c = search rules

@@ -7,5 +7,5 @@ use Rattle.i3c_scene.proofs.live.Live.answer.Goals as goal
 pub returns : goal.returns
 returns c =
     let at = c.self.inside in
-    rw (← c.self.view_is) (answered at.bus.state c.step-hand.new.self.state at.policy at.cuts at.known c.args.event.now c.step-hand.result.1 c.outcome_of.result c.step-hand.ensures.carried.step
+    rw (← c.self.view_is) (answered at.bus.state c.step-hand.new.self.state at.settings at.cuts at.known c.args.event.now c.step-hand.result.1 c.outcome_of.result c.step-hand.ensures.carried.step
     (subst (λ (s : Seen). cuts_left c.args.event.now s.cuts ≡ s.cuts) (sym c.self.view_is) c.requires) c.outcome_of.ensures)

@@ -12,12 +12,12 @@ returns-in-Ok-give c =
     let new = c.answer.new.self in
     let slot = c.in-Ok.slot in
     let event = Event.Attach slot c.args.setup in
-    rw (← c.self.view_is) (ends_by (λ refused. Answers (seen at.bus.state at.policy at.cuts c.give.new.self) event refused new)
-    (λ refused. Enters (seen at.bus.state at.policy at.cuts at.known) c.args.name.now c.args.setup refused new) c.answer.result
+    rw (← c.self.view_is) (ends_by (λ refused. Answers (seen at.bus.state at.settings at.cuts c.give.new.self) event refused new)
+    (λ refused. Enters (seen at.bus.state at.settings at.cuts at.known) c.args.name.now c.args.setup refused new) c.answer.result
     (λ refused a. (
       Ok slot,
       subst (λ place. IsEntrance at.bus.state place (Ok slot)) c.place_of.ensures c.in-Ok.ensures,
-      subst (λ names. Answers (seen at.bus.state at.policy at.cuts names) event refused new) c.in-Ok-give.ensures a,
+      subst (λ names. Answers (seen at.bus.state at.settings at.cuts names) event refused new) c.in-Ok-give.ensures a,
     )) c.answer.ensures)
 
 pub returns-in-Err : goal.returns-in-Err

@@ -8,11 +8,15 @@ use Rattle.i3c_scene.specs.Scenes.{Seen}
 use Rattle.i3c_scene.specs.Shown.{IsShown, StandFor}
 use Rattle.i3c_scene.proofs.scene.Scene.show.Goals as goal
 
-shown : {U E : Type 0} (result : Result U E) (scene live : Seen) (st : State) (names : Names) (old new : List ℕ) → live ≡ scene → st ≡ live.state → StandFor scene.names names
-    → OnOk result (new ≡ old ++ show_text st names) → OnOk result ((said : List ℕ) × IsShown scene said × (new ≡ old ++ said))
-shown (Err e) scene live st names old new same is stand told = tt
-shown (Ok u) scene live st names old new same is stand told = (show_text st names, (names, stand, ap (λ s. show_text s names) (is ∙ ap (λ (l : Seen). l.state) same)), told)
+shown : {U E : Type 0} (result : Result U E) (scene live : Seen) (st : State) (forgotten : ℕ) (names : Names) (old new : List ℕ) → live ≡ scene → st ≡ live.state → forgotten ≡ live.settings.forgotten → StandFor scene.names names
+    → OnOk result (new ≡ old ++ show_text forgotten st names) → OnOk result ((said : List ℕ) × IsShown scene said × (new ≡ old ++ said))
+shown (Err e) scene live st forgotten names old new same is gone stand told = tt
+shown (Ok u) scene live st forgotten names old new same is gone stand told = (
+  show_text forgotten st names,
+  (names, stand, (λ i. show_text ((gone ∙ ap (λ (l : Seen). l.settings.forgotten) same) i) ((is ∙ ap (λ (l : Seen). l.state) same) i) names)),
+  told,
+)
 
 pub returns : goal.returns
-returns c = shown c.show_bus.result c.args.self.now c.in_ok-live.live c.bus.result.now.state c.in_ok-names.names c.args.text.now c.show_bus.new.text c.in_ok-live.ensures c.bus.ensures
+returns c = shown c.show_bus.result c.args.self.now c.in_ok-live.live c.bus.result.now.state c.forgotten.result c.in_ok-names.names c.args.text.now c.show_bus.new.text c.in_ok-live.ensures c.bus.ensures c.forgotten.ensures
     (subst (λ (known : List Named). StandFor known c.in_ok-names.names) (c.as_slice.ensures ∙ ap (λ (s : Seen). s.names) c.self.view_is) c.in_ok-names.ensures) c.show_bus.ensures

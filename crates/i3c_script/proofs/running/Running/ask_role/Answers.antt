@@ -2,7 +2,7 @@
 use Rattle.std.proofs.Common.{refl}
 use Rattle.i3c_step.specs.declared.events.Event.{Event}
 use Rattle.i3c_step.specs.Replies.{role_reply}
-use Rattle.i3c_script.proofs.Moving.{role_still, role_unhanded, quietly}
+use Rattle.i3c_script.proofs.Moving.{role_still, role_counted, role_unhanded, quietly}
 use Rattle.i3c_script.proofs.running.Running.ask_role.Goals as goal
 
 pub returns-in-Ok : goal.returns-in-Ok
@@ -12,5 +12,5 @@ returns-in-Ok c =
     let old = at.bus.state in
     let new = c.ask_role-asked.new.self.state in
     let said = c.ask_role-asked.result in
-    rw (← c.self.view_is) (quietly old new at.policy at.cuts at.wires at.ended.items names c.args.name.now Event.AskRole c.in-Ok.slot (role_reply said) c.args.text.now c.tell_role.new.text c.tell_role.result c.in-Ok.ensures refl
-    (role_unhanded said) c.ask_role-asked.ensures.step (role_still old new (Event.AskRole c.in-Ok.slot) said) (c.tell_role.ensures names))
+    rw (← c.self.view_is) (quietly old new at.settings at.cuts at.wires at.ended.items names c.args.name.now Event.AskRole c.in-Ok.slot (role_reply said) c.args.text.now c.tell_role.new.text c.tell_role.result c.in-Ok.ensures refl
+    (role_unhanded said) (role_counted at.settings.forgotten said) c.ask_role-asked.ensures.step (role_still old new (Event.AskRole c.in-Ok.slot) said) (c.tell_role.ensures names))

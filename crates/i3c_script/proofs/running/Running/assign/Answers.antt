@@ -4,5 +4,5 @@ use Rattle.i3c_script.proofs.running.Running.assign.Goals as goal
 pub returns : goal.returns
 returns c =
     let at = c.self.inside in
-    used_up c.args.self.now at.bus.state c.assign-hand.new.bus.state at.policy at.cuts c.clear.new.self at.wires c.assign-hand.new.wires at.ended.items c.args.text.now c.assign-hand.new.text c.assign-hand.result.1
-    c.self.view_is c.clear.ensures.none (c.assign-hand.ensures.assigns at.policy at.ended.items)
+    used_up c.args.self.now at.bus.state c.assign-hand.new.bus.state at.settings at.cuts c.clear.new.self at.wires c.assign-hand.new.wires at.ended.items c.args.text.now c.assign-hand.new.text c.assign-hand.result.1
+    c.self.view_is c.clear.ensures.none (c.assign-hand.ensures.assigns at.settings at.ended.items)

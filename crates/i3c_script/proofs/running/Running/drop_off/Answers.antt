@@ -2,7 +2,7 @@
 use Rattle.std.proofs.Common.{refl}
 use Rattle.i3c_step.specs.declared.events.Event.{Event}
 use Rattle.i3c_step.specs.Replies.{dropped_reply}
-use Rattle.i3c_script.proofs.Moving.{dropped_still, dropped_unhanded, quietly}
+use Rattle.i3c_script.proofs.Moving.{dropped_still, dropped_counted, dropped_unhanded, quietly}
 use Rattle.i3c_script.proofs.running.Running.drop_off.Goals as goal
 
 pub returns-in-Ok : goal.returns-in-Ok
@@ -12,5 +12,5 @@ returns-in-Ok c =
     let old = at.bus.state in
     let new = c.drop_off-dropped.new.self.state in
     let said = c.drop_off-dropped.result in
-    rw (← c.self.view_is) (quietly old new at.policy at.cuts at.wires at.ended.items names c.args.name.now Event.DropOff c.in-Ok.slot (dropped_reply said) c.args.text.now c.tell_dropped.new.text c.tell_dropped.result c.in-Ok.ensures refl
-    (dropped_unhanded said) c.drop_off-dropped.ensures.step (dropped_still old new (Event.DropOff c.in-Ok.slot) said) (c.tell_dropped.ensures names))
+    rw (← c.self.view_is) (quietly old new at.settings at.cuts at.wires at.ended.items names c.args.name.now Event.DropOff c.in-Ok.slot (dropped_reply said) c.args.text.now c.tell_dropped.new.text c.tell_dropped.result c.in-Ok.ensures refl
+    (dropped_unhanded said) (dropped_counted at.settings.forgotten said) c.drop_off-dropped.ensures.step (dropped_still old new (Event.DropOff c.in-Ok.slot) said) (c.tell_dropped.ensures names))

@@ -9,7 +9,7 @@ use Rattle.i3c_script.proofs.running.Running.show_frames.Goals.{in-Ok, in-Err}
 pub returns-clause-told : goal.returns-clause-told
 returns-clause-told c =
     let at = c.self.inside in
-    let ran = ran_of at.bus.state at.policy at.cuts at.wires at.ended.items in
+    let ran = ran_of at.bus.state at.settings at.cuts at.wires at.ended.items in
     rw (← c.self.view_is) (elim c.match-show_frames.branch [
       | in-Ok w ↦ subst (λ r. Prints (IsDone (frames_text c.args.count ran.wire)) c.args.text.now c.show_frames.new.text r) (sym w.result-is) (frames_text c.args.count ran.wire, w.in-Ok.ensures.told, (refl, refl))
       | in-Err w ↦ subst (λ r. Prints (IsDone (frames_text c.args.count ran.wire)) c.args.text.now c.show_frames.new.text r) (sym w.result-is) tt

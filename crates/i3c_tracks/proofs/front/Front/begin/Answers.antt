@@ -22,6 +22,6 @@ returns-in-Ok c =
     let given : is_some (place_in old.names.items name) ≡ false = cc in
     let capable : is_capable setup.identity.bcr ≡ true = search rules in (
       record { main = setup; board = old.legacies; names = old.names.items ++ named name (Place.Slot 0) ∷ []; blocks = [] },
-      record { state = subst (λ (b : Board). IsStart setup b scene.state) board start.start; policy = start.policy; cuts = start.cuts; names = names },
+      record { state = subst (λ (b : Board). IsStart setup b scene.state) board start.start; settings = start.settings; cuts = start.cuts; names = names },
       λ number rest. begun_by old.legacies old.names.items name setup number rest given capable,
     )

@@ -1,5 +1,0 @@
-use Rattle.i3c_lines.proofs.Arguments.{attach_args}
-use Rattle.i3c_lines.proofs.command.parse_attach.Goals as goal
-
-pub returns-in_err-name : goal.returns-in_err-name
-returns-in_err-name c = rw c.from_residual.ensures (λ command form. let f = attach_args _ command form in c.in_err-name.ensures (f.0, f.1) f.2)
