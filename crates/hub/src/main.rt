@@ -10,8 +10,10 @@ mod fault;
 mod policy;
 mod tap;
 
-use crate::alarm::{AlarmReport, alarm};
+use crate::alarm::alarm;
 use crate::fault::HubFault;
+use crate::policy::Quota;
+use crate::tap::Count;
 use std::process::ExitCode;
 
 /// Prints what the alarm came to, or why there was none.
@@ -25,34 +27,34 @@ fn main(rt: HostRuntime) -> ExitCode {
     }
 }
 
-/// Prints each record of the alarm, and how many symbols its wire had.
+/// Prints each record of the alarms, of which one is accepted, and how many symbols their wire had.
 fn tell<R: Print + AllocGlobal>(rt: &R) -> Result<(), HubFault> {
-    let AlarmReport {
-        records,
-        symbols,
-        refused,
-    } = alarm(rt.alloc())?;
+    let (mut quota, mut wire) = (Quota::new(1), Count::default());
+    let records = alarm(rt.alloc(), &mut quota, &mut wire)?;
     for record in records.as_slice() {
         let (slot, number) = (record.slot.index(), record.number);
         let (at, byte) = (record.at.get(), record.byte.unwrap_or(0));
         println!(rt; "slot {slot}, raise {number}, at {at:02X}: byte {byte:02X}")?;
     }
-    println!(rt; "symbols {symbols}, refused {refused}")?;
+    println!(rt; "symbols {0}, refused {1}", wire.symbols, quota.refused)?;
     Ok(())
 }
 
 #[cfg(test)]
 mod tests {
     use super::alarm::alarm;
+    use super::policy::Quota;
+    use super::tap::Count;
     use std::test::Fail;
 
     // one alarm is accepted, the second is beyond the quota
     #[test]
     fn the_first_alarm_is_recorded(rt: HostRuntime) -> Result<(), Fail> {
-        let alarm = alarm(rt.alloc())?;
-        assert!(rt; alarm.records.as_slice().len() == 1);
-        assert!(rt; alarm.refused == 1);
-        let record = alarm.records.as_slice().first().ok_or("a record")?;
+        let (mut quota, mut wire) = (Quota::new(1), Count::default());
+        let records = alarm(rt.alloc(), &mut quota, &mut wire)?;
+        assert!(rt; records.as_slice().len() == 1);
+        assert!(rt; quota.refused == 1);
+        let record = records.as_slice().first().ok_or("a record")?;
         assert!(rt; record.slot.index() == 1 && record.number == 1);
         assert!(rt; record.at.get() == 0x09 && record.byte == Some(0x11));
         Ok(())

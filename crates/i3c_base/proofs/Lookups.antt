@@ -7,10 +7,18 @@ use Rattle.i3c_base.specs.declared.range.TheConstants.{ADDRESSES, SLOTS}
 use Rattle.i3c_base.specs.declared.device.Setup.{Setup}
 use Rattle.i3c_base.specs.declared.identity.Identity.{Identity}
 use Rattle.i3c_base.specs.Places.{changed, changed_from}
-use Rattle.i3c_base.specs.State.{Device, Entry, State, attached, change, device_at, each, entry_in, fixed_of, kept_again, kept_of, no_devices, no_entries, no_identities, no_raises, taken_over, unkept}
+use Rattle.i3c_base.specs.State.{Device, Entry, HasDevices, State, attached, change, device_at, each, each_in, entry_in, fixed_of, kept_again, kept_of, no_devices, no_entries, no_identities, no_raises, population, taken_over, unkept, with_active}
 use Rattle.i3c_base.specs.Local.{attach, drop_off}
 use Rattle.i3c_base.specs.Cutting.{Lost}
 use Rattle.i3c_base.specs.Serve.{emptied}
+
+-- who is on a bus with these devices
+pub population_is : (st : State) (devices : List (Option Device)) (active : ℕ) → HasDevices st devices active → population st ≡ with_active devices active
+population_is st devices active has = λ t. with_active (has.0 t) (has.1 t)
+
+-- each device of such a bus changed
+pub each_on : (f : ℕ → ℕ → Device → Device) (st : State) (devices more : List (Option Device)) (active : ℕ) → HasDevices st devices active → more ≡ each_in (f active) devices → record st { devices = more } ≡ each (f st.active) st
+each_on f st devices more active has e = λ t. record st { devices = (e ∙ (λ k. each_in (f (sym has.1 k)) (sym has.0 k))) t }
 
 changed_from_at : {A : Type 0} (f : ℕ → A → A) (n : ℕ) (xs : List A) (k : ℕ) (d : A) → f (k + n) d ≡ d → get_or (changed_from n f xs) k d ≡ f (k + n) (get_or xs k d)
 changed_from_at f n [] k d e = sym e

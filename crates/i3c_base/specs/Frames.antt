@@ -6,7 +6,7 @@ use Rattle.i3c_base.specs.declared.datum.Datum.{Datum}
 use Rattle.i3c_base.specs.declared.datum.Direction.{Direction}
 use Rattle.i3c_base.specs.declared.device.LegacyTarget.{LegacyTarget}
 use Rattle.i3c_base.specs.declared.device.TheConstants.{REGISTERS}
-use Rattle.i3c_base.specs.State.{Device, Entry, State, IsPresent, IsTargetAt, change, declared_at, device_at, each, entry_at, entry_in, has_address, in_slot, is_the, kept_entry_of, known_in, legacy_target_at, released, taken_over, unkept}
+use Rattle.i3c_base.specs.State.{Device, Entry, Population, State, IsPresentIn, IsTargetAt, IsTargetIn, change, declared_at, device_at, device_in, each, entry_at, entry_in, has_address, in_slot, is_the, kept_entry_of, known_in, legacy_target_at, population, released, taken_over, unkept}
 use Rattle.i3c_base.specs.Places.{changed}
 use Rattle.i3c_base.specs.declared.identity.Identity.{Identity}
 use Rattle.i3c_base.specs.declared.kinds.Change.{Change}
@@ -25,23 +25,39 @@ AnyAt st a = (s : ℕ) × (d : Device) × IsTargetAt st a s d
 abbrev pub AllLostAt : State → ℕ → Lost → Type 0
 AllLostAt st a lost = (s : ℕ) (d : Device) → IsTargetAt st a s d → lost s ≡ true
 
--- some of them isn't lost
+-- some of these devices, a target with the address, isn't lost
+abbrev pub SomeLeftIn : Population → ℕ → Lost → Type 0
+SomeLeftIn all a lost = (s : ℕ) × (d : Device) × IsTargetIn all a s d × (lost s ≡ false)
+
+-- some target at the address isn't lost
 abbrev pub SomeLeftAt : State → ℕ → Lost → Type 0
-SomeLeftAt st a lost = (s : ℕ) × (d : Device) × IsTargetAt st a s d × (lost s ≡ false)
+SomeLeftAt st a lost = SomeLeftIn (population st) a lost
 
--- some device other than the active controller isn't lost: it acknowledges a broadcast
+-- some of these devices, other than the active controller, isn't lost: it acknowledges a broadcast
+abbrev pub AnyLeftIn : Population → Lost → Type 0
+AnyLeftIn all lost = (s : ℕ) × IsPresentIn all s × (s ≢ all.active) × (lost s ≡ false)
+
+-- some device of this bus, other than the active controller, isn't lost
 abbrev pub AnyLeft : State → Lost → Type 0
-AnyLeft st lost = (s : ℕ) × IsPresent st s × (s ≢ st.active) × (lost s ≡ false)
+AnyLeft st lost = AnyLeftIn (population st) lost
 
--- a header is acknowledged: a broadcast by anyone who isn't lost, one to an address by those there
+-- a header is acknowledged among these: a broadcast by anyone who isn't lost, one to an address by those there
+abbrev pub IsHeardIn : Population → Option ℕ → Lost → Type 0
+IsHeardIn all None lost = AnyLeftIn all lost
+IsHeardIn all (Some a) lost = SomeLeftIn all a lost
+
+-- a header is acknowledged on this bus
 abbrev pub IsHeard : State → Option ℕ → Lost → Type 0
-IsHeard st None lost = AnyLeft st lost
-IsHeard st (Some a) lost = SomeLeftAt st a lost
+IsHeard st to lost = IsHeardIn (population st) to lost
 
--- whom an enabling or disabling reaches: all but the active controller, or those at one address
+-- a command reaches this device: all but the active controller, or those at one address
+abbrev pub reaches_at : ℕ → Option ℕ → ℕ → Device → Bool
+reaches_at active None s d = not (s == active)
+reaches_at active (Some a) s d = not (s == active) && has_address a d
+
+-- a command on this bus reaches the device
 abbrev pub reaches : State → Option ℕ → ℕ → Device → Bool
-reaches st None s d = not (s == st.active)
-reaches st (Some a) s d = not (s == st.active) && has_address a d
+reaches st to s d = reaches_at st.active to s d
 
 -- the union of two sets of kinds
 abbrev pub with_kinds : KindSet → KindSet → KindSet
@@ -56,9 +72,13 @@ abbrev pub changed_kinds : Change → Kinds → KindSet → KindSet
 changed_kinds Enable kinds had = with_kinds had (kind_set kinds)
 changed_kinds Disable kinds had = without_kinds had (kind_set kinds)
 
+-- a device after ENEC or DISEC: its kinds are changed by f where the command reaches it
+abbrev pub rekinded_at : ℕ → Option ℕ → (KindSet → KindSet) → ℕ → Device → Device
+rekinded_at active to f s d = if reaches_at active to s d then record d { kinds = f d.kinds } else d
+
 -- the kinds of whom the command reaches, changed by f
 abbrev pub rekinded : Option ℕ → (KindSet → KindSet) → State → State
-rekinded to f st = each (λ s d. if reaches st to s d then record d { kinds = f d.kinds } else d) st
+rekinded to f st = each (rekinded_at st.active to f) st
 
 -- the answers of ENEC and DISEC, and what each leaves
 abbrev pub Rekinds : Option ℕ → (KindSet → KindSet) → Answer → Lost → State → State → Type 0
@@ -78,9 +98,13 @@ abbrev pub limited : Direction → ℕ → Device → Device
 limited Direction.Write most d = record d { most_written = most }
 limited Direction.Read most d = record d { most_read = most }
 
+-- a device after SETMWL or SETMRL: it has this maximum length where the command reaches it
+abbrev pub with_length_at : ℕ → Option ℕ → Direction → ℕ → ℕ → Device → Device
+with_length_at active to way most s d = if reaches_at active to s d then limited way most d else d
+
 -- SETMWL and SETMRL: whom the command reaches has this maximum length
 abbrev pub with_length : Option ℕ → Direction → ℕ → State → State
-with_length to way most st = each (λ s d. if reaches st to s d then limited way most d else d) st
+with_length to way most st = each (with_length_at st.active to way most) st
 
 -- the answers of SETMWL and SETMRL, and what each leaves
 abbrev pub SetsLength : Option ℕ → Direction → ℕ → Answer → Lost → State → State → Type 0
@@ -95,9 +119,13 @@ length_bits None answer = 27
 length_bits (Some a) (Answer.NoAnswer b) = 18
 length_bits (Some a) _ = 36
 
--- slot s holds device d, which has the static address f and no dynamic one, and isn't the active controller
+-- slot s of these holds device d, which has the static address f and no dynamic one, and isn't the active controller
+abbrev pub IsUnaddressedIn : Population → ℕ → ℕ → Device → Type 0
+IsUnaddressedIn all f s d = (device_in all s ≡ Some d) × (d.address ≡ None) × (d.fixed ≡ Some f) × (s ≢ all.active)
+
+-- slot s of this bus holds such a device
 abbrev pub IsUnaddressedAt : State → ℕ → ℕ → Device → Type 0
-IsUnaddressedAt st f s d = (device_at st s ≡ Some d) × (d.address ≡ None) × (d.fixed ≡ Some f) × (s ≢ st.active)
+IsUnaddressedAt st f s d = IsUnaddressedIn (population st) f s d
 
 -- some device without a dynamic address has the static address
 abbrev pub AnyUnaddressedAt : State → ℕ → Type 0
@@ -107,9 +135,13 @@ AnyUnaddressedAt st f = (s : ℕ) × (d : Device) × IsUnaddressedAt st f s d
 abbrev pub AllUnaddressedLostAt : State → ℕ → Lost → Type 0
 AllUnaddressedLostAt st f lost = (s : ℕ) (d : Device) → IsUnaddressedAt st f s d → lost s ≡ true
 
--- some of them isn't lost
+-- some device of these without a dynamic address has the static address, and isn't lost
+abbrev pub SomeUnaddressedLeftIn : Population → ℕ → Lost → Type 0
+SomeUnaddressedLeftIn all f lost = (s : ℕ) × (d : Device) × IsUnaddressedIn all f s d × (lost s ≡ false)
+
+-- some such device of this bus isn't lost
 abbrev pub SomeUnaddressedLeftAt : State → ℕ → Lost → Type 0
-SomeUnaddressedLeftAt st f lost = (s : ℕ) × (d : Device) × IsUnaddressedAt st f s d × (lost s ≡ false)
+SomeUnaddressedLeftAt st f lost = SomeUnaddressedLeftIn (population st) f lost
 
 -- a device that takes SETDASA at the static address f
 abbrev pub takes_static : ℕ → ℕ → ℕ → Device → Bool
@@ -124,9 +156,13 @@ released_at (Some a) given = slice_set given a (option_map released (entry_in gi
 abbrev pub settled : List (Option Identity) → Identity → ℕ → List (Option Entry) → List (Option Entry)
 settled declared i new given = slice_set (released_at (known_in given i) given) new (Some (kept_entry_of declared i))
 
+-- a device after SETDASA: it has the new address where it takes it at the static address f
+abbrev pub with_static_at : ℕ → ℕ → ℕ → ℕ → Device → Device
+with_static_at active f new s d = if takes_static active f s d then winner new d else d
+
 -- SETDASA: who takes it at the static address f of the identity i has the new address, which enters the table
 abbrev pub with_static : ℕ → Identity → ℕ → State → State
-with_static f i new st = record (each (λ s d. if takes_static st.active f s d then winner new d else d) st) {
+with_static f i new st = record (each (with_static_at st.active f new) st) {
   given = settled st.declared i new st.given;
   listed = false;
 }
@@ -145,9 +181,13 @@ readdressed new d = record d { address = Some new }
 abbrev pub moved : ℕ → ℕ → List (Option Entry) → List (Option Entry)
 moved old new given = slice_set (slice_set given old None) new (entry_in given old)
 
+-- a device after SETNEWDA: it has the new address where it had the address `old`
+abbrev pub with_new_at : ℕ → ℕ → ℕ → ℕ → Device → Device
+with_new_at active old new s d = if reaches_at active (Some old) s d then readdressed new d else d
+
 -- SETNEWDA: all who have the address `old` have the new one, with the entry of the table
 abbrev pub with_new : ℕ → ℕ → State → State
-with_new old new st = record (each (λ s d. if reaches st (Some old) s d then readdressed new d else d) st) {
+with_new old new st = record (each (with_new_at st.active old new) st) {
   given = moved old new st.given;
   listed = false;
 }
@@ -181,9 +221,21 @@ list st = record st { listed = true }
 abbrev pub list_bits : State → ℕ
 list_bits st = 9 * (2 + 4 * (count_by is_some st.given + count_by is_some st.legacy))
 
+-- a willing device of these at the address, other than the active controller
+abbrev pub IsWillingIn : Population → ℕ → ℕ → Type 0
+IsWillingIn all a s = (d : Device) × IsTargetIn all a s d × (d.willing ≡ true)
+
 -- a willing device at the address, other than the active controller
 abbrev pub IsWillingAt : State → ℕ → ℕ → Type 0
-IsWillingAt st a s = (d : Device) × IsTargetAt st a s d × (d.willing ≡ true)
+IsWillingAt st a s = IsWillingIn (population st) a s
+
+-- each willing device of these at the address is lost
+abbrev pub AreWillingLost : Population → ℕ → Lost → Type 0
+AreWillingLost all a lost = (s : ℕ) → IsWillingIn all a s → lost s ≡ true
+
+-- slot s is the lowest with a willing device of these at the address that isn't lost
+abbrev pub IsLowestWilling : Population → ℕ → Lost → ℕ → Type 0
+IsLowestWilling all a lost s = IsWillingIn all a s × (lost s ≡ false) × ((t : ℕ) → t < s → IsWillingIn all a t → lost t ≡ true)
 
 -- the role passes to slot s, whose device has the address own
 abbrev pub handed : ℕ → ℕ → State → State
@@ -195,7 +247,7 @@ Hands a lost mid done = (s : ℕ) × IsWillingAt mid a s × (lost s ≡ false) �
 
 -- GETACCCR not granted: each willing device at the address is lost
 abbrev pub KeepsRole : ℕ → Lost → State → State → Type 0
-KeepsRole a lost mid done = ((s : ℕ) → IsWillingAt mid a s → lost s ≡ true) × (done ≡ mid)
+KeepsRole a lost mid done = AreWillingLost (population mid) a lost × (done ≡ mid)
 
 -- a handover that isn't granted ends with the target's header, or with its byte where somebody willing was there
 abbrev pub IsRefusedBits : State → ℕ → ℕ → Type 0
@@ -256,9 +308,13 @@ abbrev pub legacy_written : List ℕ → Option LegacyTarget → Option LegacyTa
 legacy_written bytes None = None
 legacy_written bytes (Some target) = Some (record target { registers = overwritten bytes target.registers })
 
+-- a device after a write to the address: its registers are changed where it has the address
+abbrev pub written_at : ℕ → ℕ → List ℕ → ℕ → Device → Device
+written_at active a bytes s d = if reaches_at active (Some a) s d then record d { registers = overwritten bytes d.registers } else d
+
 -- a write to the address: a legacy target there has its registers changed, and so has each device there
 abbrev pub written : ℕ → List ℕ → State → State
-written a bytes st = record (each (λ s d. if reaches st (Some a) s d then record d { registers = overwritten bytes d.registers } else d) st) {
+written a bytes st = record (each (written_at st.active a bytes) st) {
   legacy = slice_set st.legacy a (legacy_written bytes (legacy_target_at st a));
 }
 

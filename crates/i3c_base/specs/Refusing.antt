@@ -1,8 +1,10 @@
 -- Tests with the refusal that each stands for, and those of what a slot's device wishes.
-use Rattle.std.specs.Prelude.{ℕ, Bool, ◌==◌, not, List, [], ◌∷◌, Option, Some, None, if◌then◌else◌, is_none, is_some}
+use Rattle.std.specs.Prelude.{ℕ, ◌-◌, ◌^◌, Bool, ◌==◌, ◌||◌, nat_le, not, List, [], ◌∷◌, length, Option, Some, None, if◌then◌else◌, is_none, is_some}
+use Rattle.i3c_base.specs.declared.device.TheConstants.{WAITING}
 use Rattle.i3c_base.specs.declared.refusals.JoinRefusal.{JoinRefusal}
+use Rattle.i3c_base.specs.declared.refusals.RaiseRefusal.{RaiseRefusal}
 use Rattle.i3c_base.specs.declared.refusals.RoleRefusal.{RoleRefusal}
-use Rattle.i3c_base.specs.Numbers.{is_capable}
+use Rattle.i3c_base.specs.Numbers.{can_interrupt, has_byte, is_capable, same_bool}
 use Rattle.i3c_base.specs.State.{Device, in_slot}
 
 -- tests with the refusal that each stands for, in order
@@ -32,3 +34,21 @@ role_tests active s place =
     ∷ (in_slot (λ d. is_none d.address) place, RoleRefusal.NoAddress)
     ∷ (in_slot (λ d. not (is_capable d.identity.bcr)) place, RoleRefusal.NotCapable)
     ∷ (in_slot (λ d. not d.kinds.role) place, RoleRefusal.Masked) ∷ []
+
+-- the raises of a slot that has so many can't be counted further
+abbrev pub is_uncounted : ℕ → Bool
+is_uncounted raised = nat_le (2 ^ 64 - 1) raised
+
+-- a raise with this byte, by whatever is in a slot: no address, no interrupts by its BCR, a byte where none is due or none
+-- where one is, interrupts disabled, or eight that wait or raises that can't be counted
+abbrev pub raise_faults : Option ℕ → Bool → Option Device → Tests RaiseRefusal
+raise_faults byte uncounted place =
+    (in_slot (λ d. is_none d.address) place, RaiseRefusal.NoAddress)
+    ∷ (in_slot (λ d. not (can_interrupt d.identity.bcr)) place, RaiseRefusal.NotCapable)
+    ∷ (in_slot (λ d. not (same_bool (has_byte d.identity.bcr) (is_some byte))) place, RaiseRefusal.ByteMismatch)
+    ∷ (in_slot (λ d. not d.kinds.interrupt) place, RaiseRefusal.Masked)
+    ∷ (in_slot (λ d. nat_le WAITING (length d.waiting) || uncounted) place, RaiseRefusal.Full) ∷ []
+
+-- a raise of slot s
+abbrev pub raise_tests : ℕ → ℕ → Option ℕ → Bool → Option Device → Tests RaiseRefusal
+raise_tests active s byte uncounted place = (is_none place, RaiseRefusal.NoDevice) ∷ (s == active, RaiseRefusal.IsActive) ∷ raise_faults byte uncounted place

@@ -59,9 +59,13 @@ wins lost i s d = d.hearing && (not (lost s) && same_identity d.identity i)
 abbrev pub winner : ℕ → Device → Device
 winner a d = record d { address = Some a; hearing = false; join_wish = false }
 
+-- a device after a round that this identity won
+abbrev pub assigned_at : Lost → Identity → ℕ → ℕ → Device → Device
+assigned_at lost i a s d = if wins lost i s d then winner a d else d
+
 -- the winners have the address a, which enters the table and is kept for the identity
 abbrev pub assigned : Lost → Identity → ℕ → State → State
-assigned lost i a st = record (each (λ s d. if wins lost i s d then winner a d else d) st) {
+assigned lost i a st = record (each (assigned_at lost i a) st) {
   given = slice_set st.given a (Some (kept_entry_of st.declared i));
   listed = false;
 }

@@ -11,13 +11,17 @@ use Rattle.i3c_base.specs.declared.requests.Verdict.{Verdict}
 use Rattle.i3c_base.specs.declared.requests.Verdict.TheVariants.{Accept, Refuse}
 use Rattle.i3c_base.specs.declared.device.Waiting.{Waiting}
 use Rattle.i3c_base.specs.Numbers.{has_byte}
-use Rattle.i3c_base.specs.State.{Device, Entry, State, device_at, each, entry_at, has_address, in_slot}
+use Rattle.i3c_base.specs.State.{Device, Entry, Population, State, device_at, device_in, each_in, entry_at, has_address, in_slot, population}
 use Rattle.i3c_base.specs.Places.{changed}
 use Rattle.i3c_base.specs.Cutting.{CutList, Lost, lost_by}
 
+-- what is in a slot after a frame that loses these devices
+abbrev pub left_at : Lost → ℕ → Option Device → Option Device
+left_at lost s place = if lost s then None else place
+
 -- the bus without its lost devices
 abbrev pub emptied : Lost → State → State
-emptied lost st = record st { devices = changed (λ s place. if lost s then None else place) st.devices }
+emptied lost st = record st { devices = changed (left_at lost) st.devices }
 
 -- nothing waits
 abbrev pub is_empty : List Waiting → Bool
@@ -31,9 +35,13 @@ asks d Join = is_none d.address && (d.join_wish && d.kinds.join)
 asks d (Role a) = has_address a d && (d.role_wish && d.kinds.role)
 asks d (Interrupt a) = has_address a d && (not d.role_wish && (not (is_empty d.waiting) && d.kinds.interrupt))
 
--- the slot drives this request; the active controller drives none
+-- the slot drives this request among these devices; the active controller drives none
+abbrev pub drives_in : Population → Request → ℕ → Bool
+drives_in all r s = not (s == all.active) && in_slot (λ d. asks d r) (device_in all s)
+
+-- the slot drives this request
 abbrev pub drives : State → Request → ℕ → Bool
-drives st r s = not (s == st.active) && in_slot (λ d. asks d r) (device_at st s)
+drives st r s = drives_in (population st) r s
 
 -- the order of requests: joins, then by address, then the role request before the interrupt
 abbrev pub rank : Request → ℕ
@@ -41,14 +49,30 @@ rank Join = 0
 rank (Role a) = 1 + 2 * a
 rank (Interrupt a) = 2 + 2 * a
 
+-- one of these devices drives r
+abbrev pub AnyDrives : Population → Request → Type 0
+AnyDrives all r = (s : ℕ) × (drives_in all r s ≡ true)
+
+-- one of these devices that isn't lost drives r
+abbrev pub SomeDrives : Population → Request → Lost → Type 0
+SomeDrives all r lost = (s : ℕ) × (drives_in all r s ≡ true) × (lost s ≡ false)
+
 -- some device drives r, and none drives one that comes before it
-pub record IsFirst (st : State) (r : Request) : Type 0 where
-  pub driven : (s : ℕ) × (drives st r s ≡ true)
-  pub first : (s : ℕ) (q : Request) → drives st q s ≡ true → rank r ≤ rank q
+pub record IsFirstIn (all : Population) (r : Request) : Type 0 where
+  pub driven : AnyDrives all r
+  pub first : (s : ℕ) (q : Request) → drives_in all q s ≡ true → rank r ≤ rank q
+
+-- r comes first on this bus
+abbrev pub IsFirst : State → Request → Type 0
+IsFirst st r = IsFirstIn (population st) r
+
+-- nobody of these drives a request
+abbrev pub NobodyDrives : Population → Type 0
+NobodyDrives all = (s : ℕ) (r : Request) → drives_in all r s ≡ false
 
 -- nobody drives a request
 abbrev pub NoneAsks : State → Type 0
-NoneAsks st = (s : ℕ) (r : Request) → drives st r s ≡ false
+NoneAsks st = NobodyDrives (population st)
 
 -- the first request, if there is one
 abbrev pub IsFirstRequest : State → Option Request → Type 0
@@ -58,9 +82,13 @@ IsFirstRequest st first = MatchOption first (NoneAsks st) (λ r. IsFirst st r)
 abbrev pub IsLowestDriver : State → Request → ℕ → Type 0
 IsLowestDriver st r s = (drives st r s ≡ true) × ((t : ℕ) → t < s → drives st r t ≡ false)
 
+-- w waits at the front of what is in a slot
+abbrev pub IsFrontOf : Option Device → Waiting → Type 0
+IsFrontOf place w = (d : Device) × (rest : List Waiting) × (place ≡ Some d) × (d.waiting ≡ w ∷ rest)
+
 -- w waits at the front in slot s
 abbrev pub IsFront : State → ℕ → Waiting → Type 0
-IsFront st s w = (d : Device) × (rest : List Waiting) × (device_at st s ≡ Some d) × (d.waiting ≡ w ∷ rest)
+IsFront st s w = IsFrontOf (device_at st s) w
 
 -- the interrupts at this address have a mandatory byte
 abbrev pub byte_due : Option Entry → Bool
@@ -101,9 +129,13 @@ pub record IsRead (st : State) (lost : Lost) (r : Request) (s : ℕ) (w : Waitin
   pub together : ((t : ℕ) → drives st r t ≡ true → lost t ≡ false) → (v : ℕ) → byte ≡ Some v → IsAnd v (DrivesByte st r)
   pub present : is_some byte ≡ is_some w.byte
 
+-- the drivers of r among these changed by f
+abbrev pub each_driver_in : Population → Request → (Device → Device) → List (Option Device)
+each_driver_in all r f = each_in (λ s d. if drives_in all r s then f d else d) all.devices
+
 -- the drivers of r changed by f
 abbrev pub each_driver : Request → (Device → Device) → State → State
-each_driver r f st = each (λ s d. if drives st r s then f d else d) st
+each_driver r f st = record st { devices = each_driver_in (population st) r f }
 
 -- a list without its first element
 abbrev pub tail : List Waiting → List Waiting

@@ -55,6 +55,11 @@ pub record State : Type 0 where
   pub listed : Bool  -- the list of DEFTGTS is current
   pub records : List Record
 
+-- who is on a bus: the devices in their slots, and the slot of the active controller
+pub record Population : Type 0 where
+  pub devices : List (Option Device)
+  pub active : ℕ
+
 -- a bus as its callers see it: its state, and whether there is room for one more record
 pub record Held : Type 0 where
   pub state : State
@@ -64,9 +69,21 @@ pub record Held : Type 0 where
 abbrev pub HasDevices : State → List (Option Device) → ℕ → Type 0
 HasDevices st devices active = (st.devices ≡ devices) × (st.active ≡ active)
 
+-- these devices, the one in slot `active` being the active controller
+abbrev pub with_active : List (Option Device) → ℕ → Population
+with_active devices active = record { devices = devices; active = active }
+
+-- who is on this bus
+abbrev pub population : State → Population
+population st = with_active st.devices st.active
+
+-- the device in a slot of these
+abbrev pub device_in : Population → ℕ → Option Device
+device_in all s = slice_index_or all.devices s None
+
 -- the device in a slot
 abbrev pub device_at : State → ℕ → Option Device
-device_at st s = slice_index_or st.devices s None
+device_at st s = device_in (population st) s
 
 -- the number of a slot's accepted raises
 abbrev pub raised_at : State → ℕ → ℕ
@@ -167,17 +184,25 @@ abbrev pub in_slot : (Device → Bool) → Option Device → Bool
 in_slot test None = false
 in_slot test (Some d) = test d
 
+-- slot s of these holds a device
+abbrev pub IsPresentIn : Population → ℕ → Type 0
+IsPresentIn all s = (d : Device) × (device_in all s ≡ Some d)
+
 -- slot s holds a device
 abbrev pub IsPresent : State → ℕ → Type 0
-IsPresent st s = (d : Device) × (device_at st s ≡ Some d)
+IsPresent st s = IsPresentIn (population st) s
 
 -- the device has this address
 abbrev pub has_address : ℕ → Device → Bool
 has_address a d = is_the a d.address
 
--- slot s holds device d, which has the address a and isn't the active controller
+-- slot s of these holds device d, which has the address a and isn't the active controller
+abbrev pub IsTargetIn : Population → ℕ → ℕ → Device → Type 0
+IsTargetIn all a s d = (device_in all s ≡ Some d) × (d.address ≡ Some a) × (s ≢ all.active)
+
+-- slot s of this bus holds device d, which is a target with the address a
 abbrev pub IsTargetAt : State → ℕ → ℕ → Device → Type 0
-IsTargetAt st a s d = (device_at st s ≡ Some d) × (d.address ≡ Some a) × (s ≢ st.active)
+IsTargetAt st a s d = IsTargetIn (population st) a s d
 
 -- who may answer to an address: the device in a slot, or the legacy target with a static address
 pub data Party : Type 0 where
@@ -201,9 +226,13 @@ HasUniqueAnswers st = (a : ℕ) (x y : Party) → AnswersTo st a x → AnswersTo
 abbrev pub HasDistinctIdentities : State → Type 0
 HasDistinctIdentities st = (s t : ℕ) (d e : Device) → device_at st s ≡ Some d → device_at st t ≡ Some e → d.identity ≡ e.identity → s ≡ t
 
--- each present device changed by f, which is given its slot
+-- each of these devices changed by f, which is given its slot
+abbrev pub each_in : (ℕ → Device → Device) → List (Option Device) → List (Option Device)
+each_in f devices = changed (λ s place. option_map (f s) place) devices
+
+-- each present device changed by f
 abbrev pub each : (ℕ → Device → Device) → State → State
-each f st = record st { devices = changed (λ s place. option_map (f s) place) st.devices }
+each f st = record st { devices = each_in f st.devices }
 
 -- the device in slot s, if there is one, changed by f
 abbrev pub change : ℕ → (Device → Device) → State → State

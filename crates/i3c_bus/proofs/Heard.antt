@@ -1,6 +1,6 @@
 -- Who acknowledges a broadcast.
-use Rattle.std.proofs.lemmas.Bool.{eqb-false, false≢true, ne_eqb, not-true}
-use Rattle.std.proofs.Common.{◌≡◌, ℕ, ◌+◌, Bool, true, false, not, List, [], ◌∷◌, Option, Some, None, Result, Ok, Err, IsOk, option_map, if◌then◌else◌, ◌↔◌, sym, ap, ◌∙◌, subst, refl}
+use Rattle.std.proofs.lemmas.Bool.{false≢true}
+use Rattle.std.proofs.Common.{◌≡◌, ℕ, ◌+◌, Bool, true, false, List, [], ◌∷◌, Option, Some, None, Result, Ok, Err, IsOk, option_map, if◌then◌else◌, ◌↔◌, sym, ap, ◌∙◌, subst, refl}
 use Rattle.i3c_base.specs.declared.answers.Answer.{Answer}
 use Rattle.i3c_base.specs.declared.requests.Fixed.{Fixed}
 use Rattle.i3c_base.specs.declared.requests.Request.TheVariants.{Join, Role, Interrupt}
@@ -13,17 +13,9 @@ use Rattle.i3c_base.specs.State.{Device, State, each}
 use Rattle.i3c_base.proofs.Lookups.{each_at, each_from}
 use Rattle.i3c_events.specs.Hearing.{answer_of}
 use Rattle.i3c_events.specs.declared.hearing.NoAnswer.{NoAnswer}
-use Rattle.i3c_device.specs.Walks.{SomeReached}
 use Rattle.i3c_frame.specs.declared.symbols.Symbol.{Symbol}
 use Rattle.i3c_frame.specs.declared.symbols.Symbol.TheVariants.{Header, Repeated}
 use Rattle.i3c_bus.specs.Wire.{IsAck, IsAnswered, IsOn}
-
--- whom a broadcast reaches
-pub is_ack : (st : State) (cuts : CutList) (bit : ℕ) (ack : Bool) → (ack ≡ true) ↔ SomeReached st.active None (lost_by cuts bit) st.devices → IsAck st cuts bit ack
-is_ack st cuts bit ack h = (
-  λ e. let w = h.0 e in (w.0, (w.1, w.2), (λ k. eqb-false w.0 st.active (not-true _ w.3) k), w.4),
-  λ l. h.1 (l.0, l.1.0, l.1.1, ap not (ne_eqb l.0 st.active l.2), l.3),
-)
 
 -- a change of each device leaves who is there
 left_each : (f : ℕ → Device → Device) (st : State) (lost : Lost) → AnyLeft (each f st) lost ↔ AnyLeft st lost

@@ -19,3 +19,4 @@ pub mod Transfers
 mod Asked
 pub mod RoundsMore
 mod Settings
+pub mod Nearby

@@ -5,9 +5,8 @@ use Rattle.std.proofs.lemmas.Bool.{true≢false}
 use Rattle.i3c_base.specs.declared.device.Setup.{Setup}
 use Rattle.i3c_base.specs.declared.refusals.JoinRefusal.{JoinRefusal}
 use Rattle.i3c_base.specs.declared.refusals.RoleRefusal.{RoleRefusal}
-use Rattle.i3c_base.specs.Local.{attach, drop_off}
+use Rattle.i3c_base.specs.Local.{attach, drop_off, wishing_join, wishing_role}
 use Rattle.i3c_base.specs.State.{Device, State, device_at}
-use Rattle.i3c_device.specs.Raising.{wishing_join, wishing_role}
 use Rattle.i3c_step.specs.declared.events.Event.{Event}
 use Rattle.i3c_step.specs.declared.replies.Refusal.{Refusal}
 use Rattle.i3c_step.specs.declared.replies.Reply.{Reply}

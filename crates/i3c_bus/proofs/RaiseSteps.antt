@@ -1,13 +1,14 @@
 -- Raises as steps.
-use Rattle.std.proofs.Common.{◌≡◌, ℕ, suc, ◌-◌, ◌^◌, Bool, true, false, ◌||◌, ◌==◌, sym, nat_le, not, List, [], ◌∷◌, ◌++◌, length, Option, Some, None, option_map, is_some, is_none, if◌then◌else◌, refl, ap, subst, ◌∙◌, slice_index, slice_set}
+use Rattle.std.proofs.Common.{◌≡◌, ℕ, suc, ◌-◌, ◌^◌, Bool, true, false, ◌||◌, ◌==◌, sym, nat_le, not, List, [], ◌∷◌, length, Option, Some, None, option_map, is_some, is_none, if◌then◌else◌, refl, ap, subst, ◌∙◌, slice_index, slice_set}
 use Rattle.std.proofs.lemmas.Bool.{true≢false}
 use Rattle.i3c_base.specs.declared.device.TheConstants.{WAITING}
 use Rattle.i3c_base.specs.Covered.{Table}
-use Rattle.i3c_base.specs.Local.{raise}
+use Rattle.i3c_base.specs.Local.{raise, with_raise}
 use Rattle.i3c_base.specs.Numbers.{can_interrupt, has_byte, same_bool}
-use Rattle.i3c_base.specs.State.{Device, State, device_at, in_slot, raised_at}
-use Rattle.i3c_device.specs.Raising.{next_fault, or_uncounted, with_raise}
+use Rattle.i3c_base.specs.State.{Device, State, device_at, raised_at}
+use Rattle.i3c_device.specs.Raising.{next_fault, or_uncounted}
 use Rattle.i3c_base.specs.declared.refusals.RaiseRefusal.{RaiseRefusal}
+use Rattle.i3c_base.specs.Refusing.{is_uncounted, raise_faults, renamed}
 use Rattle.i3c_step.specs.declared.events.Event.{Event}
 use Rattle.i3c_step.specs.declared.replies.Refusal.TheVariants.{NoDevice, IsActive, NoAddress, NotCapable, ByteMismatch, Masked, Full}
 use Rattle.i3c_step.specs.declared.replies.Reply.{Reply}
@@ -26,7 +27,7 @@ fault_table : (a b c e f : Bool) (raised : ℕ) → first_refusal ((a, NoAddress
     (if b then Some RaiseRefusal.NotCapable else
     (if c then Some RaiseRefusal.ByteMismatch else
     (if e then Some RaiseRefusal.Masked else
-    (if f then Some RaiseRefusal.Full else None))))) raised)
+    (if f || false then Some RaiseRefusal.Full else None))))) raised)
 fault_table true b c e f raised = refl
 fault_table false true c e f raised = refl
 fault_table false false true e f raised = refl
@@ -48,13 +49,7 @@ raise_free st s byte d there other none =
     ∙ ap (λ (o : Option RaiseRefusal). option_map raise_refusal o) none))
   where
     table : Option Device → Bool → Checks
-    table o active =
-        (is_none o, NoDevice) ∷ (active, IsActive)
-        ∷ (in_slot (λ x. is_none x.address) o, NoAddress)
-        ∷ (in_slot (λ x. not (can_interrupt x.identity.bcr)) o, NotCapable)
-        ∷ (in_slot (λ x. not (same_bool (has_byte x.identity.bcr) (is_some byte))) o, ByteMismatch)
-        ∷ (in_slot (λ x. not x.kinds.interrupt) o, Masked)
-        ∷ (in_slot (λ x. nat_le WAITING (length x.waiting) || nat_le (2 ^ 64 - 1) (raised_at st s)) o, Full) ∷ []
+    table o active = (is_none o, NoDevice) ∷ (active, IsActive) ∷ renamed raise_refusal (raise_faults byte (is_uncounted (raised_at st s)) o)
 
 -- what stands there, where something does
 pub given_there : {A : Type 0} (o : Option A) → is_some o ≡ true → (a : A) × (o ≡ Some a)
@@ -76,7 +71,7 @@ whole_raise st table list more s index number byte d whole same there other faul
     given = refl;
     legacy = refl;
     listed = refl;
-    own = (keeps_change s (λ d. record d { waiting = d.waiting ++ record { number = suc (raised_at st s); byte = byte } ∷ [] }) st (λ d. refl)).own;
+    own = (keeps_change s (with_raise (suc (raised_at st s)) byte) st (λ d. refl)).own;
   })) whole.copied;
 }
   where

@@ -15,15 +15,15 @@ use Rattle.i3c_base.specs.Covered.{Table, lvrs}
 use Rattle.i3c_base.specs.Cutting.{CutList, Lost, lost_by}
 use Rattle.i3c_base.specs.Frames.{Reads, SetsLength, Writes, legacy_written, length_of, overwritten, reaches, transfer_length, written}
 use Rattle.i3c_base.specs.Serve.{Frame, Serves, drives, given_for, header_bits, without_front, without_join, without_role}
-use Rattle.i3c_base.specs.State.{Device, Held, State, device_at, each}
+use Rattle.i3c_base.specs.State.{Device, Held, State, device_at, each, population}
 use Rattle.i3c_base.proofs.Lookups.{each_at, each_from}
 use Rattle.i3c_deftgts.specs.declared.entries.Entry.{Entry}
 use Rattle.i3c_frame.specs.declared.symbols.Symbol.{Symbol}
 use Rattle.i3c_frame.specs.Taps.{Tells}
-use Rattle.i3c_device.specs.Reading.{registers_of}
+use Rattle.i3c_device.specs.Reading.{registers_of, PullsLow}
 use Rattle.i3c_xfer.specs.declared.outcome.Read.{Read}
 use Rattle.i3c_xfer.specs.declared.outcome.Write.{Write}
-use Rattle.i3c_xfer.specs.Transfers.{AnyAnswers, AreDriven, IsReadAs, IsWrittenBy, PullsLow}
+use Rattle.i3c_xfer.specs.Transfers.{AnyAnswers, AreDriven, IsReadAs, IsWrittenBy}
 use Rattle.i3c_step.specs.declared.events.Event.{Event}
 use Rattle.i3c_step.specs.declared.replies.Refusal.{Refusal}
 use Rattle.i3c_step.specs.declared.replies.Reply.{Reply}
@@ -88,7 +88,7 @@ alike_serves st policy lost Torn new h =
     subst (Alike st) (sym h.left) (alike_each (λ s d. if drives st (Interrupt h.at) s then without_front d else d) st (λ s d. keeps_if (drives st (Interrupt h.at) s) d (without_front d) refl refl refl refl))
 
 -- so the same devices pull the lines low, and the same answer
-pulls_alike : (old new : State) (a : ℕ) (lost : Lost) (k bit : ℕ) → Alike old new → PullsLow registers_of new a lost k bit ↔ PullsLow registers_of old a lost k bit
+pulls_alike : (old new : State) (a : ℕ) (lost : Lost) (k bit : ℕ) → Alike old new → PullsLow registers_of (population new) a lost k bit ↔ PullsLow registers_of (population old) a lost k bit
 pulls_alike old new a lost k bit alike = (
   λ p. let x = alike.before p.0 p.1 p.2.0 in
       (p.0, x.0, (x.1, x.2 ∙ p.2.1, λ e. p.2.2 (e ∙ sym alike.active)), p.3, ap (λ (r : List ℕ). bit_at (slice_index r k) bit) x.3 ∙ p.4),

@@ -10,3 +10,4 @@ pub mod Asking
 pub mod Assigning
 pub mod Whole
 pub mod Statics
+pub mod Near

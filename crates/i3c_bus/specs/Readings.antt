@@ -1,13 +1,12 @@
 -- What is read of a slot's device.
-use Rattle.std.specs.Prelude.{◌≡◌, ℕ, ◌<◌, Bool, not, ◌&&◌, ◌==◌, length, Option, Some, None, is_some}
+use Rattle.std.specs.Prelude.{ℕ, Bool, not, ◌&&◌, ◌==◌, length, Option, Some, None, is_some}
 use Rattle.i3c_base.specs.declared.identity.Identity.{Identity}
-use Rattle.i3c_base.specs.declared.range.TheConstants.{SLOTS}
 use Rattle.i3c_base.specs.declared.requests.Request.{Request}
 use Rattle.i3c_base.specs.Numbers.{is_capable}
-use Rattle.i3c_base.specs.Serve.{IsFirst, drives}
-use Rattle.i3c_base.specs.State.{Device, State, device_at, in_slot}
+use Rattle.i3c_base.specs.Serve.{IsFirst}
+use Rattle.i3c_base.specs.State.{Device, State, device_at, in_slot, population}
 use Rattle.i3c_device.specs.declared.sets.SlotSet.{SlotSet}
-use Rattle.i3c_device.specs.Sets.{has}
+use Rattle.i3c_device.specs.Walks.{AreDrivers}
 
 -- its address, if there is a device and it has one
 abbrev pub address_of : Option Device → Option ℕ
@@ -30,7 +29,7 @@ keeps_copy st s = st.listed && (not (s == st.active) && in_slot (λ d. is_some d
 
 -- these slots' devices drive this request
 abbrev pub AreAskers : State → Request → SlotSet → Type 0
-AreAskers st r slots = (s : ℕ) → s < SLOTS → has slots s ≡ drives st r s
+AreAskers st r slots = AreDrivers (population st) r slots
 
 -- this is the first request, and these slots' devices drive it
 abbrev pub IsAsked : State → Request × SlotSet → Type 0

@@ -11,8 +11,8 @@ use Rattle.i3c_base.specs.declared.requests.Request.{Request}
 use Rattle.i3c_base.specs.declared.requests.Request.TheVariants.{Join, Role, Interrupt}
 use Rattle.i3c_base.specs.declared.requests.Served.{Served}
 use Rattle.i3c_base.specs.Cutting.{CutList, Lost, lost_by}
-use Rattle.i3c_base.specs.State.{State, entry_at}
-use Rattle.i3c_base.specs.Serve.{IsFirst, IsWordBits, Serves, byte_due, drives, emptied, given_for, header_bits}
+use Rattle.i3c_base.specs.State.{State, entry_at, population}
+use Rattle.i3c_base.specs.Serve.{IsFirst, IsWordBits, Serves, byte_due, drives, emptied, given_for, header_bits, SomeDrives}
 use Rattle.i3c_base.specs.Frames.{AnyLeft, SomeLeftAt, SomeUnaddressedLeftAt, active_has, get_bits, told_length}
 use Rattle.i3c_word.specs.declared.Word.{Word}
 use Rattle.i3c_deftgts.specs.declared.entries.Entry.{Entry}
@@ -50,7 +50,7 @@ IsAck st cuts bit ack = (ack ≡ true) ↔ AnyLeft st (lost_by cuts bit)
 abbrev pub IsRecordedWire : State → CutList → State → List Symbol → Type 0
 IsRecordedWire old cuts new wire =
     (r : Record) × (new.records ≡ old.records ++ r ∷ []) × (is_some r.byte ≡ byte_due (entry_at old r.at))
-    × (is_some r.byte ≡ true → (s : ℕ) × (drives old (Interrupt r.at) s ≡ true) × (lost_by cuts 9 s ≡ false))
+    × (is_some r.byte ≡ true → SomeDrives (population old) (Interrupt r.at) (lost_by cuts 9))
     × IfSome r.byte (IsByteRead old cuts r.at)
     × (wire ≡ Start ∷ request_header (Interrupt r.at) true ∷ byte_word r.byte)
 

@@ -119,28 +119,53 @@ impl Bus {
         ensures asks { Asks P.verdict_gives policy.old policy.new self.old.state result }
         ensures carried { Carries self.old self.new (event_of command.now (given_by result) cuts.now) result hand.now (Tells T.note_gives tap.old tap.new) }
     {
+        let mut reply = Reply::OutOfMemory;
+        self.command_into(hand, command, policy, tap, cuts, &mut reply);
+        reply
+    }
+
+    /// The same, with the reply written to where the caller keeps it.
+    #[inline(always)]
+    pub fn command_into<P: Policy, T: Tap>(
+        &mut self,
+        hand: &Hand,
+        command: &Command,
+        policy: &mut P,
+        tap: &mut T,
+        cuts: &Cuts,
+        reply: &mut Reply,
+    )
+        requires fits { HandFits hand.now self.old.state }
+        ensures asks { Asks P.verdict_gives policy.old policy.new self.old.state reply.new }
+        ensures carried { Carries self.old self.new (event_of command.now (given_by reply.new) cuts.now) reply.new hand.now (Tells T.note_gives tap.old tap.new) }
+    {
         let Hand::Role(role) = hand else {
-            return Reply::Refused(Refusal::SessionOpen);
+            *reply = Reply::Refused(Refusal::SessionOpen);
+            return;
         };
         match command {
-            Command::Serve => Reply::from(self.serve(role, policy, tap, cuts)),
+            Command::Serve => self.serve_reply(role, policy, tap, cuts, reply),
             Command::Enec(to, kinds) => {
-                self.kinds_reply(role, Change::Enable, *to, *kinds, policy, tap, cuts)
+                self.kinds_reply(role, Change::Enable, *to, *kinds, policy, tap, cuts, reply)
             }
             Command::Disec(to, kinds) => {
-                self.kinds_reply(role, Change::Disable, *to, *kinds, policy, tap, cuts)
+                self.kinds_reply(role, Change::Disable, *to, *kinds, policy, tap, cuts, reply)
             }
-            Command::Reset => self.reset_reply(role, policy, tap, cuts),
-            Command::SendList => self.list_reply(role, policy, tap, cuts),
-            Command::ReadFrom(from) => self.read_reply(role, *from, policy, tap, cuts),
-            Command::WriteTo(to, bytes) => self.write_kept(role, *to, bytes, policy, tap, cuts),
+            Command::Reset => self.reset_reply(role, policy, tap, cuts, reply),
+            Command::SendList => self.list_reply(role, policy, tap, cuts, reply),
+            Command::ReadFrom(from) => self.read_reply(role, *from, policy, tap, cuts, reply),
+            Command::WriteTo(to, bytes) => {
+                self.write_kept(role, *to, bytes, policy, tap, cuts, reply)
+            }
             Command::SetStatic(fixed, new) => {
-                self.static_reply(role, *fixed, *new, policy, tap, cuts)
+                self.static_reply(role, *fixed, *new, policy, tap, cuts, reply)
             }
-            Command::SetNew(old, new) => self.new_reply(role, *old, *new, policy, tap, cuts),
-            Command::Get(what, from) => self.get_reply(role, *what, *from, policy, tap, cuts),
+            Command::SetNew(old, new) => self.new_reply(role, *old, *new, policy, tap, cuts, reply),
+            Command::Get(what, from) => self.get_reply(
+                role, *what, *from, policy, tap, cuts, reply,
+            ),
             Command::SetLength(way, most, to) => {
-                self.length_reply(role, *way, *most, *to, policy, tap, cuts)
+                self.length_reply(role, *way, *most, *to, policy, tap, cuts, reply)
             }
         }
     }

@@ -6,7 +6,7 @@ use i3c_ibi::Policy;
 use i3c_step::Reply;
 
 // Each command makes its reply in a function of its own. Rattle clears a function's locals where it begins, so those of all
-// commands in one function would be cleared for each of them.
+// commands in one function would be cleared for each of them. A reply has 48 bytes, and is written where its reader keeps it.
 
 impl Bus {
     ghost use Rattle.i3c_frame.specs.Taps.{Tells};
@@ -17,6 +17,23 @@ impl Bus {
     ghost use Rattle.i3c_bus.specs.Calls.{Carries};
     ghost use Rattle.i3c_bus.specs.Hands.{HandFits};
     ghost use Rattle.i3c_bus.specs.declared.tokens.Hand.{Hand};
+
+    /// A frame that serves the first request and does nothing else, and its reply.
+    #[inline(never)]
+    pub(crate) fn serve_reply<P: Policy, T: Tap>(
+        &mut self,
+        role: &Role,
+        policy: &mut P,
+        tap: &mut T,
+        cuts: &Cuts,
+        reply: &mut Reply,
+    )
+        requires fits { HandFits (Hand.Role role.now) self.old.state }
+        ensures asks { Asks P.verdict_gives policy.old policy.new self.old.state reply.new }
+        ensures carried { Carries self.old self.new (Event.Serve (given_by reply.new) cuts.now) reply.new (Hand.Role role.now) (Tells T.note_gives tap.old tap.new) }
+    {
+        *reply = Reply::from(self.serve(role, policy, tap, cuts));
+    }
 
     /// ENEC or DISEC, and its reply.
     #[inline(never)]
@@ -29,12 +46,13 @@ impl Bus {
         policy: &mut P,
         tap: &mut T,
         cuts: &Cuts,
-    ) -> Reply
+        reply: &mut Reply,
+    )
         requires fits { HandFits (Hand.Role role.now) self.old.state }
-        ensures asks { Asks P.verdict_gives policy.old policy.new self.old.state result }
-        ensures carried { Carries self.old self.new (kinds_event change to kinds (given_by result) cuts.now) result (Hand.Role role.now) (Tells T.note_gives tap.old tap.new) }
+        ensures asks { Asks P.verdict_gives policy.old policy.new self.old.state reply.new }
+        ensures carried { Carries self.old self.new (kinds_event change to kinds (given_by reply.new) cuts.now) reply.new (Hand.Role role.now) (Tells T.note_gives tap.old tap.new) }
     {
-        Reply::from(self.change_kinds(role, change, to, kinds, policy, tap, cuts))
+        *reply = Reply::from(self.change_kinds(role, change, to, kinds, policy, tap, cuts));
     }
 
     /// RSTDAA, and its reply.
@@ -45,12 +63,13 @@ impl Bus {
         policy: &mut P,
         tap: &mut T,
         cuts: &Cuts,
-    ) -> Reply
+        reply: &mut Reply,
+    )
         requires fits { HandFits (Hand.Role role.now) self.old.state }
-        ensures asks { Asks P.verdict_gives policy.old policy.new self.old.state result }
-        ensures carried { Carries self.old self.new (Event.Reset (given_by result) cuts.now) result (Hand.Role role.now) (Tells T.note_gives tap.old tap.new) }
+        ensures asks { Asks P.verdict_gives policy.old policy.new self.old.state reply.new }
+        ensures carried { Carries self.old self.new (Event.Reset (given_by reply.new) cuts.now) reply.new (Hand.Role role.now) (Tells T.note_gives tap.old tap.new) }
     {
-        Reply::from(self.reset(role, policy, tap, cuts))
+        *reply = Reply::from(self.reset(role, policy, tap, cuts));
     }
 
     /// DEFTGTS, and its reply.
@@ -61,12 +80,13 @@ impl Bus {
         policy: &mut P,
         tap: &mut T,
         cuts: &Cuts,
-    ) -> Reply
+        reply: &mut Reply,
+    )
         requires fits { HandFits (Hand.Role role.now) self.old.state }
-        ensures asks { Asks P.verdict_gives policy.old policy.new self.old.state result }
-        ensures carried { Carries self.old self.new (Event.SendList (given_by result) cuts.now) result (Hand.Role role.now) (Tells T.note_gives tap.old tap.new) }
+        ensures asks { Asks P.verdict_gives policy.old policy.new self.old.state reply.new }
+        ensures carried { Carries self.old self.new (Event.SendList (given_by reply.new) cuts.now) reply.new (Hand.Role role.now) (Tells T.note_gives tap.old tap.new) }
     {
-        Reply::from(self.list(role, policy, tap, cuts))
+        *reply = Reply::from(self.list(role, policy, tap, cuts));
     }
 
     /// A read, and its reply.
@@ -78,12 +98,13 @@ impl Bus {
         policy: &mut P,
         tap: &mut T,
         cuts: &Cuts,
-    ) -> Reply
+        reply: &mut Reply,
+    )
         requires fits { HandFits (Hand.Role role.now) self.old.state }
-        ensures asks { Asks P.verdict_gives policy.old policy.new self.old.state result }
-        ensures carried { Carries self.old self.new (Event.ReadFrom from (given_by result) cuts.now) result (Hand.Role role.now) (Tells T.note_gives tap.old tap.new) }
+        ensures asks { Asks P.verdict_gives policy.old policy.new self.old.state reply.new }
+        ensures carried { Carries self.old self.new (Event.ReadFrom from (given_by reply.new) cuts.now) reply.new (Hand.Role role.now) (Tells T.note_gives tap.old tap.new) }
     {
-        Reply::from(self.read(role, from, policy, tap, cuts))
+        *reply = Reply::from(self.read(role, from, policy, tap, cuts));
     }
 
     /// SETDASA, and its reply.
@@ -96,12 +117,13 @@ impl Bus {
         policy: &mut P,
         tap: &mut T,
         cuts: &Cuts,
-    ) -> Reply
+        reply: &mut Reply,
+    )
         requires fits { HandFits (Hand.Role role.now) self.old.state }
-        ensures asks { Asks P.verdict_gives policy.old policy.new self.old.state result }
-        ensures carried { Carries self.old self.new (Event.SetStatic fixed new (given_by result) cuts.now) result (Hand.Role role.now) (Tells T.note_gives tap.old tap.new) }
+        ensures asks { Asks P.verdict_gives policy.old policy.new self.old.state reply.new }
+        ensures carried { Carries self.old self.new (Event.SetStatic fixed new (given_by reply.new) cuts.now) reply.new (Hand.Role role.now) (Tells T.note_gives tap.old tap.new) }
     {
-        Reply::from(self.set_static(role, fixed, new, policy, tap, cuts))
+        *reply = Reply::from(self.set_static(role, fixed, new, policy, tap, cuts));
     }
 
     /// SETNEWDA, and its reply.
@@ -114,12 +136,13 @@ impl Bus {
         policy: &mut P,
         tap: &mut T,
         cuts: &Cuts,
-    ) -> Reply
+        reply: &mut Reply,
+    )
         requires fits { HandFits (Hand.Role role.now) self.old.state }
-        ensures asks { Asks P.verdict_gives policy.old policy.new self.old.state result }
-        ensures carried { Carries self.old self.new (Event.SetNew old new (given_by result) cuts.now) result (Hand.Role role.now) (Tells T.note_gives tap.old tap.new) }
+        ensures asks { Asks P.verdict_gives policy.old policy.new self.old.state reply.new }
+        ensures carried { Carries self.old self.new (Event.SetNew old new (given_by reply.new) cuts.now) reply.new (Hand.Role role.now) (Tells T.note_gives tap.old tap.new) }
     {
-        Reply::from(self.set_new(role, old, new, policy, tap, cuts))
+        *reply = Reply::from(self.set_new(role, old, new, policy, tap, cuts));
     }
 
     /// GETPID or its like, and its reply.
@@ -132,12 +155,13 @@ impl Bus {
         policy: &mut P,
         tap: &mut T,
         cuts: &Cuts,
-    ) -> Reply
+        reply: &mut Reply,
+    )
         requires fits { HandFits (Hand.Role role.now) self.old.state }
-        ensures asks { Asks P.verdict_gives policy.old policy.new self.old.state result }
-        ensures carried { Carries self.old self.new (Event.Get what from (given_by result) cuts.now) result (Hand.Role role.now) (Tells T.note_gives tap.old tap.new) }
+        ensures asks { Asks P.verdict_gives policy.old policy.new self.old.state reply.new }
+        ensures carried { Carries self.old self.new (Event.Get what from (given_by reply.new) cuts.now) reply.new (Hand.Role role.now) (Tells T.note_gives tap.old tap.new) }
     {
-        Reply::from(self.get(role, what, from, policy, tap, cuts))
+        *reply = Reply::from(self.get(role, what, from, policy, tap, cuts));
     }
 
     /// SETMWL or SETMRL, and its reply.
@@ -151,11 +175,12 @@ impl Bus {
         policy: &mut P,
         tap: &mut T,
         cuts: &Cuts,
-    ) -> Reply
+        reply: &mut Reply,
+    )
         requires fits { HandFits (Hand.Role role.now) self.old.state }
-        ensures asks { Asks P.verdict_gives policy.old policy.new self.old.state result }
-        ensures carried { Carries self.old self.new (Event.SetLength way most to (given_by result) cuts.now) result (Hand.Role role.now) (Tells T.note_gives tap.old tap.new) }
+        ensures asks { Asks P.verdict_gives policy.old policy.new self.old.state reply.new }
+        ensures carried { Carries self.old self.new (Event.SetLength way most to (given_by reply.new) cuts.now) reply.new (Hand.Role role.now) (Tells T.note_gives tap.old tap.new) }
     {
-        Reply::from(self.set_length(role, way, most, to, policy, tap, cuts))
+        *reply = Reply::from(self.set_length(role, way, most, to, policy, tap, cuts));
     }
 }

@@ -64,24 +64,23 @@ impl Bus {
     pub fn key(&self) -> u64 {
         let mut key = mixed(self.records.len() as u64, self.active.slot().index() as u64);
         key = mixed(key, with_flag(with_flag(0, self.in_session), self.listed()));
+        key = mixed(key, self.devices.kinds_key());
         let mut left = self.devices.present();
         while let Some(index) = left.take_lowest() {
-            key = mixed(key, self.raised[index]);
-            key = mixed(key, self.device_key(Slot::from_index(index)));
+            let slot = Slot::from_index(index);
+            key ^= self.raised[index] << 16 ^ self.device_key(slot);
+            key = key.wrapping_mul(0x9E37_79B9_7F4A_7C15);
         }
         key
     }
 
-    /// The same of a slot's device: its address, how many of its interrupts wait, and which of its events are enabled.
+    /// The same of a slot's device: its address, and how many of its interrupts wait.
     fn device_key(&self, slot: Slot) -> u64 {
         let address = match self.devices.address(slot) {
             Some(address) => address.get(),
             None => 0,
         };
-        let mut key = u64::from(address) << 8 | self.devices.waiting(slot) as u64;
-        key = with_flag(key, self.devices.may_interrupt(slot));
-        key = with_flag(key, self.devices.may_join(slot));
-        with_flag(key, self.devices.may_ask_role(slot))
+        u64::from(address) << 8 | self.devices.waiting(slot) as u64
     }
 }
 
@@ -89,6 +88,7 @@ impl Still {
     ghost use Rattle.std.specs.Prelude.{◌≡◌, ◌≤◌, ◌↔◌, IfOk, IsTrue, OnErr, OnOk};
     ghost use Rattle.i3c_base.specs.Frames.{list_bits};
     ghost use Rattle.i3c_bus.specs.Hands.{HandFits};
+    ghost use Rattle.i3c_bus.specs.Near.{IsNear};
 
     /// The bus once more, with a role or session of its own.
     ///
@@ -148,6 +148,16 @@ impl Still {
         copy_targets(&mut bus.legacy, &self.legacy);
         bus.in_session = self.in_session;
         (Hand::new(role, self.in_session), Ok(()))
+    }
+
+    /// A bus comes back to the state of this one, from which it differs in one slot at most.
+    pub fn wake_at(&self, slot: Slot, bus: &mut Bus)
+        requires { IsNear slot self.now bus.old.state }
+        ensures { bus.new.state ≡ self.now }
+    {
+        let index = slot.index();
+        bus.devices.wake_at(slot, &self.devices);
+        bus.raised[index] = self.raised[index];
     }
 
     /// A bus at rest, in the state of this one.

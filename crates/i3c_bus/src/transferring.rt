@@ -104,12 +104,13 @@ impl Bus {
         policy: &mut P,
         tap: &mut T,
         cuts: &Cuts,
-    ) -> Reply
+        reply: &mut Reply,
+    )
         requires fits { HandFits (Hand.Role role.now) self.old.state }
-        ensures asks { Asks P.verdict_gives policy.old policy.new self.old.state result }
-        ensures carried { Carries self.old self.new (Event.WriteTo to bytes.now (given_by result) cuts.now) result (Hand.Role role.now) (Tells T.note_gives tap.old tap.new) }
+        ensures asks { Asks P.verdict_gives policy.old policy.new self.old.state reply.new }
+        ensures carried { Carries self.old self.new (Event.WriteTo to bytes.now (given_by reply.new) cuts.now) reply.new (Hand.Role role.now) (Tells T.note_gives tap.old tap.new) }
     {
-        Reply::from(self.write(role, to, bytes.as_slice(), policy, tap, cuts))
+        *reply = Reply::from(self.write(role, to, bytes.as_slice(), policy, tap, cuts));
     }
 
     /// The own part of a read, after so many bits of the frame: the bytes are read, and who is cut is gone.

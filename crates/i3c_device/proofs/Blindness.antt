@@ -3,12 +3,12 @@ use Rattle.std.proofs.Common.{◌≡◌, ℕ, Bool, true, false, if◌then◌els
 use Rattle.i3c_base.specs.declared.requests.Request.{Request}
 use Rattle.i3c_base.specs.declared.requests.Request.TheVariants.{Interrupt, Join, Role}
 use Rattle.i3c_base.specs.declared.datum.Direction.{Direction}
-use Rattle.i3c_base.specs.Frames.{overwritten, readdressed, unaddressed_device, limited}
+use Rattle.i3c_base.specs.Frames.{overwritten, readdressed, unaddressed_device, limited, reaches_at, written_at}
 use Rattle.i3c_base.specs.Round.{hears, unhearing, winner}
 use Rattle.i3c_base.specs.Serve.{without_role}
+use Rattle.i3c_base.specs.Local.{with_raise, wishing_join, wishing_role}
 use Rattle.i3c_device.specs.Enabling.{under}
-use Rattle.i3c_device.specs.Raising.{wishing_join, wishing_role, with_raise}
-use Rattle.i3c_device.specs.Walks.{reaches_at, taken_from, written_at}
+use Rattle.i3c_device.specs.Walks.{taken_from}
 use Rattle.i3c_device.proofs.SeenLaws.{IsBlind}
 
 -- wishes, a raise, a reset and a session's end
@@ -66,7 +66,7 @@ blind_limit way most kinds s None = refl
 blind_limit Direction.Write most kinds s (Some d) = refl
 blind_limit Direction.Read most kinds s (Some d) = refl
 
-pub blind_write : (active a : ℕ) (bytes : List ℕ) → IsBlind (written_at active a bytes)
+pub blind_write : (active a : ℕ) (bytes : List ℕ) → IsBlind (λ s place. option_map (written_at active a bytes s) place)
 blind_write active a bytes kinds s None = refl
 blind_write active a bytes kinds s (Some d) = go (reaches_at active (Some a) s d)
   where

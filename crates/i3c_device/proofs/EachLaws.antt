@@ -6,15 +6,15 @@ use Rattle.i3c_base.specs.declared.range.TheConstants.{SLOTS}
 use Rattle.i3c_base.specs.declared.requests.Request.{Request}
 use Rattle.i3c_base.specs.Places.{changed, changed_from}
 use Rattle.i3c_base.specs.Round.{hears, unhearing}
-use Rattle.i3c_base.specs.Serve.{without}
-use Rattle.i3c_base.specs.State.{Device, in_slot}
+use Rattle.i3c_base.specs.Serve.{drives_in, without}
+use Rattle.i3c_base.specs.State.{Device, Population, in_slot}
 use Rattle.i3c_base.proofs.Lookups.{length-changed}
 use Rattle.i3c_device.specs.declared.marks.Marks.{Marks}
 use Rattle.i3c_device.specs.declared.sets.SlotSet.{SlotSet}
 use Rattle.i3c_device.specs.Finding.{within}
 use Rattle.i3c_device.specs.Marks.{AreMarks, IsSetOf}
 use Rattle.i3c_device.specs.Sets.{has}
-use Rattle.i3c_device.specs.Walks.{accepted_at, drives_at, taken_from}
+use Rattle.i3c_device.specs.Walks.{taken_from}
 
 -- of `changed`, within the list
 changed_from_in : (f : ℕ → Option Device → Option Device) (n : ℕ) (xs : List (Option Device)) (k : ℕ) → k < length xs → get_or (changed_from n f xs) k None ≡ f (k + n) (get_or xs k None)
@@ -48,9 +48,9 @@ spared f test among xs ys long is spares e = narrowed f f among xs ys long e (λ
 ])
 
 -- an accepted request that these slots drive
-pub accepted_alike : (active : ℕ) (r : Request) (s : ℕ) (o : Option Device) (among : SlotSet) → has among s ≡ drives_at active s o r → within among (λ k place. taken_from r place) s o ≡ accepted_at active r s o
-accepted_alike active r s None among e = elim (has among s) as (λ b. ◌≡◌ {A = Option Device} (if b then None else None) None) [ true ↦ refl | false ↦ refl ]
-accepted_alike active r s (Some d) among e = ap (λ b. if b then Some (without r d) else Some d) e ∙ go (drives_at active s (Some d) r)
+pub accepted_alike : (all : Population) (r : Request) (s : ℕ) (o : Option Device) (among : SlotSet) → has among s ≡ drives_in all r s → within among (λ k place. taken_from r place) s o ≡ option_map (λ d. if drives_in all r s then without r d else d) o
+accepted_alike all r s None among e = elim (has among s) as (λ b. ◌≡◌ {A = Option Device} (if b then None else None) None) [ true ↦ refl | false ↦ refl ]
+accepted_alike all r s (Some d) among e = ap (λ b. if b then Some (without r d) else Some d) e ∙ go (drives_in all r s)
   where
     go : (b : Bool) → (if b then Some (without r d) else Some d) ≡ Some (if b then without r d else d)
     go true = refl

@@ -3,14 +3,13 @@ use Rattle.std.proofs.Common.{◌≡◌, ℕ, ◌+◌, ◌*◌, ◌/◌, ◌%◌
 use Rattle.std.proofs.lemmas.Bool.{and_parts, both_ways, cases_eq, cond-true, cond-false, eq-eqb, eqb-true, ne_eqb}
 use Rattle.i3c_base.specs.declared.requests.Request.{Request}
 use Rattle.i3c_base.specs.declared.requests.Request.TheVariants.{Interrupt, Join, Role}
-use Rattle.i3c_base.specs.Serve.{asks, is_empty}
-use Rattle.i3c_base.specs.State.{Device, in_slot, is_the}
+use Rattle.i3c_base.specs.Serve.{asks, is_empty, drives_in}
+use Rattle.i3c_base.specs.State.{Device, in_slot, is_the, with_active}
 use Rattle.i3c_header.specs.Keys.{IsLawful}
 use Rattle.i3c_device.specs.declared.enabled.Enabled.{Enabled}
 use Rattle.i3c_device.specs.Addressing.{IsDynamic, IsDynamicIn}
 use Rattle.i3c_device.specs.Enabling.{kinds_in, seen, seen_in, under}
 use Rattle.i3c_device.specs.Marks.{key_in}
-use Rattle.i3c_device.specs.Walks.{drives_at}
 use Rattle.i3c_device.specs.Wishing.{asks_some, key_of, request_of}
 use Rattle.i3c_header.proofs.KeyLaws.{key_of as key_of_request}
 use Rattle.i3c_device.proofs.SeenWalks.{and_join, now_at}
@@ -123,14 +122,18 @@ key_asked d low h =
     same (Role a) = refl
     same (Interrupt a) = refl
 
+-- what a slot's device asks for, where it isn't the active controller's
+abbrev asked_in : Bool → Option Device → Request → Bool
+asked_in other place q = other && in_slot (λ d. asks d q) place
+
 -- the request of a slot that asks
 pub key_driven : (e : Enabled) (xs now : List (Option Device)) (active i key : ℕ) → seen e xs ≡ now → key ≡ key_in (get_or xs i None) → IsDynamicIn (get_or xs i None) → (not (i == active) && in_slot asks_some (get_or now i None)) ≡ true
-    → IsAsked (drives_at active i (get_or now i None)) key
+    → IsAsked (λ q. drives_in (with_active now active) q i) key
 key_driven e xs now active i key is keyed low asks_it =
     let p = and_parts (not (i == active)) (in_slot asks_some (get_or now i None)) asks_it in
-    subst (λ k. IsAsked (drives_at active i (get_or now i None)) k) (sym keyed) (subst (λ n. IsAsked (drives_at active i n) (key_in (get_or xs i None))) (sym (now_at e xs now i is)) (go (get_or xs i None) low p.0 (sym (ap (in_slot asks_some) (now_at e xs now i is)) ∙ p.1)))
+    subst (λ k. IsAsked (asked_in (not (i == active)) (get_or now i None)) k) (sym keyed) (subst (λ n. IsAsked (asked_in (not (i == active)) n) (key_in (get_or xs i None))) (sym (now_at e xs now i is)) (go (get_or xs i None) low p.0 (sym (ap (in_slot asks_some) (now_at e xs now i is)) ∙ p.1)))
   where
-    go : (o : Option Device) → IsDynamicIn o → not (i == active) ≡ true → in_slot asks_some (seen_in e i o) ≡ true → IsAsked (drives_at active i (seen_in e i o)) (key_in o)
+    go : (o : Option Device) → IsDynamicIn o → not (i == active) ≡ true → in_slot asks_some (seen_in e i o) ≡ true → IsAsked (asked_in (not (i == active)) (seen_in e i o)) (key_in o)
     go None l other h = absurd (both_ways _ refl h)
     go (Some d) l other h =
         let by = key_asked (under (kinds_in e i) d) l h in record {

@@ -7,7 +7,7 @@ use Rattle.std.proofs.lemmas.Option.{none-some, same_Some}
 use Rattle.i3c_base.specs.declared.datum.Direction.{Direction}
 use Rattle.i3c_base.specs.declared.device.TheConstants.{REGISTERS}
 use Rattle.i3c_base.specs.declared.range.TheConstants.{SLOTS}
-use Rattle.i3c_base.specs.Frames.{least_length_from, length_of}
+use Rattle.i3c_base.specs.Frames.{least_length_from, length_of, reaches_at}
 use Rattle.i3c_base.specs.Numbers.{KindSet}
 use Rattle.i3c_base.specs.State.{Device, has_address, in_slot}
 use Rattle.i3c_device.specs.declared.enabled.Enabled.{Enabled}
@@ -15,9 +15,8 @@ use Rattle.i3c_device.specs.declared.sets.SlotSet.{SlotSet}
 use Rattle.i3c_device.specs.Enabling.{kinds_in, seen, seen_in, under}
 use Rattle.i3c_device.specs.Holding.{length_in}
 use Rattle.i3c_device.specs.Lengths.{IsLeastLength}
-use Rattle.i3c_device.specs.Reading.{AreAt}
 use Rattle.i3c_device.specs.Sets.{has}
-use Rattle.i3c_device.specs.Walks.{reaches_at}
+use Rattle.i3c_device.specs.Walks.{AreReached}
 use Rattle.i3c_device.proofs.FindLaws.{TakesOut}
 use Rattle.i3c_device.proofs.SeenWalks.{now_at, unseen}
 
@@ -94,7 +93,7 @@ length_under Direction.Write kinds d = refl
 length_under Direction.Read kinds d = refl
 
 -- of the slots at the address it is that
-pub least_of : (active a : ℕ) (way : Direction) (slots : SlotSet) (e : Enabled) (xs now : List (Option Device)) (n : ℕ) → seen e xs ≡ now → length xs ≡ SLOTS → AreAt active a slots xs → IsLeastLength slots way xs n
+pub least_of : (active a : ℕ) (way : Direction) (slots : SlotSet) (e : Enabled) (xs now : List (Option Device)) (n : ℕ) → seen e xs ≡ now → length xs ≡ SLOTS → AreReached active (Some a) slots xs → IsLeastLength slots way xs n
     → n ≡ least_length_from active way a 0 now
 least_of active a way slots e xs now n is long are h = both (no_more active way a 0 now n _ here (least_from active way a 0 now)) (no_more active way a 0 now _ n (least_from active way a 0 now) here)
   where

@@ -17,3 +17,4 @@ pub mod LeastLaws
 pub mod KeepLaws
 mod LengthLaws
 mod RegisterLaws
+mod EightLaws

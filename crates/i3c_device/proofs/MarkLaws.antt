@@ -9,8 +9,8 @@ use Rattle.i3c_base.specs.declared.requests.Request.{Request}
 use Rattle.i3c_base.specs.declared.device.Waiting.{Waiting}
 use Rattle.i3c_base.specs.Numbers.{IsInRange, number_of}
 use Rattle.i3c_base.specs.Round.{hears, unhearing}
-use Rattle.i3c_base.specs.Serve.{asks}
-use Rattle.i3c_base.specs.State.{Device, in_slot, is_the, no_devices}
+use Rattle.i3c_base.specs.Serve.{asks, drives_in}
+use Rattle.i3c_base.specs.State.{Device, in_slot, is_the, no_devices, Population, device_in}
 use Rattle.i3c_base.proofs.Lookups.{no_devices_at}
 use Rattle.i3c_wires.specs.declared.planes.Planes.{Planes}
 use Rattle.i3c_wires.specs.Planes.{AreTurned}
@@ -23,8 +23,7 @@ use Rattle.i3c_device.specs.Answering.{AreFound}
 use Rattle.i3c_device.specs.Holding.{identity_in}
 use Rattle.i3c_device.specs.Marks.{AreMarks, DoAnswer, HavePlanes, IsSetOf, answer_in, answer_of, key_in, requeued}
 use Rattle.i3c_device.specs.Sets.{has}
-use Rattle.i3c_device.specs.Walks.{AreTakers, drives_at}
-use Rattle.i3c_device.specs.Reading.{AreAt}
+use Rattle.i3c_device.specs.Walks.{AreTakers, AreReached}
 use Rattle.i3c_device.specs.Wishing.{wishes_interrupt, wishes_join, wishes_role}
 
 -- of two truth values the second is known
@@ -56,8 +55,8 @@ set_of_put test old new places i place b low h is put s l = put s l ∙ elim (ca
 ]
 
 -- an empty slot drives no request
-pub undriven_past : (active s : ℕ) (o : Option Device) (q : Request) → o ≡ None → drives_at active s o q ≡ true → ⊥
-undriven_past active s o q e h = both_ways _ refl (and_parts (not (s == active)) false (ap (λ p. not (s == active) && in_slot (λ d. asks d q) p) (sym e) ∙ h)).1
+pub undriven_past : (all : Population) (s : ℕ) (q : Request) → device_in all s ≡ None → drives_in all q s ≡ true → ⊥
+undriven_past all s q e h = both_ways _ refl (and_parts (not (s == all.active)) false (ap (λ p. not (s == all.active) && in_slot (λ d. asks d q) p) (sym e) ∙ h)).1
 
 -- an entry for each slot: what f gives of whatever stands there, of which P holds
 abbrev pub AreEntries : (Option Device → ℕ) → (Option Device → Type 0) → List ℕ → List (Option Device) → Type 0
@@ -88,7 +87,7 @@ entries_of_put f P entries places i place entry low are is holds here = (
 -- the slots of the devices at an address, but the active controller's
 pub there_at : (active a : ℕ) (kept : Answering) (places : List (Option Device)) (unaddressed there addressed slots : SlotSet) → a < 128 → DoAnswer kept places → IsSetOf (λ d. is_none d.address) unaddressed places
     → ((s : ℕ) → s < SLOTS → has there s ≡ (slice_index kept.addresses s == a)) → ((s : ℕ) → s < SLOTS → has addressed s ≡ (has there s && not (has unaddressed s)))
-    → ((s : ℕ) → s < SLOTS → has slots s ≡ (if s == active then false else has addressed s)) → AreAt active a slots places
+    → ((s : ℕ) → s < SLOTS → has slots s ≡ (if s == active then false else has addressed s)) → AreReached active (Some a) slots places
 there_at active a kept places unaddressed there addressed slots small are lacks found left but s l =
     but s l ∙ (ap (λ b. if s == active then false else b) (left s l ∙ (λ t. (found s l ∙ ap (λ k. k == a) (are.1 s l)) t && not (lacks s l t))) ∙ go (s == active) (get_or places s None))
   where

@@ -1,5 +1,5 @@
 -- What the lines give while devices drive their registers.
-use Rattle.std.proofs.Common.{◌≡◌, ℕ, ◌+◌, ◌-◌, ◌*◌, ◌/◌, ◌^◌, ◌<◌, ◌≤◌, ◌↔◌, Bool, true, false, not, ◌&&◌, ◌==◌, ◌⊎◌, if◌then◌else◌, min, max, List, length, length-set, take, get_or, set, Option, Some, None, inl, inr, refl, sym, ap, ◌∙◌, subst, arith}
+use Rattle.std.proofs.Common.{◌≡◌, ℕ, ◌+◌, ◌-◌, ◌*◌, ◌/◌, ◌^◌, ◌<◌, ◌≤◌, ◌↔◌, Bool, true, false, not, ◌&&◌, ◌==◌, ◌⊎◌, if◌then◌else◌, min, max, List, length, length-set, take, get_or, set, Option, Some, None, option_map, inl, inr, refl, sym, ap, ◌∙◌, subst, arith}
 use Rattle.std.proofs.lemmas.Bool.{both_ways, cases_eq, cases_lt, cond-true, cond-false, eq-eqb, eqb-true, le-leb, lt-leb, ne_eqb}
 use Rattle.std.proofs.lemmas.Bool.Decides.{nat_tests}
 use Rattle.std.proofs.lemmas.List.{get_or_default, get_or_past, get_or-set_other, get_or-set_same, get_or-take, length-take-le}
@@ -11,11 +11,13 @@ use Rattle.std.specs.Int.RustNames.{bit_or}
 use lib.Bits.{bit_and}
 use Rattle.i3c_base.specs.declared.range.TheConstants.{SLOTS}
 use Rattle.i3c_base.specs.Cutting.{CutList, Lost, cut_of, is_by, lost_by}
-use Rattle.i3c_base.specs.State.{Device, in_slot}
+use Rattle.i3c_base.specs.State.{Device, Population, device_in, in_slot}
+use Rattle.i3c_base.specs.Frames.{reaches_at, written_at}
 use Rattle.i3c_device.specs.declared.sets.SlotSet.{SlotSet}
-use Rattle.i3c_device.specs.Reading.{AreAt, AreBytesOf, Driving, IsByteFrom, IsByteOf, IsDrivenFrom, PullsLow, SomeZero, has_zero}
+use Rattle.i3c_device.specs.Reading.{AreBytesOf, Driving, IsByteFrom, IsByteOf, IsDrivenFrom, PullsLow, SomeZero, has_zero}
 use Rattle.i3c_device.specs.Sets.{has}
-use Rattle.i3c_device.specs.Walks.{reaches_at, written_at}
+use Rattle.i3c_device.specs.Walks.{AreReached}
+use Rattle.i3c_device.proofs.Targets.{reached_target, target_reached}
 
 -- a device that drives nothing any more: ones
 pub driven_gone : (own bit start : ℕ) → bit ≤ start → IsDrivenFrom own (Some bit) start 255
@@ -168,23 +170,24 @@ zero_in : (own : Driving) (k bit : ℕ) (o : Option Device) → has_zero own k b
 zero_in own k bit None e = absurd (both_ways _ refl e)
 zero_in own k bit (Some d) e = (d, refl, eqb-true (bit_at (get_or (own d) k 0) bit) 0 e)
 
-pub pulls_low : (own : Driving) (active a : ℕ) (slots : SlotSet) (devices : List (Option Device)) (lost : Lost) (k bit : ℕ) → AreAt active a slots devices → SomeZero own slots lost k bit devices → PullsLow own active a lost k bit devices
-pulls_low own active a slots devices lost k bit are some =
-    let zero = zero_in own k bit (get_or devices some.0 None) some.4 in
-    (some.0, zero.0, zero.1, sym (ap (in_slot (reaches_at active (Some a) some.0)) zero.1) ∙ (sym (are some.0 some.1) ∙ some.2), some.3, zero.2)
+pulls_low : (own : Driving) (all : Population) (a : ℕ) (slots : SlotSet) (lost : Lost) (k bit : ℕ) → AreReached all.active (Some a) slots all.devices → SomeZero own slots lost k bit all.devices → PullsLow own all a lost k bit
+pulls_low own all a slots lost k bit are some =
+    let zero = zero_in own k bit (device_in all some.0) some.4 in
+    (some.0, zero.0, reached_target all a some.0 zero.0 zero.1 (sym (ap (in_slot (reaches_at all.active (Some a) some.0)) zero.1) ∙ (sym (are some.0 some.1) ∙ some.2)), some.3, zero.2)
 
-pub low_pulled : (own : Driving) (active a : ℕ) (slots : SlotSet) (devices : List (Option Device)) (lost : Lost) (k bit : ℕ) → length devices ≡ SLOTS → AreAt active a slots devices → PullsLow own active a lost k bit devices → SomeZero own slots lost k bit devices
-low_pulled own active a slots devices lost k bit long are low =
+low_pulled : (own : Driving) (all : Population) (a : ℕ) (slots : SlotSet) (lost : Lost) (k bit : ℕ) → length all.devices ≡ SLOTS → AreReached all.active (Some a) slots all.devices → PullsLow own all a lost k bit → SomeZero own slots lost k bit all.devices
+low_pulled own all a slots lost k bit long are low =
     let s = low.0 in
-    let l : s < SLOTS = elim (cases_lt s SLOTS) [ inl l ↦ l | inr past ↦ absurd (none-some low.1 (sym (get_or_past devices s None (omega (arith, long))) ∙ low.2)) ] in
-    (s, l, are s l ∙ (ap (in_slot (reaches_at active (Some a) s)) low.2 ∙ low.3), low.4, ap (has_zero own k bit) low.2 ∙ eq-eqb (bit_at (get_or (own low.1) k 0) bit) 0 low.5)
+    let there = low.2.0 in
+    let l : s < SLOTS = elim (cases_lt s SLOTS) [ inl l ↦ l | inr past ↦ absurd (none-some low.1 (sym (get_or_past all.devices s None (omega (arith, long))) ∙ there)) ] in
+    (s, l, are s l ∙ (ap (in_slot (reaches_at all.active (Some a) s)) there ∙ target_reached all a s low.1 low.2), low.3, ap (has_zero own k bit) there ∙ eq-eqb (bit_at (get_or (own low.1) k 0) bit) 0 low.4)
 
 -- a byte as devices at the address drive it
-pub byte_read : (own : Driving) (active a : ℕ) (slots : SlotSet) (devices : List (Option Device)) (cuts : CutList) (start k byte : ℕ) → length devices ≡ SLOTS → AreAt active a slots devices → IsByteOf own slots k cuts start devices byte
-    → (j : ℕ) → j < 8 → (bit_at byte (7 - j) ≡ 0) ↔ PullsLow own active a (lost_by cuts (start + j)) k (7 - j) devices
-byte_read own active a slots devices cuts start k byte long are is j l = (
-  λ z. pulls_low own active a slots devices (lost_by cuts (start + j)) k (7 - j) are ((is j l).0 z),
-  λ low. (is j l).1 (low_pulled own active a slots devices (lost_by cuts (start + j)) k (7 - j) long are low),
+pub byte_read : (own : Driving) (all : Population) (a : ℕ) (slots : SlotSet) (cuts : CutList) (start k byte : ℕ) → length all.devices ≡ SLOTS → AreReached all.active (Some a) slots all.devices → IsByteOf own slots k cuts start all.devices byte
+    → (j : ℕ) → j < 8 → (bit_at byte (7 - j) ≡ 0) ↔ PullsLow own all a (lost_by cuts (start + j)) k (7 - j)
+byte_read own all a slots cuts start k byte long are is j l = (
+  λ z. pulls_low own all a slots (lost_by cuts (start + j)) k (7 - j) are ((is j l).0 z),
+  λ low. (is j l).1 (low_pulled own all a slots (lost_by cuts (start + j)) k (7 - j) long are low),
 )
 
 -- the bytes so far, of so many
@@ -208,23 +211,22 @@ read_more own most slots cuts first devices n byte bytes low fits h is = record 
   ];
 }
 
-pub read_all : (own : Driving) (most active a : ℕ) (slots : SlotSet) (devices : List (Option Device)) (cuts : CutList) (first n : ℕ) (bytes : List ℕ) → length devices ≡ SLOTS → AreAt active a slots devices → most ≤ n
-    → ReadSoFar own most slots cuts first devices n bytes → AreBytesOf own most active a cuts first devices bytes
-read_all own most active a slots devices cuts first n bytes long are past h k j l m =
-    byte_read own active a slots devices cuts (first + 9 * k) k (get_or bytes k 0) long are (h.read k (omega arith)) j m
+pub read_all : (own : Driving) (most : ℕ) (all : Population) (a : ℕ) (slots : SlotSet) (cuts : CutList) (first n : ℕ) (bytes : List ℕ) → length all.devices ≡ SLOTS → AreReached all.active (Some a) slots all.devices → most ≤ n
+    → ReadSoFar own most slots cuts first all.devices n bytes → AreBytesOf own most all a cuts first bytes
+read_all own most all a slots cuts first n bytes long are past h k j l m = byte_read own all a slots cuts (first + 9 * k) k (get_or bytes k 0) long are (h.read k (omega arith)) j m
 
 pub read_small : (own : Driving) (most : ℕ) (slots : SlotSet) (cuts : CutList) (first : ℕ) (devices : List (Option Device)) (n : ℕ) (bytes : List ℕ) → most ≤ n
     → ReadSoFar own most slots cuts first devices n bytes → All (λ byte. byte < 256) bytes
 read_small own most slots cuts first devices n bytes past h k d l = subst (λ v. v < 256) (get_or_default bytes k 0 d l) (h.small k (omega (arith, h.long)))
 
 -- so many of them, where there is room for more
-pub read_counted : (own : Driving) (most count active a : ℕ) (slots : SlotSet) (devices : List (Option Device)) (cuts : CutList) (first n : ℕ) (bytes : List ℕ) → length devices ≡ SLOTS → AreAt active a slots devices
-    → count ≤ n → count ≤ most → ReadSoFar own most slots cuts first devices n bytes → AreBytesOf own (length (take count bytes)) active a cuts first devices (take count bytes)
-read_counted own most count active a slots devices cuts first n bytes long are past few h k j l m =
+pub read_counted : (own : Driving) (most count : ℕ) (all : Population) (a : ℕ) (slots : SlotSet) (cuts : CutList) (first n : ℕ) (bytes : List ℕ) → length all.devices ≡ SLOTS → AreReached all.active (Some a) slots all.devices
+    → count ≤ n → count ≤ most → ReadSoFar own most slots cuts first all.devices n bytes → AreBytesOf own (length (take count bytes)) all a cuts first (take count bytes)
+read_counted own most count all a slots cuts first n bytes long are past few h k j l m =
     let counted : length (take count bytes) ≡ count = length-take-le count bytes (omega (arith, few, h.long)) in
     let low : k < count = omega (arith, counted, l) in
-    subst (λ b. (bit_at b (7 - j) ≡ 0) ↔ PullsLow own active a (lost_by cuts (first + 9 * k + j)) k (7 - j) devices) (sym (get_or-take count bytes k 0 low))
-    (byte_read own active a slots devices cuts (first + 9 * k) k (get_or bytes k 0) long are (h.read k (omega arith)) j m)
+    subst (λ b. (bit_at b (7 - j) ≡ 0) ↔ PullsLow own all a (lost_by cuts (first + 9 * k + j)) k (7 - j)) (sym (get_or-take count bytes k 0 low))
+    (byte_read own all a slots cuts (first + 9 * k) k (get_or bytes k 0) long are (h.read k (omega arith)) j m)
 
 pub small_counted : (own : Driving) (most count : ℕ) (slots : SlotSet) (cuts : CutList) (first : ℕ) (devices : List (Option Device)) (n : ℕ) (bytes : List ℕ) → count ≤ n → count ≤ most
     → ReadSoFar own most slots cuts first devices n bytes → All (λ byte. byte < 256) (take count bytes)
@@ -234,6 +236,6 @@ small_counted own most count slots cuts first devices n bytes past few h k d l =
     subst (λ v. v < 256) (sym (get_or-take count bytes k 0 low) ∙ get_or_default (take count bytes) k 0 d l) (h.small k (omega arith))
 
 -- a write changes nobody where there is none
-pub write_spares : (active a : ℕ) (bytes : List ℕ) (s : ℕ) (o : Option Device) → in_slot (λ d. true) o ≡ false → written_at active a bytes s o ≡ o
+pub write_spares : (active a : ℕ) (bytes : List ℕ) (s : ℕ) (o : Option Device) → in_slot (λ d. true) o ≡ false → option_map (written_at active a bytes s) o ≡ o
 write_spares active a bytes s None e = refl
 write_spares active a bytes s (Some d) e = absurd (both_ways _ e refl)

@@ -8,10 +8,11 @@ use lib.Bits.{bit_and}
 use Rattle.i3c_base.specs.declared.range.TheConstants.{SLOTS}
 use Rattle.i3c_base.specs.declared.device.TheConstants.{REGISTERS}
 use Rattle.i3c_base.specs.Cutting.{CutList, IsUncut, cut_of}
-use Rattle.i3c_base.specs.State.{Device}
+use Rattle.i3c_base.specs.State.{Device, Population}
 use Rattle.i3c_device.specs.declared.sets.SlotSet.{SlotSet}
-use Rattle.i3c_device.specs.Reading.{AreAt, AreBytesOf, IsByteFrom, IsByteOf, registers_of}
+use Rattle.i3c_device.specs.Reading.{AreBytesOf, IsByteFrom, IsByteOf, registers_of}
 use Rattle.i3c_device.specs.Sets.{has}
+use Rattle.i3c_device.specs.Walks.{AreReached}
 use Rattle.i3c_device.proofs.FindLaws.{TakesOut}
 use Rattle.i3c_device.proofs.ReadLaws.{ByteSoFar, byte_more, byte_none, byte_read, byte_same}
 
@@ -60,10 +61,9 @@ pub registers_small : (among left : SlotSet) (devices : List (Option Device)) (b
 registers_small among left devices bytes h k d l = subst (λ v. v < 256) (get_or_default bytes k 0 d l) (h.small k (omega (arith, l, h.long)))
 
 -- so all registers are read where nobody is cut
-pub registers_read : (active a : ℕ) (slots : SlotSet) (devices : List (Option Device)) (cuts : CutList) (first : ℕ) (bytes : List ℕ) → length devices ≡ SLOTS → AreAt active a slots devices → IsUncut cuts
-    → ((k start : ℕ) (others : CutList) → k < REGISTERS → IsUncut others → IsByteOf registers_of slots k others start devices (get_or bytes k 0)) → AreBytesOf registers_of REGISTERS active a cuts first devices bytes
-registers_read active a slots devices cuts first bytes long are uncut all k j l m =
-    byte_read registers_of active a slots devices cuts (first + 9 * k) k (get_or bytes k 0) long are (all k (first + 9 * k) cuts l uncut) j m
+pub registers_read : (all : Population) (a : ℕ) (slots : SlotSet) (cuts : CutList) (first : ℕ) (bytes : List ℕ) → length all.devices ≡ SLOTS → AreReached all.active (Some a) slots all.devices → IsUncut cuts
+    → ((k start : ℕ) (others : CutList) → k < REGISTERS → IsUncut others → IsByteOf registers_of slots k others start all.devices (get_or bytes k 0)) → AreBytesOf registers_of REGISTERS all a cuts first bytes
+registers_read all a slots cuts first bytes long are uncut each k j l m = byte_read registers_of all a slots cuts (first + 9 * k) k (get_or bytes k 0) long are (each k (first + 9 * k) cuts l uncut) j m
 
 -- the first registers are pulled low
 pub record PulledSoFar (old registers : List ℕ) (n : ℕ) (bytes : List ℕ) : Type 0 where

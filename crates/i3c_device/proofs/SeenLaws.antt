@@ -62,18 +62,18 @@ happened_seen e f xs ys now i blind is happened =
     ap (seen e) happened ∙ (seen_put e xs i (f i (get_or xs i None)) ∙ (ap (set (seen e xs) i) (blind (kinds_in e i) i (get_or xs i None) ∙ ap (f i) (sym (seen_at e xs i)))
     ∙ ap (λ zs. set zs i (f i (get_or zs i None))) is))
 
--- a device that enters a slot, in which these kinds are enabled from then on
-pub entered_seen : (e more : Enabled) (xs ys now : List (Option Device)) (i j : ℕ) (kinds : KindSet) (d : Device) → length xs ≡ SLOTS → i < SLOTS → j ≡ i
-    → ((s : ℕ) → s < SLOTS → kinds_in more s ≡ (if s == j then kinds else kinds_in e s)) → seen e xs ≡ now → ys ≡ set xs i (Some d) → seen more ys ≡ set now i (Some (under kinds d))
-entered_seen e more xs ys now i j kinds d long low at anew is put =
-    ap (seen more) put ∙ (seen_put more xs i (Some d) ∙ ((λ t. set (seen more xs) i (Some (under (here t) d)))
-    ∙ (ext_get_or None (set (seen more xs) i (Some (under kinds d))) (set (seen e xs) i (Some (under kinds d))) lengths each ∙ ap (λ zs. set zs i (Some (under kinds d))) is)))
+-- what enters a slot, in which these kinds are enabled from then on
+pub placed_seen : (e more : Enabled) (xs ys now : List (Option Device)) (i j : ℕ) (kinds : KindSet) (place : Option Device) → length xs ≡ SLOTS → i < SLOTS → j ≡ i
+    → ((s : ℕ) → s < SLOTS → kinds_in more s ≡ (if s == j then kinds else kinds_in e s)) → seen e xs ≡ now → ys ≡ set xs i place → seen more ys ≡ set now i (option_map (under kinds) place)
+placed_seen e more xs ys now i j kinds place long low at anew is put =
+    ap (seen more) put ∙ (seen_put more xs i place ∙ ((λ t. set (seen more xs) i (option_map (under (here t)) place))
+    ∙ (ext_get_or None (set (seen more xs) i (option_map (under kinds) place)) (set (seen e xs) i (option_map (under kinds) place)) lengths each ∙ ap (λ zs. set zs i (option_map (under kinds) place)) is)))
   where
     here : kinds_in more i ≡ kinds
     here = anew i low ∙ cond-true (i == j) kinds (kinds_in e i) (eq-eqb i j (sym at))
 
-    lengths : length (set (seen more xs) i (Some (under kinds d))) ≡ length (set (seen e xs) i (Some (under kinds d)))
-    lengths = length-set (seen more xs) i (Some (under kinds d)) ∙ (length_seen more xs ∙ sym (length-set (seen e xs) i (Some (under kinds d)) ∙ length_seen e xs))
+    lengths : length (set (seen more xs) i (option_map (under kinds) place)) ≡ length (set (seen e xs) i (option_map (under kinds) place))
+    lengths = length-set (seen more xs) i (option_map (under kinds) place) ∙ (length_seen more xs ∙ sym (length-set (seen e xs) i (option_map (under kinds) place) ∙ length_seen e xs))
 
     other : (s : ℕ) → s < SLOTS → (s ≡ i → ⊥) → get_or (seen more xs) s None ≡ get_or (seen e xs) s None
     other s l ne =
@@ -81,16 +81,21 @@ entered_seen e more xs ys now i j kinds d long low at anew is put =
         ∙ (ap (λ own. option_map (under own) (get_or xs s None)) (anew s l ∙ cond-false (s == j) kinds (kinds_in e s) (ne_eqb s j (λ same. ne (same ∙ at))))
         ∙ sym (seen_at e xs s))
 
-    each : (s : ℕ) → s < length (set (seen more xs) i (Some (under kinds d))) → get_or (set (seen more xs) i (Some (under kinds d))) s None ≡ get_or (set (seen e xs) i (Some (under kinds d))) s None
+    each : (s : ℕ) → s < length (set (seen more xs) i (option_map (under kinds) place)) → get_or (set (seen more xs) i (option_map (under kinds) place)) s None ≡ get_or (set (seen e xs) i (option_map (under kinds) place)) s None
     each s m = elim (cases_eq s i) [
       | inl e2 ↦
-          ap (λ k. get_or (set (seen more xs) i (Some (under kinds d))) k None) e2
-          ∙ (get_or-set_same (seen more xs) i (Some (under kinds d)) None (omega (arith, low, long, length_seen more xs))
-          ∙ sym (ap (λ k. get_or (set (seen e xs) i (Some (under kinds d))) k None) e2 ∙ get_or-set_same (seen e xs) i (Some (under kinds d)) None (omega (arith, low, long, length_seen e xs))))
+          ap (λ k. get_or (set (seen more xs) i (option_map (under kinds) place)) k None) e2
+          ∙ (get_or-set_same (seen more xs) i (option_map (under kinds) place) None (omega (arith, low, long, length_seen more xs))
+          ∙ sym (ap (λ k. get_or (set (seen e xs) i (option_map (under kinds) place)) k None) e2 ∙ get_or-set_same (seen e xs) i (option_map (under kinds) place) None (omega (arith, low, long, length_seen e xs))))
       | inr ne ↦
-          get_or-set_other (seen more xs) i s (Some (under kinds d)) None ne
-          ∙ (other s (omega (arith, m, long, length-set (seen more xs) i (Some (under kinds d)), length_seen more xs)) ne ∙ sym (get_or-set_other (seen e xs) i s (Some (under kinds d)) None ne))
+          get_or-set_other (seen more xs) i s (option_map (under kinds) place) None ne
+          ∙ (other s (omega (arith, m, long, length-set (seen more xs) i (option_map (under kinds) place), length_seen more xs)) ne ∙ sym (get_or-set_other (seen e xs) i s (option_map (under kinds) place) None ne))
     ]
+
+-- a device that enters it
+pub entered_seen : (e more : Enabled) (xs ys now : List (Option Device)) (i j : ℕ) (kinds : KindSet) (d : Device) → length xs ≡ SLOTS → i < SLOTS → j ≡ i
+    → ((s : ℕ) → s < SLOTS → kinds_in more s ≡ (if s == j then kinds else kinds_in e s)) → seen e xs ≡ now → ys ≡ set xs i (Some d) → seen more ys ≡ set now i (Some (under kinds d))
+entered_seen e more xs ys now i j kinds d long low at anew is put = placed_seen e more xs ys now i j kinds (Some d) long low at anew is put
 
 -- a test that doesn't read the kinds
 pub set_seen : (e : Enabled) (test : Device → Bool) (slots : SlotSet) (xs : List (Option Device)) → ((kinds : KindSet) (d : Device) → test (under kinds d) ≡ test d) → IsSetOf test slots xs → IsSetOf test slots (seen e xs)
@@ -120,3 +125,13 @@ pub seen_none : (e : Enabled) → seen e no_devices ≡ no_devices
 seen_none e =
     ext_get_or None (seen e no_devices) no_devices (length_seen e no_devices)
     (λ s l. seen_at e no_devices s ∙ (ap (seen_in e s) (no_devices_at s) ∙ sym (no_devices_at s)))
+
+-- what rests in a slot enters it, with its kinds
+pub woken_seen : (e more there : Enabled) (xs ys now kept resting : List (Option Device)) (i j : ℕ) (kinds : KindSet) (place : Option Device) → length xs ≡ SLOTS → i < SLOTS → j ≡ i
+    → ((s : ℕ) → s < SLOTS → kinds_in more s ≡ (if s == j then kinds else kinds_in e s)) → seen e xs ≡ now → seen there kept ≡ resting → kinds ≡ kinds_in there j → place ≡ get_or kept i None → ys ≡ set xs i place
+    → seen more ys ≡ set now i (get_or resting i None)
+woken_seen e more there xs ys now kept resting i j kinds place long low at anew is rests own held put =
+    placed_seen e more xs ys now i j kinds place long low at anew is put ∙ ap (set now i) same
+  where
+    same : option_map (under kinds) place ≡ get_or resting i None
+    same = (λ t. option_map (under ((own ∙ ap (kinds_in there) at) t)) (held t)) ∙ (sym (seen_at there kept i) ∙ ap (λ zs. get_or zs i None) rests)

@@ -9,11 +9,11 @@ use Rattle.i3c_base.specs.declared.refusals.RaiseRefusal.{RaiseRefusal}
 use Rattle.i3c_base.specs.declared.requests.Request.{Request}
 use Rattle.i3c_base.specs.declared.requests.Request.TheVariants.{Interrupt, Join, Role}
 use Rattle.i3c_base.specs.Cutting.{CutList, Lost, lost_by}
-use Rattle.i3c_base.specs.Frames.{takes_static, with_kinds, without_kinds, told_bytes}
+use Rattle.i3c_base.specs.Frames.{takes_static, with_kinds, without_kinds, told_bytes, reaches_at, AreWillingLost, IsHeardIn, SomeUnaddressedLeftIn, IsLowestWilling}
 use Rattle.i3c_base.specs.Numbers.{KindSet}
 use Rattle.i3c_base.specs.Places.{changed}
 use Rattle.i3c_base.specs.Serve.{asks, is_empty}
-use Rattle.i3c_base.specs.State.{Device, in_slot, is_the}
+use Rattle.i3c_base.specs.State.{Device, in_slot, is_the, Population, device_in, with_active}
 use Rattle.i3c_word.specs.declared.Word.{Word}
 use Rattle.i3c_ccc.specs.declared.codes.Code.{Code}
 use Rattle.i3c_base.specs.declared.datum.Datum.{Datum}
@@ -30,10 +30,11 @@ use Rattle.i3c_device.specs.Marks.{AreMarks, IsSetOf}
 use Rattle.i3c_device.specs.Raising.{interrupting_if, next_fault}
 use Rattle.i3c_device.specs.Reading.{AreBytesOf, Driving, PullsLow, registers_of}
 use Rattle.i3c_device.specs.Sets.{SomeLeft, has}
-use Rattle.i3c_device.specs.Walks.{AreReached, AreTakers, AreWillingLost, IsLowestWilling, SomeReached, SomeTakes, heard_at, reaches_at, willing_at}
+use Rattle.i3c_device.specs.Walks.{AreReached, AreTakers, heard_at, willing_at}
 use Rattle.i3c_device.specs.Wishing.{asks_some, wishes_interrupt, wishes_join, wishes_role}
 use Rattle.i3c_device.proofs.EachLaws.{all_changed, narrowed}
 use Rattle.i3c_device.proofs.SeenLaws.{length_seen, seen_at, seen_turned}
+use Rattle.i3c_device.proofs.Targets.{SomePasses, found_willing, heard_passes, passes_heard, passes_takes, takes_passes, willing_found}
 
 -- what holds where a call went well
 pub on_ok : {A B : Type 0} (r : Result A B) (P Q : Type 0) → (P → Q) → OnOk r P → OnOk r Q
@@ -133,24 +134,24 @@ within_slots now s d long there = elim (cases_lt s SLOTS) [
   | inr past ↦ absurd (none-some d (sym (get_or_past now s None (omega (arith, long, past))) ∙ there))
 ]
 
--- a device of these passes the test of its slot, and isn't lost
-abbrev SomePasses : (ℕ → Device → Bool) → Lost → List (Option Device) → Type 0
-SomePasses test lost now = (s : ℕ) × (d : Device) × (get_or now s None ≡ Some d) × (test s d ≡ true) × (lost s ≡ false)
-
-passes_some : (test : ℕ → Device → Bool) (slots : SlotSet) (lost : Lost) (now : List (Option Device)) (b : Bool) → length now ≡ SLOTS → ((s : ℕ) → s < SLOTS → has slots s ≡ in_slot (test s) (get_or now s None))
-    → (IsTrue b ↔ SomeLeft slots lost) → (IsTrue b ↔ SomePasses test lost now)
-passes_some test slots lost now b long passes is = (
-  λ t. let left = is.0 t in let there = there_in (test left.0) (get_or now left.0 None) (sym (passes left.0 left.1) ∙ left.2) in (left.0, there.0, there.1, there.2, left.3),
-  λ some. let l = within_slots now some.0 some.1 long some.2 in is.1 (some.0, l, passes some.0 l ∙ (ap (in_slot (test some.0)) some.2 ∙ some.3), some.4),
+passes_some : (test : ℕ → Device → Bool) (slots : SlotSet) (lost : Lost) (all : Population) (b : Bool) → length all.devices ≡ SLOTS → ((s : ℕ) → s < SLOTS → has slots s ≡ in_slot (test s) (device_in all s))
+    → (IsTrue b ↔ SomeLeft slots lost) → (IsTrue b ↔ SomePasses test lost all)
+passes_some test slots lost all b long passes is = (
+  λ t. let left = is.0 t in let there = there_in (test left.0) (device_in all left.0) (sym (passes left.0 left.1) ∙ left.2) in (left.0, there.0, there.1, there.2, left.3),
+  λ some. let l = within_slots all.devices some.0 some.1 long some.2 in is.1 (some.0, l, passes some.0 l ∙ (ap (in_slot (test some.0)) some.2 ∙ some.3), some.4),
 )
 
-pub heard_some : (active : ℕ) (to : Option ℕ) (slots : SlotSet) (lost : Lost) (now : List (Option Device)) (b : Bool) → length now ≡ SLOTS → AreReached active to slots now → (IsTrue b ↔ SomeLeft slots lost)
-    → (IsTrue b ↔ SomeReached active to lost now)
-heard_some active to = passes_some (reaches_at active to)
+pub heard_some : (all : Population) (to : Option ℕ) (slots : SlotSet) (lost : Lost) (b : Bool) → length all.devices ≡ SLOTS → AreReached all.active to slots all.devices → (IsTrue b ↔ SomeLeft slots lost)
+    → (IsTrue b ↔ IsHeardIn all to lost)
+heard_some all to slots lost b long are is =
+    let passes = passes_some (reaches_at all.active to) slots lost all b long are is in
+    (λ t. passes_heard all to lost (passes.0 t), λ heard. passes.1 (heard_passes all to lost heard))
 
-pub takes_some : (active f : ℕ) (slots : SlotSet) (lost : Lost) (now : List (Option Device)) (b : Bool) → length now ≡ SLOTS → AreTakers active f slots now → (IsTrue b ↔ SomeLeft slots lost)
-    → (IsTrue b ↔ SomeTakes active f lost now)
-takes_some active f = passes_some (takes_static active f)
+pub takes_some : (all : Population) (f : ℕ) (slots : SlotSet) (lost : Lost) (b : Bool) → length all.devices ≡ SLOTS → AreTakers all.active f slots all.devices → (IsTrue b ↔ SomeLeft slots lost)
+    → (IsTrue b ↔ SomeUnaddressedLeftIn all f lost)
+takes_some all f slots lost b long are is =
+    let passes = passes_some (takes_static all.active f) slots lost all b long are is in
+    (λ t. passes_takes all f lost (passes.0 t), λ some. passes.1 (takes_passes all f lost some))
 
 -- who would take the role
 willing_now : (e : Enabled) (xs now : List (Option Device)) (active a s : ℕ) → seen e xs ≡ now → willing_at active a s (get_or now s None) ≡ willing_at active a s (get_or xs s None)
@@ -166,21 +167,21 @@ willing_among xs active a s present left lost long of but w n =
 
 pub willing_seen : (e : Enabled) (xs now : List (Option Device)) (active a : ℕ) (present left : SlotSet) (lost : Lost) (found : Option ℕ) → length xs ≡ SLOTS → seen e xs ≡ now → IsSetOf (λ d. true) present xs
     → ((t : ℕ) → t < SLOTS → has left t ≡ (has present t && not (lost t))) → MatchOption found (IsNowhere (willing_at active a) left xs) (IsLowestFound (willing_at active a) left xs)
-    → MatchOption found (AreWillingLost active a lost now) (IsLowestWilling active a lost now)
+    → MatchOption found (AreWillingLost (with_active now active) a lost) (IsLowestWilling (with_active now active) a lost)
 willing_seen e xs now active a present left lost None long is of but h = λ s w. elim (cases_Bool (lost s)) [
   | inl t ↦ t
   | inr n ↦
-      let w2 = sym (willing_now e xs now active a s is) ∙ w in
+      let w2 = sym (willing_now e xs now active a s is) ∙ willing_found (with_active now active) a s w in
       let there = willing_among xs active a s present left lost long of but w2 n in
       absurd (both_ways _ (h s there.0 there.1) w2)
 ]
 willing_seen e xs now active a present left lost (Some i) long is of but h = (
-  willing_now e xs now active a i is ∙ h.found,
+  found_willing (with_active now active) a i (willing_now e xs now active a i is ∙ h.found),
   not_lost,
   λ t l w. elim (cases_Bool (lost t)) [
     | inl y ↦ y
     | inr n ↦
-        let w2 = sym (willing_now e xs now active a t is) ∙ w in
+        let w2 = sym (willing_now e xs now active a t is) ∙ willing_found (with_active now active) a t w in
         let there = willing_among xs active a t present left lost long of but w2 n in
         absurd (both_ways _ (h.below t l there.1) w2)
   ],
@@ -341,17 +342,19 @@ told_blind Datum.Speed kinds d = refl
 told_blind Datum.Capabilities kinds d = refl
 
 -- bytes as they are read
-pulls_seen : (own : Driving) → IsBlind own → (e : Enabled) (xs now : List (Option Device)) (active a : ℕ) (lost : Lost) (k bit : ℕ) → seen e xs ≡ now → PullsLow own active a lost k bit xs → PullsLow own active a lost k bit now
+pulls_seen : (own : Driving) → IsBlind own → (e : Enabled) (xs now : List (Option Device)) (active a : ℕ) (lost : Lost) (k bit : ℕ) → seen e xs ≡ now → PullsLow own (with_active xs active) a lost k bit
+    → PullsLow own (with_active now active) a lost k bit
 pulls_seen own blind e xs now active a lost k bit is h =
-    (h.0, under (kinds_in e h.0) h.1, now_at e xs now h.0 is ∙ ap (seen_in e h.0) h.2, h.3, h.4, ap (λ bytes. bit_at (slice_index bytes k) bit) (blind (kinds_in e h.0) h.1) ∙ h.5)
+    (h.0, under (kinds_in e h.0) h.1, (now_at e xs now h.0 is ∙ ap (seen_in e h.0) h.2.0, h.2.1, h.2.2), h.3, ap (λ bytes. bit_at (slice_index bytes k) bit) (blind (kinds_in e h.0) h.1) ∙ h.4)
 
-seen_pulls : (own : Driving) → IsBlind own → (e : Enabled) (xs now : List (Option Device)) (active a : ℕ) (lost : Lost) (k bit : ℕ) → seen e xs ≡ now → PullsLow own active a lost k bit now → PullsLow own active a lost k bit xs
+seen_pulls : (own : Driving) → IsBlind own → (e : Enabled) (xs now : List (Option Device)) (active a : ℕ) (lost : Lost) (k bit : ℕ) → seen e xs ≡ now → PullsLow own (with_active now active) a lost k bit
+    → PullsLow own (with_active xs active) a lost k bit
 seen_pulls own blind e xs now active a lost k bit is h =
-    let u = unseen e h.0 (get_or xs h.0 None) h.1 (sym (now_at e xs now h.0 is) ∙ h.2) in
-    (h.0, u.0, u.1, sym (ap (reaches_at active (Some a) h.0) u.2) ∙ h.3, h.4, sym (ap (λ bytes. bit_at (slice_index bytes k) bit) (ap own u.2 ∙ blind (kinds_in e h.0) u.0)) ∙ h.5)
+    let u = unseen e h.0 (get_or xs h.0 None) h.1 (sym (now_at e xs now h.0 is) ∙ h.2.0) in
+    (h.0, u.0, (u.1, ap (λ (d : Device). d.address) (sym u.2) ∙ h.2.1, h.2.2), h.3, sym (ap (λ bytes. bit_at (slice_index bytes k) bit) (ap own u.2 ∙ blind (kinds_in e h.0) u.0)) ∙ h.4)
 
 pub read_seen : (own : Driving) → IsBlind own → (e : Enabled) (xs now : List (Option Device)) (count active a : ℕ) (cuts : CutList) (first : ℕ) (bytes : List ℕ) → seen e xs ≡ now
-    → AreBytesOf own count active a cuts first xs bytes → AreBytesOf own count active a cuts first now bytes
+    → AreBytesOf own count (with_active xs active) a cuts first bytes → AreBytesOf own count (with_active now active) a cuts first bytes
 read_seen own blind e xs now count active a cuts first bytes is h k j l m = (
   λ z. pulls_seen own blind e xs now active a (lost_by cuts (first + 9 * k + j)) k (7 - j) is ((h k j l m).0 z),
   λ p. (h k j l m).1 (seen_pulls own blind e xs now active a (lost_by cuts (first + 9 * k + j)) k (7 - j) is p),

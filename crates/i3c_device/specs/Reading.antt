@@ -1,15 +1,14 @@
 -- What the lines give while devices at one address drive bytes: their registers, or a datum. Most significant bits come first.
-use Rattle.std.specs.Prelude.{◌≡◌, ℕ, ◌+◌, ◌-◌, ◌*◌, ◌<◌, ◌↔◌, Bool, true, false, ◌&&◌, not, ◌==◌, if◌then◌else◌, List, length, Option, Some, None, slice_index, slice_index_or}
+use Rattle.std.specs.Prelude.{◌≡◌, ℕ, ◌+◌, ◌-◌, ◌*◌, ◌<◌, ◌↔◌, Bool, true, false, ◌&&◌, not, ◌==◌, if◌then◌else◌, List, length, Option, None, slice_index, slice_index_or}
 use Rattle.std.specs.Int.{bit_at}
 use Rattle.i3c_base.specs.declared.range.TheConstants.{SLOTS}
 use Rattle.i3c_base.specs.declared.device.TheConstants.{REGISTERS}
 use Rattle.i3c_base.specs.Cutting.{CutList, Lost, is_by, lost_by}
-use Rattle.i3c_base.specs.State.{Device, in_slot}
+use Rattle.i3c_base.specs.State.{Device, IsTargetIn, Population, in_slot}
 use Rattle.i3c_base.specs.declared.datum.Datum.{Datum}
 use Rattle.i3c_base.specs.Frames.{told_bytes}
 use Rattle.i3c_device.specs.declared.sets.SlotSet.{SlotSet}
 use Rattle.i3c_device.specs.Sets.{has}
-use Rattle.i3c_device.specs.Walks.{reaches_at}
 
 -- a byte as it is driven from bit `at` of a frame on, by a device that is cut at this bit of it: ones from there on
 abbrev pub IsDrivenFrom : ℕ → Option ℕ → ℕ → ℕ → Type 0
@@ -31,10 +30,6 @@ has_zero own k bit place = in_slot (λ d. bit_at (slice_index (own d) k) bit == 
 abbrev pub IsByteFrom : Driving → Option Device → ℕ → Option ℕ → ℕ → ℕ → Type 0
 IsByteFrom own place k cut at byte = (j : ℕ) → j < 8 → bit_at byte (7 - j) ≡ (if not (is_by (at + j) cut) && has_zero own k (7 - j) place then 0 else 1)
 
--- the slots with a device at an address, but the active controller's
-abbrev pub AreAt : ℕ → ℕ → SlotSet → List (Option Device) → Type 0
-AreAt active a slots devices = (s : ℕ) → s < SLOTS → has slots s ≡ in_slot (reaches_at active (Some a) s) (slice_index_or devices s None)
-
 -- one of these slots isn't lost, and has 0 in this bit of byte k
 abbrev pub SomeZero : Driving → SlotSet → Lost → ℕ → ℕ → List (Option Device) → Type 0
 SomeZero own among lost k bit devices = (s : ℕ) × (s < SLOTS) × (has among s ≡ true) × (lost s ≡ false) × (has_zero own k bit (slice_index_or devices s None) ≡ true)
@@ -43,21 +38,19 @@ SomeZero own among lost k bit devices = (s : ℕ) × (s < SLOTS) × (has among s
 abbrev pub IsByteOf : Driving → SlotSet → ℕ → CutList → ℕ → List (Option Device) → ℕ → Type 0
 IsByteOf own among k cuts at devices byte = (j : ℕ) → j < 8 → (bit_at byte (7 - j) ≡ 0) ↔ SomeZero own among (lost_by cuts (at + j)) k (7 - j) devices
 
--- a device at the address that isn't lost has 0 in this bit of byte k: it pulls the line low
-abbrev pub PullsLow : Driving → ℕ → ℕ → Lost → ℕ → ℕ → List (Option Device) → Type 0
-PullsLow own active a lost k bit devices =
-    (s : ℕ) × (d : Device) × (slice_index_or devices s None ≡ Some d) × (reaches_at active (Some a) s d ≡ true) × (lost s ≡ false) × (bit_at (slice_index (own d) k) bit ≡ 0)
+-- a device of these at the address that isn't lost has 0 in this bit of byte k: it pulls the line low
+abbrev pub PullsLow : Driving → Population → ℕ → Lost → ℕ → ℕ → Type 0
+PullsLow own all a lost k bit = (s : ℕ) × (d : Device) × IsTargetIn all a s d × (lost s ≡ false) × (bit_at (slice_index (own d) k) bit ≡ 0)
 
 -- so many bytes as they are read from an address, the first bit of all at bit `first` of the frame: eight bits of each
 -- and a T. A bit is 0 exactly where a device there pulls the line low
-abbrev pub AreBytesOf : Driving → ℕ → ℕ → ℕ → CutList → ℕ → List (Option Device) → List ℕ → Type 0
-AreBytesOf own count active a cuts first devices bytes =
-    (k j : ℕ) → k < count → j < 8 → (bit_at (slice_index bytes k) (7 - j) ≡ 0) ↔ PullsLow own active a (lost_by cuts (first + 9 * k + j)) k (7 - j) devices
+abbrev pub AreBytesOf : Driving → ℕ → Population → ℕ → CutList → ℕ → List ℕ → Type 0
+AreBytesOf own count all a cuts first bytes = (k j : ℕ) → k < count → j < 8 → (bit_at (slice_index bytes k) (7 - j) ≡ 0) ↔ PullsLow own all a (lost_by cuts (first + 9 * k + j)) k (7 - j)
 
 -- all registers as they are read
-abbrev pub AreReadOf : ℕ → ℕ → CutList → ℕ → List (Option Device) → List ℕ → Type 0
-AreReadOf active a cuts first devices bytes = AreBytesOf registers_of REGISTERS active a cuts first devices bytes
+abbrev pub AreReadOf : Population → ℕ → CutList → ℕ → List ℕ → Type 0
+AreReadOf all a cuts first bytes = AreBytesOf registers_of REGISTERS all a cuts first bytes
 
 -- a datum as it is told
-abbrev pub AreToldOf : Datum → ℕ → ℕ → CutList → ℕ → List (Option Device) → List ℕ → Type 0
-AreToldOf what active a cuts first devices bytes = AreBytesOf (told_bytes what) (length bytes) active a cuts first devices bytes
+abbrev pub AreToldOf : Datum → Population → ℕ → CutList → ℕ → List ℕ → Type 0
+AreToldOf what all a cuts first bytes = AreBytesOf (told_bytes what) (length bytes) all a cuts first bytes

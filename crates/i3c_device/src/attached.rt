@@ -1,5 +1,8 @@
-ghost use Rattle.std.specs.Prelude.{◌≡◌};
+ghost use Rattle.std.specs.Prelude.{◌≡◌, ◌≤◌, ◌+◌, ◌↔◌, IsTrue};
+ghost use Rattle.std.specs.Int.{from_le_bytes, w64};
+ghost use Rattle.i3c_base.specs.declared.device.TheConstants.{REGISTERS as REGISTER_COUNT};
 ghost use Rattle.i3c_base.specs.Frames.{pid_bytes};
+ghost use Rattle.i3c_device.specs.Registers.{eight_from};
 
 use crate::answering::NOWHERE;
 use crate::queues::{are_same, copied, copy_from};
@@ -63,10 +66,11 @@ impl Attached {
     ghost use Rattle.i3c_base.specs.State.{attached};
     ghost use Rattle.i3c_base.specs.Serve.{without_front, without_join, without_role};
     ghost use Rattle.i3c_base.specs.Round.{hears, unhearing, winner};
+    ghost use Rattle.i3c_base.specs.Local.{with_raise};
     ghost use Rattle.i3c_device.specs.Addressing.{IsDynamic};
     ghost use Rattle.i3c_device.specs.Marks.{answer_of};
     ghost use Rattle.i3c_device.specs.Wishing.{choice_of, key_of, wishes_interrupt, wishes_join, wishes_role};
-    ghost use Rattle.i3c_device.specs.Raising.{front_byte, interrupting_if, next_fault, raise_fault, with_raise};
+    ghost use Rattle.i3c_device.specs.Raising.{front_byte, interrupting_if, next_fault, raise_fault};
 
     /// A device that was just attached, with this static address: its registers are `00`.
     pub fn new(setup: Setup, fixed: Option<Addr7>) -> Attached
@@ -151,7 +155,7 @@ impl Attached {
         ensures { IsTrue result ↔ ((self.now.waiting ≡ other.now.waiting) × (self.now.registers ≡ other.now.registers) × (self.now.most_written ≡ other.now.most_written) × (self.now.most_read ≡ other.now.most_read)) }
     {
         are_same(&self.waiting, &other.waiting)
-            && self.registers == other.registers
+            && are_same_registers(&self.registers, &other.registers)
             && self.most_written == other.most_written
             && self.most_read == other.most_read
     }
@@ -490,4 +494,29 @@ fn pid_bytes(pid: u64) -> [u8; LONGEST]
         (pid / 0x100 % 256) as u8,
         (pid % 256) as u8,
     ]
+}
+
+/// Whether both are the same registers, eight at a time.
+fn are_same_registers(registers: &[u8; REGISTERS], others: &[u8; REGISTERS]) -> bool
+    ensures { IsTrue result ↔ (registers.now ≡ others.now) }
+{
+    eight_from(registers, 0) == eight_from(others, 0)
+        && eight_from(registers, 8) == eight_from(others, 8)
+}
+
+/// Eight registers as one number, from this one on.
+fn eight_from(registers: &[u8; REGISTERS], first: usize) -> u64
+    requires { first + 8 ≤ REGISTER_COUNT }
+    ensures { result ≡ from_le_bytes w64 (eight_from first registers.now) }
+{
+    u64::from_le_bytes([
+        registers[first],
+        registers[first + 1],
+        registers[first + 2],
+        registers[first + 3],
+        registers[first + 4],
+        registers[first + 5],
+        registers[first + 6],
+        registers[first + 7],
+    ])
 }

@@ -30,8 +30,9 @@ impl Device {
     ghost use Rattle.i3c_base.specs.State.{attached};
     ghost use Rattle.i3c_base.specs.Serve.{asks, without_front, without_join, without_role};
     ghost use Rattle.i3c_base.specs.Round.{unhearing, winner};
+    ghost use Rattle.i3c_base.specs.Local.{with_raise, wishing_join, wishing_role};
     ghost use Rattle.i3c_device.specs.Hearing.{heard};
-    ghost use Rattle.i3c_device.specs.Raising.{front_byte, next_fault, raise_fault, wishing_join, wishing_role, with_raise};
+    ghost use Rattle.i3c_device.specs.Raising.{front_byte, next_fault, raise_fault};
 
     /// A device that was just attached, with this static address: all kinds of its events are enabled, and its registers
     /// are `00`.

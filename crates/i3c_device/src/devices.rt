@@ -45,19 +45,20 @@ impl Devices {
     ghost use Rattle.i3c_base.specs.declared.device.TheConstants.{REGISTERS as REGISTER_COUNT};
     ghost use Rattle.i3c_base.specs.declared.range.TheConstants.{SLOTS as SLOT_COUNT};
     ghost use Rattle.i3c_base.specs.Cutting.{lost_by};
-    ghost use Rattle.i3c_base.specs.Frames.{changed_kinds, least_length_from};
+    ghost use Rattle.i3c_base.specs.Frames.{changed_kinds, least_length_from, AreWillingLost, IsHeardIn, rekinded_at, written_at, IsLowestWilling};
     ghost use Rattle.i3c_base.specs.Places.{changed};
     ghost use Rattle.i3c_device.specs.Holding.{address_in, byte_in, front_in, identity_in, waiting_in};
-    ghost use Rattle.i3c_device.specs.Walks.{accepted_at, heard_at, left_at, limited_at, readdressed_at, taken_at, AreDrivers, AreHearers, AreReached, AreTakers, AreWillingLost, IsFirstDriven, IsLowestWilling, NobodyDrives, SomeReached, rekinded_at, written_at};
+    ghost use Rattle.i3c_device.specs.Walks.{heard_at, limited_at, readdressed_at, taken_at, AreDrivers, AreHearers, AreReached, AreTakers, IsFirstDriven};
     ghost use Rattle.i3c_device.specs.Least.{IsLeastHeard, NobodyHears};
     ghost use Rattle.i3c_device.specs.Reading.{AreReadOf, AreToldOf, IsByteOf};
     ghost use Rattle.i3c_device.specs.Sets.{has};
     ghost use Rattle.i3c_device.specs.Wishing.{asks_some};
     ghost use Rattle.std.specs.Prelude.{◌≡◌, ◌≤◌, ◌<◌, ◌+◌, ◌^◌, ◌↔◌, ◌&&◌, ◌==◌, ℕ, not, All, length, Option, IsTrue, is_some, suc, Some, None, option_map, slice_index_or, slice_set, MatchOption, MatchResult, OnOk, OnErr};
     ghost use Rattle.i3c_base.specs.Round.{hears, unhearing};
-    ghost use Rattle.i3c_base.specs.Serve.{without_role};
-    ghost use Rattle.i3c_base.specs.State.{Device as DeviceState, in_slot, no_devices};
-    ghost use Rattle.i3c_device.specs.Raising.{next_fault, with_raise, wishing_join, wishing_role};
+    ghost use Rattle.i3c_base.specs.Serve.{NobodyDrives, each_driver_in, left_at, without, without_role};
+    ghost use Rattle.i3c_base.specs.State.{Device as DeviceState, Population, each_in, in_slot, no_devices, with_active};
+    ghost use Rattle.i3c_base.specs.Local.{with_raise, wishing_join, wishing_role};
+    ghost use Rattle.i3c_device.specs.Raising.{next_fault};
 
     /// Empty slots.
     #[inline(always)]
@@ -76,6 +77,16 @@ impl Devices {
     {
         self.occupants.wake(&resting.kept);
         self.enabled = resting.enabled;
+    }
+
+    /// One slot comes back to what rests there: its device with its kinds, or nobody.
+    pub fn wake_at(&mut self, slot: Slot, resting: &Resting)
+        ensures { self.new ≡ slice_set self.old slot (slice_index_or resting.now slot None) }
+    {
+        let index = slot.index();
+        let kinds = resting.enabled.at(index);
+        self.occupants.wake_at(slot, resting.kept.at(slot));
+        self.enabled = self.enabled.renewed(index, kinds);
     }
 
     /// The slots that hold a device.
@@ -174,6 +185,15 @@ impl Devices {
         present.and(self.enabled.roles).has(slot.index())
     }
 
+    /// A number of the kinds of events that are enabled, which equal devices have in common.
+    pub fn kinds_key(&self) -> u64 {
+        let present = self.occupants.marks().present;
+        let interrupts = present.and(self.enabled.interrupts).bits();
+        let roles = present.and(self.enabled.roles).bits();
+        let joins = present.and(self.enabled.joins).bits();
+        interrupts ^ roles.rotate_left(21) ^ joins.rotate_left(42)
+    }
+
     /// A device enters a slot.
     pub fn put(&mut self, slot: Slot, device: Device)
         ensures { self.new ≡ slice_set self.old slot (Some device) }
@@ -228,7 +248,7 @@ impl Devices {
     // in line, since as a rule nobody asks
     #[inline(always)]
     pub fn first_request(&self, active: Slot) -> Option<(Request, SlotSet)>
-        ensures first { MatchOption result (NobodyDrives active self.now) (IsFirstDriven active self.now) }
+        ensures first { MatchOption result (NobodyDrives (with_active self.now active)) (IsFirstDriven (with_active self.now active)) }
         ensures slots { length self.now ≡ SLOT_COUNT }
     {
         match self.driving(active).lowest() {
@@ -240,7 +260,7 @@ impl Devices {
     /// The contest of the requests that the devices drive at once: who wins it, and the slots that drive that.
     #[inline(never)]
     fn contest(&self, active: Slot) -> Option<(Request, SlotSet)>
-        ensures first { MatchOption result (NobodyDrives active self.now) (IsFirstDriven active self.now) }
+        ensures first { MatchOption result (NobodyDrives (with_active self.now active)) (IsFirstDriven (with_active self.now active)) }
         ensures slots { length self.now ≡ SLOT_COUNT }
     {
         let driving = self.driving(active);
@@ -267,7 +287,7 @@ impl Devices {
     /// The request was accepted: these slots, its drivers, lose the wish or the front of what waits.
     #[inline(always)]
     pub fn accept(&mut self, drivers: SlotSet, request: &Request)
-        ensures { (active : ℕ) → AreDrivers active request.now self.old drivers → self.new ≡ changed (accepted_at active request.now) self.old }
+        ensures { (all : Population) → all.devices ≡ self.old → AreDrivers all request.now drivers → self.new ≡ each_driver_in all request.now (without request.now) }
     {
         match request {
             // which changes less than a wish
@@ -278,7 +298,7 @@ impl Devices {
 
     /// Whether a command, to all or to one address, reaches a device that isn't lost by this bit: it acknowledges.
     pub fn is_heard(&self, active: Slot, to: &Option<Addr7>, cuts: &Cuts, last: u16) -> bool
-        ensures { IsTrue result ↔ SomeReached active to.now (lost_by cuts.now last) self.now }
+        ensures { IsTrue result ↔ IsHeardIn (with_active self.now active) to.now (lost_by cuts.now last) }
     {
         self.reached(active, to).outlasts(cuts, last)
     }
@@ -292,7 +312,7 @@ impl Devices {
         cuts: &Cuts,
         last: u16,
     ) -> Option<Slot>
-        ensures { MatchOption result (AreWillingLost active address (lost_by cuts.now last) self.now) (IsLowestWilling active address (lost_by cuts.now last) self.now) }
+        ensures { MatchOption result (AreWillingLost (with_active self.now active) address (lost_by cuts.now last)) (IsLowestWilling (with_active self.now active) address (lost_by cuts.now last)) }
     {
         let present = self.occupants.marks().present;
         let left = present.without(lost_slots(cuts, last));
@@ -303,7 +323,7 @@ impl Devices {
     /// controller.
     pub fn write(&mut self, active: Slot, address: Addr7, bytes: &[u8])
         requires { length bytes.now ≤ REGISTER_COUNT }
-        ensures { self.new ≡ changed (written_at active address bytes.now) self.old }
+        ensures { self.new ≡ each_in (written_at active address bytes.now) self.old }
     {
         let present = self.occupants.marks().present;
         self.occupants.each(
@@ -321,7 +341,7 @@ impl Devices {
     /// controller and, from their cuts on, those who are cut.
     pub fn read(&self, active: Slot, address: Addr7, cuts: &Cuts, first: u16) -> [u8; REGISTERS]
         requires { first + 144 ≤ 2 ^ 16 }
-        ensures read { AreReadOf active address cuts.now first self.now result }
+        ensures read { AreReadOf (with_active self.now active) address cuts.now first result }
         ensures long { length result ≡ REGISTER_COUNT }
         ensures bytes { All (λ byte. byte < 256) result }
     {
@@ -356,7 +376,7 @@ impl Devices {
     ) -> Bytes
         requires few { count ≤ 6 }
         requires fits { first + 54 ≤ 2 ^ 16 }
-        ensures told { AreToldOf what active address cuts.now first self.now result }
+        ensures told { AreToldOf what (with_active self.now active) address cuts.now first result }
         ensures long { length result ≡ count }
         ensures bytes { All (λ byte. byte < 256) result }
     {
@@ -424,7 +444,7 @@ impl Devices {
     /// Kinds of events are enabled or disabled for the devices that a command reaches, which are in these slots.
     pub fn change_kinds(&mut self, reached: SlotSet, change: Change, kinds: Kinds)
         requires { length self.old ≡ SLOT_COUNT }
-        ensures { (active : ℕ) (to : Option ℕ) → AreReached active to reached self.old → self.new ≡ changed (rekinded_at active to (changed_kinds change kinds)) self.old }
+        ensures { (active : ℕ) (to : Option ℕ) → AreReached active to reached self.old → self.new ≡ each_in (rekinded_at active to (changed_kinds change kinds)) self.old }
     {
         self.enabled = match change {
             Change::Enable => self.enabled.with(kinds, reached),
@@ -434,7 +454,7 @@ impl Devices {
 
     /// A session is opened: each device without an address hears it.
     pub fn open(&mut self)
-        ensures { self.new ≡ changed (λ s place. option_map hears place) self.old }
+        ensures { self.new ≡ each_in (λ s d. hears d) self.old }
     {
         let unaddressed = self.occupants.marks().unaddressed;
         self.occupants.each(unaddressed, &Opened);
@@ -442,7 +462,7 @@ impl Devices {
 
     /// The session ends: nobody hears any more.
     pub fn silence(&mut self)
-        ensures { self.new ≡ changed (λ s place. option_map unhearing place) self.old }
+        ensures { self.new ≡ each_in (λ s d. unhearing d) self.old }
     {
         let hearing = self.occupants.marks().hearing;
         self.occupants.each(hearing, &Ended);

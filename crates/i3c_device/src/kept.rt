@@ -87,6 +87,7 @@ fn lengthen(places: &mut Vec<Option<Attached>>, count: usize) -> Result<(), Allo
     ensures long { OnOk result (count ≤ length places.new.items) }
     ensures most { length places.new.items ≤ SLOT_COUNT }
 {
+    places.reserve_exact(count.saturating_sub(places.len()))?;
     for index in 0..count {
         if places.len() <= index {
             places.push(None)?;

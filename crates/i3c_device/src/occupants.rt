@@ -34,14 +34,15 @@ impl Occupants {
     ghost use Rattle.i3c_base.specs.Cutting.{CutList, IsUncut};
     ghost use Rattle.i3c_base.specs.Places.{changed};
     ghost use Rattle.i3c_base.specs.State.{Device as DeviceState, no_devices};
+    ghost use Rattle.i3c_base.specs.Local.{with_raise};
     ghost use Rattle.i3c_device.specs.Finding.{within, IsLowestFound, IsNowhere};
     ghost use Rattle.i3c_device.specs.Least.{IsLeastHeard, NobodyHears};
     ghost use Rattle.i3c_device.specs.Marks.{AreMarks};
-    ghost use Rattle.i3c_device.specs.Raising.{interrupting_if, next_fault, with_raise};
-    ghost use Rattle.i3c_device.specs.Reading.{AreAt, IsByteOf, registers_of};
+    ghost use Rattle.i3c_device.specs.Raising.{interrupting_if, next_fault};
+    ghost use Rattle.i3c_device.specs.Reading.{IsByteOf, registers_of};
     ghost use Rattle.i3c_device.specs.Lengths.{IsLeastLength};
     ghost use Rattle.i3c_device.specs.Sets.{has};
-    ghost use Rattle.i3c_device.specs.Walks.{AreTakers};
+    ghost use Rattle.i3c_device.specs.Walks.{AreTakers, AreReached};
     ghost use Rattle.std.specs.Prelude.{◌≡◌, ◌<◌, ◌&&◌, ℕ, All, is_some, length, suc, true, Some, None, option_copied, option_map, slice_index, slice_index_or, slice_set, MatchOption, MatchResult, OnOk, OnErr};
 
     /// Empty slots.
@@ -67,7 +68,7 @@ impl Occupants {
     }
 
     /// This device stands in a slot from now on, or nobody.
-    fn wake_at(&mut self, slot: Slot, device: Option<&Attached>)
+    pub fn wake_at(&mut self, slot: Slot, device: Option<&Attached>)
         ensures put { self.new ≡ slice_set self.old slot (option_copied device.entry) }
         ensures slots { length self.old ≡ SLOT_COUNT }
     {
@@ -147,7 +148,7 @@ impl Occupants {
 
     /// The slots of the devices at an address, but the active controller's.
     pub fn targets(&self, active: Slot, address: Addr7) -> SlotSet
-        ensures there { AreAt active address result self.now }
+        ensures there { AreReached active (Some address) result self.now }
         ensures slots { length self.now ≡ SLOT_COUNT }
     {
         let there = self.marks.answering.at(address);

@@ -1,16 +1,17 @@
 ghost use Rattle.std.specs.Prelude.{◌≡◌, ◌↔◌, IsTrue, ◌≤◌, ◌<◌, ◌+◌, ◌^◌, ◌&&◌, ℕ, suc, true, false, Some, None, option_map, length, bit_and, slice_index, is_none, is_some, MatchResult, OnErr, OnOk};
 ghost use Rattle.i3c_base.specs.declared.device.TheConstants.{REGISTERS as REGISTER_COUNT};
 ghost use Rattle.i3c_base.specs.declared.range.TheConstants.{SLOTS as SLOT_COUNT};
-ghost use Rattle.i3c_base.specs.Frames.{limited, readdressed, unaddressed_device};
+ghost use Rattle.i3c_base.specs.Frames.{limited, readdressed, unaddressed_device, reaches_at, written_at};
 ghost use Rattle.i3c_base.specs.Round.{hears, unhearing, winner};
 ghost use Rattle.i3c_base.specs.Serve.{without_front, without_role};
 ghost use Rattle.i3c_base.specs.State.{Device as DeviceState, in_slot};
+ghost use Rattle.i3c_base.specs.Local.{with_raise, wishing_join, wishing_role};
 ghost use Rattle.i3c_device.specs.Addressing.{IsDynamicIn};
 ghost use Rattle.i3c_device.specs.Holding.{length_in, address_in, byte_in, front_in, identity_in, waiting_in};
 ghost use Rattle.i3c_device.specs.Marks.{answer_in, key_in};
-ghost use Rattle.i3c_device.specs.Raising.{interrupting_if, next_fault, wishing_join, wishing_role, with_raise};
+ghost use Rattle.i3c_device.specs.Raising.{interrupting_if, next_fault};
 ghost use Rattle.i3c_device.specs.Reading.{IsByteFrom, IsDrivenFrom};
-ghost use Rattle.i3c_device.specs.Walks.{reaches_at, taken_from, willing_at, written_at};
+ghost use Rattle.i3c_device.specs.Walks.{taken_from, willing_at};
 ghost use Rattle.i3c_device.specs.Wishing.{wishes_interrupt, wishes_join, wishes_role};
 
 use crate::answering::NOWHERE;
@@ -224,7 +225,7 @@ pub(crate) fn write(
     bytes: &[u8],
 )
     requires { length bytes.now ≤ REGISTER_COUNT }
-    ensures { place.new ≡ written_at active address bytes.now index place.old }
+    ensures { place.new ≡ option_map (written_at active address bytes.now index) place.old }
 {
     if reaches(place, index, active, &Some(address)) {
         if let Some(device) = place {

@@ -1,15 +1,15 @@
 ghost use Rattle.std.specs.Prelude.{◌≡◌, ◌≤◌, ◌<◌, ℕ, Bool, List, Option, None, false, length, option_map, slice_index, slice_index_or, slice_set};
 ghost use Rattle.i3c_base.specs.declared.device.TheConstants.{REGISTERS as REGISTER_COUNT};
 ghost use Rattle.i3c_base.specs.declared.range.TheConstants.{SLOTS as SLOT_COUNT};
-ghost use Rattle.i3c_base.specs.Frames.{limited, readdressed, told_bytes, unaddressed_device};
+ghost use Rattle.i3c_base.specs.Frames.{limited, readdressed, told_bytes, unaddressed_device, written_at};
 ghost use Rattle.i3c_base.specs.Round.{hears, unhearing, winner};
 ghost use Rattle.i3c_base.specs.Serve.{without_front, without_role};
 ghost use Rattle.i3c_base.specs.State.{Device as DeviceState};
+ghost use Rattle.i3c_base.specs.Local.{wishing_join, wishing_role};
 ghost use Rattle.i3c_device.specs.Marks.{AreMarks};
 ghost use Rattle.i3c_device.specs.declared.attached.TheConstants.{LONGEST};
 ghost use Rattle.i3c_device.specs.Reading.{registers_of};
-ghost use Rattle.i3c_device.specs.Raising.{wishing_join, wishing_role};
-ghost use Rattle.i3c_device.specs.Walks.{taken_from, willing_at, written_at};
+ghost use Rattle.i3c_device.specs.Walks.{taken_from, willing_at};
 
 use crate::attached::Attached;
 use crate::marks::Marks;
@@ -278,7 +278,7 @@ pub(crate) struct Written<'a> {
 }
 
 impl SlotUpdate for Written<'_> {
-    ghost after = { λ h s place. written_at h.active h.address h.bytes.now s place };
+    ghost after = { λ h s place. option_map (written_at h.active h.address h.bytes.now s) place };
 
     fn concerns(&self, place: &Option<Attached>, index: usize) -> bool {
         reaches(place, index, self.active, &Some(self.address))

@@ -39,8 +39,8 @@ pub fn run_driven<R: Read, W: Write>(
 ) -> Result<Tally, ScriptFault>
     // an `Ok` comes after the whole input
     ensures whole { OnOk result (IsAtEnd (R.remaining reader.new)) }
-    // a script starts with no bus, no legacy target and no name; each line changes the state and is answered as its command
-    // says, or that of the same line in capitals; with `Ok` all answers went out, and before a fault as much as that fault says
+    // a script starts with no bus, no legacy target and no name. Each line changes the state and is answered as its command
+    // says, or that of the same line in capitals. With `Ok` all answers went out, and before a fault as much as that fault says
     ensures answers { AnswersGoOut form (R.remaining reader.old) (W.contents writer.old) (W.contents writer.new) result }
     ensures unmet { IfOk result (λ tally. tally.unmet ≡ 0) }
 {

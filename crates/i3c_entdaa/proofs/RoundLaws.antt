@@ -12,14 +12,14 @@ use Rattle.i3c_base.specs.Cutting.{CutList, Lost, lost_by}
 use Rattle.i3c_base.specs.declared.range.TheConstants.{SLOTS}
 use Rattle.i3c_base.specs.Numbers.{IsInRange, number_of, same_identity}
 use Rattle.i3c_base.specs.Places.{changed}
-use Rattle.i3c_base.specs.Round.{AllHearersLost, AnyHears, IsAddressFor, IsWinner, Rounds, assigned, winner}
-use Rattle.i3c_base.specs.Serve.{emptied}
-use Rattle.i3c_base.specs.State.{Device, State, IsPick, IsPickIn, IsPickable, IsPickableIn, IsKeptIn, IsUnknownIn, kept_entry_of}
+use Rattle.i3c_base.specs.Round.{AllHearersLost, AnyHears, IsAddressFor, IsWinner, Rounds, assigned, assigned_at, winner}
+use Rattle.i3c_base.specs.Serve.{emptied, left_at}
+use Rattle.i3c_base.specs.State.{Device, State, IsPick, IsPickIn, IsPickable, IsPickableIn, IsKeptIn, IsUnknownIn, each_in, kept_entry_of}
 use Rattle.i3c_base.proofs.Lookups.{length-changed}
 use Rattle.i3c_base.proofs.NumberLaws.{same_number}
 use Rattle.i3c_device.specs.declared.sets.SlotSet.{SlotSet}
 use Rattle.i3c_device.specs.Sets.{has}
-use Rattle.i3c_device.specs.Walks.{assigned_at, hears_as, left_at, taken_at}
+use Rattle.i3c_device.specs.Walks.{hears_as, taken_at}
 use Rattle.i3c_device.proofs.EachLaws.{all_changed, changed_in}
 use Rattle.i3c_entdaa.specs.Parts.{AreTakers, HearersAreRanged, IsAddressIn, IsContest}
 use Rattle.i3c_entdaa.specs.Rounds.{IsAcknowledged, IsHeard, IsRead, IsSent}
@@ -57,10 +57,10 @@ emptied_here st table lost devices left same is e =
 
 -- the same after the winners took an address
 assigned_here : (st : State) (table after : Table) (lost : Lost) (i : Identity) (a : ℕ) (devices taken left : List (Option Device)) → st.devices ≡ devices → IsTable st table
-    → taken ≡ changed (assigned_at lost i a) devices → left ≡ changed (left_at lost) taken → after ≡ record table { given = set table.given a (Some (kept_entry_of table.declared i)); listed = false }
+    → taken ≡ each_in (assigned_at lost i a) devices → left ≡ changed (left_at lost) taken → after ≡ record table { given = set table.given a (Some (kept_entry_of table.declared i)); listed = false }
     → record st { devices = left; given = after.given; listed = after.listed } ≡ emptied lost (assigned lost i a st)
 assigned_here st table after lost i a devices taken left same is e f put =
-    let gone : left ≡ changed (left_at lost) (changed (assigned_at lost i a) st.devices) = f ∙ ap (changed (left_at lost)) (e ∙ ap (changed (assigned_at lost i a)) (sym same)) in
+    let gone : left ≡ changed (left_at lost) (each_in (assigned_at lost i a) st.devices) = f ∙ ap (changed (left_at lost)) (e ∙ ap (each_in (assigned_at lost i a)) (sym same)) in
     let given : after.given ≡ set st.given a (Some (kept_entry_of st.declared i)) = ap (λ (t : Table). t.given) put ∙ (λ t. set (is.0 t) a (Some (kept_entry_of (is.3 t) i))) in
     let listed : after.listed ≡ false = ap (λ (t : Table). t.listed) put in
     λ t. record st { devices = gone t; given = given t; listed = listed t }
@@ -85,7 +85,7 @@ same_test i j bits a b is = elim (cases_eq (number_of i) bits) [
         omega (arith, pid, bcr, dcr)
 
 taken_alike : (lost : Lost) (i : Identity) (bits a s : ℕ) (o : Option Device) (takers : SlotSet) → number_of i ≡ bits → IsInRange i → ((d : Device) → o ≡ Some d → d.hearing ≡ true → IsInRange d.identity)
-    → has takers s ≡ (hears_as bits o && not (lost s)) → taken_at takers a s o ≡ assigned_at lost i a s o
+    → has takers s ≡ (hears_as bits o && not (lost s)) → taken_at takers a s o ≡ option_map (assigned_at lost i a s) o
 taken_alike lost i bits a s None takers is range ranged e = elim (has takers s) as (λ b. ◌≡◌ {A = Option Device} (if b then None else None) None) [ true ↦ refl | false ↦ refl ]
 taken_alike lost i bits a s (Some d) takers is range ranged e =
     ap (λ b. if b then Some (winner a d) else Some d) e ∙ (elim (cases_Bool d.hearing) [
@@ -103,9 +103,9 @@ taken_alike lost i bits a s (Some d) takers is range ranged e =
     go false x m = refl
 
 pub taken_assigned : (cuts : CutList) (i : Identity) (bits a : ℕ) (devices : List (Option Device)) (takers : SlotSet) → length devices ≡ SLOTS → number_of i ≡ bits → IsInRange i → HearersAreRanged devices
-    → AreTakers cuts devices bits takers → changed (taken_at takers a) devices ≡ changed (assigned_at (lost_by cuts 73) i a) devices
+    → AreTakers cuts devices bits takers → changed (taken_at takers a) devices ≡ each_in (assigned_at (lost_by cuts 73) i a) devices
 taken_assigned cuts i bits a devices takers sized is range ranged are =
-    all_changed (assigned_at (lost_by cuts 73) i a) devices (changed (taken_at takers a) devices) (length-changed (taken_at takers a) devices)
+    all_changed (λ s place. option_map (assigned_at (lost_by cuts 73) i a s) place) devices (changed (taken_at takers a) devices) (length-changed (taken_at takers a) devices)
     (λ k l. changed_in (taken_at takers a) devices k l ∙ taken_alike (lost_by cuts 73) i bits a k (get_or devices k None) takers is range (ranged k) (are k (omega (arith, l, sized))))
 
 -- somebody heard the header
@@ -154,7 +154,7 @@ won_here st cuts i bits acknowledged contest took number in_range =
 
 pub assigned_round : (st : State) (table after : Table) (cuts : CutList) (i : Identity) (picked bits a : ℕ) (devices taken left : List (Option Device)) (acknowledged : Bool) → st.devices ≡ devices → IsTable st table
     → IsPickIn table.given table.legacy table.declared picked → IsContest st cuts bits acknowledged → acknowledged ≡ true → number_of i ≡ bits → IsInRange i → IsAddressIn table i a
-    → taken ≡ changed (assigned_at (lost_by cuts 73) i a) devices → left ≡ changed (left_at (lost_by cuts 73)) taken → after ≡ record table { given = set table.given a (Some (kept_entry_of table.declared i)); listed = false }
+    → taken ≡ each_in (assigned_at (lost_by cuts 73) i a) devices → left ≡ changed (left_at (lost_by cuts 73)) taken → after ≡ record table { given = set table.given a (Some (kept_entry_of table.declared i)); listed = false }
     → Rounds st cuts (RoundReply.Assigned a i) (record st { devices = left; given = after.given; listed = after.listed })
 assigned_round st table after cuts i picked bits a devices taken left acknowledged same is pick contest took number in_range address e f put = (
   (picked, pickable_here st table picked is pick.0),

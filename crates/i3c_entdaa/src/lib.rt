@@ -6,9 +6,9 @@ mod assignment;
 mod hearers;
 mod identities;
 mod outcome;
-mod telling;
+mod wire;
 
 pub use assignment::round;
 pub use i3c_base::RoundReply;
 pub use outcome::Round;
-pub use telling::tell_round;
+pub use wire::tell_round;

@@ -1,8 +1,7 @@
 ghost use Rattle.std.specs.Prelude.{◌≡◌, ◌+◌, ◌≤◌, ◌↔◌, IsOk, MatchResult};
 ghost use Rattle.i3c_base.specs.Cutting.{lost_by};
-ghost use Rattle.i3c_base.specs.Frames.{AllLostAt, AllUnaddressedLostAt, AnyAt, AnyUnaddressedAt, SomeLeftAt, SomeUnaddressedLeftAt};
-ghost use Rattle.i3c_base.specs.State.{HasDevices, State};
-ghost use Rattle.i3c_events.specs.Setting.{with_new_address, with_static_address};
+ghost use Rattle.i3c_base.specs.Frames.{AllLostAt, AllUnaddressedLostAt, AnyAt, AnyUnaddressedAt, SomeLeftAt, SomeUnaddressedLeftAt, with_new_at, with_static_at};
+ghost use Rattle.i3c_base.specs.State.{HasDevices, State, each_in};
 
 use crate::hearing::{ACK_BITS, NoAnswer};
 use i3c_base::{Addr7, Cuts, Slot};
@@ -23,7 +22,7 @@ pub fn hear_static(
     requires early { begun ≤ 18 }
     requires dynamic { 8 ≤ new }
     ensures set { (st : State) → HasDevices st devices.old active → MatchResult result
-        (λ _. AnyUnaddressedAt st fixed × (devices.new ≡ with_static_address active fixed new devices.old))
+        (λ _. AnyUnaddressedAt st fixed × (devices.new ≡ each_in (with_static_at active fixed new) devices.old))
         (λ none. (none.0 ≡ fixed) × AllUnaddressedLostAt st fixed (lost_by cuts.now (begun + 18)) × (devices.new ≡ devices.old)) }
     ensures answered { (st : State) → HasDevices st devices.old active → IsOk result ↔ SomeUnaddressedLeftAt st fixed (lost_by cuts.now (begun + 18)) }
 {
@@ -49,7 +48,7 @@ pub fn hear_new(
     requires early { begun ≤ 18 }
     requires dynamic { 8 ≤ new }
     ensures set { (st : State) → HasDevices st devices.old active → MatchResult result
-        (λ _. AnyAt st old × (devices.new ≡ with_new_address active old new devices.old))
+        (λ _. AnyAt st old × (devices.new ≡ each_in (with_new_at active old new) devices.old))
         (λ none. (none.0 ≡ old) × AllLostAt st old (lost_by cuts.now (begun + 18)) × (devices.new ≡ devices.old)) }
     ensures answered { (st : State) → HasDevices st devices.old active → IsOk result ↔ SomeLeftAt st old (lost_by cuts.now (begun + 18)) }
 {

@@ -8,6 +8,7 @@ pub mod Joining
 pub mod Shares
 pub mod Nexts
 pub mod Following
+pub mod Merging
 pub mod Turns
 pub mod Splitting
 pub mod Opening

@@ -28,6 +28,7 @@ all_of_whole steps blocks start ends total counted = record {
   distinct = counted.distinct;
   each = λ h is. counted.each h is (of_whole blocks (plain_course h));
   only = λ h c. (counted.only h c).0;
+  placed = counted.placed;
   number = counted.number;
 }
 
@@ -56,6 +57,7 @@ none_counted {S} steps part blocks start ends total none later empty zero_ = rec
   distinct = tt;
   each = λ h is (_, first). absurd (later (first none));
   only = λ h (i, lt, is). absurd (omega arith);
+  placed = λ h (i, lt, is). absurd (omega arith);
   number = subst (λ (o : Option ℕ). IsNumber o 0) (sym zero_) refl;
 }
 

@@ -12,7 +12,7 @@ pub has_moved : {S : Type 0} (layer : List (Node S)) (places here : List ℕ) (s
 has_moved layer places here state other alike same (n, c, at, is) = (n, c, at ∙ alike, is ∙ same)
 
 -- the node that was merged, with more orders
-more_orders : {S : Type 0} (old new : List (Node S)) (node : Node S) (merged : IsMerged old node new) → slice_get new merged.index ≡ Some (record merged.held { orders = merged.total })
+pub more_orders : {S : Type 0} (old new : List (Node S)) (node : Node S) (merged : IsMerged old node new) → slice_get new merged.index ≡ Some (record merged.held { orders = merged.total })
 more_orders old new node merged = ap (λ l. slice_get l merged.index) merged.is ∙ get_set_same old merged.index (record merged.held { orders = merged.total }) (slice_get_within old merged.index merged.held merged.found)
 
 merged_has : {S : Type 0} (old new : List (Node S)) (node : Node S) (merged : IsMerged old node new) → Has new merged.held.places.items merged.held.state

@@ -176,5 +176,6 @@ all_counted {S} {L} steps part blocks start count ends total all one number now 
   distinct = below_distinct ends now.share now.shared (length ends);
   each = λ h (course, len) (fits, _). let (k, c) = now.each h course fits (sym (length-map h plain) ∙ len ∙ sym all) in in_below now.share (length ends) k h (now.shared.within k h c) c;
   only = λ h c. let (k, _, d) = below_from now.share (length ends) h c in let (course, fits, len, _) = now.led k h d in ((course, length-map h plain ∙ len ∙ all), (fits, one));
+  placed = λ h c. let (k, _, d) = below_from now.share (length ends) h c in (k, d);
   number = number now.share now.shared;
 }

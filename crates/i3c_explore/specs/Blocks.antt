@@ -67,7 +67,7 @@ pub record IsShortestInPart {S L : Type 0} (steps : S → L → ℕ → S → Ty
 abbrev pub plain_course : List (List ℕ) → List (List Turn)
 plain_course history = map plain history
 
--- all interleavings of all blocks, shared out among the ends that they lead to, with their number
+-- all interleavings of all blocks, with their number: each is in the share of one end, to which it leads
 pub record AreCounted {S L : Type 0} (steps : S → L → ℕ → S → Type 0) (blocks : List (Vec (Vec L))) (start : S) (ends : List (Node S)) (total : Option ℕ) : Type 0 where
   pub share : ℕ → List (List (List ℕ))
   pub shared : IsShared ends share
@@ -76,6 +76,7 @@ pub record AreCounted {S L : Type 0} (steps : S → L → ℕ → S → Type 0) 
   pub distinct : AllDistinct all
   pub each : (history : List (List ℕ)) → IsWhole blocks (plain_course history) → Contains all history
   pub only : (history : List (List ℕ)) → Contains all history → IsWhole blocks (plain_course history)
+  pub placed : (history : List (List ℕ)) → Contains all history → (k : ℕ) × Contains (share k) history
   pub number : IsNumber total (length all)
 
 -- the same of the interleavings of a part
@@ -88,4 +89,5 @@ pub record PartIsCounted {S L : Type 0} (steps : S → L → ℕ → S → Type 
   pub distinct : AllDistinct all
   pub each : (history : List (List ℕ)) → IsWhole blocks (plain_course history) → IsOfPart part blocks (plain_course history) → Contains all history
   pub only : (history : List (List ℕ)) → Contains all history → IsWhole blocks (plain_course history) × IsOfPart part blocks (plain_course history)
+  pub placed : (history : List (List ℕ)) → Contains all history → (k : ℕ) × Contains (share k) history
   pub number : IsNumber total (length all)

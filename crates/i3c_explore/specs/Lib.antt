@@ -10,3 +10,4 @@ pub mod Stops
 pub mod Sums
 pub mod Nexts
 pub mod Runs
+pub mod Twins

@@ -1,5 +1,5 @@
 -- Runs of a layer's nodes, which jobs expand, and the layers that they make.
-use Rattle.std.specs.Prelude.{◌≡◌, ◌≤◌, ℕ, List, [], ◌∷◌, IsOkAnd, Result}
+use Rattle.std.specs.Prelude.{◌≡◌, ◌≤◌, ℕ, List, [], ◌∷◌, ◌++◌, IsOkAnd, Result}
 use Rattle.i3c_explore.specs.declared.layer.Layer.{Layer}
 use Rattle.i3c_explore.specs.declared.node.Node.{Node}
 use Rattle.i3c_explore.specs.declared.runs.Run.{Run}
@@ -15,3 +15,8 @@ AreRuns (run ∷ runs) from to = (run.first ≡ from) × (run.first ≤ run.last
 abbrev pub AreJoined : {S : Type 0} → List (Node S) → List (Result (Layer S) Stop) → List (Node S) → Type 0
 AreJoined old [] new = new ≡ old
 AreJoined {S} old (made ∷ rest) new = IsOkAnd made (λ (layer : Layer S). (mid : List (Node S)) × ArePut old layer.nodes.items mid × AreJoined mid rest new)
+
+-- the nodes of all layers, one layer's behind the other's
+abbrev pub AreNodesOf : {S : Type 0} → List (Result (Layer S) Stop) → List (Node S) → Type 0
+AreNodesOf [] nodes = nodes ≡ []
+AreNodesOf {S} (made ∷ rest) nodes = IsOkAnd made (λ (layer : Layer S). (later : List (Node S)) × (nodes ≡ layer.nodes.items ++ later) × AreNodesOf rest later)

@@ -11,7 +11,7 @@ ghost use Rattle.i3c_explore.specs.Orders.{IsOrder, IsPrefix, Leads};
 ghost use Rattle.i3c_explore.specs.Parts.{HasLine, whole};
 ghost use Rattle.i3c_explore.specs.Splits.{IsInPart};
 
-use crate::layer::{Layer, spare_all};
+use crate::layer::Layer;
 use crate::limits::Limits;
 use crate::machine::Machine;
 use crate::node::Node;
@@ -60,7 +60,7 @@ pub(crate) fn explore_block<
         &[Vec<M::Line>],
         Part,
         &mut M::Runner,
-        Vec<M>,
+        Vec<Node<M>>,
     ) -> Result<Layer<M>, Stop>,
 >(
     alloc: Global,
@@ -104,7 +104,8 @@ pub(crate) fn explore_block<
             layer.spares = next.spares;
             return Ok(layer);
         }
-        spare_all(layer.nodes, &mut next.spares);
+        // where there is no memory to keep them, they are let go
+        let _ = next.spares.append(&mut layer.nodes);
         layer = next;
     }
     Err(Stop::Most)

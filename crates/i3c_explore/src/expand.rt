@@ -1,4 +1,4 @@
-ghost use Rattle.std.specs.Prelude.{◌≡◌, ◌<◌, ◌≤◌, ◌^◌, ◌+◌, ℕ, IfErr, IfOk, MatchOption, None, OnOk, Some, List, Contains, length, slice_get, slice_index};
+ghost use Rattle.std.specs.Prelude.{◌≡◌, ◌<◌, ◌≤◌, ◌^◌, ◌+◌, ℕ, IfErr, IfOk, IsTrue, MatchOption, None, OnOk, Some, List, Contains, length, slice_get, slice_index};
 ghost use Rattle.std.specs.Global.{Vec as VecValue};
 ghost use Rattle.i3c_explore.specs.declared.node.Node.{Node as NodeValue};
 ghost use Rattle.i3c_explore.specs.declared.stop.Stop.{Stop as StopValue};
@@ -16,31 +16,36 @@ use crate::node::Node;
 use crate::part::Part;
 use crate::stop::Stop;
 use crate::turn::{Turn, extended};
+use crate::watch::{View, Watch};
 use std::alloc::Global;
 
-/// Runs a track's next line from a node in one way, and adds what it leads to.
+/// Runs a track's next line from a node in one way, and adds what it leads to. `again` says that the runner ran a line
+/// from this node last.
 fn run<M: Machine>(
     alloc: Global,
     node: &Node<M>,
     tracks: &[Vec<M::Line>],
     line: &M::Line,
     turn: Turn,
+    again: bool,
     runner: &mut M::Runner,
     next: &mut Layer<M>,
 ) -> Result<(), Stop>
     requires within { turn.track < length node.now.places.items }
     requires fits { slice_index node.now.places.items turn.track + 1 < 2 ^ 64 }
     requires next { IsNextAt (lines_of tracks.now) node.now.places.items turn.track line.now }
+    requires again { IsTrue again → M.near runner.old node.now.state }
     ensures keeps { OnOk result (Keeps next.old.nodes.items next.new.nodes.items) }
     ensures ran { OnOk result ((new : M) × M.steps node.now.state line.now turn.way new × Has next.new.nodes.items (advanced turn.track node.now.places.items) new) }
     ensures from { OnOk result ((lines : ℕ → List M.Line) → IsNextAt lines node.now.places.items turn.track line.now → AreFrom M.steps lines node.now next.old.nodes.items next.new.nodes.items) }
     ensures counted { OnOk result (Gains M.steps tracks.now node.now next.old.nodes.items next.new.nodes.items (by_turn turn)) }
     ensures broken { IfErr result (λ stop. (order : VecValue TurnValue) → stop ≡ StopValue.Breaks order → (lines : ℕ → List M.Line) → IsNextAt lines node.now.places.items turn.track line.now → IsBreak M.breaks lines node.now order.items) }
+    ensures near { OnOk result (M.near runner.new node.now.state) }
 {
     if !next.limits.step() {
         return Err(Stop::Most);
     }
-    if !node.state.run(alloc, line, turn.way, runner)? {
+    if !node.state.run(alloc, line, turn.way, again, runner)? {
         let order = extended(&node.order, turn)?;
         return Err(Stop::Breaks(order));
     }
@@ -61,35 +66,41 @@ fn next_line<L>(tracks: &[Vec<L>], part: Part, track: usize, place: usize) -> Op
     tracks[track].get(place)
 }
 
-/// Runs a track's next line from a node in each way, if orders of a part begin with it.
+/// Runs a track's next line from a node in each way, if orders of a part begin with it. It is told whether the runner ran a
+/// line from this node last, and answers that in its turn.
 fn run_track<M: Machine>(
     alloc: Global,
     node: &Node<M>,
     tracks: &[Vec<M::Line>],
     part: Part,
     track: usize,
+    again: bool,
     runner: &mut M::Runner,
     next: &mut Layer<M>,
-) -> Result<(), Stop>
+) -> Result<bool, Stop>
     requires within { track < length tracks.now }
     requires sized { length node.now.places.items ≡ length tracks.now }
+    requires again { IsTrue again → M.near runner.old node.now.state }
     ensures keeps { OnOk result (Keeps next.old.nodes.items next.new.nodes.items) }
     ensures tracked { OnOk result (IsTracked M.steps (opening part tracks.now) track node.now next.new.nodes.items) }
     ensures from { OnOk result (AreFrom M.steps (opening part tracks.now) node.now next.old.nodes.items next.new.nodes.items) }
     ensures counted { OnOk result (Gains M.steps tracks.now node.now next.old.nodes.items next.new.nodes.items (by_track (opening part tracks.now) node.now.places.items track)) }
     ensures broken { IfErr result (λ stop. (order : VecValue TurnValue) → stop ≡ StopValue.Breaks order → IsBreak M.breaks (opening part tracks.now) node.now order.items) }
+    ensures near { IfOk result (λ near. IsTrue near → M.near runner.new node.now.state) }
 {
     let Some(line) = next_line(tracks, part, track, node.places[track]) else {
-        return Ok(());
+        return Ok(again);
     };
     let last = node.state.last_way(line);
+    let mut near = again;
     for way in 0..last + 1 {
-        match run(alloc, node, tracks, line, Turn { track, way }, runner, next) {
-            Ok(()) => {}
+        let turn = Turn { track, way };
+        match run(alloc, node, tracks, line, turn, near, runner, next) {
+            Ok(()) => near = true,
             Err(stop) => return Err(stop),
         }
     }
-    Ok(())
+    Ok(near)
 }
 
 /// Runs the next line of each track from a node, of those by which orders of a part begin.
@@ -108,9 +119,10 @@ fn expand<M: Machine>(
     ensures counted { OnOk result (Gains M.steps tracks.now node.now next.old.nodes.items next.new.nodes.items (by_tracks (opening part tracks.now) node.now.places.items (length tracks.now))) }
     ensures broken { IfErr result (λ stop. (order : VecValue TurnValue) → stop ≡ StopValue.Breaks order → IsBreak M.breaks (opening part tracks.now) node.now order.items) }
 {
+    let mut again = false;
     for track in 0..tracks.len() {
-        match run_track(alloc, node, tracks, part, track, runner, next) {
-            Ok(()) => {}
+        match run_track(alloc, node, tracks, part, track, again, runner, next) {
+            Ok(near) => again = near,
             Err(stop) => return Err(stop),
         }
     }
@@ -118,8 +130,8 @@ fn expand<M: Machine>(
 }
 
 /// The layer that follows a range of a layer's nodes: what each of them leads to, by one more line of the tracks by which
-/// orders of a part begin.
-pub(crate) fn expand_range<M: Machine>(
+/// orders of a part begin. A watcher is told after each node.
+pub(crate) fn expand_range<M: Machine, W: Watch>(
     alloc: Global,
     layer: &[Node<M>],
     first: usize,
@@ -128,7 +140,8 @@ pub(crate) fn expand_range<M: Machine>(
     tracks: &[Vec<M::Line>],
     part: Part,
     runner: &mut M::Runner,
-    spares: Vec<M>,
+    spares: Vec<Node<M>>,
+    view: &View<'_, W>,
 ) -> Result<Layer<M>, Stop>
     requires within { (first ≤ last) × (last ≤ length layer.now) }
     requires sized { (n : NodeValue M) → Contains layer.now n → length n.places.items ≡ length tracks.now }
@@ -142,6 +155,7 @@ pub(crate) fn expand_range<M: Machine>(
             Ok(()) => {}
             Err(stop) => return Err(stop),
         }
+        view.tell(layer, &next.nodes, next.limits);
     }
     Ok(next)
 }

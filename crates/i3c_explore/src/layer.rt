@@ -1,15 +1,16 @@
 ghost use Rattle.std.specs.Prelude.{◌≡◌, ◌<◌, ◌+◌, ◌^◌, ◌++◌, ◌∷◌, [], IfErr, IfOk, IfSome, IsTrue, OnOk, length, slice_index};
 ghost use Rattle.i3c_explore.specs.declared.node.Node.{Node as NodeValue};
-ghost use Rattle.i3c_explore.specs.Layers.{by_way, ArePut, IsAlikeAt, IsMerged, IsPut, IsPutBehind};
+ghost use Rattle.i3c_explore.specs.Layers.{by_way, IsAlikeAt, IsMerged, IsPutBehind};
 ghost use Rattle.i3c_explore.specs.Stops.{IsShort};
 
 use crate::index::Index;
 use crate::limits::Limits;
 use crate::machine::Machine;
-use crate::node::{Node, counted, is_alike, is_like, moved_on, sum};
+use crate::node::{Node, counted, is_alike, moved_on, placed_in, sum};
 use crate::stop::Stop;
-use crate::turn::{Turn, extended};
+use crate::turn::{Turn, extended_in};
 use std::alloc::{AllocError, Global};
+use std::mem;
 
 /// The states after so many lines, and what the exploration may still cost.
 #[derive(Drop)]
@@ -18,8 +19,10 @@ pub(crate) struct Layer<M> {
     pub nodes: Vec<Node<M>>,
     /// What is left of the limits.
     pub limits: Limits,
-    /// States whose room is free to be taken.
-    pub spares: Vec<M>,
+    /// Nodes whose room is free to be taken.
+    pub spares: Vec<Node<M>>,
+    // the room of the places of the node that is put
+    room: Vec<usize>,
     index: Index,
 }
 
@@ -33,7 +36,7 @@ fn key_of<M: Machine>(places: &Vec<usize>, runner: &M::Runner) -> u64 {
 }
 
 /// Adds orders to those of a node.
-fn merge<M: Machine>(nodes: &mut Vec<Node<M>>, index: usize, orders: Option<u64>)
+pub(crate) fn merge<M: Machine>(nodes: &mut Vec<Node<M>>, index: usize, orders: Option<u64>)
     requires { index < length nodes.old.items }
     ensures { (made : NodeValue M) → IsAlikeAt nodes.old.items index made.places.items made.state → made.orders ≡ orders → IsMerged nodes.old.items made nodes.new.items }
 {
@@ -41,23 +44,43 @@ fn merge<M: Machine>(nodes: &mut Vec<Node<M>>, index: usize, orders: Option<u64>
     held.orders = sum(held.orders, orders);
 }
 
-/// The node that one more turn leads to, with the state that a runner is in. It takes the room of a spare state, if there is
+/// The room of a node: of its state, its places and its order.
+fn room_of<M: Machine>(
+    alloc: Global,
+    spare: Option<Node<M>>,
+) -> (Option<M>, Vec<usize>, Vec<Turn>) {
+    match spare {
+        Some(
+            Node {
+                state,
+                places,
+                order,
+                orders: _,
+            },
+        ) => (Some(state), places, order),
+        None => (None, Vec::new(alloc), Vec::new(alloc)),
+    }
+}
+
+/// The node that one more turn leads to, with the state that a runner is in. It takes the room of a spare node, if there is
 /// one.
 fn successor<M: Machine>(
     alloc: Global,
     node: &Node<M>,
     turn: Turn,
-    places: Vec<usize>,
+    places: &Vec<usize>,
     runner: &M::Runner,
-    spares: &mut Vec<M>,
+    spare: Option<Node<M>>,
 ) -> Result<Node<M>, AllocError>
     ensures state { IfOk result (λ new. new.state ≡ M.shown runner.now) }
-    ensures places { IfOk result (λ new. new.places.items ≡ places.items) }
+    ensures places { IfOk result (λ new. new.places.items ≡ places.now.items) }
     ensures order { IfOk result (λ new. new.order.items ≡ node.now.order.items ++ turn ∷ []) }
     ensures orders { IfOk result (λ new. new.orders ≡ by_way turn.way node.now.orders) }
 {
-    let state = M::kept(alloc, runner, spares.pop())?;
-    let order = extended(&node.order, turn)?;
+    let (state, room, order) = room_of(alloc, spare);
+    let state = M::kept(alloc, runner, state)?;
+    let places = placed_in(room, places)?;
+    let order = extended_in(order, &node.order, turn)?;
     let orders = counted(node.orders, turn.way);
     Ok(Node {
         state,
@@ -65,20 +88,6 @@ fn successor<M: Machine>(
         order,
         orders,
     })
-}
-
-/// The states of these nodes are spare from now on, as far as there is memory to keep them.
-pub(crate) fn spare_all<M: Machine>(nodes: Vec<Node<M>>, spares: &mut Vec<M>) {
-    for node in nodes {
-        let _ = spares.push(node.state);
-    }
-}
-
-/// More states are spare from now on, as far as there is memory to keep them.
-fn spare_more<M: Machine>(more: Vec<M>, spares: &mut Vec<M>) {
-    for state in more {
-        let _ = spares.push(state);
-    }
 }
 
 impl<M: Machine> Layer<M> {
@@ -91,6 +100,7 @@ impl<M: Machine> Layer<M> {
             nodes: Vec::new(alloc),
             limits,
             spares: Vec::new(alloc),
+            room: Vec::new(alloc),
             index: Index::new(alloc),
         }
     }
@@ -120,31 +130,6 @@ impl<M: Machine> Layer<M> {
         }
     }
 
-    /// The index of a node that is alike.
-    fn find_like(&self, key: u64, node: &Node<M>) -> Option<usize>
-        ensures { IfSome result (λ index. IsAlikeAt self.now.nodes.items index node.now.places.items node.now.state) }
-    {
-        for distance in 0..self.index.slots() {
-            let Some((has_key, index)) = self.index.at(key, distance) else {
-                return None;
-            };
-            if has_key && self.is_like_at(index, node) {
-                return Some(index);
-            }
-        }
-        None
-    }
-
-    /// Whether the node at an index is alike.
-    fn is_like_at(&self, index: usize, node: &Node<M>) -> bool
-        ensures { IsTrue result → IsAlikeAt self.now.nodes.items index node.now.places.items node.now.state }
-    {
-        match self.nodes.get(index) {
-            Some(held) => is_like(held, node),
-            None => false,
-        }
-    }
-
     /// Adds a node behind the others.
     fn push(&mut self, alloc: Global, key: u64, node: Node<M>) -> Result<(), AllocError>
         ensures { OnOk result (self.new.nodes.items ≡ self.old.nodes.items ++ node ∷ []) }
@@ -168,56 +153,34 @@ impl<M: Machine> Layer<M> {
         ensures put { OnOk result (IsPutBehind self.old.nodes.items node.now turn (M.shown runner.now) self.new.nodes.items) }
         ensures short { IfErr result IsShort }
     {
-        let places = moved_on(&node.places, turn.track)?;
+        let room = mem::replace(&mut self.room, Vec::new(alloc));
+        let places = moved_on(room, &node.places, turn.track)?;
         let key = key_of::<M>(&places, runner);
         if let Some(index) = self.find(key, &places, runner) {
             merge(&mut self.nodes, index, counted(node.orders, turn.way));
+            self.room = places;
             return Ok(());
         }
         if self.nodes.len() >= self.limits.states {
             return Err(Stop::Most);
         }
-        let new = successor(alloc, node, turn, places, runner, &mut self.spares)?;
+        let new = successor(alloc, node, turn, &places, runner, self.spares.pop())?;
+        self.room = places;
         self.push(alloc, key, new)?;
         Ok(())
     }
 
-    /// Puts a node of another layer: behind the others, or merged with one that is alike.
-    fn put_node(&mut self, alloc: Global, key: u64, node: Node<M>) -> Result<(), Stop>
-        ensures { OnOk result (IsPut self.old.nodes.items node self.new.nodes.items) }
-    {
-        if let Some(index) = self.find_like(key, &node) {
-            merge(&mut self.nodes, index, node.orders);
-            let _ = self.spares.push(node.state);
-            return Ok(());
-        }
-        let is_full = self.nodes.len() >= self.limits.states;
-        if is_full {
-            return Err(Stop::Most);
-        }
-        self.push(alloc, key, node)?;
-        Ok(())
-    }
-
-    /// Puts the nodes of another layer, one after another. Its spare states are spare here.
-    pub(crate) fn put_all(&mut self, alloc: Global, other: Layer<M>) -> Result<(), Stop>
-        ensures { OnOk result (ArePut self.old.nodes.items other.nodes.items self.new.nodes.items) }
+    /// Its nodes, what is left of the limits, its spare nodes, and the table by which its nodes are found.
+    pub(crate) fn taken_apart(self) -> (Vec<Node<M>>, Limits, Vec<Node<M>>, Index)
+        ensures { result.0 ≡ self.nodes }
     {
         let Layer {
             nodes,
-            index,
+            limits,
             spares,
-            limits: _,
-        } = other;
-        spare_more(spares, &mut self.spares);
-        let mut place = 0usize;
-        for node in nodes {
-            match self.put_node(alloc, index.key(place), node) {
-                Ok(()) => {}
-                Err(stop) => return Err(stop),
-            }
-            place = place.saturating_add(1);
-        }
-        Ok(())
+            room: _,
+            index,
+        } = self;
+        (nodes, limits, spares, index)
     }
 }

@@ -8,14 +8,15 @@
 //! orders and the first of them. Two equal states at the same places of all tracks are one.
 //!
 //! Lines run on one runner ([`Machine::Runner`]), which comes to the state of a node and then to that which the line leads to.
-//! That is kept if it is new, in the room of a state of the layer before. So a step makes no state that it doesn't keep.
+//! That is kept if it is new, in the room of a node that is done with. So a step makes no state that it doesn't keep.
 //!
 //! [`explore_part`] tries the orders of one [`Part`] alone. Each order is in exactly one part, and the parts' numbers of orders
 //! add up ([`parts_share_all`]).
 //!
 //! [`explore_on`] does so by several jobs, each on a thread of its own: a job expands a run of a layer's nodes into a layer of
-//! its own, and these layers are joined in the order of their runs. Where a job breaks an expectation or reaches a limit, one
-//! thread makes the layer again, so that each number of jobs stops at the same place.
+//! its own. Which nodes two jobs found is found by the jobs, by the tables of their layers; then one thread moves the nodes into
+//! one layer, in the order of the runs, and merges those. Where a job breaks an expectation or reaches a limit, one thread makes
+//! the layer again, so that each number of jobs stops at the same place. A [`Watch`] is told how far it is.
 //!
 //! Not claimed: that there is memory enough, that the limits are, or how much time it takes. Where a machine's steps are not
 //! determined, what its `run` doesn't choose is not tried.
@@ -24,17 +25,21 @@
 mod block;
 mod expand;
 mod fork;
+mod gathered;
 mod index;
 mod layer;
 mod limits;
 mod machine;
+mod merged;
 mod node;
 mod part;
 mod runs;
 mod splits;
 mod stop;
 mod turn;
+mod twin;
 mod walk;
+mod watch;
 
 pub use limits::Limits;
 pub use machine::Machine;
@@ -44,3 +49,4 @@ pub use splits::{first_turns_split, parts_share_all};
 pub use stop::Stop;
 pub use turn::Turn;
 pub use walk::{Explored, explore, explore_on, explore_part};
+pub use watch::{Progress, Watch};

@@ -1,4 +1,4 @@
-ghost use Rattle.std.specs.Prelude.{◌≡◌, ◌<◌, ◌≤◌, ◌^◌, ℕ, IfOk, IsTrue, true, false};
+ghost use Rattle.std.specs.Prelude.{◌≡◌, ◌<◌, ◌≤◌, ◌^◌, ℕ, IfOk, IsTrue, OnOk, true, false};
 
 use std::alloc::{AllocError, Global};
 
@@ -19,6 +19,10 @@ pub trait Machine: Sized + Drop {
     /// A line breaks an expectation, in a way.
     ghost breaks: { Self → Self.Line → ℕ → Type 0 };
 
+    /// What a runner remembers of its last line is true of this state, from which that line was run. A machine whose runners
+    /// remember nothing has ⊤.
+    ghost near: { Self.Runner → Self → Type 0 };
+
     /// The last way to try, below 65,536: each later one can lead to whatever this one leads to.
     fn last_way(&self, line: &Self::Line) -> usize
         ensures small { result < 2 ^ 16 }
@@ -28,16 +32,20 @@ pub trait Machine: Sized + Drop {
     fn runner(&self, alloc: Global) -> Result<Self::Runner, AllocError>
         ensures { IfOk result (λ runner. shown runner ≡ self.now) };
 
-    /// Runs a line from this state on a runner, whatever state that is in. Answers whether all that is expected holds.
+    /// Runs a line from this state on a runner, whatever state that is in. `again` says that the line before was run from
+    /// this state too. Answers whether all that is expected holds.
     fn run(
         &self,
         alloc: Global,
         line: &Self::Line,
         way: usize,
+        again: bool,
         runner: &mut Self::Runner,
     ) -> Result<bool, AllocError>
+        requires again { IsTrue again → near runner.old self.now }
         ensures leads { IfOk result (λ held. held ≡ true → steps self.now line.now way (shown runner.new)) }
-        ensures broken { IfOk result (λ held. held ≡ false → breaks self.now line.now way) };
+        ensures broken { IfOk result (λ held. held ≡ false → breaks self.now line.now way) }
+        ensures near { OnOk result (near runner.new self.now) };
 
     /// The state that a runner is in. It takes the room of a spare one, if there is one.
     fn kept(alloc: Global, runner: &Self::Runner, spare: Option<Self>) -> Result<Self, AllocError>
@@ -51,7 +59,7 @@ pub trait Machine: Sized + Drop {
     fn is_same(&self, other: &Self) -> bool
         ensures { IsTrue result → self.now ≡ other.now };
 
-    /// A hash of the state that a runner is in. Where equal states have different hashes they are explored separately, which
-    /// costs time and changes no answer.
+    /// A hash of the state that a runner is in. Equal states with different hashes are explored separately, which costs time
+    /// and can tell one end as two.
     fn hash(runner: &Self::Runner) -> u64;
 }

@@ -52,13 +52,27 @@ pub(crate) fn counted(orders: Option<u64>, way: usize) -> Option<u64>
     if way == 0 { orders } else { Some(0) }
 }
 
-/// The places where one more line of a track has run.
-pub(crate) fn moved_on(places: &Vec<usize>, track: usize) -> Result<Vec<usize>, AllocError>
+/// The same places, in the room of other ones.
+pub(crate) fn placed_in(room: Vec<usize>, places: &Vec<usize>) -> Result<Vec<usize>, AllocError>
+    ensures { IfOk result (λ copy. copy.items ≡ places.now.items) }
+{
+    let mut copy = room;
+    copy.clear();
+    copy.extend_from_slice(places)?;
+    Ok(copy)
+}
+
+/// The places where one more line of a track has run, in the room of other ones.
+pub(crate) fn moved_on(
+    room: Vec<usize>,
+    places: &Vec<usize>,
+    track: usize,
+) -> Result<Vec<usize>, AllocError>
     requires within { track < length places.now.items }
     requires fits { slice_index places.now.items track + 1 < 2 ^ 64 }
     ensures { IfOk result (λ moved. moved.items ≡ advanced track places.now.items) }
 {
-    let mut moved = places.clone()?;
+    let mut moved = placed_in(room, places)?;
     moved[track] += 1;
     Ok(moved)
 }

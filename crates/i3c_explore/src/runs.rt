@@ -2,18 +2,19 @@ ghost use Rattle.std.specs.Prelude.{◌≡◌, ◌≤◌, [], IfErr, IfOk, lengt
 ghost use Rattle.std.specs.Global.{Vec as VecValue};
 ghost use Rattle.i3c_explore.specs.declared.stop.Stop.{Stop as StopValue};
 ghost use Rattle.i3c_explore.specs.declared.turn.Turn.{Turn as TurnValue};
-ghost use Rattle.i3c_explore.specs.Layers.{ArePut};
 ghost use Rattle.i3c_explore.specs.Nexts.{ArePlaced, BreaksNext, FollowsAll, IsNextOf};
 ghost use Rattle.i3c_explore.specs.Parts.{opening};
-ghost use Rattle.i3c_explore.specs.Runs.{AreJoined, AreRuns};
+ghost use Rattle.i3c_explore.specs.Runs.{AreRuns};
 
 use crate::expand::expand_range;
 use crate::layer::Layer;
 use crate::limits::Limits;
 use crate::machine::Machine;
+use crate::merged::joined_by_jobs;
 use crate::node::Node;
 use crate::part::Part;
 use crate::stop::Stop;
+use crate::watch::{Unwatched, View, Watch};
 use std::alloc::{AllocError, Global};
 use std::mem;
 use std::thread::{Threads, map_vec};
@@ -26,8 +27,8 @@ const FEW: usize = 16;
 struct Run<M> {
     first: usize,
     last: usize,
-    // states whose room the job may take
-    spares: Vec<M>,
+    // nodes whose room the job may take
+    spares: Vec<Node<M>>,
 }
 
 /// The index of a layer's node with which a job begins, of so many jobs. Each but the last gets the same number of nodes.
@@ -40,8 +41,11 @@ fn begin_of(nodes: usize, jobs: usize, job: usize) -> usize
     }
 }
 
-/// A job's share of the spare states, of so many jobs.
-fn share_of<M: Machine>(spares: &mut Vec<M>, jobs: usize) -> Result<Vec<M>, AllocError> {
+/// A job's share of the spare nodes, of so many jobs.
+fn share_of<M: Machine>(
+    spares: &mut Vec<Node<M>>,
+    jobs: usize,
+) -> Result<Vec<Node<M>>, AllocError> {
     match spares.len().checked_div(jobs) {
         Some(each) => spares.split_off(spares.len() - each),
         None => spares.split_off(0),
@@ -53,7 +57,7 @@ fn runs_of<M: Machine>(
     alloc: Global,
     nodes: usize,
     jobs: usize,
-    spares: Vec<M>,
+    spares: Vec<Node<M>>,
 ) -> Result<Vec<Run<M>>, AllocError>
     ensures { IfOk result (λ runs. AreRuns runs.items 0 nodes) }
 {
@@ -78,54 +82,6 @@ fn runs_of<M: Machine>(
     Ok(runs)
 }
 
-/// Adds a layer to another one. Its steps are taken too.
-fn joined<M: Machine>(
-    alloc: Global,
-    front: Layer<M>,
-    back: Layer<M>,
-    limits: Limits,
-) -> Result<Layer<M>, Stop>
-    ensures { IfOk result (λ both. ArePut front.nodes.items back.nodes.items both.nodes.items) }
-{
-    let steps = limits.steps.saturating_sub(back.limits.steps);
-    let Some(left) = front.limits.steps.checked_sub(steps) else {
-        return Err(Stop::Most);
-    };
-    if front.nodes.is_empty() {
-        let mut both = back;
-        both.limits.steps = left;
-        return Ok(both);
-    }
-    let mut both = front;
-    both.limits.steps = left;
-    match both.put_all(alloc, back) {
-        Ok(()) => Ok(both),
-        Err(stop) => Err(stop),
-    }
-}
-
-/// The layers of all jobs as one: each node once, in the order in which one thread finds them.
-fn joined_all<M: Machine>(
-    alloc: Global,
-    layers: Vec<Result<Layer<M>, Stop>>,
-    limits: Limits,
-) -> Result<Layer<M>, Stop>
-    ensures { IfOk result (λ both. AreJoined [] layers.items both.nodes.items) }
-{
-    let mut both = Layer::new(alloc, limits);
-    for made in layers {
-        let layer = match made {
-            Ok(layer) => layer,
-            Err(stop) => return Err(stop),
-        };
-        both = match joined(alloc, both, layer, limits) {
-            Ok(both) => both,
-            Err(stop) => return Err(stop),
-        };
-    }
-    Ok(both)
-}
-
 /// The layer that follows a run of a layer's nodes, on a runner of its own.
 fn expand_run<M: Machine>(
     alloc: Global,
@@ -148,6 +104,11 @@ fn expand_run<M: Machine>(
         return Err(Stop::Most);
     };
     let mut runner = node.state.runner(alloc)?;
+    let view = View {
+        watch: &Unwatched,
+        lines: 0,
+        limits,
+    };
     match expand_range(
         alloc,
         layer,
@@ -158,6 +119,7 @@ fn expand_run<M: Machine>(
         part,
         &mut runner,
         spares,
+        &view,
     ) {
         Ok(next) => Ok(next),
         Err(stop) => Err(stop),
@@ -173,7 +135,7 @@ fn by_runs<R: Threads + Sync, M: Machine + Send + Sync>(
     limits: Limits,
     tracks: &[Vec<M::Line>],
     part: Part,
-    spares: Vec<M>,
+    spares: Vec<Node<M>>,
 ) -> Result<Layer<M>, Stop>
 where
     M::Line: Sync,
@@ -187,7 +149,7 @@ where
         ensures { IfOk result (λ next. IsNextOf M.steps tracks.entry.now (opening part tracks.entry.now) layer.entry.now run.first run.last next.nodes.items) }
     { expand_run(alloc, layer, run, limits, tracks, part) };
     let layers = map_vec(rt, runs, &expand)?;
-    match joined_all(alloc, layers, limits) {
+    match joined_by_jobs(rt, alloc, layers, limits) {
         Ok(next) => Ok(next),
         Err(stop) => Err(stop),
     }
@@ -195,7 +157,7 @@ where
 
 /// The layer that follows all nodes of a layer, by up to so many jobs. Where one of them finds a break or reaches a limit, one
 /// thread makes the layer again from its first node, so that each number of jobs answers the same.
-pub(crate) fn next_by_jobs<R: Threads + Sync, M: Machine + Send + Sync>(
+pub(crate) fn next_by_jobs<R: Threads + Sync, M: Machine + Send + Sync, W: Watch>(
     rt: &R,
     alloc: Global,
     jobs: usize,
@@ -204,7 +166,8 @@ pub(crate) fn next_by_jobs<R: Threads + Sync, M: Machine + Send + Sync>(
     tracks: &[Vec<M::Line>],
     part: Part,
     runner: &mut M::Runner,
-    mut spares: Vec<M>,
+    mut spares: Vec<Node<M>>,
+    view: &View<'_, W>,
 ) -> Result<Layer<M>, Stop>
 where
     M::Line: Sync,
@@ -218,10 +181,13 @@ where
     if useful > 1 {
         let lent = mem::replace(&mut spares, Vec::new(alloc));
         if let Ok(next) = by_runs(rt, alloc, useful, layer, limits, tracks, part, lent) {
+            view.tell(layer, &next.nodes, next.limits);
             return Ok(next);
         }
     }
-    match expand_range(alloc, layer, 0, last, limits, tracks, part, runner, spares) {
+    match expand_range(
+        alloc, layer, 0, last, limits, tracks, part, runner, spares, view,
+    ) {
         Ok(next) => Ok(next),
         Err(stop) => Err(stop),
     }

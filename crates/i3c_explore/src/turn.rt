@@ -19,3 +19,18 @@ pub(crate) fn extended(order: &Vec<Turn>, turn: Turn) -> Result<Vec<Turn>, Alloc
     longer.push(turn)?;
     Ok(longer)
 }
+
+/// The same in the room of another order.
+pub(crate) fn extended_in(
+    room: Vec<Turn>,
+    order: &Vec<Turn>,
+    turn: Turn,
+) -> Result<Vec<Turn>, AllocError>
+    ensures { IfOk result (λ longer. longer.items ≡ order.now.items ++ turn ∷ []) }
+{
+    let mut longer = room;
+    longer.clear();
+    longer.extend_from_slice(order)?;
+    longer.push(turn)?;
+    Ok(longer)
+}

@@ -21,6 +21,7 @@ use crate::node::{Node, sum};
 use crate::part::Part;
 use crate::runs::next_by_jobs;
 use crate::stop::Stop;
+use crate::watch::{Unwatched, View, Watch, lines_of};
 use std::alloc::{AllocError, Global};
 use std::thread::Threads;
 
@@ -145,16 +146,21 @@ pub fn explore_part<M: Machine>(
     // an order of the part that is answered in place of them breaks an expectation at its last line, and no shorter one of the part does
     ensures broken { IfErr result (λ stop. (order : VecValue TurnValue) → stop ≡ StopValue.Breaks order → IsShortestInPart M.steps M.breaks part blocks.now start order.items) }
 {
+    let view = View {
+        watch: &Unwatched,
+        lines: 0,
+        limits,
+    };
     let next_layer = |layer: &[Node<M>], limits: Limits, tracks: &[Vec<
         M::Line,
-    >], opening: Part, runner: &mut M::Runner, spares: Vec<M>| -> Result<Layer<M>, Stop>
+    >], opening: Part, runner: &mut M::Runner, spares: Vec<Node<M>>| -> Result<Layer<M>, Stop>
         requires { ArePlaced layer.now tracks.now }
         ensures next { IfOk result (λ next. FollowsAll M.steps tracks.now opening layer.now next.nodes.items) }
         ensures broken { IfErr result (λ stop. (order : VecValue TurnValue) → stop ≡ StopValue.Breaks order → BreaksNext M.breaks tracks.now opening layer.now order.items) }
     {
         let last = layer.len();
         match expand_range(
-            alloc, layer, 0, last, limits, tracks, opening, runner, spares,
+            alloc, layer, 0, last, limits, tracks, opening, runner, spares, &view,
         ) {
             Ok(next) => Ok(next),
             Err(stop) => Err(stop),
@@ -167,13 +173,13 @@ pub fn explore_part<M: Machine>(
 }
 
 /// Tries every order of a part by so many jobs, each on a thread of its own. The answer is that of [`explore_part`], with
-/// the same nodes, orders and numbers.
+/// the same nodes, orders and numbers. A watcher is told how far it is, and when it is over.
 ///
 /// # Errors
 ///
 /// `Breaks` has an order that breaks an expectation, of the shortest ones. After `Memory` and `Most` nothing is known of
 /// orders.
-pub fn explore_on<R: Threads + Sync, M: Machine + Send + Sync>(
+pub fn explore_on<R: Threads + Sync, M: Machine + Send + Sync, W: Watch>(
     rt: &R,
     alloc: Global,
     start: M,
@@ -181,6 +187,7 @@ pub fn explore_on<R: Threads + Sync, M: Machine + Send + Sync>(
     limits: Limits,
     part: Part,
     jobs: usize,
+    watch: &W,
 ) -> Result<Explored<M>, Stop>
 where
     M::Line: Sync,
@@ -205,21 +212,28 @@ where
     // an order of the part that is answered in place of them breaks an expectation at its last line, and no shorter one of the part does
     ensures broken { IfErr result (λ stop. (order : VecValue TurnValue) → stop ≡ StopValue.Breaks order → IsShortestInPart M.steps M.breaks part blocks.now start order.items) }
 {
+    let view = View {
+        watch,
+        lines: lines_of(blocks),
+        limits,
+    };
     let next_layer = |layer: &[Node<M>], limits: Limits, tracks: &[Vec<
         M::Line,
-    >], opening: Part, runner: &mut M::Runner, spares: Vec<M>| -> Result<Layer<M>, Stop>
+    >], opening: Part, runner: &mut M::Runner, spares: Vec<Node<M>>| -> Result<Layer<M>, Stop>
         requires { ArePlaced layer.now tracks.now }
         ensures next { IfOk result (λ next. FollowsAll M.steps tracks.now opening layer.now next.nodes.items) }
         ensures broken { IfErr result (λ stop. (order : VecValue TurnValue) → stop ≡ StopValue.Breaks order → BreaksNext M.breaks tracks.now opening layer.now order.items) }
     {
         match next_by_jobs(
-            rt, alloc, jobs, layer, limits, tracks, opening, runner, spares,
+            rt, alloc, jobs, layer, limits, tracks, opening, runner, spares, &view,
         ) {
             Ok(next) => Ok(next),
             Err(stop) => Err(stop),
         }
     };
-    match explore_by(alloc, start, blocks, limits, part, &next_layer) {
+    let outcome = explore_by(alloc, start, blocks, limits, part, &next_layer);
+    watch.ended();
+    match outcome {
         Ok(found) => Ok(found),
         Err(stop) => Err(stop),
     }
@@ -234,7 +248,7 @@ fn explore_by<
         &[Vec<M::Line>],
         Part,
         &mut M::Runner,
-        Vec<M>,
+        Vec<Node<M>>,
     ) -> Result<Layer<M>, Stop>,
 >(
     alloc: Global,

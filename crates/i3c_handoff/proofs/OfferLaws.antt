@@ -1,5 +1,5 @@
 -- Who would take the role that is offered, and what is read of those who don't end their byte.
-use Rattle.std.proofs.Common.{◌≡◌, ℕ, ◌+◌, ◌-◌, ◌/◌, ◌^◌, ◌<◌, ◌≤◌, true, max, List, Option, None, get_or, inl, inr, refl, sym, ap, ◌∙◌, arith}
+use Rattle.std.proofs.Common.{◌≡◌, ℕ, ◌+◌, ◌-◌, ◌/◌, ◌^◌, ◌<◌, ◌≤◌, max, List, Option, inl, inr, refl, sym, ap, ◌∙◌, subst, arith}
 use Rattle.std.proofs.lemmas.Bool.{both_ways, cases_lt}
 use Rattle.std.proofs.lemmas.Bool.Decides.{nat_tests}
 use Rattle.std.proofs.lemmas.Nat.{or_of_8, shr_le}
@@ -7,29 +7,20 @@ use Rattle.std.proofs.lemmas.Nat.Bits.{bit_at-lt, bit_at_ones, bit_at_ones_above
 use Rattle.std.specs.Int.{bit_at}
 use Rattle.std.specs.Int.RustNames.{bit_or}
 use Rattle.i3c_base.specs.Cutting.{CutList, Lost, lost_by}
-use Rattle.i3c_base.specs.State.{Device, HasDevices, State}
-use Rattle.i3c_base.specs.Frames.{IsWillingAt}
+use Rattle.i3c_base.specs.State.{Device, HasDevices, State, with_active}
+use Rattle.i3c_base.specs.Frames.{AreWillingLost, IsWillingIn, IsLowestWilling}
+use Rattle.i3c_base.proofs.Lookups.{population_is}
 use Rattle.i3c_base.proofs.LostLaws.{left_before}
-use Rattle.i3c_device.specs.Walks.{AreWillingLost, IsLowestWilling, willing_at}
-use Rattle.i3c_device.proofs.Targets.{found_willing, willing_found}
 use Rattle.i3c_word.specs.Parity.{IsAddressByte}
 use Rattle.i3c_handoff.specs.Offers.{IsTornByte, SomeTakes}
 
--- whoever would take the role by the devices does so on the bus, and the other way round
-same_test : (st : State) (a s : ℕ) (devices : List (Option Device)) (active : ℕ) → HasDevices st devices active → willing_at st.active a s (get_or st.devices s None) ≡ willing_at active a s (get_or devices s None)
-same_test st a s devices active has = λ t. willing_at (has.1 t) a s (get_or (has.0 t) s None)
-
--- each of them is lost
-nobody_takes : (st : State) (a : ℕ) (lost : Lost) (devices : List (Option Device)) (active : ℕ) → HasDevices st devices active → AreWillingLost active a lost devices → (s : ℕ) → IsWillingAt st a s → lost s ≡ true
-nobody_takes st a lost devices active has h s w = h s (sym (same_test st a s devices active has) ∙ willing_found st a s w)
-
--- the lowest of them that isn't
-pub some_takes : (st : State) (a : ℕ) (lost : Lost) (devices : List (Option Device)) (active s : ℕ) → HasDevices st devices active → IsLowestWilling active a lost devices s → SomeTakes st a lost
-some_takes st a lost devices active s has h = (s, found_willing st a s (same_test st a s devices active has ∙ h.0), h.1)
+-- the lowest of those who would take the role that isn't lost
+pub some_takes : (st : State) (a : ℕ) (lost : Lost) (devices : List (Option Device)) (active s : ℕ) → HasDevices st devices active → IsLowestWilling (with_active devices active) a lost s → SomeTakes st a lost
+some_takes st a lost devices active s has h = (s, subst (λ all. IsWillingIn all a s) (sym (population_is st devices active has)) h.0, h.1)
 
 -- nobody is left where each is lost
-pub none_takes : (st : State) (a : ℕ) (lost : Lost) (devices : List (Option Device)) (active : ℕ) → HasDevices st devices active → AreWillingLost active a lost devices → ¬ SomeTakes st a lost
-none_takes st a lost devices active has h some = both_ways _ some.2 (nobody_takes st a lost devices active has h some.0 some.1)
+pub none_takes : (st : State) (a : ℕ) (lost : Lost) (devices : List (Option Device)) (active : ℕ) → HasDevices st devices active → AreWillingLost (with_active devices active) a lost → ¬ SomeTakes st a lost
+none_takes st a lost devices active has h some = both_ways _ some.2 (subst (λ all. AreWillingLost all a lost) (sym (population_is st devices active has)) h some.0 some.1)
 
 -- whoever is left at a later bit was left before
 pub takes_before : (st : State) (a : ℕ) (cuts : CutList) (first last : ℕ) → first ≤ last → SomeTakes st a (lost_by cuts last) → SomeTakes st a (lost_by cuts first)

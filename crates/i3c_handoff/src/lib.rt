@@ -7,7 +7,7 @@ mod faults;
 mod offers;
 mod outcome;
 mod roles;
-mod telling;
+mod wire;
 mod wishes;
 
 pub use faults::HandFault;
@@ -15,5 +15,5 @@ pub use i3c_base::RoleRefusal;
 pub use offers::{offer, offer_bits};
 pub use outcome::Offer;
 pub use roles::{Active, Role, give, retire};
-pub use telling::tell_offer;
+pub use wire::tell_offer;
 pub use wishes::ask;

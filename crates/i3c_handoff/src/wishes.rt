@@ -1,6 +1,6 @@
 ghost use Rattle.std.specs.Prelude.{◌≡◌, None, Some, option_map, slice_index_or, slice_set, MatchResult, OnErr, OnOk};
-ghost use Rattle.i3c_device.specs.Raising.{wishing_role};
 ghost use Rattle.i3c_handoff.specs.Wishes.{refusal_of};
+ghost use Rattle.i3c_base.specs.Local.{wishing_role};
 
 use i3c_base::{RoleRefusal, Slot};
 use i3c_device::Devices;

@@ -1,6 +1,6 @@
 ghost use Rattle.std.specs.Prelude.{◌≡◌, None, Some, option_map, slice_index_or, slice_set, MatchResult, OnErr, OnOk};
-ghost use Rattle.i3c_device.specs.Raising.{wishing_join};
 ghost use Rattle.i3c_hotjoin.specs.Wishes.{refusal_of};
+ghost use Rattle.i3c_base.specs.Local.{wishing_join};
 
 use i3c_base::{JoinRefusal, Slot};
 use i3c_device::Devices;

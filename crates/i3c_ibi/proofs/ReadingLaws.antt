@@ -11,15 +11,15 @@ use Rattle.i3c_base.specs.declared.requests.Request.TheVariants.{Interrupt}
 use Rattle.i3c_base.specs.declared.device.Waiting.{Waiting}
 use Rattle.i3c_base.specs.declared.requests.Record.{Record}
 use Rattle.i3c_base.specs.Cutting.{CutList, cut_of, is_by, lost_by}
-use Rattle.i3c_base.specs.State.{Device, State, device_at, has_address}
-use Rattle.i3c_base.specs.Serve.{DrivesByte, IsLowestDriver, asks, drives, is_empty}
+use Rattle.i3c_base.specs.State.{Device, Population, State, device_at, population, with_active}
+use Rattle.i3c_base.specs.Serve.{DrivesByte, IsFrontOf, IsLowestDriver, drives}
 use Rattle.i3c_device.specs.Holding.{front_in}
 use Rattle.i3c_device.specs.Raising.{front_byte}
 use Rattle.i3c_device.specs.declared.sets.SlotSet.{SlotSet}
 use Rattle.i3c_device.specs.Sets.{IsLowestOf, has}
-use Rattle.i3c_device.specs.Walks.{AreDrivers, drives_at}
-use Rattle.i3c_ibi.specs.Driving.{HaveBytes, IsByteRead, IsFrontOf, IsReading, Together, byte_beside, driven, slot_byte}
-use Rattle.i3c_ibi.proofs.Scans.{drives_in}
+use Rattle.i3c_device.specs.Walks.{AreDrivers}
+use Rattle.i3c_ibi.specs.Driving.{HaveBytes, IsByteRead, IsReading, Together, byte_beside, driven, slot_byte}
+use Rattle.i3c_device.proofs.FirstLaws.{driven_below}
 
 and_join : (a b : Bool) → a ≡ true → b ≡ true → (a && b) ≡ true
 and_join a b p q = ap (λ x. x && b) p ∙ q
@@ -82,12 +82,12 @@ abbrev BytesRead : State → CutList → SlotSet → ℕ → ℕ → ℕ → Typ
 BytesRead st cuts drivers slot own both = Together (λ s. byte_beside cuts drivers slot s (device_at st s)) (driven (cut_of cuts slot) own) SLOTS both
 
 -- whoever drives it, drives 1 where 1 is read
-drives_to : (st : State) (cuts : CutList) (at slot own both : ℕ) (front : Waiting) (drivers : SlotSet) → AreDrivers st.active (Interrupt at) st.devices drivers → length st.devices ≡ SLOTS
+drives_to : (st : State) (cuts : CutList) (at slot own both : ℕ) (front : Waiting) (drivers : SlotSet) → AreDrivers (population st) (Interrupt at) drivers → length st.devices ≡ SLOTS
     → IsFrontOf (device_at st slot) front → front.byte ≡ Some own → BytesRead st cuts drivers slot own both
     → (bit : ℕ) → bit < 8 → bit_at both bit ≡ 1 → (s u : ℕ) → DrivesByte st (Interrupt at) s u → bit_at (driven (cut_of cuts s) u) bit ≡ 1
 drives_to st cuts at slot own both front drivers are long fronted e tog bit l b s u d =
     let k = (tog.bits bit l).0 b in
-    let low : s < SLOTS = let inside = drives_in st (Interrupt at) s d.0 in omega (arith, inside, long) in
+    let low : s < SLOTS = driven_below (population st) s (Interrupt at) long d.0 in
     elim (cases_eq s slot) [
       | inl same ↦
           let f : IsFrontOf (device_at st slot) d.1.0 = subst (λ t. IsFrontOf (device_at st t) d.1.0) same d.1.1 in
@@ -99,7 +99,7 @@ drives_to st cuts at slot own both front drivers are long fronted e tog bit l b 
     ]
 
 -- and 1 is read where they all drive it
-drives_from : (st : State) (cuts : CutList) (at slot own both : ℕ) (front : Waiting) (drivers : SlotSet) → AreDrivers st.active (Interrupt at) st.devices drivers → drives st (Interrupt at) slot ≡ true
+drives_from : (st : State) (cuts : CutList) (at slot own both : ℕ) (front : Waiting) (drivers : SlotSet) → AreDrivers (population st) (Interrupt at) drivers → drives st (Interrupt at) slot ≡ true
     → IsFrontOf (device_at st slot) front → front.byte ≡ Some own → BytesRead st cuts drivers slot own both
     → (bit : ℕ) → bit < 8 → ((s u : ℕ) → DrivesByte st (Interrupt at) s u → bit_at (driven (cut_of cuts s) u) bit ≡ 1) → bit_at both bit ≡ 1
 drives_from st cuts at slot own both front drivers are lowest fronted e tog bit l all =
@@ -112,24 +112,24 @@ drives_from st cuts at slot own both front drivers are lowest fronted e tog bit 
     )
 
 -- each of them isn't lost, and the AND of what they drive is that of their bytes
-reads_to : (st : State) (cuts : CutList) (at slot own both : ℕ) (front : Waiting) (drivers : SlotSet) → AreDrivers st.active (Interrupt at) st.devices drivers → length st.devices ≡ SLOTS
+reads_to : (st : State) (cuts : CutList) (at slot own both : ℕ) (front : Waiting) (drivers : SlotSet) → AreDrivers (population st) (Interrupt at) drivers → length st.devices ≡ SLOTS
     → IsFrontOf (device_at st slot) front → front.byte ≡ Some own → BytesRead st cuts drivers slot own both → ((t : ℕ) → drives st (Interrupt at) t ≡ true → lost_by cuts 9 t ≡ false)
     → (bit : ℕ) → bit < 8 → bit_at both bit ≡ 1 → (s u : ℕ) → DrivesByte st (Interrupt at) s u → bit_at u bit ≡ 1
 reads_to st cuts at slot own both front drivers are long fronted e tog left bit l b s u d =
     subst (λ x. bit_at x bit ≡ 1) (driven_left (cut_of cuts s) u (left s d.0)) (drives_to st cuts at slot own both front drivers are long fronted e tog bit l b s u d)
 
-reads_from : (st : State) (cuts : CutList) (at slot own both : ℕ) (front : Waiting) (drivers : SlotSet) → AreDrivers st.active (Interrupt at) st.devices drivers → drives st (Interrupt at) slot ≡ true
+reads_from : (st : State) (cuts : CutList) (at slot own both : ℕ) (front : Waiting) (drivers : SlotSet) → AreDrivers (population st) (Interrupt at) drivers → drives st (Interrupt at) slot ≡ true
     → IsFrontOf (device_at st slot) front → front.byte ≡ Some own → BytesRead st cuts drivers slot own both → ((t : ℕ) → drives st (Interrupt at) t ≡ true → lost_by cuts 9 t ≡ false)
     → (bit : ℕ) → bit < 8 → ((s u : ℕ) → DrivesByte st (Interrupt at) s u → bit_at u bit ≡ 1) → bit_at both bit ≡ 1
 reads_from st cuts at slot own both front drivers are lowest fronted e tog left bit l all =
     drives_from st cuts at slot own both front drivers are lowest fronted e tog bit l (λ s u d. subst (λ x. bit_at x bit ≡ 1) (sym (driven_left (cut_of cuts s) u (left s d.0))) (all s u d))
 
 -- the lowest of the drivers
-lowest_driver : (st : State) (r : Request) (drivers : SlotSet) (slot : ℕ) → AreDrivers st.active r st.devices drivers → IsLowestOf drivers slot → IsLowestDriver st r slot
+lowest_driver : (st : State) (r : Request) (drivers : SlotSet) (slot : ℕ) → AreDrivers (population st) r drivers → IsLowestOf drivers slot → IsLowestDriver st r slot
 lowest_driver st r drivers slot are h = (sym (are slot h.0) ∙ h.1, λ t l. sym (are t (omega (arith, l, h.0))) ∙ h.2 t l)
 
 -- a reading of the bytes
-pub reading_at : (st : State) (cuts : CutList) (at slot : ℕ) (front : Waiting) (byte : Option ℕ) (drivers : SlotSet) → AreDrivers st.active (Interrupt at) st.devices drivers → length st.devices ≡ SLOTS
+pub reading_at : (st : State) (cuts : CutList) (at slot : ℕ) (front : Waiting) (byte : Option ℕ) (drivers : SlotSet) → AreDrivers (population st) (Interrupt at) drivers → length st.devices ≡ SLOTS
     → IsLowestOf drivers slot × IsFrontOf (device_at st slot) front → MatchOption (slot_byte (device_at st slot)) (byte ≡ None) (λ own. IsSomeAnd byte (BytesRead st cuts drivers slot own)) → IfSome byte (λ v. v < 256)
     → IsReading st cuts at (record { slot = slot; number = front.number; at = at; byte = byte })
 reading_at st cuts at slot front byte drivers are long found read small =
@@ -188,13 +188,13 @@ read_as devices cuts drivers lowest own both e h =
     subst (λ o. MatchOption o (Some both ≡ None) (λ v. IsSomeAnd (Some both) (Together (λ s. byte_beside cuts drivers lowest s (get_or devices s None)) (driven (cut_of cuts lowest) v) SLOTS))) (sym e) h
 
 -- the same of devices that a bus has
-pub reading_of : (st : State) (devices : List (Option Device)) (cuts : CutList) (at slot : ℕ) (front : Waiting) (byte : Option ℕ) (drivers : SlotSet) → st.devices ≡ devices → AreDrivers st.active (Interrupt at) devices drivers
+pub reading_of : (st : State) (devices : List (Option Device)) (cuts : CutList) (at slot : ℕ) (front : Waiting) (byte : Option ℕ) (drivers : SlotSet) → st.devices ≡ devices → AreDrivers (population st) (Interrupt at) drivers
     → length devices ≡ SLOTS → IsLowestOf drivers slot × IsFrontOf (get_or devices slot None) front
     → MatchOption (slot_byte (get_or devices slot None)) (byte ≡ None) (λ own. IsSomeAnd byte (Together (λ s. byte_beside cuts drivers slot s (get_or devices s None)) (driven (cut_of cuts slot) own) SLOTS))
     → IfSome byte (λ v. v < 256) → IsReading st cuts at (record { slot = slot; number = front.number; at = at; byte = byte })
 reading_of st devices cuts at slot front byte drivers same are long found read small =
     subst (λ s. IsReading s cuts at (record { slot = slot; number = front.number; at = at; byte = byte })) (λ k. record st { devices = sym same k })
-    (reading_at (record st { devices = devices }) cuts at slot front byte drivers are long found read small)
+    (reading_at (record st { devices = devices }) cuts at slot front byte drivers (subst (λ ds. AreDrivers (with_active ds st.active) (Interrupt at) drivers) same are) long found read small)
 
 -- the front that is found first in a list
 pub front_at : (place : Option Device) (d : Device) (w : Waiting) → Some d ≡ place → slice_get d.waiting 0 ≡ Some w → IsFrontOf place w
@@ -209,10 +209,10 @@ front_held None w first = absurd (none-some w first)
 front_held (Some d) w first = front_at (Some d) d w refl first
 
 -- the byte that was read is there exactly where one is due
-pub due_byte : (devices : List (Option Device)) (active : ℕ) (cuts : CutList) (at : ℕ) (due : Bool) (r : Record) → HaveBytes active devices at due
-    → ((st : State) → st.devices ≡ devices → st.active ≡ active → IsReading st cuts at r) → is_some r.byte ≡ due
-due_byte devices active cuts at due r fitting read =
-    let st : State = record { devices = devices; raised = []; active = active; legacy = []; declared = []; given = []; in_session = false; listed = false; records = [] } in
+pub due_byte : (all : Population) (cuts : CutList) (at : ℕ) (due : Bool) (r : Record) → HaveBytes all at due → ((st : State) → st.devices ≡ all.devices → st.active ≡ all.active → IsReading st cuts at r)
+    → is_some r.byte ≡ due
+due_byte all cuts at due r fitting read =
+    let st : State = record { devices = all.devices; raised = []; active = all.active; legacy = []; declared = []; given = []; in_session = false; listed = false; records = [] } in
     let h : IsReading st cuts at r = read st refl refl in
     h.present ∙ fitting r.slot h.front h.lowest.0 h.fronted
 

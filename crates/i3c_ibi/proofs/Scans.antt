@@ -1,40 +1,28 @@
 -- The scans over the devices.
-use Rattle.std.proofs.lemmas.Bool.{both_ways, cases_eq, cases_lt, cond-true, eq-eqb}
-use Rattle.std.proofs.lemmas.List.{get_or_past}
+use Rattle.std.proofs.lemmas.Bool.{both_ways, cases_eq, cond-true, eq-eqb}
 use Rattle.std.proofs.lemmas.Option.{none-some, same_Some}
 use Rattle.std.specs.Int.{bit_at}
 use Rattle.std.specs.Int.Bits.{bit_and}
-use Rattle.std.proofs.Common.{◌≡◌, ℕ, ◌<◌, ◌↔◌, ◌⊎◌, ◌==◌, ◌&&◌, not, Bool, true, false, if◌then◌else◌, List, length, Option, Some, None, option_map, inl, inr, sym, refl, ap, ◌∙◌, subst}
+use Rattle.std.proofs.Common.{◌≡◌, ℕ, ◌<◌, ◌↔◌, ◌⊎◌, ◌==◌, ◌&&◌, not, Bool, true, false, if◌then◌else◌, List, Option, Some, None, option_map, inl, inr, sym, refl, ap, ◌∙◌, subst}
 use Rattle.i3c_base.proofs.BitLaws.{bits_both, both_bits}
+use Rattle.i3c_base.proofs.Lookups.{population_is}
 use Rattle.i3c_base.specs.declared.range.TheConstants.{SLOTS}
 use Rattle.i3c_base.specs.declared.requests.Request.{Request}
 use Rattle.i3c_base.specs.Cutting.{CutList, cut_of}
-use Rattle.i3c_base.specs.State.{Device, HasDevices, State, device_at}
-use Rattle.i3c_base.specs.Serve.{IsFirst, NoneAsks, drives}
+use Rattle.i3c_base.specs.State.{Device, HasDevices, State, population, with_active}
+use Rattle.i3c_base.specs.Serve.{IsFirst, IsFirstIn}
 use Rattle.i3c_device.specs.declared.sets.SlotSet.{SlotSet}
 use Rattle.i3c_device.specs.Sets.{has}
-use Rattle.i3c_device.specs.Walks.{AreDrivers, IsFirstDriven, NobodyDrives}
+use Rattle.i3c_device.specs.Walks.{AreDrivers, IsFirstDriven}
 use Rattle.i3c_device.proofs.FindLaws.{TakesOut, not_taken, still_in}
-use Rattle.i3c_device.proofs.MarkLaws.{undriven_past}
 use Rattle.i3c_ibi.specs.Driving.{Together, byte_beside, driven, slot_byte}
 
--- past the last slot nobody drives
-pub drives_in : (st : State) (q : Request) (s : ℕ) → drives st q s ≡ true → s < length st.devices
-drives_in st q s d = elim (cases_lt s (length st.devices)) [
-  | inl l ↦ l
-  | inr past ↦ absurd (undriven_past st.active s (device_at st s) q (get_or_past st.devices s None past) d)
-]
-
 -- the first of the requests that the devices drive is the first on a bus with these devices
-pub first_on : (st : State) (devices : List (Option Device)) (active : ℕ) (r : Request) (drivers : SlotSet) → HasDevices st devices active → IsFirstDriven active devices (r, drivers) → IsFirst st r
-first_on st devices active r drivers has first =
-    go (subst (λ ds. IsFirstDriven st.active ds (r, drivers)) (sym has.0) (subst (λ a. IsFirstDriven a devices (r, drivers)) (sym has.1) first))
-  where
-    go : IsFirstDriven st.active st.devices (r, drivers) → IsFirst st r
-    go h = record { driven = h.driven; first = h.least }
+pub first_on : (st : State) (devices : List (Option Device)) (active : ℕ) (r : Request) (drivers : SlotSet) → HasDevices st devices active → IsFirstDriven (with_active devices active) (r, drivers) → IsFirst st r
+first_on st devices active r drivers has first = subst (λ all. IsFirstIn all r) (sym (population_is st devices active has)) first.comes_first
 
-pub drivers_on : (st : State) (devices : List (Option Device)) (active : ℕ) (r : Request) (drivers : SlotSet) → HasDevices st devices active → AreDrivers active r devices drivers → AreDrivers st.active r devices drivers
-drivers_on st devices active r drivers has are = subst (λ a. AreDrivers a r devices drivers) (sym has.1) are
+pub drivers_on : (st : State) (devices : List (Option Device)) (active : ℕ) (r : Request) (drivers : SlotSet) → HasDevices st devices active → AreDrivers (with_active devices active) r drivers → AreDrivers (population st) r drivers
+drivers_on st devices active r drivers has are = subst (λ all. AreDrivers all r drivers) (sym (population_is st devices active has)) are
 
 -- `both` is the AND of `own` and the bytes of the slots that aren't left
 pub record TogetherSoFar (bytes : ℕ → Option ℕ) (own : ℕ) (left : SlotSet) (both : ℕ) : Type 0 where

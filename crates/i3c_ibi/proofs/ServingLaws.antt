@@ -1,6 +1,6 @@
 -- What serving a first request does to a bus.
 use Rattle.std.specs.Prelude.{IfSome}
-use Rattle.std.proofs.Common.{◌≡◌, ℕ, ◌+◌, ◌<◌, Bool, true, false, List, length, Option, Some, None, option_map, is_some, if◌then◌else◌, inl, inr, sym, refl, ap, subst, ◌∙◌, arith}
+use Rattle.std.proofs.Common.{◌≡◌, ℕ, ◌+◌, ◌<◌, Bool, true, false, List, length, Option, Some, None, is_some, if◌then◌else◌, inl, inr, sym, refl, ap, subst, ◌∙◌, arith}
 use Rattle.std.proofs.lemmas.Bool.{both_ways}
 use Rattle.std.proofs.lemmas.Bool.Decides.{nat_tests}
 use Rattle.std.proofs.lemmas.Option.{none-some}
@@ -12,33 +12,23 @@ use Rattle.i3c_base.specs.declared.requests.Request.TheVariants.{Join, Role, Int
 use Rattle.i3c_base.specs.declared.requests.Verdict.{Verdict}
 use Rattle.i3c_base.specs.declared.requests.Verdict.TheVariants.{Accept, Refuse}
 use Rattle.i3c_base.specs.Cutting.{CutList, Lost, cut_of, is_by, lost_by}
-use Rattle.i3c_base.specs.Places.{changed}
-use Rattle.i3c_base.specs.State.{Device, Entry, HasDevices, State, device_at, entry_at, entry_in}
-use Rattle.i3c_base.specs.Serve.{IsFirst, IsRead, NoneAsks, byte_due, drives, each_driver, given_for, recorded, refuse_all, without, without_front}
-use Rattle.i3c_base.proofs.Lookups.{changed_same}
+use Rattle.i3c_base.specs.State.{Device, Entry, HasDevices, State, entry_in, population}
+use Rattle.i3c_base.specs.Serve.{IsFirst, IsRead, byte_due, drives, each_driver, each_driver_in, given_for, recorded, refuse_all, without, without_front, without_join, without_role, SomeDrives}
 use Rattle.i3c_base.proofs.Verdicts.{refuses}
 use Rattle.i3c_device.specs.declared.sets.SlotSet.{SlotSet}
 use Rattle.i3c_device.specs.Sets.{SomeLeft}
-use Rattle.i3c_device.specs.Walks.{AreDrivers, accepted_at, drives_at}
+use Rattle.i3c_device.specs.Walks.{AreDrivers}
+use Rattle.i3c_device.proofs.FirstLaws.{driven_below}
 use Rattle.i3c_ibi.specs.declared.serving.Reading.{Reading}
 use Rattle.i3c_ibi.specs.declared.serving.Reading.TheVariants.{Quiet, Refused, Joined, WantsRole, Due, Torn}
-use Rattle.i3c_ibi.specs.Driving.{HaveBytes, IsByteRead, IsReading, SomeDrives}
+use Rattle.i3c_ibi.specs.Driving.{HaveBytes, IsByteRead, IsReading}
 use Rattle.i3c_ibi.proofs.ReadingLaws.{no_byte}
-use Rattle.i3c_ibi.proofs.Scans.{drives_in}
 use Rattle.i3c_ibi.specs.Policies.{Decides, is_known, verdict_in}
 use Rattle.i3c_ibi.specs.Serving.{FitsTable, IsServing, served_as}
 
--- what a walk over the devices leaves, of whom drives the request
-accepted_is : (st : State) (r : Request) (k : ℕ) (o : Option Device) → device_at st k ≡ o → accepted_at st.active r k o ≡ option_map (λ d. if drives st r k then without r d else d) o
-accepted_is st r k None e = refl
-accepted_is st r k (Some x) e = ap (λ place. Some (if drives_at st.active k place r then without r x else x)) (sym e)
-
-accepted_devices : (st : State) (r : Request) → changed (accepted_at st.active r) st.devices ≡ (each_driver r (without r) st).devices
-accepted_devices st r = changed_same (accepted_at st.active r) _ None st.devices (λ k. accepted_is st r k (device_at st k) refl)
-
-left_by : (st : State) (r : Request) (old new : List (Option Device)) (active : ℕ) → HasDevices st old active → new ≡ changed (accepted_at active r) old → record st { devices = new } ≡ each_driver r (without r) st
-left_by st r old new active has e =
-    let same = e ∙ ((λ k. changed (accepted_at (sym has.1 k) r) (sym has.0 k)) ∙ accepted_devices st r) in λ k. record st { devices = same k }
+-- what its drivers leave of an accepted request
+left_by : (st : State) (r : Request) (new : List (Option Device)) → new ≡ each_driver_in (population st) r (without r) → record st { devices = new } ≡ each_driver r (without r) st
+left_by st r new e = λ k. record st { devices = e k }
 
 -- nothing was left
 pub unchanged : (st : State) (old : List (Option Device)) (active : ℕ) → HasDevices st old active → record st { devices = old } ≡ st
@@ -61,13 +51,13 @@ known_accept : (b : Bool) → b ≡ true → (if b then Accept else Refuse) ≡ 
 known_accept b e = ap (λ x. if x then Accept else Refuse) e
 
 -- an accepted join, and an accepted role request
-pub join_served : (st : State) (cuts : CutList) (old new : List (Option Device)) (active : ℕ) → HasDevices st old active → IsFirst st Join → new ≡ changed (accepted_at active Join) old → IsServing st cuts Joined new
-join_served st cuts old new active has first e = record { serves = λ rest. (first, refl, left_by st Join old new active has e); word = refl; first = first; ended = tt; read = tt }
+pub join_served : (st : State) (cuts : CutList) (new : List (Option Device)) → IsFirst st Join → new ≡ each_driver_in (population st) Join without_join → IsServing st cuts Joined new
+join_served st cuts new first e = record { serves = λ rest. (first, refl, left_by st Join new e); word = refl; first = first; ended = tt; read = tt }
 
-pub role_served : (st : State) (cuts : CutList) (a : ℕ) (old new : List (Option Device)) (active : ℕ) → HasDevices st old active → IsFirst st (Role a) → is_known st.given (Role a) ≡ true
-    → new ≡ changed (accepted_at active (Role a)) old → IsServing st cuts (WantsRole a) new
-role_served st cuts a old new active has first known e =
-    record { serves = λ rest. (first, known_accept _ known, left_by st (Role a) old new active has e); word = refl; first = first; ended = tt; read = tt }
+pub role_served : (st : State) (cuts : CutList) (a : ℕ) (new : List (Option Device)) → IsFirst st (Role a) → is_known st.given (Role a) ≡ true
+    → new ≡ each_driver_in (population st) (Role a) without_role → IsServing st cuts (WantsRole a) new
+role_served st cuts a new first known e =
+    record { serves = λ rest. (first, known_accept _ known, left_by st (Role a) new e); word = refl; first = first; ended = tt; read = tt }
 
 -- what was read where there is no byte, and where some driver ended it
 read_none : (st : State) (cuts : CutList) (at : ℕ) (r : Record) (h : IsReading st cuts at r) (lost : Lost) → is_some r.byte ≡ false → IsRead st lost (Interrupt at) r.slot h.front r.byte
@@ -77,7 +67,7 @@ read_none st cuts at r h lost e = record {
   present = h.present;
 }
 
-read_some : (st : State) (cuts : CutList) (at rest : ℕ) (r : Record) (h : IsReading st cuts at r) → SomeDrives st.active (Interrupt at) (lost_by cuts 9) st.devices
+read_some : (st : State) (cuts : CutList) (at rest : ℕ) (r : Record) (h : IsReading st cuts at r) → SomeDrives (population st) (Interrupt at) (lost_by cuts 9)
     → IsRead st (lost_by cuts (9 + rest)) (Interrupt at) r.slot h.front r.byte
 read_some st cuts at rest r h some = record {
   alone = λ k. h.alone k (ap (lost_by cuts 9) (sym (k some.0 some.1)) ∙ some.2);
@@ -85,7 +75,7 @@ read_some st cuts at rest r h some = record {
   present = h.present;
 }
 
-read_of : (st : State) (cuts : CutList) (at rest : ℕ) (r : Record) (h : IsReading st cuts at r) → (is_some r.byte ≡ true → SomeDrives st.active (Interrupt at) (lost_by cuts 9) st.devices)
+read_of : (st : State) (cuts : CutList) (at rest : ℕ) (r : Record) (h : IsReading st cuts at r) → (is_some r.byte ≡ true → SomeDrives (population st) (Interrupt at) (lost_by cuts 9))
     → IsRead st (lost_by cuts ((if is_some r.byte then 9 else 0) + rest)) (Interrupt at) r.slot h.front r.byte
 read_of st cuts at rest r h ended = go (is_some r.byte) refl
   where
@@ -94,9 +84,9 @@ read_of st cuts at rest r h ended = go (is_some r.byte) refl
     go false e = read_none st cuts at r h (lost_by cuts ((if is_some r.byte then 9 else 0) + rest)) e
 
 -- an accepted interrupt that is recorded
-pub due_served : (st : State) (cuts : CutList) (at : ℕ) (r : Record) (old new : List (Option Device)) (active : ℕ) → HasDevices st old active → FitsTable st → IsFirst st (Interrupt at) → is_known st.given (Interrupt at) ≡ true
-    → IsReading st cuts at r → (is_some r.byte ≡ true → SomeDrives st.active (Interrupt at) (lost_by cuts 9) st.devices) → new ≡ changed (accepted_at active (Interrupt at)) old → IsServing st cuts (Due r) new
-due_served st cuts at r old new active has fits first known h ended e = record {
+pub due_served : (st : State) (cuts : CutList) (at : ℕ) (r : Record) (new : List (Option Device)) → FitsTable st → IsFirst st (Interrupt at) → is_known st.given (Interrupt at) ≡ true
+    → IsReading st cuts at r → (is_some r.byte ≡ true → SomeDrives (population st) (Interrupt at) (lost_by cuts 9)) → new ≡ each_driver_in (population st) (Interrupt at) without_front → IsServing st cuts (Due r) new
+due_served st cuts at r new fits first known h ended e = record {
   serves = λ rest. record {
     at = at;
     slot = r.slot;
@@ -108,7 +98,7 @@ due_served st cuts at r old new active has fits first known h ended e = record {
     fronted = h.fronted;
     read = read_of st cuts at rest r h ended;
     placed = refl;
-    left = ap (recorded r) (left_by st (Interrupt at) old new active has e)
+    left = ap (recorded r) (left_by st (Interrupt at) new e)
         ∙ ap (λ (q : Record). recorded q (each_driver (Interrupt at) without_front st)) (λ k. record { slot = r.slot; number = h.number k; at = h.address k; byte = r.byte });
   };
   word = (at, first, ap (λ b. if b then 9 else 0) (h.present ∙ fits at r.slot h.front h.lowest.0 h.fronted));
@@ -118,16 +108,16 @@ due_served st cuts at r old new active has fits first known h ended e = record {
 }
 
 -- an accepted interrupt whose byte nobody ended
-pub torn_served : (st : State) (cuts : CutList) (at byte : ℕ) (r : Record) (old new : List (Option Device)) (active : ℕ) → HasDevices st old active → FitsTable st → IsFirst st (Interrupt at) → is_known st.given (Interrupt at) ≡ true
-    → IsReading st cuts at r → r.byte ≡ Some byte → ¬ SomeDrives st.active (Interrupt at) (lost_by cuts 9) st.devices → new ≡ changed (accepted_at active (Interrupt at)) old → IsServing st cuts (Torn at byte) new
-torn_served st cuts at byte r old new active has fits first known h b none e = record {
+pub torn_served : (st : State) (cuts : CutList) (at byte : ℕ) (r : Record) (new : List (Option Device)) → FitsTable st → IsFirst st (Interrupt at) → is_known st.given (Interrupt at) ≡ true
+    → IsReading st cuts at r → r.byte ≡ Some byte → ¬ SomeDrives (population st) (Interrupt at) (lost_by cuts 9) → new ≡ each_driver_in (population st) (Interrupt at) without_front → IsServing st cuts (Torn at byte) new
+torn_served st cuts at byte r new fits first known h b none e = record {
   serves = λ rest. record {
     at = at;
     first = first;
     accepted = known_accept _ known;
     due = sym (fits at r.slot h.front h.lowest.0 h.fronted) ∙ (sym h.present ∙ ap is_some b);
     gone = λ s d. lost_later rest (cut_of cuts s) (gone s d (lost_by cuts 9 s) refl);
-    left = left_by st (Interrupt at) old new active has e;
+    left = left_by st (Interrupt at) new e;
   };
   word = refl;
   first = first;
@@ -140,17 +130,15 @@ torn_served st cuts at byte r old new active has fits first known h b none e = r
     gone s d false l = absurd (none (s, d, l))
 
 -- the drivers of a bus, as the walks see them
-pub seen_drives : (st : State) (r : Request) (lost : Lost) (drivers : SlotSet) → AreDrivers st.active r st.devices drivers → SomeLeft drivers lost → SomeDrives st.active r lost st.devices
+pub seen_drives : (st : State) (r : Request) (lost : Lost) (drivers : SlotSet) → AreDrivers (population st) r drivers → SomeLeft drivers lost → SomeDrives (population st) r lost
 seen_drives st r lost drivers are some = (some.0, sym (are some.0 some.1) ∙ some.2, some.3)
 
-pub unseen_drives : (st : State) (r : Request) (lost : Lost) (drivers : SlotSet) → AreDrivers st.active r st.devices drivers → length st.devices ≡ SLOTS → SomeDrives st.active r lost st.devices → SomeLeft drivers lost
+pub unseen_drives : (st : State) (r : Request) (lost : Lost) (drivers : SlotSet) → AreDrivers (population st) r drivers → length st.devices ≡ SLOTS → SomeDrives (population st) r lost → SomeLeft drivers lost
 unseen_drives st r lost drivers are long some =
-    let low : some.0 < SLOTS = let inside = drives_in st r some.0 some.1 in omega (arith, inside, long) in (some.0, low, are some.0 low ∙ some.1, some.2)
+    let low : some.0 < SLOTS = driven_below (population st) some.0 r long some.1 in (some.0, low, are some.0 low ∙ some.1, some.2)
 
-pub have_bytes : (st : State) (old : List (Option Device)) (active at : ℕ) (given : List (Option Entry)) → HasDevices st old active → st.given ≡ given → FitsTable st → HaveBytes active old at (byte_due (entry_in given at))
-have_bytes st old active at given has same fits =
-    subst (λ g. HaveBytes active old at (byte_due (entry_in g at))) same
-    (subst (λ ds. HaveBytes active ds at (byte_due (entry_at st at))) has.0 (subst (λ a. HaveBytes a st.devices at (byte_due (entry_at st at))) has.1 (fits at)))
+pub have_bytes : (st : State) (at : ℕ) (given : List (Option Entry)) → st.given ≡ given → FitsTable st → HaveBytes (population st) at (byte_due (entry_in given at))
+have_bytes st at given same fits = subst (λ g. HaveBytes (population st) at (byte_due (entry_in g at))) same (fits at)
 
 -- the first request is turned down
 pub refused_served : (st : State) (cuts : CutList) (r : Request) (old : List (Option Device)) (active : ℕ) → HasDevices st old active → IsFirst st r → IsServing st cuts (Refused r) old

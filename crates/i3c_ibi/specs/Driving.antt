@@ -1,5 +1,5 @@
--- Who drives an interrupt, and what is read behind it. `active` is the active controller's slot.
-use Rattle.std.specs.Prelude.{◌≡◌, ℕ, ◌-◌, ◌/◌, ◌^◌, ◌<◌, ◌↔◌, Bool, true, false, not, ◌&&◌, ◌==◌, nat_le, if◌then◌else◌, List, ◌∷◌, Option, Some, None, option_and_then, option_map, slice_index_or, is_some, length, IfSome}
+-- Who drives an interrupt, and what is read behind it.
+use Rattle.std.specs.Prelude.{◌≡◌, ℕ, ◌-◌, ◌/◌, ◌^◌, ◌<◌, ◌↔◌, Bool, true, false, not, ◌&&◌, ◌==◌, nat_le, if◌then◌else◌, List, Option, Some, None, option_and_then, option_map, is_some, length, IfSome}
 use Rattle.std.specs.Int.{bit_at}
 use Rattle.std.specs.Int.RustNames.{bit_or}
 use Rattle.i3c_base.specs.declared.range.TheConstants.{SLOTS}
@@ -7,33 +7,24 @@ use Rattle.i3c_base.specs.declared.requests.Record.{Record}
 use Rattle.i3c_base.specs.declared.device.Waiting.{Waiting}
 use Rattle.i3c_base.specs.declared.requests.Request.{Request}
 use Rattle.i3c_base.specs.declared.requests.Request.TheVariants.{Interrupt}
-use Rattle.i3c_base.specs.Cutting.{CutList, Lost, cut_of, lost_by}
-use Rattle.i3c_base.specs.State.{Device, State}
-use Rattle.i3c_base.specs.Serve.{DrivesByte, IsAnd, IsFront, IsLowestDriver, drives}
+use Rattle.i3c_base.specs.Cutting.{CutList, cut_of, lost_by}
+use Rattle.i3c_base.specs.State.{Device, Population, State, device_in, with_active}
+use Rattle.i3c_base.specs.Serve.{AnyDrives, DrivesByte, IsAnd, IsFront, IsFrontOf, IsLowestDriver, drives, drives_in}
 use Rattle.i3c_device.specs.Raising.{front_byte}
 use Rattle.i3c_device.specs.declared.sets.SlotSet.{SlotSet}
 use Rattle.i3c_device.specs.Sets.{has}
-use Rattle.i3c_device.specs.Walks.{AnyDrives, AreDrivers, drives_at}
-
--- a device of these that isn't lost drives the request
-abbrev pub SomeDrives : ℕ → Request → Lost → List (Option Device) → Type 0
-SomeDrives active r lost devices = (s : ℕ) × (drives_at active s (slice_index_or devices s None) r ≡ true) × (lost s ≡ false)
+use Rattle.i3c_device.specs.Walks.{AreDrivers}
 
 -- devices of these drive the request, in these slots
 pub record IsDriven (devices : List (Option Device)) (r : Request) (drivers : SlotSet) : Type 0 where
   pub active : ℕ
   pub long : length devices ≡ SLOTS
-  pub are : AreDrivers active r devices drivers
-  pub driven : AnyDrives active r devices
-
--- w waits at the front of what stands in a slot
-abbrev pub IsFrontOf : Option Device → Waiting → Type 0
-IsFrontOf place w = (d : Device) × (rest : List Waiting) × (place ≡ Some d) × (d.waiting ≡ w ∷ rest)
+  pub are : AreDrivers (with_active devices active) r drivers
+  pub driven : AnyDrives (with_active devices active) r
 
 -- each front of those who drive an interrupt at the address `at` has a mandatory byte exactly where one is due
-abbrev pub HaveBytes : ℕ → List (Option Device) → ℕ → Bool → Type 0
-HaveBytes active devices at due =
-    (s : ℕ) (w : Waiting) → drives_at active s (slice_index_or devices s None) (Interrupt at) ≡ true → IsFrontOf (slice_index_or devices s None) w → is_some w.byte ≡ due
+abbrev pub HaveBytes : Population → ℕ → Bool → Type 0
+HaveBytes all at due = (s : ℕ) (w : Waiting) → drives_in all (Interrupt at) s ≡ true → IsFrontOf (device_in all s) w → is_some w.byte ≡ due
 
 -- the byte in bits 1 to 8 of a frame, as it is driven by a device that is cut at this bit: ones from there on
 abbrev pub driven : Option ℕ → ℕ → ℕ

@@ -1,18 +1,17 @@
 -- Serving the first request of a frame, as the controller sees it on the wire.
-use Rattle.std.specs.Prelude.{◌≡◌, ℕ, suc, ◌+◌, true, false, length, List, Option, is_some, if◌then◌else◌, IfSome, ⊤}
-use Rattle.i3c_base.specs.declared.device.Waiting.{Waiting}
+use Rattle.std.specs.Prelude.{◌≡◌, ℕ, suc, ◌+◌, true, length, List, Option, is_some, if◌then◌else◌, IfSome, ⊤}
 use Rattle.i3c_base.specs.declared.requests.Request.TheVariants.{Interrupt, Join, Role}
 use Rattle.i3c_base.specs.declared.requests.Served.{Served}
 use Rattle.i3c_base.specs.Cutting.{CutList, lost_by}
-use Rattle.i3c_base.specs.State.{Device, State, entry_at}
-use Rattle.i3c_base.specs.Serve.{IsFirst, IsFront, IsWordBits, NoneAsks, Serves, byte_due, drives, given_for, recorded}
-use Rattle.i3c_ibi.specs.Driving.{IsByteRead}
+use Rattle.i3c_base.specs.State.{Device, State, entry_at, population}
+use Rattle.i3c_base.specs.Serve.{IsFirst, IsWordBits, NoneAsks, Serves, SomeDrives, byte_due, given_for, recorded}
+use Rattle.i3c_ibi.specs.Driving.{HaveBytes, IsByteRead}
 use Rattle.i3c_ibi.specs.declared.serving.Reading.{Reading}
 use Rattle.i3c_ibi.specs.declared.serving.Reading.TheVariants.{Quiet, Refused, Joined, WantsRole, Due, Torn}
 
 -- what waits at the front of a driver has a mandatory byte exactly where the table says that one is due
 abbrev pub FitsTable : State → Type 0
-FitsTable st = (a s : ℕ) (w : Waiting) → drives st (Interrupt a) s ≡ true → IsFront st s w → is_some w.byte ≡ byte_due (entry_at st a)
+FitsTable st = (a : ℕ) → HaveBytes (population st) a (byte_due (entry_at st a))
 
 -- what a frame served, where so many records stood before
 abbrev pub served_as : ℕ → Reading → Served
@@ -52,7 +51,7 @@ IsRequestOf st (Torn a byte) = IsFirst st (Interrupt a)
 
 -- T was read as 0 where a byte is recorded: a driver that isn't lost by then ended it
 abbrev pub IsEnded : State → CutList → Reading → Type 0
-IsEnded st cuts (Due r) = is_some r.byte ≡ true → (s : ℕ) × (drives st (Interrupt r.at) s ≡ true) × (lost_by cuts 9 s ≡ false)
+IsEnded st cuts (Due r) = is_some r.byte ≡ true → SomeDrives (population st) (Interrupt r.at) (lost_by cuts 9)
 IsEnded st cuts _ = ⊤
 
 -- the mandatory byte, recorded or torn, is the one that the drivers put on the lines

@@ -6,10 +6,10 @@ mod first;
 mod policies;
 mod readings;
 mod serving;
-mod telling;
+mod wire;
 
 pub use first::first_request;
 pub use i3c_base::{Fixed, Record, Request, Served, Verdict};
 pub use policies::{Policy, decide};
 pub use serving::{Reading, serve};
-pub use telling::{tell_broadcast, tell_reading, tell_repeated, tell_request};
+pub use wire::{tell_broadcast, tell_reading, tell_repeated, tell_request};

@@ -2,11 +2,11 @@ ghost use Rattle.std.specs.Prelude.{◌≡◌, ℕ, is_some, ◌<◌, IfSome, Is
 ghost use Rattle.i3c_base.specs.declared.range.TheConstants.{SLOTS as SLOT_COUNT};
 ghost use Rattle.i3c_base.specs.declared.requests.Request.{Request as RequestValue};
 ghost use Rattle.i3c_base.specs.Cutting.{cut_of};
-ghost use Rattle.i3c_base.specs.State.{State, entry_in};
-ghost use Rattle.i3c_base.specs.Serve.{byte_due};
+ghost use Rattle.i3c_base.specs.State.{Population, State, entry_in, population};
+ghost use Rattle.i3c_base.specs.Serve.{IsFrontOf, byte_due};
 ghost use Rattle.i3c_device.specs.Sets.{IsLowestOf};
 ghost use Rattle.i3c_device.specs.Walks.{AreDrivers};
-ghost use Rattle.i3c_ibi.specs.Driving.{HaveBytes, IsDriven, IsFrontOf, IsReading, Together, byte_beside, driven, slot_byte};
+ghost use Rattle.i3c_ibi.specs.Driving.{HaveBytes, IsDriven, IsReading, Together, byte_beside, driven, slot_byte};
 
 use i3c_base::{Addr7, Cuts, Record, Slot, Waiting};
 use i3c_device::{Devices, SlotSet};
@@ -75,7 +75,7 @@ fn byte_of(devices: &Devices, slot: Slot) -> Option<u8>
 /// What these slots, the drivers of the interrupt at this address, have at their fronts, as they drive it.
 fn fronts_read(devices: &Devices, drivers: SlotSet, at: Addr7, cuts: &Cuts) -> Record
     requires driven { IsDriven devices.now (RequestValue.Interrupt at) drivers }
-    ensures { (st : State) → st.devices ≡ devices.now → AreDrivers st.active (RequestValue.Interrupt at) devices.now drivers → IsReading st cuts.now at result }
+    ensures { (st : State) → st.devices ≡ devices.now → AreDrivers (population st) (RequestValue.Interrupt at) drivers → IsReading st cuts.now at result }
 {
     let Some((slot, front)) = lowest_front(devices, drivers) else {
         unreachable!()
@@ -98,8 +98,8 @@ pub(crate) fn reading(
     cuts: &Cuts,
 ) -> Record
     requires driven { IsDriven devices.now (RequestValue.Interrupt at) drivers }
-    ensures read { (st : State) → st.devices ≡ devices.now → AreDrivers st.active (RequestValue.Interrupt at) devices.now drivers → HaveBytes st.active devices.now at due → IsReading st cuts.now at result }
-    ensures due { (active : ℕ) → AreDrivers active (RequestValue.Interrupt at) devices.now drivers → HaveBytes active devices.now at due → is_some result.byte ≡ due }
+    ensures read { (st : State) → st.devices ≡ devices.now → AreDrivers (population st) (RequestValue.Interrupt at) drivers → HaveBytes (population st) at due → IsReading st cuts.now at result }
+    ensures due { (all : Population) → all.devices ≡ devices.now → AreDrivers all (RequestValue.Interrupt at) drivers → HaveBytes all at due → is_some result.byte ≡ due }
 {
     let read = fronts_read(devices, drivers, at, cuts);
     Record {

@@ -1,7 +1,7 @@
 ghost use Rattle.std.specs.Prelude.{◌≡◌, ℕ, length, true};
 ghost use Rattle.i3c_base.specs.declared.requests.Request.{Request as RequestValue};
 ghost use Rattle.i3c_base.specs.declared.requests.Verdict.{Verdict as VerdictValue};
-ghost use Rattle.i3c_base.specs.State.{HasDevices, State};
+ghost use Rattle.i3c_base.specs.State.{HasDevices, State, population};
 ghost use Rattle.i3c_base.specs.Serve.{IsFirst, given_for};
 ghost use Rattle.i3c_device.specs.Walks.{AreDrivers};
 ghost use Rattle.i3c_ibi.specs.Driving.{IsDriven};
@@ -58,7 +58,7 @@ fn interrupt(
     cuts: &Cuts,
 ) -> Reading
     requires driven { IsDriven devices.old (RequestValue.Interrupt at) drivers }
-    ensures served { (st : State) → st.devices ≡ devices.old → AreDrivers st.active (RequestValue.Interrupt at) devices.old drivers → st.given ≡ table.now.given → FitsTable st
+    ensures served { (st : State) → st.devices ≡ devices.old → AreDrivers (population st) (RequestValue.Interrupt at) drivers → st.given ≡ table.now.given → FitsTable st
         → IsFirst st (RequestValue.Interrupt at) → is_known st.given (RequestValue.Interrupt at) ≡ true → IsServing st cuts.now result devices.new }
     ensures accepted { (count : ℕ) → (given_for (served_as count result)).interrupt ≡ VerdictValue.Accept }
 {
@@ -81,7 +81,7 @@ fn accept(
     cuts: &Cuts,
 ) -> Reading
     requires driven { IsDriven devices.old request.now drivers }
-    ensures served { (st : State) → st.devices ≡ devices.old → AreDrivers st.active request.now devices.old drivers → st.given ≡ table.now.given → FitsTable st → IsFirst st request.now
+    ensures served { (st : State) → st.devices ≡ devices.old → AreDrivers (population st) request.now drivers → st.given ≡ table.now.given → FitsTable st → IsFirst st request.now
         → is_known st.given request.now ≡ true → IsServing st cuts.now result devices.new }
     ensures accepted { (count : ℕ) → verdict_in (given_for (served_as count result)) request.now ≡ VerdictValue.Accept }
 {

@@ -1,16 +1,16 @@
 -- Whom a command means, what it may be answered, who contends in a round, and who takes the role.
-use Rattle.std.specs.Prelude.{◌≡◌, ℕ, ◌+◌, ◌*◌, ◌<◌, Bool, true, false, ◌⊎◌, List, [], ◌∷◌, Option, Some, None, option_map, if◌then◌else◌}
+use Rattle.std.specs.Prelude.{◌≡◌, ℕ, ◌+◌, ◌*◌, Bool, true, false, ◌⊎◌, List, [], ◌∷◌, Option, Some, None, option_map, if◌then◌else◌}
 use Rattle.i3c_base.specs.declared.answers.Answer.{Answer}
 use Rattle.i3c_base.specs.declared.datum.Datum.{Datum}
 use Rattle.i3c_base.specs.declared.datum.Direction.{Direction}
 use Rattle.i3c_base.specs.declared.identity.Identity.{Identity}
 use Rattle.i3c_base.specs.declared.device.LegacyTarget.{LegacyTarget}
 use Rattle.i3c_base.specs.Cutting.{CutList, Lost, lost_by}
-use Rattle.i3c_base.specs.Frames.{AllLostAt, AllUnaddressedLostAt, AnyAt, AnyUnaddressedAt, DrivesRegister, DrivesTold, IsReadOf, IsToldAt, IsWillingAt, NobodyLeftAt, least_length_from, overwritten, reaches, readdressed, takes_static, told_bytes, transfer_length}
+use Rattle.i3c_base.specs.Frames.{AllLostAt, AllUnaddressedLostAt, AnyAt, AnyUnaddressedAt, DrivesRegister, DrivesTold, IsReadOf, IsToldAt, IsWillingAt, NobodyLeftAt, least_length_from, reaches, readdressed, takes_static, told_bytes, transfer_length, AreWillingLost, IsLowestWilling, written_at}
 use Rattle.i3c_base.specs.Numbers.{IsBelow}
 use Rattle.i3c_base.specs.Places.{changed}
 use Rattle.i3c_base.specs.Round.{IsHearer, winner}
-use Rattle.i3c_base.specs.State.{Device, State, IsTargetAt, device_at, has_address, legacy_target_at, unkept}
+use Rattle.i3c_base.specs.State.{Device, State, IsTargetAt, device_at, has_address, legacy_target_at, unkept, population}
 use Rattle.i3c_model.specs.declared.plain.Choice.{Choice}
 use Rattle.i3c_model.specs.declared.plain.Choice.TheVariants.{Silent}
 
@@ -95,15 +95,15 @@ length_in_slot st way a s = least_length_from st.active way a s (device_at st s 
 
 -- a device after a write to the address
 abbrev pub overwriting : State → ℕ → List ℕ → ℕ → Device → Device
-overwriting st a bytes s d = if reaches st (Some a) s d then record d { registers = overwritten bytes d.registers } else d
+overwriting st a bytes s d = written_at st.active a bytes s d
 
 -- each willing device at the address is lost (also where there is none)
 abbrev pub NoHeir : State → ℕ → Lost → Type 0
-NoHeir st a lost = (s : ℕ) → IsWillingAt st a s → lost s ≡ true
+NoHeir st a lost = AreWillingLost (population st) a lost
 
 -- s is the lowest slot with a willing device at the address that isn't lost
 abbrev pub IsHeir : State → ℕ → Lost → ℕ → Type 0
-IsHeir st a lost s = IsWillingAt st a s × (lost s ≡ false) × ((t : ℕ) → t < s → IsWillingAt st a t → lost t ≡ true)
+IsHeir st a lost s = IsLowestWilling (population st) a lost s
 
 -- the bits of a handover that nobody takes, where `lost` are those who are lost by the end of its header to the address
 abbrev pub MayDecline : State → ℕ → Lost → Choice → ℕ → Type 0

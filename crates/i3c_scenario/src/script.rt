@@ -47,8 +47,8 @@ pub fn run_script<R: Read, W: Write>(
     ensures whole { OnOk result (IsAtEnd (R.remaining reader.new)) }
     ensures fits { OnOk result (IfSome (R.remaining reader.old) (λ bytes. length bytes ≤ MOST_BYTES)) }
     ensures large { result ≡ Err ScriptFault.TooLarge → IfSome (R.remaining reader.old) (λ bytes. MOST_BYTES < length bytes) }
-    // a script starts with no bus, no legacy target and no name; each line changes the state, prints and is refused as its
-    // command says; all that they print goes out with `Ok`, and before a fault as much as that fault says
+    // a script starts with no bus, no legacy target and no name. Each line changes the state, prints and is refused as its
+    // command says. All that they print goes out with `Ok`, and before a fault as much as that fault says
     ensures lines { LinesGoOut (R.remaining reader.old) (R.remaining reader.new) (W.contents writer.old) (W.contents writer.new) result }
 {
     // before the script, whose room would else be cleared twice

@@ -20,7 +20,7 @@ use Rattle.i3c_lines.specs.declared.names.Place.{Place}
 use Rattle.i3c_lines.specs.declared.refusals.Refusal.{Refusal}
 use Rattle.i3c_lines.specs.Naming.{slot_named}
 use Rattle.i3c_script.specs.declared.settings.Settings.{Settings}
-use Rattle.i3c_script.specs.Accepting.{Accepts, IsSet, counting, relieved}
+use Rattle.i3c_script.specs.Accepting.{Accepts, Forgets, IsSet}
 use Rattle.i3c_script.specs.Asking.{IsEntrance, present_in, slots_named}
 use Rattle.i3c_script.specs.Assigning.{cuts_left}
 use Rattle.i3c_script.specs.Obeying.{cut_at}
@@ -97,6 +97,10 @@ Sets old kinds slots refused new = (settings : Settings) × IsSet kinds slots ol
 abbrev pub Excepts : Seen → Fixed → List Name → Option Refusal → Seen → Type 0
 Excepts old kinds but refused new = MatchResult (slots_named (slot_present old) but) (λ slots. Sets old kinds slots refused new) (λ why. IsRefused old why refused new)
 
+-- the records up to a number leave the log
+abbrev pub Relieves : Seen → ℕ → Option Refusal → Seen → Type 0
+Relieves old last refused new = (settings : Settings) × (st : State) × Forgets last old.settings old.state settings st × Becomes (seen st settings old.cuts old.names) refused new
+
 -- what a command does, and why it is refused, if it is
 abbrev pub Does : Seen → Command → Option Refusal → Seen → Type 0
 Does old (Command.Frame frame) refused new = Sends old frame refused new
@@ -117,7 +121,7 @@ Does old (Command.Cut name bit) refused new = MatchResult (slot_present old name
 Does old Command.Show refused new = Becomes old refused new
 Does old Command.ShowAll refused new = Becomes old refused new
 Does old (Command.ShowFrom first) refused new = Becomes old refused new
-Does old (Command.Forget last) refused new = Becomes (seen (relieved last old.settings old.state) (counting last old.settings old.state) old.cuts old.names) refused new
+Does old (Command.Forget last) refused new = Relieves old last refused new
 Does old Command.Symbols refused new = Becomes old refused new
 Does old (Command.Frames count) refused new = Becomes old refused new
 Does old (Command.Legacy name address lvr) refused new = IsRefused old Refusal.BusMade refused new

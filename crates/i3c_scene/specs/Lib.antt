@@ -3,3 +3,4 @@ pub mod Going
 pub mod Shown
 pub mod Trying
 pub mod Latest
+pub mod Near

@@ -95,19 +95,20 @@ impl Scene {
 }
 
 impl Live {
-    ghost use Rattle.std.specs.Prelude.{◌≡◌, ◌<◌, ◌≤◌, ◌+◌, ◌++◌, ◌^◌, length, None, Ok, Err, IfOk, MatchResult, OnOk};
+    ghost use Rattle.std.specs.Prelude.{◌≡◌, ◌<◌, ◌≤◌, ◌+◌, ◌++◌, ◌^◌, ℕ, length, None, Ok, Err, IfOk, IfSome, MatchResult, OnOk, Option};
     ghost use Rattle.i3c_base.specs.Cutting.{no_cuts};
+    ghost use Rattle.i3c_scene.specs.Near.{IsBehind, RaisesIn};
     ghost use Rattle.i3c_step.specs.declared.events.Event.{Event as EventValue};
     ghost use Rattle.i3c_lines.specs.Naming.{slot_named};
     ghost use Rattle.i3c_lines.specs.declared.command.Command.{Command as CommandValue};
     ghost use Rattle.i3c_script.specs.Stops.{Ends};
     ghost use Rattle.i3c_facts.specs.declared.holding.Before.{Before as BeforeValue};
+    ghost use Rattle.i3c_facts.specs.Holding.{came_to};
     ghost use Rattle.i3c_scene.specs.Scenes.{place_in};
     ghost use Rattle.i3c_scene.specs.Trying.{Runs, all_hold, slot_at_risk};
-    ghost use Rattle.i3c_script.specs.Accepting.{counting, relieved};
     ghost use Rattle.i3c_script.specs.Asking.{slots_named};
     ghost use Rattle.i3c_scene.specs.Scenes.{seen};
-    ghost use Rattle.i3c_scene.specs.Going.{Answers, AnswersIn, Assigns, Does, Enters, Excepts, Sends, Sets, cut_in, risked, slot_present};
+    ghost use Rattle.i3c_scene.specs.Going.{Answers, AnswersIn, Assigns, Does, Enters, Excepts, Relieves, Sends, Sets, cut_in, risked, slot_present};
 
     /// It comes to a scene.
     pub(crate) fn wake_to(&mut self, alloc: Global, scene: &Scene) -> Result<(), AllocError>
@@ -123,6 +124,55 @@ impl Live {
         self.cuts = scene.cuts.clone()?;
         self.known.copy_from(&scene.known)?;
         Ok(())
+    }
+
+    /// It comes back to a scene, from which it differs in one slot at most.
+    pub(crate) fn wake_at(&mut self, scene: &Scene, slot: Slot)
+        requires { IsBehind slot scene.now self.old }
+        ensures { self.new ≡ scene.now }
+    {
+        scene.still.wake_at(slot, &mut self.bus);
+    }
+
+    /// The slot and the byte of a line's raise, if the line is one, of a device whose slot is known.
+    pub(crate) fn raise_of(&self, line: &Line) -> Option<(Slot, Option<u8>)>
+        ensures { IfSome result (λ raise. RaisesIn self.now line.now.command raise.0 raise.1) }
+    {
+        let Some(Command::Raise { name, byte }) = &line.command else {
+            return None;
+        };
+        match self.slot_meant(name) {
+            Ok(slot) => Some((slot, *byte)),
+            Err(_) => None,
+        }
+    }
+
+    /// Tries a line that raises an interrupt in this slot: whether all that is expected holds. It changes no other slot.
+    pub(crate) fn tried_raise(
+        &mut self,
+        line: &Line,
+        slot: Slot,
+        byte: Option<u8>,
+    ) -> Result<bool, AllocError>
+        requires { RaisesIn self.old line.now.command slot byte }
+        ensures tried { IfOk result (λ held. (before : BeforeValue) × ((way : ℕ) → Runs self.old line.now.command line.now.risk way before self.new) × (held ≡ all_hold self.new before line.now.expectations.items)) }
+        ensures behind { OnOk result (IsBehind slot self.old self.new) }
+    {
+        match self.raised(slot, byte) {
+            Ok(came) => Ok(self.all_hold(&came, line.expectations.as_slice())),
+            Err(short) => Err(short),
+        }
+    }
+
+    /// A device raises an interrupt, and it is answered what that came to.
+    fn raised(&mut self, slot: Slot, byte: Option<u8>) -> Result<Before, AllocError>
+        ensures { IfOk result (λ before. (refused : Option RefusalValue) × Answers self.old (EventValue.Raise slot byte) refused self.new × (before ≡ came_to refused)) }
+    {
+        match self.answer(&Event::Raise(slot, byte)) {
+            Ok(()) => Ok(Before::Done),
+            Err(Stop::Refused(fault)) => Ok(Before::Refused(fault)),
+            Err(Stop::Memory) => Err(AllocError),
+        }
     }
 
     /// The bus at rest.
@@ -413,13 +463,9 @@ impl Live {
 
     /// `forget`: the records up to this number leave the log.
     fn forget(&mut self, last: usize)
-        ensures { self.new ≡ seen (relieved last self.old.settings self.old.state) (counting last self.old.settings self.old.state) self.old.cuts self.old.names }
+        ensures { Relieves self.old last None self.new }
     {
-        let count = last
-            .saturating_sub(self.settings.forgotten)
-            .min(self.bus.records().len());
-        self.bus.forget(count);
-        self.settings.forgotten += count;
+        self.settings.forget(&mut self.bus, last);
     }
 
     /// `daa`: a whole session. The cuts that wait are its opening's.

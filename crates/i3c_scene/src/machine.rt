@@ -1,5 +1,5 @@
 use crate::line::Line;
-use crate::live::Live;
+use crate::runner::Runner;
 use crate::scene::Scene;
 use i3c_explore::Machine;
 use i3c_lines::Command;
@@ -10,25 +10,29 @@ use std::alloc::{AllocError, Global};
 const BEHIND: usize = 2;
 
 impl Machine for Scene {
-    ghost use Rattle.std.specs.Prelude.{◌≡◌, IfOk};
+    ghost use Rattle.std.specs.Prelude.{◌≡◌, IfOk, IfSome};
+    ghost use Rattle.i3c_scene.specs.Near.{IsBehind};
     ghost use Rattle.i3c_scene.specs.Trying.{LineBreaks, LineSteps};
 
     type Line = Line;
 
-    type Runner = Live;
+    type Runner = Runner;
 
-    ghost shown = { λ live. live };
+    ghost shown = { λ runner. runner.live };
 
     ghost steps = { LineSteps };
 
     ghost breaks = { LineBreaks };
 
+    ghost near = { λ runner scene. IfSome runner.touched (λ slot. IsBehind slot scene runner.live) };
+
     fn last_way(&self, line: &Line) -> usize {
         self.latest(line)
     }
 
-    fn runner(&self, alloc: Global) -> Result<Live, AllocError> {
-        self.wake(alloc)
+    fn runner(&self, alloc: Global) -> Result<Runner, AllocError> {
+        let live = self.wake(alloc)?;
+        Ok(Runner::new(live))
     }
 
     fn run(
@@ -36,35 +40,36 @@ impl Machine for Scene {
         alloc: Global,
         line: &Line,
         way: usize,
-        live: &mut Live,
+        again: bool,
+        runner: &mut Runner,
     ) -> Result<bool, AllocError> {
         let tried = self.way_tried(line, way);
-        live.wake_to(alloc, self)?;
-        live.tried(line, tried)
+        runner.wake_to(alloc, self, again)?;
+        runner.tried(line, tried)
     }
 
-    fn kept(alloc: Global, live: &Live, spare: Option<Scene>) -> Result<Scene, AllocError>
-        ensures { IfOk result (λ scene. scene ≡ live.now) }
+    fn kept(alloc: Global, runner: &Runner, spare: Option<Scene>) -> Result<Scene, AllocError>
+        ensures { IfOk result (λ scene. scene ≡ runner.now.live) }
     {
         match spare {
             Some(mut scene) => {
-                live.keep_in(alloc, &mut scene)?;
+                runner.live.keep_in(alloc, &mut scene)?;
                 Ok(scene)
             }
-            None => live.kept(alloc),
+            None => runner.live.kept(alloc),
         }
     }
 
-    fn is_of(&self, live: &Live) -> bool {
-        self.is_same(live)
+    fn is_of(&self, runner: &Runner) -> bool {
+        self.is_same(&runner.live)
     }
 
     fn is_same(&self, other: &Scene) -> bool {
         self.is_equal(other)
     }
 
-    fn hash(live: &Live) -> u64 {
-        live.bus.key()
+    fn hash(runner: &Runner) -> u64 {
+        runner.live.bus.key()
     }
 }
 
@@ -82,11 +87,11 @@ impl Scene {
         ensures leads { IfOk result (λ next. IfSome next (λ new. LineSteps self.now line.now way new)) }
         ensures broken { IfOk result (λ next. next ≡ None → LineBreaks self.now line.now way) }
     {
-        let mut live = self.wake(alloc)?;
-        if !self.run(alloc, line, way, &mut live)? {
+        let mut runner = self.runner(alloc)?;
+        if !self.run(alloc, line, way, false, &mut runner)? {
             return Ok(None);
         }
-        let scene = live.kept(alloc)?;
+        let scene = runner.live.kept(alloc)?;
         Ok(Some(scene))
     }
 

@@ -123,16 +123,35 @@ fn stands_in(place: Place, slot: Slot) -> bool
 pub(crate) fn are_same(names: &[Named], others: &[Named]) -> bool
     ensures { IsTrue result → names.now ≡ others.now }
 {
-    match (names.split_first(), others.split_first()) {
-        (None, None) => true,
-        (Some((one, rest)), Some((other, more))) => is_same(one, other) && are_same(rest, more),
-        _ => false,
+    if names.len() != others.len() {
+        return false;
     }
+    for index in 0..names.len() {
+        if !is_same(&names[index], &others[index]) {
+            return false;
+        }
+    }
+    true
 }
 
 /// Whether this is the same name, for the same place.
 fn is_same(one: &Named, other: &Named) -> bool
     ensures { IsTrue result → one.now ≡ other.now }
 {
-    one.name == other.name && one.place == other.place
+    one.place == other.place && have_same_letters(one.name.as_bytes(), other.name.as_bytes())
+}
+
+/// Whether both are the same letters. Most names are short, so they are compared letter by letter.
+fn have_same_letters(letters: &[u8], others: &[u8]) -> bool
+    ensures { IsTrue result → letters.now ≡ others.now }
+{
+    if letters.len() != others.len() {
+        return false;
+    }
+    for index in 0..letters.len() {
+        if letters[index] != others[index] {
+            return false;
+        }
+    }
+    true
 }

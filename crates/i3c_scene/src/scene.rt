@@ -119,5 +119,8 @@ impl Scene {
 fn are_same_cuts(cuts: &Cuts, others: &Cuts) -> bool
     ensures { IsTrue result → cuts.now ≡ others.now }
 {
+    if cuts.is_empty() {
+        return others.is_empty();
+    }
     *cuts == *others
 }

@@ -6,5 +6,6 @@ pub mod Assigned
 pub mod Starting
 pub mod Reaching
 pub mod Asked
+pub mod Forgetting
 pub mod Gathering
 pub mod Framed

@@ -1,11 +1,11 @@
 -- The steps of a script's commands are a legal run, whatever these commands are.
-use Rattle.std.proofs.Common.{◌≡◌, ◌∙◌, ℕ, ◌+◌, List, [], ◌∷◌, ◌++◌, drop, length, take, Option, None, Some, MatchOption, Result, Ok, Err, MatchResult, ap, append_assoc, append-nil, arith, length-append, refl, subst, sym}
-use Rattle.std.proofs.lemmas.List.{length-take-le, take-append-drop}
+use Rattle.std.proofs.Common.{◌≡◌, ◌∙◌, ℕ, ◌+◌, List, [], ◌∷◌, ◌++◌, length, Option, None, Some, MatchOption, Result, Ok, Err, MatchResult, ap, append_assoc, append-nil, length-append, refl, subst, sym}
 use Rattle.i3c_base.specs.declared.answers.RoundReply.{RoundReply}
 use Rattle.i3c_base.specs.declared.device.Setup.{Setup}
 use Rattle.i3c_base.specs.declared.identity.Identity.{Identity}
 use Rattle.i3c_base.specs.declared.identity.Lvr.{Lvr}
 use Rattle.i3c_base.specs.declared.requests.Fixed.{Fixed}
+use Rattle.i3c_base.specs.declared.requests.Record.{Record}
 use Rattle.i3c_base.specs.State.{Board, State}
 use Rattle.i3c_step.specs.declared.events.Event.{Event}
 use Rattle.i3c_step.specs.declared.replies.Reply.{Reply}
@@ -20,12 +20,11 @@ use Rattle.i3c_lines.specs.declared.names.Names.{Names}
 use Rattle.i3c_lines.specs.declared.refusals.Refusal.{Refusal}
 use Rattle.i3c_script.specs.declared.settings.Settings.{Settings}
 use Rattle.i3c_script.specs.declared.stage.Stage.{Stage}
-use Rattle.i3c_script.specs.Accepting.{counting, leaving, relieved}
 use Rattle.i3c_script.specs.Asking.{slot_meant, slot_of_device, slots_named}
 use Rattle.i3c_script.specs.Assigning.{Assigns, Follows, HasSession, Moves, Rounds}
 use Rattle.i3c_script.specs.Leading.{AreLegal, AreLegalBehind, Lead, Obeyed, made}
 use Rattle.i3c_script.specs.Making.{Made, assigns_made, command_made, does_made, enters_made, events_of, follows_made, on_bus_made, one, replies_of, rounds_made, session_made, slot_made}
-use Rattle.i3c_script.specs.Obeying.{AddsLegacy, Answers, Declares, Does, Forgets, IsBegun, IsDone, IsRefused, NamesSlot, ObeysAt, ObeysBefore, ObeysOn, ScriptState, Sets, Starts, declare_refusal, legacy_refusal, main_refusal, script}
+use Rattle.i3c_script.specs.Obeying.{AddsLegacy, Answers, Declares, Does, IsBegun, IsDone, IsRefused, NamesSlot, ObeysAt, ObeysBefore, ObeysOn, Relieves, ScriptState, Sets, Starts, declare_refusal, legacy_refusal, main_refusal, script}
 use Rattle.i3c_script.specs.Printed.{declared_text, main_text}
 use Rattle.i3c_script.specs.Ran.{Ran}
 
@@ -116,15 +115,13 @@ excepts_on steps (Ok slots) old new kinds said refused r h = sets_on steps old n
 excepts_on steps (Err why) old new kinds said refused r h = stays steps old new r h.0
 
 -- records that leave the log are among those that are gone
-forgets_on : (steps : List Made) (old new : Ran) (last : ℕ) → AreLegalBehind steps old → Forgets old last new → AreLegalBehind (steps ++ []) new
-forgets_on steps old new last (gone, many, legal) same =
-    let records = old.state.records in
-    let count = leaving last old.settings old.state in
-    let taken : length (take count records) ≡ count = length-take-le count records (omega arith) in
-    let all : length (gone ++ take count records) ≡ old.settings.forgotten + count = length-append gone (take count records) ∙ (λ i. many i + taken i) in
-    let whole : gone ++ records ≡ (gone ++ take count records) ++ drop count records = sym (append_assoc gone (take count records) (drop count records) ∙ ap (λ l. gone ++ l) (take-append-drop count records)) in
-    stays steps (record old { state = relieved last old.settings old.state; settings = counting last old.settings old.state }) new
-    (gone ++ take count records, all, subst (λ l. AreLegal steps (record old.state { records = l })) whole legal) same
+forgets_on : (steps : List Made) (old new : Ran) (last : ℕ) → AreLegalBehind steps old → Relieves old last new → AreLegalBehind (steps ++ []) new
+forgets_on steps old new last (gone, many, legal) (settings, st, lets, same) =
+    let all : length (gone ++ lets.gone) ≡ settings.forgotten = length-append gone lets.gone ∙ ap (λ (n : ℕ). n + length lets.gone) many ∙ sym lets.counted in
+    let whole : gone ++ old.state.records ≡ (gone ++ lets.gone) ++ st.records = ap (λ l. gone ++ l) lets.split ∙ sym (append_assoc gone lets.gone st.records) in
+    let log : behind gone old.state ≡ behind (gone ++ lets.gone) st =
+    ap (λ (l : List Record). record old.state { records = l }) whole ∙ ap (λ (s : State). record s { records = (gone ++ lets.gone) ++ st.records }) (sym lets.log) in
+    stays steps (record old { state = st; settings = settings }) new (gone ++ lets.gone, all, subst (AreLegal steps) log legal) same
 
 does_on : (steps : List Made) (old new : Ran) (names : Names) (command : Command) (said : List ℕ) (refused : Option Refusal) → AreLegalBehind steps old → (h : Does old names command said refused new) → AreLegalBehind (steps ++ does_made old names command said refused new h) new
 does_on steps old new names (Command.Frame frame) said refused r (fixed, accepts, (reply, m, told)) = moves_on steps old new _ reply r m

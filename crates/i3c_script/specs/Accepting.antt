@@ -1,7 +1,8 @@
 -- Which requests a script's frames accept.
-use Rattle.std.specs.Prelude.{◌≡◌, ◌⊎◌, ℕ, ◌+◌, ◌-◌, true, List, [], drop, length, min}
+use Rattle.std.specs.Prelude.{◌≡◌, ◌⊎◌, ℕ, ◌+◌, ◌≤◌, true, List, [], ◌++◌, length}
 use Rattle.std.specs.List.{list_any}
 use Rattle.i3c_base.specs.declared.requests.Fixed.{Fixed}
+use Rattle.i3c_base.specs.declared.requests.Record.{Record}
 use Rattle.i3c_base.specs.declared.requests.Request.{Request}
 use Rattle.i3c_base.specs.declared.requests.Verdict.{Verdict}
 use Rattle.i3c_base.specs.Serve.{IsFirst, drives, refuse_all}
@@ -27,14 +28,13 @@ pub record IsSet (accepted : Fixed) (slots : List ℕ) (old new : Settings) : Ty
   pub but : new.but.items ≡ slots
   pub forgotten : new.forgotten ≡ old.forgotten
 
--- how many records leave the log where those up to a number do
-abbrev pub leaving : ℕ → Settings → State → ℕ
-leaving last settings st = min (last - settings.forgotten) (length st.records)
-
--- the bus without them
-abbrev pub relieved : ℕ → Settings → State → State
-relieved last settings st = record st { records = drop (leaving last settings st) st.records }
-
--- and they are counted
-abbrev pub counting : ℕ → Settings → State → Settings
-counting last settings st = record settings { forgotten = settings.forgotten + leaving last settings st }
+-- the records up to a number leave the log, which keeps the others, and are counted: so many, that the last of them has that
+-- number, if it was in the log. Nothing else changes
+pub record Forgets (last : ℕ) (old : Settings) (before : State) (new : Settings) (after : State) : Type 0 where
+  pub gone : List Record
+  pub split : before.records ≡ gone ++ after.records
+  pub counted : new.forgotten ≡ old.forgotten + length gone
+  pub no_more : (gone ≡ []) ⊎ (new.forgotten ≤ last)
+  pub all : (after.records ≡ []) ⊎ (last ≤ new.forgotten)
+  pub log : after ≡ record before { records = after.records }
+  pub count : new ≡ record old { forgotten = new.forgotten }

@@ -1,5 +1,6 @@
 pub mod Slots
 pub mod Stops
+pub mod Sums
 pub mod Accepting
 pub mod Ran
 pub mod Framing

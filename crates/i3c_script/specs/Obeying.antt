@@ -8,7 +8,7 @@ use Rattle.i3c_base.specs.declared.range.TheConstants.{ADDRESSES, SLOTS}
 use Rattle.i3c_base.specs.declared.requests.Fixed.{Fixed}
 use Rattle.i3c_base.specs.Cutting.{CutList, cut_of, earlier, no_cuts}
 use Rattle.i3c_base.specs.Numbers.{is_capable}
-use Rattle.i3c_base.specs.State.{Board, IsStart, no_board}
+use Rattle.i3c_base.specs.State.{Board, IsStart, State, no_board}
 use Rattle.i3c_frame.specs.declared.symbols.Symbol.{Symbol}
 use Rattle.i3c_legacy.specs.Declaring.{first_declare_fault, first_fault}
 use Rattle.i3c_step.specs.declared.events.Command.{Command as Frame}
@@ -26,7 +26,7 @@ use Rattle.i3c_lines.specs.Naming.{GivesAlone, GivesSlot, legacy_names, place_na
 use Rattle.i3c_script.specs.declared.faults.Stop.{Stop}
 use Rattle.i3c_script.specs.declared.settings.Settings.{Settings}
 use Rattle.i3c_script.specs.declared.stage.Stage.{Stage}
-use Rattle.i3c_script.specs.Accepting.{Accepts, IsSet, at_first, counting, relieved}
+use Rattle.i3c_script.specs.Accepting.{Accepts, Forgets, IsSet, at_first}
 use Rattle.i3c_script.specs.Asking.{IsEntrance, slot_meant, slot_of_device, slots_named}
 use Rattle.i3c_script.specs.Assigning.{Assigns, Moves}
 use Rattle.i3c_script.specs.Details.{show_all_text}
@@ -150,8 +150,8 @@ abbrev pub Sets : Ran → Fixed → List ℕ → Ran → Type 0
 Sets old kinds slots new = (settings : Settings) × IsSet kinds slots old.settings settings × (new ≡ record old { settings = settings })
 
 -- the records up to a number leave the log
-abbrev pub Forgets : Ran → ℕ → Ran → Type 0
-Forgets old last new = new ≡ record old { state = relieved last old.settings old.state; settings = counting last old.settings old.state }
+abbrev pub Relieves : Ran → ℕ → Ran → Type 0
+Relieves old last new = (settings : Settings) × (st : State) × Forgets last old.settings old.state settings st × (new ≡ record old { state = st; settings = settings })
 
 -- what a command other than `attach` does with a bus
 abbrev pub Does : Ran → Names → Command → List ℕ → Option Refusal → Ran → Type 0
@@ -175,7 +175,7 @@ Does old names (Command.Cut name bit) said refused new = MatchResult (slot_of_de
 Does old names Command.Show said refused new = (new ≡ old) × IsDone (show_text old.settings.forgotten old.state names) said refused
 Does old names Command.ShowAll said refused new = (new ≡ old) × IsDone (show_all_text old.settings.forgotten old.state names old.ended) said refused
 Does old names (Command.ShowFrom first) said refused new = (new ≡ old) × IsDone (show_behind_text (first - 1 - old.settings.forgotten) old.settings.forgotten old.state names) said refused
-Does old names (Command.Forget last) said refused new = Forgets old last new × IsDone [] said refused
+Does old names (Command.Forget last) said refused new = Relieves old last new × IsDone [] said refused
 Does old names Command.Symbols said refused new = (new ≡ old) × IsDone (symbols_text old.wire) said refused
 Does old names (Command.Frames count) said refused new = (new ≡ old) × IsDone (frames_text count old.wire) said refused
 Does old names (Command.Legacy name address lvr) said refused new = (new ≡ old) × IsRefused Refusal.BusMade said refused

@@ -9,8 +9,8 @@ use crate::faults::Stop;
 use crate::settings::Settings;
 use crate::show::{show_bus, show_bus_behind};
 use crate::telling::{
-    count_from, frame_subject, subject_of, tell, tell_attached, tell_dropped, tell_join,
-    tell_raised, tell_role,
+    count_from, subject_of, tell, tell_attached, tell_dropped, tell_frame, tell_join, tell_raised,
+    tell_role,
 };
 use crate::tenures::{Tenure, end_tenure};
 use crate::wires::Wires;
@@ -61,7 +61,7 @@ impl Running {
     ghost use Rattle.i3c_step.specs.declared.events.Event.{Event as EventValue};
     ghost use Rattle.i3c_script.specs.Asking.{slot_of_device, slots_named};
     ghost use Rattle.i3c_script.specs.Assigning.{Assigns, Moves, cuts_left};
-    ghost use Rattle.i3c_script.specs.Obeying.{Answers, AnswersIn, Enters, Forgets, IsDone, ObeysOn, Sends, Sets, cut_at};
+    ghost use Rattle.i3c_script.specs.Obeying.{Answers, AnswersIn, Enters, IsDone, ObeysOn, Relieves, Sends, Sets, cut_at};
     ghost use Rattle.i3c_script.specs.Details.{show_all_text};
     ghost use Rattle.i3c_script.specs.Printed.{frames_text, show_behind_text, show_text, symbols_text};
     ghost use Rattle.i3c_script.specs.Ran.{IsEnd};
@@ -181,12 +181,13 @@ impl Running {
             unreachable!()
         };
         let mut accepted = self.settings.accepted(&self.bus);
-        let mut reply = self
-            .bus
-            .command(hand, frame, &mut accepted, &mut self.wires, &self.cuts);
+        let mut reply = Reply::OutOfMemory;
+        let wires = &mut self.wires;
+        self.bus
+            .command_into(hand, frame, &mut accepted, wires, &self.cuts, &mut reply);
         self.cuts.clear();
         count_from(self.settings.forgotten, &mut reply)?;
-        tell(names, frame_subject(frame), &reply, text)
+        tell_frame(names, frame, &reply, text)
     }
 
     // The lines below are kept apart, so that raises and the frames under the role don't pay for the room that they take on
@@ -350,13 +351,9 @@ impl Running {
     /// `forget`: the records up to this number leave the log.
     #[inline(never)]
     fn forget(&mut self, last: usize)
-        ensures { Forgets self.old last self.new }
+        ensures { Relieves self.old last self.new }
     {
-        let count = last
-            .saturating_sub(self.settings.forgotten)
-            .min(self.bus.records().len());
-        self.bus.forget(count);
-        self.settings.forgotten += count;
+        self.settings.forget(&mut self.bus, last);
     }
 
     /// The cuts that wait, of which none is left.

@@ -1,4 +1,5 @@
-ghost use Rattle.std.specs.Prelude.{◌≡◌, ◌↔◌, ◌+◌, ◌<◌, ℕ, Bool, IfOk, IsTrue};
+ghost use Rattle.std.specs.Prelude.{◌≡◌, ◌↔◌, ◌<◌, ℕ, Bool, IsTrue};
+ghost use Rattle.i3c_script.specs.Sums.{IsSum};
 ghost use Rattle.i3c_base.specs.declared.range.TheConstants.{SLOTS};
 ghost use Rattle.std.specs.List.{list_any};
 ghost use Rattle.i3c_device.specs.Sets.{has};
@@ -28,8 +29,9 @@ pub struct Settings {
 }
 
 impl Settings {
-    ghost use Rattle.std.specs.Prelude.{◌≡◌, ◌+◌, length, IfOk, IsTrue};
-    ghost use Rattle.i3c_script.specs.Accepting.{Accepts, at_first};
+    ghost use Rattle.std.specs.Prelude.{◌≡◌, ◌↔◌, length, IsTrue};
+    ghost use Rattle.i3c_script.specs.Accepting.{Accepts, Forgets, at_first};
+    ghost use Rattle.i3c_script.specs.Sums.{IsSum};
 
     /// Those of a new bus: each request is accepted, and no record has left.
     pub fn new() -> Settings
@@ -59,7 +61,7 @@ impl Settings {
 
     /// Whether others are the same.
     pub fn is_same(&self, other: &Settings) -> bool
-        ensures { IsTrue result → self.now ≡ other.now }
+        ensures { IsTrue result ↔ (self.now ≡ other.now) }
     {
         is_same_policy(&self.kinds, &other.kinds)
             && are_same_slots(self.but.as_slice(), other.but.as_slice())
@@ -72,9 +74,19 @@ impl Settings {
     ///
     /// They are more than a `usize` holds.
     pub(crate) fn recorded(&self, records: &[Record]) -> Result<usize, AllocError>
-        ensures { IfOk result (λ count. count ≡ self.now.forgotten + length records.now) }
+        ensures { IsSum self.now.forgotten (length records.now) result }
     {
         sum_of(self.forgotten, records.len())
+    }
+
+    /// Lets the records up to this number leave a bus's log, and counts them.
+    pub fn forget(&mut self, bus: &mut Bus, last: usize)
+        ensures forgets { Forgets last self.old bus.old.state self.new bus.new.state }
+        ensures log { bus.new.state ≡ record bus.old.state { records = bus.new.state.records } }
+    {
+        let count = last.saturating_sub(self.forgotten).min(bus.records().len());
+        bus.forget(count);
+        self.forgotten += count;
     }
 
     /// The kinds of requests that a bus's next frame accepts: none where an excepted device drives the first request.
@@ -106,7 +118,7 @@ impl Settings {
 ///
 /// They are more than a `usize` holds.
 pub fn sum_of(count: usize, more: usize) -> Result<usize, AllocError>
-    ensures { IfOk result (λ sum. sum ≡ count + more) }
+    ensures { IsSum count more result }
 {
     match count.checked_add(more) {
         Some(sum) => Ok(sum),
@@ -116,7 +128,7 @@ pub fn sum_of(count: usize, more: usize) -> Result<usize, AllocError>
 
 /// Whether two policies accept the same kinds.
 fn is_same_policy(policy: &Fixed, other: &Fixed) -> bool
-    ensures { IsTrue result → policy.now ≡ other.now }
+    ensures { IsTrue result ↔ (policy.now ≡ other.now) }
 {
     *policy == *other
 }

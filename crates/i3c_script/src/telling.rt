@@ -60,6 +60,31 @@ pub(crate) fn frame_subject(frame: &Frame) -> Subject
     }
 }
 
+/// Prints the bus's reply to a frame under the role, as `tell` does. Where nobody asked, and the frame's own part was done,
+/// it looks no further.
+#[inline(always)]
+pub(crate) fn tell_frame(
+    names: &Names,
+    frame: &Frame,
+    reply: &Reply,
+    text: &mut Text,
+) -> Result<(), Stop>
+    ensures { Prints (IsTold names.now (frame_subject frame.now) reply.now) text.old text.new result }
+{
+    match reply {
+        Reply::Framed(
+            Framed {
+                served: Served::Quiet,
+                answer: Answer::Done,
+            },
+        ) => match text.push(b"done\n") {
+            Ok(()) => Ok(()),
+            Err(_) => Err(Stop::Memory),
+        },
+        _ => tell(names, frame_subject(frame), reply, text),
+    }
+}
+
 /// Prints the bus's reply to an event. What the line is refused or stopped by is answered, and not printed here.
 pub(crate) fn tell(
     names: &Names,

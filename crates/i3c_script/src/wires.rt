@@ -16,7 +16,7 @@ use std::marker::Model;
 const SYMBOLS: usize = 256;
 
 /// How many symbols may wait to be kept, of which the last ones are.
-const FRESH: usize = 1024;
+const FRESH: usize = 4096;
 
 /// The last symbols of the wire, at most 256 of them.
 ///
@@ -70,7 +70,7 @@ impl Wires {
         symbols.extend_from_slice(self.kept.make_contiguous())
     }
 
-    /// Copies the symbols that came since `copy_all`, of more than 1,024 the last ones.
+    /// Copies the symbols that came since `copy_all`, of more than 4,096 the last ones.
     pub fn copy_later(&self, symbols: &mut Vec<Symbol>) -> Result<(), AllocError>
         ensures { OnOk result (IsEnd self.now symbols.new.items) }
     {

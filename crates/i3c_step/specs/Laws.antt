@@ -101,9 +101,9 @@ abbrev pub StaysBeginByAttachments : Type 0
 StaysBeginByAttachments = (start : State) (h : History) → IsLegal start h
     → (s : ℕ) (d : Device) → device_at (reached start h) s ≡ Some d → accepted_in_stay start h s ≡ accepted_since_attachment h s
 
--- What GETPID, GETBCR and GETDCR read at an address, where nobody is cut, is what the active controller's table has there: the
--- PID of the identity that the address is kept for, the BCR and the DCR, where these numbers are bytes, as those of the
--- calls are. So a controller may trust its table.
+-- Where nobody is cut, GETPID, GETBCR and GETDCR read at an address what the active controller's table has there: the PID of
+-- the identity that the address is kept for, the BCR and the DCR. These numbers have to be bytes, as those of the calls are.
+-- So a controller may trust its table.
 abbrev pub DataAreOfTheTable : Type 0
 DataAreOfTheTable = (main : Setup) (board : Board) (events : List Event) (replies : List Reply) (st : State) → IsLegalRun main board events replies st
     → (what : Datum) (a : ℕ) (policy : Fixed) (cuts : CutList) (framed : Framed) (new : State) (bytes said : List ℕ) (e : Entry)

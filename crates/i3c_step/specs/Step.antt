@@ -1,29 +1,28 @@
 -- One step of the bus: what an event may answer and leave.
-use Rattle.std.specs.Prelude.{◌≡◌, ℕ, suc, ◌+◌, ◌-◌, ◌^◌, Bool, true, false, not, ◌&&◌, ◌||◌, ◌==◌, ◌⊎◌, nat_le, nat_lt, List, [], ◌∷◌, ◌++◌, length, Option, Some, None, is_none, is_some, MatchOption, ⊤}
+use Rattle.std.specs.Prelude.{◌≡◌, ℕ, suc, ◌+◌, Bool, true, false, not, ◌&&◌, ◌||◌, ◌==◌, ◌⊎◌, nat_lt, List, [], ◌∷◌, ◌++◌, length, Option, Some, None, is_none, is_some, MatchOption, ⊤}
 use Rattle.i3c_base.specs.declared.answers.Answer.{Answer}
 use Rattle.i3c_base.specs.declared.answers.RoundReply.{RoundReply}
 use Rattle.i3c_base.specs.declared.datum.Direction.{Direction}
-use Rattle.i3c_base.specs.declared.device.TheConstants.{WAITING}
 use Rattle.i3c_base.specs.declared.identity.Identity.{Identity}
 use Rattle.i3c_base.specs.declared.requests.Fixed.{Fixed}
 use Rattle.i3c_base.specs.declared.requests.Served.{Served}
 use Rattle.i3c_base.specs.declared.kinds.Change.{Change}
-use Rattle.i3c_base.specs.Numbers.{KindSet, can_interrupt, has_byte, is_capable, same_bool}
-use Rattle.i3c_base.specs.State.{Entry, State, declared_at, device_at, entry_at, in_slot, is_the, is_usable, known_in, legacy_target_at, raised_at}
+use Rattle.i3c_base.specs.Numbers.{KindSet, is_capable}
+use Rattle.i3c_base.specs.State.{Entry, State, declared_at, device_at, entry_at, is_the, is_usable, known_in, legacy_target_at, raised_at}
 use Rattle.i3c_base.specs.Cutting.{CutList, IsUncut, Lost, cut_of}
 use Rattle.i3c_base.specs.Local.{ask_join, ask_role, attach, drop_off, raise}
 use Rattle.i3c_base.specs.Serve.{Frame, header_bits, refuse_all}
 use Rattle.i3c_base.specs.Frames.{Gets, Hands, SetsLength, length_bits, transfer_length, IsRefusedBits, KeepsRole, Reads, Rekinds, SetsNew, SetsStatic, Writes, active_has, changed_kinds, get_bits, kinds_bits, list, list_bits, read_bits, reset, write_bits}
-use Rattle.i3c_base.specs.Refusing.{Tests, first_of, join_tests, renamed, role_tests}
+use Rattle.i3c_base.specs.Refusing.{Tests, first_of, join_tests, renamed, role_tests, is_uncounted, raise_tests}
 use Rattle.i3c_base.specs.Round.{Rounds, ended, opened}
 use Rattle.i3c_step.specs.declared.events.Event.{Event}
 use Rattle.i3c_step.specs.declared.events.Event.TheVariants.{Attach, DropOff, Raise, AskJoin, AskRole, Serve, Enec, Disec, Reset, SendList, ReadFrom, WriteTo, SetStatic, SetNew, Get, SetLength, OpenDaa, Round, EndDaa, HandOver}
 use Rattle.i3c_step.specs.declared.events.TheConstants.{TRANSFER}
 use Rattle.i3c_step.specs.declared.replies.Framed.{Framed}
 use Rattle.i3c_step.specs.declared.replies.Refusal.{Refusal}
-use Rattle.i3c_step.specs.declared.replies.Refusal.TheVariants.{SessionOpen, NoSession, ActiveStays, SlotTaken, NoDevice, IsActive, NoAddress, NotCapable, ByteMismatch, Masked, Full, ListStale, NoAnswer, TooLong, BadAddress}
+use Rattle.i3c_step.specs.declared.replies.Refusal.TheVariants.{SessionOpen, NoSession, ActiveStays, SlotTaken, NoDevice, IsActive, NotCapable, ListStale, NoAnswer, TooLong, BadAddress}
 use Rattle.i3c_step.specs.declared.replies.Reply.{Reply}
-use Rattle.i3c_step.specs.Replies.{join_refusal, role_refusal}
+use Rattle.i3c_step.specs.Replies.{join_refusal, raise_refusal, role_refusal}
 
 -- tests with the refusal that each stands for, in order
 abbrev pub Checks : Type 0
@@ -98,13 +97,7 @@ hand_checks st a = (active_has st a, IsActive) ∷ (is_no_controller (entry_at s
 abbrev pub checks : State → Event → Checks
 checks st (Attach s setup) = (is_some (device_at st s), SlotTaken) ∷ []
 checks st (DropOff s) = (is_none (device_at st s), NoDevice) ∷ (s == st.active, ActiveStays) ∷ []
-checks st (Raise s byte) =
-    (is_none (device_at st s), NoDevice) ∷ (s == st.active, IsActive)
-    ∷ (in_slot (λ d. is_none d.address) (device_at st s), NoAddress)
-    ∷ (in_slot (λ d. not (can_interrupt d.identity.bcr)) (device_at st s), NotCapable)
-    ∷ (in_slot (λ d. not (same_bool (has_byte d.identity.bcr) (is_some byte))) (device_at st s), ByteMismatch)
-    ∷ (in_slot (λ d. not d.kinds.interrupt) (device_at st s), Masked)
-    ∷ (in_slot (λ d. nat_le WAITING (length d.waiting) || nat_le (2 ^ 64 - 1) (raised_at st s)) (device_at st s), Full) ∷ []
+checks st (Raise s byte) = renamed raise_refusal (raise_tests st.active s byte (is_uncounted (raised_at st s)) (device_at st s))
 checks st (AskJoin s) = renamed join_refusal (join_tests (device_at st s))
 checks st (AskRole s) = renamed role_refusal (role_tests st.active s (device_at st s))
 checks st (Serve policy cuts) = frame_checks st cuts

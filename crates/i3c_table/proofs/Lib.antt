@@ -11,3 +11,4 @@ pub mod Homes
 pub mod TakenOver
 pub mod Moving
 pub mod Same
+mod Alike

@@ -1,6 +1,7 @@
 ghost use Rattle.std.specs.Prelude.{◌≡◌, ◌≢◌, ◌↔◌, ℕ, ◌||◌, false, IsTrue};
 ghost use Rattle.i3c_base.specs.Sets.{is_in};
 ghost use Rattle.i3c_table.specs.Rows.{static_in};
+ghost use Rattle.i3c_table.specs.Stored.{kept_at};
 
 use crate::keeping::{keep_for, keep_homes};
 use crate::order::Order;
@@ -133,6 +134,24 @@ impl Table {
 
     // Whether both tables have the same row at an address, or none.
     fn has_same_row(&self, other: &Table, address: Addr7) -> bool
+        ensures { IsTrue result ↔ (entry_in self.now.given address ≡ entry_in other.now.given address) }
+    {
+        if !self.held.has(address) || !other.held.has(address) {
+            return self.has_equal_row(other, address);
+        }
+        let index = address.get() as usize;
+        are_same_registers(&self.registers[index], &other.registers[index])
+            && are_kept_alike(
+                self.kept,
+                &self.numbers,
+                other.kept,
+                &other.numbers,
+                address,
+            )
+    }
+
+    // The same, also where the address wasn't given.
+    fn has_equal_row(&self, other: &Table, address: Addr7) -> bool
         ensures { IsTrue result ↔ (entry_in self.now.given address ≡ entry_in other.now.given address) }
     {
         self.row_of(address) == other.row_of(address)
@@ -342,6 +361,30 @@ fn registers_again(registers: &[Registers; ADDRESSES]) -> [Registers; ADDRESSES]
     let mut copy = [registers[0]; ADDRESSES];
     copy.copy_from_slice(registers);
     copy
+}
+
+// Whether both are the same registers, with the same static address.
+fn are_same_registers(registers: &Registers, others: &Registers) -> bool
+    ensures { IsTrue result ↔ (registers.now ≡ others.now) }
+{
+    registers.bcr == others.bcr && registers.dcr == others.dcr && registers.fixed == others.fixed
+}
+
+// Whether an address is kept for one identity by both of two sets with the numbers at their addresses, or for nobody.
+fn are_kept_alike(
+    kept: Addresses,
+    numbers: &[u64; ADDRESSES],
+    others: Addresses,
+    more: &[u64; ADDRESSES],
+    address: Addr7,
+) -> bool
+    ensures { IsTrue result ↔ (kept_at kept.0 numbers.now address ≡ kept_at others.0 more.now address) }
+{
+    if !kept.has(address) {
+        return !others.has(address);
+    }
+    let index = address.get() as usize;
+    others.has(address) && numbers[index] == more[index]
 }
 
 // A static address, where it may be one.

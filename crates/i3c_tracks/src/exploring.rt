@@ -11,7 +11,7 @@ use crate::broken::push_broken;
 use crate::plan::{Plan, PlanFault, read_plan};
 use crate::refusal::{Reason, Refusal};
 use crate::report::push_ends;
-use i3c_explore::{Limits, Part, Stop, explore_on};
+use i3c_explore::{Limits, Part, Stop, Watch, explore_on};
 use i3c_scenario::{ScriptFault, ScriptLines, write_out};
 use i3c_text::Text;
 use std::alloc::{AllocError, Global};
@@ -36,8 +36,9 @@ pub enum Answer {
 /// why the file is refused.
 ///
 /// The file is read whole before anything runs. Up to so many jobs run lines, each on a thread of its own. Each number of
-/// jobs prints the same.
-pub fn run_explore<T: Threads + Sync, R: Read, W: Write>(
+/// jobs prints the same. Once lines run in many orders a watcher is told how far that is, and before anything is printed that
+/// it is over.
+pub fn run_explore<T: Threads + Sync, R: Read, W: Write, V: Watch>(
     rt: &T,
     alloc: Global,
     reader: &mut R,
@@ -45,6 +46,7 @@ pub fn run_explore<T: Threads + Sync, R: Read, W: Write>(
     limits: Limits,
     part: Part,
     jobs: usize,
+    watch: &V,
 ) -> Result<Answer, ScriptFault>
     // an `Ok` comes after the whole of a file that isn't too large
     ensures whole { OnOk result (IsAtEnd (R.remaining reader.new)) }
@@ -61,7 +63,7 @@ pub fn run_explore<T: Threads + Sync, R: Read, W: Write>(
         Err(fault) => return Err(fault),
     };
     let mut text = Text::new(alloc);
-    let Ok(answer) = answered(rt, alloc, &lines, limits, part, jobs, &mut text) else {
+    let Ok(answer) = answered(rt, alloc, &lines, limits, part, jobs, watch, &mut text) else {
         return Err(ScriptFault::Memory);
     };
     match write_out(text.as_bytes(), writer) {
@@ -108,20 +110,21 @@ fn add_line(alloc: Global, line: &[u8], lines: &mut Vec<Vec<u8>>) -> Result<(), 
 }
 
 /// Appends what is printed of a file.
-fn answered<T: Threads + Sync>(
+fn answered<T: Threads + Sync, V: Watch>(
     rt: &T,
     alloc: Global,
     lines: &[Vec<u8>],
     limits: Limits,
     part: Part,
     jobs: usize,
+    watch: &V,
     text: &mut Text,
 ) -> Result<Answer, AllocError>
     ensures answer { IfOk result (IsExplored lines.now part) }
     ensures printed { IfOk result (λ answer. IsPrinted lines.now part answer text.old text.new) }
 {
     match read_plan(alloc, lines) {
-        Ok(plan) => explored(rt, alloc, lines, &plan, limits, part, jobs, text),
+        Ok(plan) => explored(rt, alloc, lines, &plan, limits, part, jobs, watch, text),
         Err(PlanFault::Memory) => Err(AllocError),
         Err(PlanFault::Refused(refusal)) => {
             refusal.push(text)?;
@@ -140,7 +143,7 @@ fn limits_left(limits: Limits, before: usize) -> Option<Limits> {
 }
 
 /// Explores a part of a plan's orders, and appends what is printed of it.
-fn explored<T: Threads + Sync>(
+fn explored<T: Threads + Sync, V: Watch>(
     rt: &T,
     alloc: Global,
     lines: &[Vec<u8>],
@@ -148,6 +151,7 @@ fn explored<T: Threads + Sync>(
     limits: Limits,
     part: Part,
     jobs: usize,
+    watch: &V,
     text: &mut Text,
 ) -> Result<Answer, AllocError>
     ensures answer { IfOk result (IsAnswer plan.now.start plan.now.blocks.items part) }
@@ -157,7 +161,7 @@ fn explored<T: Threads + Sync>(
         return refuse_most(text);
     };
     let start = plan.start.copied(alloc)?;
-    match explore_on(rt, alloc, start, &plan.blocks, limits, part, jobs) {
+    match explore_on(rt, alloc, start, &plan.blocks, limits, part, jobs, watch) {
         Ok(found) => {
             push_ends(alloc, lines, plan, &found, text)?;
             Ok(Answer::Holds)

@@ -10,33 +10,24 @@ use Rattle.i3c_base.specs.declared.datum.Direction.{Direction}
 use Rattle.i3c_base.specs.declared.device.LegacyTarget.{LegacyTarget}
 use Rattle.i3c_base.specs.declared.device.TheConstants.{REGISTERS}
 use Rattle.i3c_base.specs.Cutting.{CutList, Lost, lost_by}
-use Rattle.i3c_base.specs.Frames.{AllLostAt, AnyAt, SomeLeftAt, Writes, least_length_from, legacy_written, transfer_length, write_bits, written}
-use Rattle.i3c_base.specs.Places.{changed}
+use Rattle.i3c_base.specs.Frames.{AllLostAt, AnyAt, SomeLeftAt, SomeLeftIn, Writes, least_length_from, legacy_written, transfer_length, write_bits, written, written_at}
 use Rattle.i3c_base.specs.Serve.{IsAnd}
-use Rattle.i3c_base.specs.State.{Device, HasDevices, IsTargetAt, State, legacy_target_at}
+use Rattle.i3c_base.specs.State.{Device, HasDevices, IsTargetAt, State, each_in, legacy_target_at, population, with_active}
+use Rattle.i3c_base.proofs.Lookups.{population_is}
 use Rattle.i3c_base.proofs.LostLaws.{left_before}
-use Rattle.i3c_device.specs.Reading.{AreBytesOf, Driving}
-use Rattle.i3c_device.specs.Walks.{SomeReached, written_at}
-use Rattle.i3c_device.proofs.Targets.{reached_target, target_reached}
-use Rattle.i3c_xfer.specs.Transfers.{AnyAnswers, AreDrivenBy, HasLegacy, IsWrittenBy, PullsLow, is_write_acknowledged, write_answer}
+use Rattle.i3c_device.specs.Reading.{AreBytesOf, Driving, PullsLow}
+use Rattle.i3c_xfer.specs.Transfers.{AnyAnswers, AreDrivenBy, HasLegacy, IsWrittenBy, is_write_acknowledged, write_answer}
 use Rattle.i3c_xfer.specs.declared.outcome.Write.{Write}
 
--- whoever is reached at the address is left there, and the other way round
-pub left_there : (st : State) (a : ℕ) (lost : Lost) (devices : List (Option Device)) (active : ℕ) → HasDevices st devices active → SomeReached active (Some a) lost devices → SomeLeftAt st a lost
-left_there st a lost devices active has some =
-    let here = subst (λ places. SomeReached st.active (Some a) lost places) (sym has.0) (subst (λ k. SomeReached k (Some a) lost devices) (sym has.1) some) in
-    (here.0, here.1, reached_target st a here.0 here.1 here.2 here.3, here.4)
-
-reached_there : (st : State) (a : ℕ) (lost : Lost) (devices : List (Option Device)) (active : ℕ) → HasDevices st devices active → SomeLeftAt st a lost → SomeReached active (Some a) lost devices
-reached_there st a lost devices active has some =
-    subst (λ k. SomeReached k (Some a) lost devices) has.1
-    (subst (λ places. SomeReached st.active (Some a) lost places) has.0 (some.0, some.1, some.2.0, target_reached st a some.0 some.1 some.2, some.3))
+-- some of those at the address are left among these devices, and on a bus that has them
+pub left_there : (st : State) (a : ℕ) (lost : Lost) (devices : List (Option Device)) (active : ℕ) → HasDevices st devices active → SomeLeftIn (with_active devices active) a lost → SomeLeftAt st a lost
+left_there st a lost devices active has some = subst (λ all. SomeLeftIn all a lost) (sym (population_is st devices active has)) some
 
 -- nobody is
-pub none_there : (st : State) (a : ℕ) (lost : Lost) (devices : List (Option Device)) (active : ℕ) → HasDevices st devices active → ¬ SomeReached active (Some a) lost devices → ¬ SomeLeftAt st a lost
-none_there st a lost devices active has none some = none (reached_there st a lost devices active has some)
+pub none_there : (st : State) (a : ℕ) (lost : Lost) (devices : List (Option Device)) (active : ℕ) → HasDevices st devices active → ¬ SomeLeftIn (with_active devices active) a lost → ¬ SomeLeftAt st a lost
+none_there st a lost devices active has none some = none (subst (λ all. SomeLeftIn all a lost) (population_is st devices active has) some)
 
-pub all_lost : (st : State) (a : ℕ) (lost : Lost) (devices : List (Option Device)) (active : ℕ) → HasDevices st devices active → ¬ SomeReached active (Some a) lost devices → AllLostAt st a lost
+pub all_lost : (st : State) (a : ℕ) (lost : Lost) (devices : List (Option Device)) (active : ℕ) → HasDevices st devices active → ¬ SomeLeftIn (with_active devices active) a lost → AllLostAt st a lost
 all_lost st a lost devices active has none s d is = elim (cases_Bool (lost s)) [ inl gone ↦ gone | inr left ↦ absurd (none_there st a lost devices active has none (s, d, is, left)) ]
 
 pub any_there : (st : State) (a : ℕ) (lost : Lost) → SomeLeftAt st a lost → AnyAt st a
@@ -53,12 +44,8 @@ some_legacy st a (Some target) e t = (target, e)
 
 -- what the devices drive
 pub driven_there : (own : Driving) (count : ℕ) (st : State) (a : ℕ) (cuts : CutList) (first : ℕ) (devices : List (Option Device)) (active : ℕ) (bytes : List ℕ) → HasDevices st devices active
-    → AreBytesOf own count active a cuts first devices bytes → AreDrivenBy own count st a cuts first bytes
-driven_there own count st a cuts first devices active bytes has read k j l m =
-    let here = subst (λ places. AreBytesOf own count st.active a cuts first places bytes) (sym has.0) (subst (λ x. AreBytesOf own count x a cuts first devices bytes) (sym has.1) read) k j l m in (
-      λ z. let low = here.0 z in (low.0, low.1, reached_target st a low.0 low.1 low.2 low.3, low.4, low.5),
-      λ low. here.1 (low.0, low.1, low.2.0, target_reached st a low.0 low.1 low.2, low.3, low.4),
-    )
+    → AreBytesOf own count (with_active devices active) a cuts first bytes → AreDrivenBy own count st a cuts first bytes
+driven_there own count st a cuts first devices active bytes has read = subst (λ all. AreBytesOf own count all a cuts first bytes) (sym (population_is st devices active has)) read
 
 zero_or_one : (b : ℕ) → b < 2 → (b ≡ 0) ⊎ (b ≡ 1)
 zero_or_one zero l = inl refl
@@ -81,7 +68,7 @@ and_there own count st a cuts first last bytes late driven small left k l = (
   λ bit m.
       let j : ℕ = 7 - bit in
       let back : 7 - j ≡ bit = omega arith in
-      let here = subst (λ b. (bit_at (get_or bytes k 0) b ≡ 0) ↔ PullsLow own st a (lost_by cuts (first + 9 * k + j)) k b) back (driven k j l (omega arith)) in (
+      let here = subst (λ b. (bit_at (get_or bytes k 0) b ≡ 0) ↔ PullsLow own (population st) a (lost_by cuts (first + 9 * k + j)) k b) back (driven k j l (omega arith)) in (
         λ one s v d. elim (zero_or_one (bit_at v bit) (bit_at-lt v bit)) [
           | inl z ↦ absurd (not_both (bit_at (get_or bytes k 0) bit)
               (here.1 (s, d.0, d.1, left_before cuts (first + 9 * k + j) last s (omega arith) (left s d.0 d.1), ap (λ x. bit_at x bit) (sym d.2) ∙ z)) one)
@@ -96,9 +83,9 @@ and_there own count st a cuts first last bytes late driven small left k l = (
 
 -- a write as the bus's devices and legacy targets take it
 pub written_there : (st : State) (a : ℕ) (bytes : List ℕ) (devices : List (Option Device)) (active : ℕ) (legacy : List (Option LegacyTarget)) → HasDevices st devices active → st.legacy ≡ legacy
-    → ◌≡◌ {A = State} (record st { devices = changed (written_at active a bytes) devices; legacy = set legacy a (legacy_written bytes (get_or legacy a None)) }) (written a bytes st)
+    → ◌≡◌ {A = State} (record st { devices = each_in (written_at active a bytes) devices; legacy = set legacy a (legacy_written bytes (get_or legacy a None)) }) (written a bytes st)
 written_there st a bytes devices active legacy has e = λ t. record st {
-  devices = changed (written_at (sym has.1 t) a bytes) (sym has.0 t);
+  devices = each_in (written_at (sym has.1 t) a bytes) (sym has.0 t);
   legacy = set (sym e t) a (legacy_written bytes (get_or (sym e t) a None));
 }
 
@@ -135,4 +122,4 @@ pub driven_first : (own : Driving) (most count : ℕ) (st : State) (a : ℕ) (cu
 driven_first own most count st a cuts first bytes few long h k j l m =
     let counted : length (take count bytes) ≡ count = length-take-le count bytes (omega (arith, few, long)) in
     let low : k < count = omega (arith, counted, l) in
-    subst (λ b. (bit_at b (7 - j) ≡ 0) ↔ PullsLow own st a (lost_by cuts (first + 9 * k + j)) k (7 - j)) (sym (get_or-take count bytes k 0 low)) (h k j (omega arith) m)
+    subst (λ b. (bit_at b (7 - j) ≡ 0) ↔ PullsLow own (population st) a (lost_by cuts (first + 9 * k + j)) k (7 - j)) (sym (get_or-take count bytes k 0 low)) (h k j (omega arith) m)

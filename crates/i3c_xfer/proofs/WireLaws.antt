@@ -1,7 +1,7 @@
 -- Words that are told one after another.
 use Rattle.std.proofs.Common.{◌≡◌, ℕ, Bool, true, List, [], ◌∷◌, ◌++◌, arith, length, map, refl, ap}
 use Rattle.i3c_frame.specs.declared.symbols.Symbol.{Symbol}
-use Rattle.i3c_xfer.specs.declared.telling.Side.{Side}
+use Rattle.i3c_xfer.specs.declared.wire.Side.{Side}
 use Rattle.i3c_xfer.specs.Telling.{AreWritten, IsWrittenWord, read_words, word_of}
 
 -- the words of a read are those of all bytes but the last, and that

@@ -9,8 +9,8 @@ use Rattle.i3c_ccc.specs.Codes.{byte_of_datum}
 use Rattle.i3c_xfer.specs.declared.outcome.Get.{Get}
 use Rattle.i3c_xfer.specs.declared.outcome.Read.{Read}
 use Rattle.i3c_xfer.specs.declared.outcome.Write.{Write}
-use Rattle.i3c_xfer.specs.declared.telling.Side.{Side}
-use Rattle.i3c_xfer.specs.declared.telling.Side.TheVariants.{Devices, Legacy}
+use Rattle.i3c_xfer.specs.declared.wire.Side.{Side}
+use Rattle.i3c_xfer.specs.declared.wire.Side.TheVariants.{Devices, Legacy}
 
 -- a byte that is read, with its ninth bit: of a device a T, of a legacy target an ACK or a NACK
 abbrev pub word_of : Side → Bool → ℕ → Symbol

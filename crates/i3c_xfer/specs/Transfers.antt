@@ -1,13 +1,12 @@
 -- What a private transfer with an address comes to.
-use Rattle.std.specs.Prelude.{◌≡◌, ℕ, ◌+◌, ◌-◌, ◌*◌, ◌<◌, ◌↔◌, ◌⊎◌, Bool, true, false, ⊤, List, All, Some, None, length, slice_index}
-use Rattle.std.specs.Int.{bit_at}
+use Rattle.std.specs.Prelude.{◌≡◌, ℕ, ◌+◌, ◌*◌, ◌<◌, ◌⊎◌, Bool, true, false, ⊤, List, All, Some, None, length}
 use Rattle.i3c_base.specs.declared.answers.Answer.{Answer}
 use Rattle.i3c_base.specs.declared.datum.Direction.{Direction}
 use Rattle.i3c_base.specs.declared.device.LegacyTarget.{LegacyTarget}
-use Rattle.i3c_base.specs.Cutting.{CutList, Lost, lost_by}
+use Rattle.i3c_base.specs.Cutting.{CutList, Lost}
 use Rattle.i3c_base.specs.Frames.{SomeLeftAt, transfer_length}
-use Rattle.i3c_base.specs.State.{Device, IsTargetAt, State, legacy_target_at}
-use Rattle.i3c_device.specs.Reading.{Driving, registers_of}
+use Rattle.i3c_base.specs.State.{State, legacy_target_at, population}
+use Rattle.i3c_device.specs.Reading.{AreBytesOf, Driving, registers_of}
 use Rattle.i3c_xfer.specs.declared.outcome.Read.{Read}
 use Rattle.i3c_xfer.specs.declared.outcome.Write.{Write}
 
@@ -49,15 +48,9 @@ HasLegacy st a = (target : LegacyTarget) × (legacy_target_at st a ≡ Some targ
 abbrev pub AnyAnswers : State → ℕ → Lost → Type 0
 AnyAnswers st a lost = HasLegacy st a ⊎ SomeLeftAt st a lost
 
--- a device at the address that isn't lost has 0 in this bit of byte k of what it drives: it pulls the line low
-abbrev pub PullsLow : Driving → State → ℕ → Lost → ℕ → ℕ → Type 0
-PullsLow own st a lost k bit = (s : ℕ) × (d : Device) × IsTargetAt st a s d × (lost s ≡ false) × (bit_at (slice_index (own d) k) bit ≡ 0)
-
--- so many bytes as devices at the address drive them, the first bit of all at bit `first` of the frame. Each has eight
--- bits, the most significant first, and a T. A bit is read as 0 exactly where a device pulls the line low
+-- so many bytes as devices of this bus at the address drive them, the first bit of all at bit `first` of the frame
 abbrev pub AreDrivenBy : Driving → ℕ → State → ℕ → CutList → ℕ → List ℕ → Type 0
-AreDrivenBy own count st a cuts first bytes =
-    (k j : ℕ) → k < count → j < 8 → (bit_at (slice_index bytes k) (7 - j) ≡ 0) ↔ PullsLow own st a (lost_by cuts (first + 9 * k + j)) k (7 - j)
+AreDrivenBy own count st a cuts first bytes = AreBytesOf own count (population st) a cuts first bytes
 
 -- the first registers so, as many as may be read
 abbrev pub AreDriven : State → ℕ → CutList → ℕ → List ℕ → Type 0

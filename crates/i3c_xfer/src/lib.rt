@@ -5,11 +5,11 @@
 mod getting;
 mod outcome;
 mod reading;
-mod telling;
+mod wire;
 mod writing;
 
 pub use getting::{get, told_count};
 pub use outcome::{Get, Read, Write, get_bits, write_bits};
 pub use reading::{read, transfer_length};
-pub use telling::{tell_get, tell_read, tell_write};
+pub use wire::{tell_get, tell_read, tell_write};
 pub use writing::write;

@@ -9,6 +9,7 @@
 
 mod drawing;
 mod fault;
+mod progress;
 mod run;
 mod status;
 mod stressing;

@@ -1,5 +1,6 @@
 use crate::drawing::draw_script;
 use crate::fault::Fault;
+use crate::progress::Watcher;
 use crate::status::{Ending, came_to, explored, ran, status_of, waved};
 use crate::stressing::run_stress;
 use crate::version::print_version;
@@ -45,7 +46,10 @@ where
     match task_named(rt.alloc(), &words)? {
         Task::File(work, file) => ran(run_file(rt, work, file)),
         Task::Capture(capturing, telling, file) => ran(run_capture(rt, capturing, telling, file)),
-        Task::Explore(limits, part, jobs, file) => run_exploration(rt, limits, part, jobs, file),
+        Task::Explore(limits, part, jobs, file) => {
+            let watcher = Watcher::new(rt, is_watched);
+            run_exploration(rt, limits, part, jobs, &watcher, file)
+        }
         Task::Stress(stress) => ran(run_stress(rt, &stress, is_watched)),
         Task::Version => ran(print_version(rt)),
     }
@@ -102,16 +106,17 @@ fn run_exploration<R>(
     limits: Limits,
     part: Part,
     jobs: usize,
+    watcher: &Watcher<'_, R>,
     file: &str,
 ) -> Result<Ending, Fault>
 where
-    R: Files + Input + Print + AllocGlobal + Threads + Sync,
+    R: Files + Input + Print + Eprint + AllocGlobal + Threads + Sync,
 {
     if file == STANDARD_INPUT {
-        return explore_from(rt, limits, part, jobs, &mut rt.reader());
+        return explore_from(rt, limits, part, jobs, watcher, &mut rt.reader());
     }
     match fs::open(rt, file) {
-        Ok(mut input) => explore_from(rt, limits, part, jobs, &mut input),
+        Ok(mut input) => explore_from(rt, limits, part, jobs, watcher, &mut input),
         Err(error) => Err(reading_fault(&error)),
     }
 }
@@ -262,15 +267,17 @@ fn draw_from<R: Print + AllocGlobal, S: Read>(rt: &R, input: &mut S) -> Result<T
 }
 
 /// Explores the file of a reader.
-fn explore_from<R: Print + AllocGlobal + Threads + Sync, S: Read>(
+fn explore_from<R: Print + Eprint + AllocGlobal + Threads + Sync, S: Read>(
     rt: &R,
     limits: Limits,
     part: Part,
     jobs: usize,
+    watcher: &Watcher<'_, R>,
     input: &mut S,
 ) -> Result<Ending, Fault> {
     let mut printed = io::writer(rt);
-    let outcome = run_explore(rt, rt.alloc(), input, &mut printed, limits, part, jobs);
+    let alloc = rt.alloc();
+    let outcome = run_explore(rt, alloc, input, &mut printed, limits, part, jobs, watcher);
     let flushed = printed.flush().is_ok();
     explored(outcome, flushed)
 }

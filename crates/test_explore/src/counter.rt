@@ -43,6 +43,7 @@ fn counted(count: u64, line: &Line, way: usize) -> Option<u64>
 }
 
 impl Machine for Counter {
+    ghost use Rattle.std.specs.Prelude.{⊤};
     ghost use Rattle.test_explore.specs.Counters.{Counts, Overflows};
 
     type Line = Line;
@@ -54,6 +55,8 @@ impl Machine for Counter {
     ghost steps = { Counts };
 
     ghost breaks = { Overflows };
+
+    ghost near = { λ runner counter. ⊤ };
 
     fn last_way(&self, line: &Line) -> usize {
         match line {
@@ -71,6 +74,7 @@ impl Machine for Counter {
         _alloc: Global,
         line: &Line,
         way: usize,
+        _again: bool,
         runner: &mut Counter,
     ) -> Result<bool, AllocError> {
         match counted(self.count, line, way) {

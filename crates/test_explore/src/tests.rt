@@ -1,6 +1,9 @@
 use crate::counter::{Counter, Line};
-use i3c_explore::{Explored, Limits, Node, Part, Stop, explore, explore_on, explore_part};
+use i3c_explore::{
+    Explored, Limits, Node, Part, Progress, Stop, Watch, explore, explore_on, explore_part,
+};
 use std::alloc::{AllocError, Global};
+use std::cell::Cell;
 use std::test::Fail;
 use std::thread::Threads;
 
@@ -9,6 +12,32 @@ const WIDE: Limits = Limits {
     steps: 100_000,
     states: 16_384,
 };
+
+/// Nobody watches.
+struct Nobody;
+
+impl Watch for Nobody {
+    fn told(&self, _progress: Progress) {}
+
+    fn ended(&self) {}
+}
+
+/// Somebody who notes what was told last, and how often an exploration was over.
+#[derive(Drop)]
+struct Notes {
+    last: Cell<Option<Progress>>,
+    ends: Cell<u8>,
+}
+
+impl Watch for Notes {
+    fn told(&self, progress: Progress) {
+        self.last.set(Some(progress));
+    }
+
+    fn ended(&self) {
+        self.ends.set(self.ends.get().wrapping_add(1));
+    }
+}
 
 /// A track of lines.
 fn track(alloc: Global, lines: &[Line]) -> Result<Vec<Line>, AllocError> {
@@ -337,7 +366,7 @@ fn jobs_agree<R: Threads + Sync>(
     let alone = explore_part(alloc, start, &blocks, limits, part);
     let mut agree = true;
     for jobs in [0, 1, 2, 3, 4, 9] {
-        let found = explore_on(rt, alloc, start, &blocks, limits, part, jobs);
+        let found = explore_on(rt, alloc, start, &blocks, limits, part, jobs, &Nobody);
         agree = agree && are_same(&alone, &found);
     }
     Ok(agree)
@@ -351,7 +380,16 @@ fn four_jobs_answer_as_one(rt: HostRuntime) -> Result<(), Fail> {
     assert!(rt; jobs_agree(&rt, rt.alloc(), &[tracks], WIDE, Part::whole())?);
     let blocks = blocks_of(rt.alloc(), &[tracks])?;
     let start = Counter { count: 1 };
-    let found = explore_on(&rt, rt.alloc(), start, &blocks, WIDE, Part::whole(), 4)?;
+    let found = explore_on(
+        &rt,
+        rt.alloc(),
+        start,
+        &blocks,
+        WIDE,
+        Part::whole(),
+        4,
+        &Nobody,
+    )?;
     assert!(rt; has(&found, 1, Some(305_540_235_000), 12_500));
     Ok(())
 }
@@ -442,9 +480,54 @@ fn jobs_have_the_limits_of_one_thread(rt: HostRuntime) -> Result<(), Fail> {
         (12_500, 380, false),
     ] {
         let limits = Limits { steps, states };
-        let found = explore_on(&rt, rt.alloc(), start, &blocks, limits, Part::whole(), 4);
+        let found = explore_on(
+            &rt,
+            rt.alloc(),
+            start,
+            &blocks,
+            limits,
+            Part::whole(),
+            4,
+            &Nobody,
+        );
         assert!(rt; found.is_ok() == enough);
         assert!(rt; enough || matches!(found, Err(Stop::Most)));
+    }
+    Ok(())
+}
+
+// behind two lines in front there are the four places of a block with two tracks of a line; the last layer has one state
+#[test]
+fn a_watcher_is_told_how_far_it_is(rt: HostRuntime) -> Result<(), Fail> {
+    let lines = [Line::Add(1), Line::Add(2)];
+    let one = [Line::Add(3)];
+    let other = [Line::Add(4)];
+    let front: &[&[Line]] = &[&lines];
+    let tracks: &[&[Line]] = &[&one, &other];
+    let blocks = blocks_of(rt.alloc(), &[front, tracks])?;
+    for jobs in [1, 4] {
+        let notes = Notes {
+            last: Cell::new(None),
+            ends: Cell::new(0),
+        };
+        let start = Counter { count: 1 };
+        let found = explore_on(
+            &rt,
+            rt.alloc(),
+            start,
+            &blocks,
+            WIDE,
+            Part::whole(),
+            jobs,
+            &notes,
+        )?;
+        let last = Progress {
+            line: 4,
+            lines: 4,
+            states: 1,
+            steps: 6,
+        };
+        assert!(rt; found.steps == 6 && notes.ends.get() == 1 && notes.last.get() == Some(last));
     }
     Ok(())
 }

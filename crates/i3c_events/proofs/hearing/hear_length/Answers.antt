@@ -4,9 +4,9 @@ use Rattle.std.proofs.lemmas.Bool.{both_ways, false≢true}
 use Rattle.std.proofs.lemmas.Option.{same_Some}
 use Rattle.i3c_base.specs.declared.answers.Answer.{Answer}
 use Rattle.i3c_base.specs.Cutting.{lost_by}
-use Rattle.i3c_base.specs.State.{HasDevices, State}
-use Rattle.i3c_base.specs.Frames.{SomeLeftAt, length_bits, limited}
-use Rattle.i3c_device.specs.Walks.{AreReached, reaches_at}
+use Rattle.i3c_base.specs.State.{HasDevices, State, with_active}
+use Rattle.i3c_base.specs.Frames.{SomeLeftAt, length_bits, limited, reaches_at}
+use Rattle.i3c_device.specs.Walks.{AreReached}
 use Rattle.i3c_device.proofs.SeenWalks.{heard_some, passing_changed}
 use Rattle.i3c_events.proofs.HearingLaws.{left_any, left_reached, length_set, length_unset, reached_left}
 use Rattle.i3c_events.proofs.hearing.hear_length.Goals as goal
@@ -15,7 +15,7 @@ use Rattle.i3c_events.proofs.hearing.hear_length.Goals.{in-Some+else-not-outlast
 none_left : (c : goal.Then-not-outlasts) (st : State) → HasDevices st c.args.devices.now c.args.active → ¬ SomeLeftAt st c.in-Some.at (lost_by c.args.cuts.now (c.args.begun + 18))
 none_left c st has left =
     both_ways _ c.if-not-outlasts.true
-    ((heard_some c.args.active (Some c.in-Some.at) c.reached-reached.result (lost_by c.args.cuts.now (c.args.begun + 18)) c.args.devices.now c.outlasts.result c.reached-reached.ensures.slots
+    ((heard_some (with_active c.args.devices.now c.args.active) (Some c.in-Some.at) c.reached-reached.result (lost_by c.args.cuts.now (c.args.begun + 18)) c.outlasts.result c.reached-reached.ensures.slots
     (subst (λ to. AreReached c.args.active to c.reached-reached.result c.args.devices.now) c.in-Some.is c.reached-reached.ensures.reached) c.outlasts.ensures).1 (left_reached st c.in-Some.at (lost_by c.args.cuts.now (c.args.begun + 18)) c.args.devices.now c.args.active has left))
 
 pub returns-then-not-outlasts-clause-sets : goal.returns-then-not-outlasts-clause-sets
@@ -34,7 +34,7 @@ heard c st has a e = elim c.match-to.branch [
   | in-Some+else-not-outlasts w ↦
       subst (λ b. SomeLeftAt st b (lost_by c.args.cuts.now (c.args.begun + 18))) (same_Some w.in-Some.at a (sym w.in-Some.is ∙ e))
       (reached_left st w.in-Some.at (lost_by c.args.cuts.now (c.args.begun + 18)) c.args.devices.now c.args.active has
-      ((heard_some c.args.active (Some w.in-Some.at) c.reached-reached.result (lost_by c.args.cuts.now (c.args.begun + 18)) c.args.devices.now w.outlasts.result c.reached-reached.ensures.slots
+      ((heard_some (with_active c.args.devices.now c.args.active) (Some w.in-Some.at) c.reached-reached.result (lost_by c.args.cuts.now (c.args.begun + 18)) w.outlasts.result c.reached-reached.ensures.slots
       (subst (λ to. AreReached c.args.active to c.reached-reached.result c.args.devices.now) w.in-Some.is c.reached-reached.ensures.reached) w.outlasts.ensures).0 w.if-not-outlasts.false))
   | in_default w ↦ absurd (w.in_default.not-Some a e)
 ]

@@ -1,4 +1,5 @@
 use Rattle.std.proofs.Common.{◌≡◌, ℕ, arith, length, subst}
+use Rattle.std.proofs.lemmas.Bool.{false≢true}
 use borrow.Author.Count.{below_more}
 use Rattle.i3c_explore.proofs.Expanding.{expanded_kept, from_more, from_same, keeps_both}
 use Rattle.i3c_explore.specs.Shares.{Gains, IsLed, by_tracks}
@@ -15,6 +16,7 @@ loop-track-preserved g c =
       keeps = keeps_both old mid new was.keeps done.keeps;
       expanded = below_more _ _ (expanded_kept steps lines c.loop-track.track node mid new done.keeps was.expanded) done.tracked;
       counted = gains_track steps tracks lines node old mid new c.loop-track.track was.counted done.counted;
+      near = done.near;
       from = from_more steps lines node old mid new was.from done.from;
     }
 
@@ -23,6 +25,7 @@ loop-track-init g c = record {
   keeps = λ places state has. has;
   expanded = λ t lt. absurd (omega arith);
   counted = λ starts past own mine. added_none (IsLed g.M.Machine.steps c.args.tracks.now starts past) c.args.next.now.nodes.items;
+  near = λ t. absurd (false≢true t);
   from = from_same g.M.Machine.steps (opening c.args.part c.args.tracks.now) c.args.node.now c.args.next.now.nodes.items;
 }
 

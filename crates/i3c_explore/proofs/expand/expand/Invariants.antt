@@ -1,3 +1,4 @@
+use Rattle.std.specs.Prelude.{IsTrue}
 use Rattle.i3c_explore.specs.Shares.{Gains, by_tracks}
 use Rattle.i3c_explore.specs.Parts.{opening}
 use Rattle.i3c_explore.specs.Layers.{AreFrom, IsExpanded, Keeps}
@@ -9,5 +10,6 @@ invariant-loop-track g l = record {
   keeps : Keeps l.initial.next.nodes.items l.next.nodes.items;
   expanded : IsExpanded g.M.Machine.steps (opening l.fn.part l.fn.tracks) l.track l.fn.node l.next.nodes.items;
   counted : Gains g.M.Machine.steps l.fn.tracks l.fn.node l.initial.next.nodes.items l.next.nodes.items (by_tracks (opening l.fn.part l.fn.tracks) l.fn.node.places.items l.track);
+  near : IsTrue l.again → g.M.Machine.near l.runner l.fn.node.state;
   from : AreFrom g.M.Machine.steps (opening l.fn.part l.fn.tracks) l.fn.node l.initial.next.nodes.items l.next.nodes.items;
 }

@@ -25,6 +25,7 @@ loop-way-preserved g c =
       keeps = keeps_both old mid new was.keeps done.keeps;
       ran = below_more _ _ (λ way lt. let (state, step, has) = was.ran way lt in (state, step, done.keeps _ state has)) done.ran;
       counted = gains_way g.M.Machine.steps c.args.tracks.now c.args.node.now old mid new c.args.track c.loop-way.way was.counted done.counted;
+      near = λ _. done.near;
       from = from_more g.M.Machine.steps (opening c.args.part c.args.tracks.now) c.args.node.now old mid new was.from (done.from (opening c.args.part c.args.tracks.now) next_);
     }
 
@@ -49,6 +50,7 @@ loop-way-init g c = record {
   keeps = λ places state has. has;
   ran = λ way lt. absurd (omega arith);
   counted = λ starts past own mine. added_none (IsLed g.M.Machine.steps c.args.tracks.now starts past) c.args.next.now.nodes.items;
+  near = c.requires.again;
   from = from_same g.M.Machine.steps (opening c.args.part c.args.tracks.now) c.args.node.now c.args.next.now.nodes.items;
 }
 

@@ -1,4 +1,5 @@
 use Rattle.std.proofs.Common.{◌<◌, ℕ}
+use Rattle.std.specs.Prelude.{IsTrue}
 use Rattle.i3c_explore.specs.Shares.{Gains, by_ways}
 use Rattle.i3c_explore.specs.Parts.{opening}
 use Rattle.i3c_explore.specs.Layers.{AreFrom, Has, Keeps, advanced}
@@ -10,5 +11,6 @@ invariant-loop-way g l = record {
   keeps : Keeps l.initial.next.nodes.items l.next.nodes.items;
   ran : (way : ℕ) → way < l.way → (new : g.row.M.Denot) × g.M.Machine.steps l.fn.node.state l.line way new × Has l.next.nodes.items (advanced l.fn.track l.fn.node.places.items) new;
   counted : Gains g.M.Machine.steps l.fn.tracks l.fn.node l.initial.next.nodes.items l.next.nodes.items (by_ways l.way l.fn.track);
+  near : IsTrue l.near → g.M.Machine.near l.runner l.fn.node.state;
   from : AreFrom g.M.Machine.steps (opening l.fn.part l.fn.tracks) l.fn.node l.initial.next.nodes.items l.next.nodes.items;
 }

@@ -2,15 +2,15 @@
 use Rattle.std.proofs.Common.{ℕ, ◌+◌, inl, inr, arith, subst, sym}
 use Rattle.std.proofs.lemmas.Bool.{cases_eq}
 use Rattle.i3c_base.specs.Cutting.{lost_by}
-use Rattle.i3c_base.specs.State.{HasDevices, State}
-use Rattle.i3c_device.specs.Walks.{IsLowestWilling}
+use Rattle.i3c_base.specs.State.{HasDevices, State, with_active}
+use Rattle.i3c_base.specs.Frames.{IsLowestWilling}
 use Rattle.i3c_handoff.proofs.OfferLaws.{Driven, none_takes, some_takes, torn_at, torn_last}
 use Rattle.i3c_handoff.proofs.offers.torn_byte.Goals as goal
 use Rattle.i3c_handoff.proofs.offers.torn_byte.Goals.{At-loop-bit}
 
 pub loop-bit-preserved : goal.loop-bit-preserved
 loop-bit-preserved c k l = elim (cases_eq k c.loop-bit.bit) [
-  | inl e ↦ subst (λ n. (s : ℕ) × IsLowestWilling c.args.active c.args.to (lost_by c.args.cuts.now (c.args.sent + 1 + n)) c.args.devices.now s) (sym e) (c.in-Some._driver, c.in-Some.ensures)
+  | inl e ↦ subst (λ n. (s : ℕ) × IsLowestWilling (with_active c.args.devices.now c.args.active) c.args.to (lost_by c.args.cuts.now (c.args.sent + 1 + n)) s) (sym e) (c.in-Some._driver, c.in-Some.ensures)
   | inr ne ↦ c.loop-bit.invariant k (omega arith)
 ]
 

@@ -7,7 +7,7 @@ use Rattle.i3c_ibi.proofs.serving.serve.Goals as goal
 
 pub accept-requires : goal.accept-requires
 accept-requires g c =
-    record { driven = record { active = c.args.active; long = c.in-Some.ensures.slots; are = c.in-Some.ensures.first.drivers; driven = c.in-Some.ensures.first.driven } }
+    record { driven = record { active = c.args.active; long = c.in-Some.ensures.slots; are = c.in-Some.ensures.first.drivers; driven = c.in-Some.ensures.first.comes_first.driven } }
 
 pub returns-in-Refuse-clause-serves : goal.returns-in-Refuse-clause-serves
 returns-in-Refuse-clause-serves g c st has given fits =

@@ -1,6 +1,5 @@
 -- A name is known by its letters.
 use Rattle.std.proofs.Common.{◌≡◌, ◌∙◌, rules, sym}
-use Rattle.std.specs.Cmp.Lexicographic.{bytes_decides}
 use Rattle.i3c_lines.specs.Naming.{letters}
 use Rattle.i3c_lines.proofs.Meanings.{same_name}
 use Rattle.i3c_scene.proofs.named.is_same.Goals as goal
@@ -9,6 +8,6 @@ pub returns-then-eq : goal.returns-then-eq
 returns-then-eq c held =
     let one = c.args.one.now in
     let other = c.args.other.now in
-    let names : one.name ≡ other.name = same_name one.name other.name ((bytes_decides (letters one.name) (letters other.name)).0 (sym c.eq.ensures ∙ c.if-eq.true)) in
+    let names : one.name ≡ other.name = same_name one.name other.name (sym c.as_bytes.ensures ∙ (c.have_same_letters.ensures held ∙ c.as_bytes-then-eq.ensures)) in
     let places : one.place ≡ other.place = search rules in
     λ i. record { name = names i; place = places i }

@@ -1,10 +1,10 @@
 -- A device that wishes to join, or mayn't, leaves a sound bus.
 use Rattle.std.proofs.Common.{refl}
-use Rattle.i3c_device.specs.Raising.{wishing_join}
 use Rattle.i3c_bus.proofs.Locally.{sound_asked}
 use Rattle.i3c_bus.proofs.Owning.{copied_still, keeps_asked}
 use Rattle.i3c_bus.proofs.Seen.{seen}
 use Rattle.i3c_bus.proofs.bus.Bus.ask_join.Goals as goal
+use Rattle.i3c_base.specs.Local.{wishing_join}
 
 pub invariant_of-self : goal.invariant_of-self
 invariant_of-self c = record {

@@ -1,10 +1,10 @@
 -- A device that wishes for the role, or mayn't, leaves a sound bus.
 use Rattle.std.proofs.Common.{refl}
-use Rattle.i3c_device.specs.Raising.{wishing_role}
 use Rattle.i3c_bus.proofs.Locally.{sound_role_asked}
 use Rattle.i3c_bus.proofs.Owning.{copied_still, keeps_asked}
 use Rattle.i3c_bus.proofs.Seen.{seen}
 use Rattle.i3c_bus.proofs.bus.Bus.ask_role.Goals as goal
+use Rattle.i3c_base.specs.Local.{wishing_role}
 
 pub invariant_of-self : goal.invariant_of-self
 invariant_of-self c = record {

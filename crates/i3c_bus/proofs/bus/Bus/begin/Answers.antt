@@ -1,17 +1,16 @@
 -- What was read of the first request, as the beginning of a frame.
-use Rattle.std.proofs.Common.{◌≡◌, ◌∙◌, ◌↔◌, ℕ, true, None, length, ap, refl, subst, sym}
+use Rattle.std.proofs.Common.{◌≡◌, ◌∙◌, ◌↔◌, ℕ, true, length, ap, refl, subst, sym}
 use Rattle.i3c_base.specs.Cutting.{lost_by}
-use Rattle.i3c_base.specs.State.{Held, State}
+use Rattle.i3c_base.specs.State.{Held, State, with_active}
 use Rattle.i3c_base.specs.declared.requests.Served.{Served}
-use Rattle.i3c_device.specs.Walks.{SomeReached}
 use Rattle.i3c_ibi.specs.Policies.{Decides}
 use Rattle.i3c_ibi.specs.Serving.{IsServing, served_as}
 use Rattle.i3c_base.specs.Serve.{given_for}
+use Rattle.i3c_base.specs.Frames.{AnyLeftIn}
 use Rattle.i3c_bus.specs.Beginning.{Begins}
 use Rattle.i3c_ibi.specs.Telling.{begun}
 use Rattle.i3c_bus.specs.Wire.{IsBegun}
 use Rattle.i3c_bus.proofs.Beginning.{begins_by, begun_by, fits_table}
-use Rattle.i3c_bus.proofs.Heard.{is_ack}
 use Rattle.i3c_bus.proofs.Listing.{serves_current}
 use Rattle.i3c_bus.proofs.Owning.{copied_still}
 use Rattle.i3c_bus.proofs.Seen.{seen}
@@ -54,12 +53,12 @@ returns-clause-told g c =
     let active : c.self.inside.active ≡ c.active-active.result = ap (λ (h : Held). h.state.active) c.self.view_is ∙ sym c.active-active.ensures in
     let serving : IsServing (seen c.self.inside) c.args.cuts.now c.serve-reading.result c.serve-reading.new.devices =
     c.serve-reading.ensures.serves (seen c.self.inside) (refl, active) refl (fits_table (seen c.self.inside) c.self.invariant.sound) in
-    let heard : (c.is_heard-ack.result ≡ true) ↔ SomeReached c.self.inside.active None (lost_by c.args.cuts.now 0) c.self.inside.devices =
-    subst (λ (a : ℕ). (c.is_heard-ack.result ≡ true) ↔ SomeReached a None (lost_by c.args.cuts.now 0) c.self.inside.devices) (sym active) c.is_heard-ack.ensures in
+    let heard : (c.is_heard-ack.result ≡ true) ↔ AnyLeftIn (with_active c.self.inside.devices c.self.inside.active) (lost_by c.args.cuts.now 0) =
+    subst (λ (a : ℕ). (c.is_heard-ack.result ≡ true) ↔ AnyLeftIn (with_active c.self.inside.devices a) (lost_by c.args.cuts.now 0)) (sym active) c.is_heard-ack.ensures in
     let new : State = record (seen c.self.inside) { devices = c.serve-reading.new.devices; records = c.record_due-served.new.records.items } in (
       begun c.serve-reading.result c.is_heard-ack.result,
       c.tell_reading.ensures,
       subst (λ (h : Held). IsBegun h.state c.args.cuts.now c.record_due-served.result new (begun c.serve-reading.result c.is_heard-ack.result)) c.self.view_is
           (begun_by (seen c.self.inside) c.args.cuts.now c.serve-reading.result c.serve-reading.new.devices c.record_due-served.new.records.items c.record_due-served.result c.is_heard-ack.result serving
-          c.record_due-served.ensures.served c.record_due-served.ensures.items (is_ack (seen c.self.inside) c.args.cuts.now 0 c.is_heard-ack.result heard)),
+          c.record_due-served.ensures.served c.record_due-served.ensures.items heard),
     )

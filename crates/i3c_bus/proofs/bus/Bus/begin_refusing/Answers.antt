@@ -1,17 +1,16 @@
 -- Nobody asks, or the first request is turned down.
-use Rattle.std.proofs.Common.{◌≡◌, ◌∙◌, ◌↔◌, ℕ, true, false, [], ◌∷◌, None, ap, refl, subst, sym}
+use Rattle.std.proofs.Common.{◌≡◌, ◌∙◌, ◌↔◌, ℕ, true, false, [], ◌∷◌, ap, refl, subst, sym}
 use Rattle.i3c_base.specs.Cutting.{lost_by}
 use Rattle.i3c_base.specs.Serve.{Serves, refuse_all}
-use Rattle.i3c_base.specs.State.{HasDevices, Held}
+use Rattle.i3c_base.specs.State.{HasDevices, Held, with_active}
 use Rattle.i3c_base.specs.declared.requests.Served.{Served}
-use Rattle.i3c_device.specs.Walks.{SomeReached}
+use Rattle.i3c_base.specs.Frames.{AnyLeftIn}
 use Rattle.i3c_frame.specs.Taps.{NotesAll}
 use Rattle.i3c_frame.specs.declared.symbols.Symbol.TheVariants.{Header, Start}
 use Rattle.i3c_ibi.specs.Telling.{request_header}
 use Rattle.i3c_bus.specs.Wire.{IsAck, IsBegun}
 use Rattle.i3c_base.proofs.Verdicts.{refuses}
-use Rattle.i3c_bus.proofs.Heard.{is_ack}
-use Rattle.i3c_bus.proofs.Seen.{has_devices, seen}
+use Rattle.i3c_bus.proofs.Seen.{has_devices}
 use Rattle.i3c_bus.proofs.bus.Bus.begin_refusing.Goals as goal
 use Rattle.i3c_bus.proofs.bus.Bus.begin_refusing.Goals.{in-None, in-Some}
 
@@ -30,10 +29,10 @@ returns-clause-told g c =
     let same : HasDevices c.args.self.now.state c.self.inside.devices c.active-active.result = has_devices _ _ _ c.self.view_is c.active-active.ensures in
     elim c.match-first_request.branch [
       | in-None w ↦
-          let heard : (w.is_heard-ack.result ≡ true) ↔ SomeReached c.self.inside.active None (lost_by c.args.cuts.now 0) c.self.inside.devices =
-          subst (λ (a : ℕ). (w.is_heard-ack.result ≡ true) ↔ SomeReached a None (lost_by c.args.cuts.now 0) c.self.inside.devices) (sym active) w.is_heard-ack.ensures in
+          let heard : (w.is_heard-ack.result ≡ true) ↔ AnyLeftIn (with_active c.self.inside.devices c.self.inside.active) (lost_by c.args.cuts.now 0) =
+          subst (λ (a : ℕ). (w.is_heard-ack.result ≡ true) ↔ AnyLeftIn (with_active c.self.inside.devices a) (lost_by c.args.cuts.now 0)) (sym active) w.is_heard-ack.ensures in
           let acked : IsAck c.args.self.now.state c.args.cuts.now 0 w.is_heard-ack.result =
-          subst (λ (h : Held). IsAck h.state c.args.cuts.now 0 w.is_heard-ack.result) c.self.view_is (is_ack (seen c.self.inside) c.args.cuts.now 0 w.is_heard-ack.result heard) in (
+          subst (λ (h : Held). IsAck h.state c.args.cuts.now 0 w.is_heard-ack.result) c.self.view_is heard in (
             Start ∷ Header 0x7E false w.is_heard-ack.result ∷ [],
             subst (λ tap. NotesAll g.T.Tap.note_gives c.args.tap.now (Start ∷ Header 0x7E false w.is_heard-ack.result ∷ []) tap) (sym w.tap-is) w.tell_broadcast.ensures,
             subst (λ (s : Served). IsBegun c.args.self.now.state c.args.cuts.now s c.args.self.now.state (Start ∷ Header 0x7E false w.is_heard-ack.result ∷ [])) (sym w.served-is) (w.is_heard-ack.result, acked, refl),

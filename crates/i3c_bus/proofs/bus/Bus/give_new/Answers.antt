@@ -3,10 +3,9 @@ use Rattle.std.proofs.Common.{◌≡◌, ◌∙◌, ◌+◌, ◌↔◌, ℕ, Lis
 use Rattle.std.proofs.lemmas.Bool.{both_ways}
 use Rattle.i3c_base.specs.Covered.{Table}
 use Rattle.i3c_base.specs.Cutting.{lost_by}
-use Rattle.i3c_base.specs.Frames.{AllLostAt, AnyAt, SomeLeftAt, with_new}
-use Rattle.i3c_base.specs.State.{Device, HasDevices, Held, entry_at}
+use Rattle.i3c_base.specs.Frames.{AllLostAt, AnyAt, SomeLeftAt, with_new, with_new_at}
+use Rattle.i3c_base.specs.State.{Device, HasDevices, Held, entry_at, each_in}
 use Rattle.i3c_entdaa.proofs.RoundLaws.{pickable_there}
-use Rattle.i3c_events.specs.Setting.{with_new_address}
 use Rattle.i3c_events.specs.declared.hearing.NoAnswer.{NoAnswer}
 use Rattle.i3c_step.specs.Sound.{IsSound}
 use Rattle.i3c_step.specs.Step.{is_no_target, is_pickable}
@@ -22,9 +21,9 @@ same : (c : goal.After-renumber) → HasDevices (seen c.self.inside) c.self.insi
 same c = seen_devices _ _ _ c.self.view_is c.active-active.ensures
 
 -- who was there, and the devices then
-heard : (c : goal.After-renumber) → AnyAt (seen c.self.inside) c.args.old × (c.hear_new-heard.new.devices ≡ with_new_address c.active-active.result c.args.old c.args.new c.self.inside.devices)
+heard : (c : goal.After-renumber) → AnyAt (seen c.self.inside) c.args.old × (c.hear_new-heard.new.devices ≡ each_in (with_new_at c.active-active.result c.args.old c.args.new) c.self.inside.devices)
 heard c = subst (λ (r : Result (Unit {0}) NoAnswer). MatchResult r
-    (λ u. AnyAt (seen c.self.inside) c.args.old × (c.hear_new-heard.new.devices ≡ with_new_address c.active-active.result c.args.old c.args.new c.self.inside.devices))
+    (λ u. AnyAt (seen c.self.inside) c.args.old × (c.hear_new-heard.new.devices ≡ each_in (with_new_at c.active-active.result c.args.old c.args.new) c.self.inside.devices))
     (λ none. (none.0 ≡ c.args.old) × AllLostAt (seen c.self.inside) c.args.old (lost_by c.args.cuts.now (c.args.begun + 18)) × (c.hear_new-heard.new.devices ≡ c.self.inside.devices)))
     c.in-Ok.is (c.hear_new-heard.ensures.set (seen c.self.inside) (same c))
 
@@ -41,8 +40,8 @@ after : (c : goal.After-renumber)
     ≡ with_new c.args.old c.args.new (seen c.self.inside)
 after c =
     let active : c.active-active.result ≡ c.self.inside.active = c.active-active.ensures ∙ ap (λ (h : Held). h.state.active) (sym c.self.view_is) in
-    let devices : c.hear_new-heard.new.devices ≡ with_new_address c.self.inside.active c.args.old c.args.new c.self.inside.devices =
-    (heard c).1 ∙ ap (λ (a : ℕ). with_new_address a c.args.old c.args.new c.self.inside.devices) active in
+    let devices : c.hear_new-heard.new.devices ≡ each_in (with_new_at c.self.inside.active c.args.old c.args.new) c.self.inside.devices =
+    (heard c).1 ∙ ap (λ (a : ℕ). each_in (with_new_at a c.args.old c.args.new) c.self.inside.devices) active in
     λ t. state_of (devices t) c.self.inside.raised c.self.inside.active (c.renumber.ensures t) c.self.inside.legacy c.self.inside.in_session c.self.inside.records.items
 
 pub invariant_of-self : goal.invariant_of-self
@@ -70,7 +69,7 @@ returns-in-Ok-clause-answered c =
 pub invariant_of-self-in-Err : goal.invariant_of-self-in-Err
 invariant_of-self-in-Err c =
     let m = subst (λ (r : Result (Unit {0}) NoAnswer). MatchResult r
-    (λ u. AnyAt (seen c.self.inside) c.args.old × (c.hear_new-heard.new.devices ≡ with_new_address c.active-active.result c.args.old c.args.new c.self.inside.devices))
+    (λ u. AnyAt (seen c.self.inside) c.args.old × (c.hear_new-heard.new.devices ≡ each_in (with_new_at c.active-active.result c.args.old c.args.new) c.self.inside.devices))
     (λ none. (none.0 ≡ c.args.old) × AllLostAt (seen c.self.inside) c.args.old (lost_by c.args.cuts.now (c.args.begun + 18)) × (c.hear_new-heard.new.devices ≡ c.self.inside.devices)))
     c.in-Err.is (c.hear_new-heard.ensures.set (seen c.self.inside) (seen_devices _ _ _ c.self.view_is c.active-active.ensures)) in
     subst (λ (ds : List (Option Device)). IsWhole (state_of ds c.self.inside.raised c.self.inside.active c.self.inside.table c.self.inside.legacy c.self.inside.in_session c.self.inside.records.items) c.self.inside.table c.self.inside.list)
@@ -79,7 +78,7 @@ invariant_of-self-in-Err c =
 pub returns-in-Err-clause-given : goal.returns-in-Err-clause-given
 returns-in-Err-clause-given c =
     let m = subst (λ (r : Result (Unit {0}) NoAnswer). MatchResult r
-    (λ u. AnyAt (seen c.self.inside) c.args.old × (c.hear_new-heard.new.devices ≡ with_new_address c.active-active.result c.args.old c.args.new c.self.inside.devices))
+    (λ u. AnyAt (seen c.self.inside) c.args.old × (c.hear_new-heard.new.devices ≡ each_in (with_new_at c.active-active.result c.args.old c.args.new) c.self.inside.devices))
     (λ none. (none.0 ≡ c.args.old) × AllLostAt (seen c.self.inside) c.args.old (lost_by c.args.cuts.now (c.args.begun + 18)) × (c.hear_new-heard.new.devices ≡ c.self.inside.devices)))
     c.in-Err.is (c.hear_new-heard.ensures.set (seen c.self.inside) (seen_devices _ _ _ c.self.view_is c.active-active.ensures)) in
     let left : state_of c.hear_new-heard.new.devices c.self.inside.raised c.self.inside.active c.self.inside.table c.self.inside.legacy c.self.inside.in_session c.self.inside.records.items ≡ seen c.self.inside =

@@ -3,10 +3,9 @@ use Rattle.std.proofs.Common.{◌≡◌, ◌∙◌, ◌+◌, ◌||◌, ◌↔◌
 use Rattle.std.proofs.lemmas.Bool.{both_ways, or_cases}
 use Rattle.i3c_base.specs.Covered.{Table}
 use Rattle.i3c_base.specs.Cutting.{lost_by}
-use Rattle.i3c_base.specs.Frames.{AllUnaddressedLostAt, AnyUnaddressedAt, SomeUnaddressedLeftAt, with_static}
-use Rattle.i3c_base.specs.State.{Device, HasDevices, Held, declared_at}
+use Rattle.i3c_base.specs.Frames.{AllUnaddressedLostAt, AnyUnaddressedAt, SomeUnaddressedLeftAt, with_static, with_static_at}
+use Rattle.i3c_base.specs.State.{Device, HasDevices, Held, declared_at, each_in}
 use Rattle.i3c_entdaa.proofs.RoundLaws.{pickable_there}
-use Rattle.i3c_events.specs.Setting.{with_static_address}
 use Rattle.i3c_events.specs.declared.hearing.NoAnswer.{NoAnswer}
 use Rattle.i3c_step.specs.Sound.{IsSound}
 use Rattle.i3c_step.specs.Step.{is_kept_for, is_pickable}
@@ -27,9 +26,9 @@ same : (c : goal.After-settle) → HasDevices (seen c.self.inside) c.self.inside
 same c = seen_devices _ _ _ c.self.view_is c.active-active.ensures
 
 -- who was there, and the devices then
-heard : (c : goal.After-settle) → AnyUnaddressedAt (seen c.self.inside) c.args.fixed × (c.hear_static-heard.new.devices ≡ with_static_address c.active-active.result c.args.fixed c.args.new c.self.inside.devices)
+heard : (c : goal.After-settle) → AnyUnaddressedAt (seen c.self.inside) c.args.fixed × (c.hear_static-heard.new.devices ≡ each_in (with_static_at c.active-active.result c.args.fixed c.args.new) c.self.inside.devices)
 heard c = subst (λ (r : Result (Unit {0}) NoAnswer). MatchResult r
-    (λ u. AnyUnaddressedAt (seen c.self.inside) c.args.fixed × (c.hear_static-heard.new.devices ≡ with_static_address c.active-active.result c.args.fixed c.args.new c.self.inside.devices))
+    (λ u. AnyUnaddressedAt (seen c.self.inside) c.args.fixed × (c.hear_static-heard.new.devices ≡ each_in (with_static_at c.active-active.result c.args.fixed c.args.new) c.self.inside.devices))
     (λ none. (none.0 ≡ c.args.fixed) × AllUnaddressedLostAt (seen c.self.inside) c.args.fixed (lost_by c.args.cuts.now (c.args.begun + 18)) × (c.hear_static-heard.new.devices ≡ c.self.inside.devices)))
     c.in-Ok.is (c.hear_static-heard.ensures.set (seen c.self.inside) (same c))
 
@@ -48,8 +47,8 @@ after : (c : goal.After-settle)
     ≡ with_static c.args.fixed c.args.identity.now c.args.new (seen c.self.inside)
 after c =
     let active : c.active-active.result ≡ c.self.inside.active = c.active-active.ensures ∙ ap (λ (h : Held). h.state.active) (sym c.self.view_is) in
-    let devices : c.hear_static-heard.new.devices ≡ with_static_address c.self.inside.active c.args.fixed c.args.new c.self.inside.devices =
-    (heard c).1 ∙ ap (λ (a : ℕ). with_static_address a c.args.fixed c.args.new c.self.inside.devices) active in
+    let devices : c.hear_static-heard.new.devices ≡ each_in (with_static_at c.self.inside.active c.args.fixed c.args.new) c.self.inside.devices =
+    (heard c).1 ∙ ap (λ (a : ℕ). each_in (with_static_at a c.args.fixed c.args.new) c.self.inside.devices) active in
     λ t. state_of (devices t) c.self.inside.raised c.self.inside.active (c.settle.ensures t) c.self.inside.legacy c.self.inside.in_session c.self.inside.records.items
 
 pub invariant_of-self : goal.invariant_of-self
@@ -77,7 +76,7 @@ returns-in-Ok-clause-answered c =
 pub invariant_of-self-in-Err : goal.invariant_of-self-in-Err
 invariant_of-self-in-Err c =
     let m = subst (λ (r : Result (Unit {0}) NoAnswer). MatchResult r
-    (λ u. AnyUnaddressedAt (seen c.self.inside) c.args.fixed × (c.hear_static-heard.new.devices ≡ with_static_address c.active-active.result c.args.fixed c.args.new c.self.inside.devices))
+    (λ u. AnyUnaddressedAt (seen c.self.inside) c.args.fixed × (c.hear_static-heard.new.devices ≡ each_in (with_static_at c.active-active.result c.args.fixed c.args.new) c.self.inside.devices))
     (λ none. (none.0 ≡ c.args.fixed) × AllUnaddressedLostAt (seen c.self.inside) c.args.fixed (lost_by c.args.cuts.now (c.args.begun + 18)) × (c.hear_static-heard.new.devices ≡ c.self.inside.devices)))
     c.in-Err.is (c.hear_static-heard.ensures.set (seen c.self.inside) (seen_devices _ _ _ c.self.view_is c.active-active.ensures)) in
     subst (λ (ds : List (Option Device)). IsWhole (state_of ds c.self.inside.raised c.self.inside.active c.self.inside.table c.self.inside.legacy c.self.inside.in_session c.self.inside.records.items) c.self.inside.table c.self.inside.list)
@@ -86,7 +85,7 @@ invariant_of-self-in-Err c =
 pub returns-in-Err-clause-given : goal.returns-in-Err-clause-given
 returns-in-Err-clause-given c =
     let m = subst (λ (r : Result (Unit {0}) NoAnswer). MatchResult r
-    (λ u. AnyUnaddressedAt (seen c.self.inside) c.args.fixed × (c.hear_static-heard.new.devices ≡ with_static_address c.active-active.result c.args.fixed c.args.new c.self.inside.devices))
+    (λ u. AnyUnaddressedAt (seen c.self.inside) c.args.fixed × (c.hear_static-heard.new.devices ≡ each_in (with_static_at c.active-active.result c.args.fixed c.args.new) c.self.inside.devices))
     (λ none. (none.0 ≡ c.args.fixed) × AllUnaddressedLostAt (seen c.self.inside) c.args.fixed (lost_by c.args.cuts.now (c.args.begun + 18)) × (c.hear_static-heard.new.devices ≡ c.self.inside.devices)))
     c.in-Err.is (c.hear_static-heard.ensures.set (seen c.self.inside) (seen_devices _ _ _ c.self.view_is c.active-active.ensures)) in
     let left : state_of c.hear_static-heard.new.devices c.self.inside.raised c.self.inside.active c.self.inside.table c.self.inside.legacy c.self.inside.in_session c.self.inside.records.items ≡ seen c.self.inside =

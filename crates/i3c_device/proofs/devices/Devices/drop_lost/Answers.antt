@@ -1,6 +1,6 @@
 use Rattle.std.proofs.Common.{if◌then◌else◌, get_or, None, ap}
 use Rattle.i3c_base.specs.Cutting.{lost_by}
-use Rattle.i3c_device.specs.Walks.{left_at}
+use Rattle.i3c_base.specs.Serve.{left_at}
 use Rattle.i3c_device.proofs.Blindness.{blind_loss}
 use Rattle.i3c_device.proofs.SeenLaws.{narrowed_seen}
 use Rattle.i3c_device.proofs.devices.Devices.drop_lost.Goals as goal

@@ -1,11 +1,11 @@
 use Rattle.std.proofs.Common.{◌≡◌, ◌∙◌, ap, suc, get_or, set, None, Some, MatchResult, option_map}
 use Rattle.i3c_device.specs.Enabling.{seen}
-use Rattle.i3c_device.specs.Raising.{with_raise}
 use Rattle.i3c_device.specs.Sets.{has}
 use Rattle.i3c_device.proofs.Blindness.{blind_raise}
 use Rattle.i3c_device.proofs.SeenLaws.{happened_seen}
 use Rattle.i3c_device.proofs.SeenWalks.{fault_seen, on_ok, there_seen}
 use Rattle.i3c_device.proofs.devices.Devices.raise.Goals as goal
+use Rattle.i3c_base.specs.Local.{with_raise}
 
 pub raise-requires : goal.raise-requires
 raise-requires c = there_seen c.self.inside.enabled c.self.inside.occupants c.args.self.now c.args.slot c.self.view_is c.requires

@@ -1,5 +1,6 @@
 -- One register more, up to the last.
 use Rattle.i3c_base.specs.declared.device.TheConstants.{REGISTERS}
+use Rattle.i3c_base.specs.State.{with_active}
 use Rattle.i3c_device.specs.Reading.{registers_of}
 use Rattle.i3c_device.proofs.ReadLaws.{read_all, read_more, read_small}
 use Rattle.i3c_device.proofs.RegisterLaws.{registers_read}
@@ -14,7 +15,7 @@ loop-index-preserved c =
 pub returns-clause-read : goal.returns-clause-read
 returns-clause-read c =
     read_seen registers_of registers_blind c.self.inside.enabled c.self.inside.occupants c.args.self.now REGISTERS c.args.active c.args.address c.args.cuts.now c.args.first c.loop-index.byte-items c.self.view_is
-    (read_all registers_of REGISTERS c.args.active c.args.address c.targets-targets.result c.self.inside.occupants c.args.cuts.now c.args.first c.loop-index.index c.loop-index.byte-items c.targets-targets.ensures.slots c.targets-targets.ensures.there
+    (read_all registers_of REGISTERS (with_active c.self.inside.occupants c.args.active) c.args.address c.targets-targets.result c.args.cuts.now c.args.first c.loop-index.index c.loop-index.byte-items c.targets-targets.ensures.slots c.targets-targets.ensures.there
     c.loop-index-test.false c.loop-index.invariant)
 
 pub returns-clause-bytes : goal.returns-clause-bytes
@@ -24,5 +25,5 @@ returns-clause-bytes c =
 pub returns-then-is_empty-clause-read : goal.returns-then-is_empty-clause-read
 returns-then-is_empty-clause-read c =
     read_seen registers_of registers_blind c.self.inside.enabled c.self.inside.occupants c.args.self.now REGISTERS c.args.active c.args.address c.args.cuts.now c.args.first c.registers_of.result c.self.view_is
-    (registers_read c.args.active c.args.address c.targets-targets.result c.self.inside.occupants c.args.cuts.now c.args.first c.registers_of.result c.targets-targets.ensures.slots c.targets-targets.ensures.there
+    (registers_read (with_active c.self.inside.occupants c.args.active) c.args.address c.targets-targets.result c.args.cuts.now c.args.first c.registers_of.result c.targets-targets.ensures.slots c.targets-targets.ensures.there
     (c.is_empty.ensures.uncut.0 c.if-is_empty.true) c.registers_of.ensures.each)

@@ -1,6 +1,7 @@
 -- One byte more, up to the last that is asked for; then these are told.
 use Rattle.std.proofs.Common.{◌<◌, ◌≤◌, All, arith, length, subst, sym, take}
 use Rattle.i3c_base.specs.Frames.{told_bytes}
+use Rattle.i3c_base.specs.State.{with_active}
 use Rattle.i3c_device.specs.declared.attached.TheConstants.{LONGEST}
 use Rattle.i3c_device.specs.Reading.{AreToldOf}
 use Rattle.i3c_device.proofs.ReadLaws.{read_counted, read_more, small_counted}
@@ -17,10 +18,10 @@ pub returns-clause-told : goal.returns-clause-told
 returns-clause-told c =
     let enough : c.args.count ≤ LONGEST = omega (arith, c.requires.few) in
     let past : c.args.count ≤ c.loop-index.index = c.loop-index-test.false in
-    subst (λ told. AreToldOf c.args.what c.args.active c.args.address c.args.cuts.now c.args.first c.args.self.now told) (sym c.new.ensures)
+    subst (λ told. AreToldOf c.args.what (with_active c.args.self.now c.args.active) c.args.address c.args.cuts.now c.args.first told) (sym c.new.ensures)
     (read_seen (told_bytes c.args.what) (told_blind c.args.what) c.self.inside.enabled c.self.inside.occupants c.args.self.now (length (take c.args.count c.loop-index.bytes)) c.args.active c.args.address c.args.cuts.now c.args.first
     (take c.args.count c.loop-index.bytes) c.self.view_is
-    (read_counted (told_bytes c.args.what) LONGEST c.args.count c.args.active c.args.address c.targets-targets.result c.self.inside.occupants c.args.cuts.now c.args.first c.loop-index.index c.loop-index.bytes
+    (read_counted (told_bytes c.args.what) LONGEST c.args.count (with_active c.self.inside.occupants c.args.active) c.args.address c.targets-targets.result c.args.cuts.now c.args.first c.loop-index.index c.loop-index.bytes
     c.targets-targets.ensures.slots c.targets-targets.ensures.there past enough c.loop-index.invariant))
 
 pub returns-clause-bytes : goal.returns-clause-bytes

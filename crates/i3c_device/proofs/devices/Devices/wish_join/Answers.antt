@@ -1,8 +1,8 @@
 use Rattle.std.proofs.Common.{option_map}
-use Rattle.i3c_device.specs.Raising.{wishing_join}
 use Rattle.i3c_device.proofs.Blindness.{blind_join}
 use Rattle.i3c_device.proofs.SeenLaws.{happened_seen}
 use Rattle.i3c_device.proofs.devices.Devices.wish_join.Goals as goal
+use Rattle.i3c_base.specs.Local.{wishing_join}
 
 pub returns : goal.returns
 returns c =

@@ -1,8 +1,8 @@
 use Rattle.std.proofs.Common.{option_map}
-use Rattle.i3c_device.specs.Raising.{wishing_role}
 use Rattle.i3c_device.proofs.Blindness.{blind_role}
 use Rattle.i3c_device.proofs.SeenLaws.{happened_seen}
 use Rattle.i3c_device.proofs.devices.Devices.wish_role.Goals as goal
+use Rattle.i3c_base.specs.Local.{wishing_role}
 
 pub returns : goal.returns
 returns c =

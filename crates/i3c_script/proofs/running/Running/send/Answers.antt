@@ -10,12 +10,11 @@ use Rattle.i3c_script.proofs.running.Running.send.Goals as goal
 pub returns : goal.returns
 returns g c =
     let at = c.self.inside in
-    let reply = c.command-reply.result in
+    let reply = c.command_into.new.reply in
     let fixed = c.accepted-accepted.result in
     let counted : c.count_from.new.reply ≡ reply_from at.settings.forgotten reply = c.in_ok-count_from.ensures in
-    let told : Prints (IsTold c.args.names.now (frame_subject c.args.frame.now) (reply_from at.settings.forgotten reply)) c.args.text.now c.tell.new.text c.tell.result =
-    subst (λ r. Prints (IsTold c.args.names.now (frame_subject c.args.frame.now) r) c.args.text.now c.tell.new.text c.tell.result) counted
-    (subst (λ subject. Prints (IsTold c.args.names.now subject c.count_from.new.reply) c.args.text.now c.tell.new.text c.tell.result) c.frame_subject.ensures c.tell.ensures) in
-    let carried = carried_asked c.args.frame.now at.bus c.command-reply.new.self fixed c.command-reply.new.policy at.cuts reply c.in-Some.hand _ c.command-reply.ensures.asks c.command-reply.ensures.carried in
-    rw (← c.self.view_is) (sent at.bus.state c.command-reply.new.self.state at.settings fixed at.cuts c.clear.new.self at.wires c.command-reply.new.tap at.ended.items c.args.names.now c.args.frame.now reply c.args.text.now c.tell.new.text c.tell.result
+    let told : Prints (IsTold c.args.names.now (frame_subject c.args.frame.now) (reply_from at.settings.forgotten reply)) c.args.text.now c.tell_frame.new.text c.tell_frame.result =
+    subst (λ r. Prints (IsTold c.args.names.now (frame_subject c.args.frame.now) r) c.args.text.now c.tell_frame.new.text c.tell_frame.result) counted c.tell_frame.ensures in
+    let carried = carried_asked c.args.frame.now at.bus c.command_into.new.self fixed c.command_into.new.policy at.cuts reply c.in-Some.hand _ c.command_into.ensures.asks c.command_into.ensures.carried in
+    rw (← c.self.view_is) (sent at.bus.state c.command_into.new.self.state at.settings fixed at.cuts c.clear.new.self at.wires c.command_into.new.tap at.ended.items c.args.names.now c.args.frame.now reply c.args.text.now c.tell_frame.new.text c.tell_frame.result
     c.accepted-accepted.ensures c.clear.ensures.none carried.step carried.told told)

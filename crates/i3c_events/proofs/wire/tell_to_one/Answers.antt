@@ -1,0 +1,14 @@
+-- The code, the header, the kinds and STOP, one after another.
+use Rattle.std.proofs.Common.{refl}
+use Rattle.i3c_events.proofs.wire.tell_to_one.Goals as goal
+
+pub returns : goal.returns
+returns g c = (
+  _,
+  (
+    c.note.new.self,
+    c.note.ensures,
+    (c.note-2.new.self, c.note-2.ensures, (c.note-3.new.self, c.note-3.ensures, (c.note-4.new.self, c.note-4.ensures, (c.note-5.new.self, c.note-5.ensures, refl)))),
+  ),
+  (c.code_word.result, c.kinds_word.result, (c.code_word.ensures.byte, c.code_word.ensures.odd), (c.kinds_word.ensures.byte, c.kinds_word.ensures.odd), refl),
+)

@@ -1,0 +1,12 @@
+use Rattle.std.proofs.Common.{◌++◌, ◌∷◌, [], Result, subst, sym}
+use Rattle.i3c_explore.specs.declared.layer.Layer.{Layer}
+use Rattle.i3c_explore.specs.declared.stop.Stop.{Stop}
+use Rattle.i3c_explore.specs.Runs.{AreNodesOf}
+use Rattle.i3c_explore.proofs.Merging.{nodes_more}
+use Rattle.i3c_explore.proofs.gathered.gather.Goals as goal
+
+pub loop-made-preserved : goal.loop-made-preserved
+loop-made-preserved g c =
+    let layers = c.loop-made.yielded in let layer = c.in-Ok.layer in let new = c.add.new.self.nodes.items in
+    subst (λ (made : Result (Layer g.row.M.Denot) Stop). AreNodesOf (layers ++ made ∷ []) new) (sym c.in-Ok.is)
+    (nodes_more layers layer c.loop-made.all.nodes.items new c.loop-made.invariant c.in-Ok-add.ensures)

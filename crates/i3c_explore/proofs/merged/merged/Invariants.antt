@@ -1,0 +1,6 @@
+use Rattle.i3c_explore.proofs.Merging.{AreMerged}
+use Rattle.i3c_explore.proofs.merged.merged.Given as goal
+
+-- the nodes so far are put, and it is known where each one went
+abbrev pub invariant-loop-node : goal.invariant-loop-node
+invariant-loop-node g l = AreMerged l.fn.nodes.items l.yielded l.layer.nodes.items l.places.items

@@ -1,0 +1,13 @@
+use Rattle.std.proofs.Common.{IfSome, inr, refl, rules, subst}
+use Rattle.i3c_explore.specs.Layers.{IsAlikeAt}
+use Rattle.i3c_explore.proofs.Merging.{alike_kept, pushed_at}
+use Rattle.i3c_explore.proofs.merged.put_at.Goals as goal
+
+pub returns-in-Some-clause-at : goal.returns-in-Some-clause-at
+returns-in-Some-clause-at g c =
+    let old = c.args.layer.now.nodes.items in let node = c.args.node in let place = c.in-Some.place in
+    let here = subst (λ at. IfSome at (λ k. IsAlikeAt old k node.places.items node.state)) c.in-Some.is c.requires in
+    alike_kept old c.merge.new.nodes.items node (inr (c.merge.ensures node here refl)) place node.places.items node.state here
+
+pub returns-clause-at : goal.returns-clause-at
+returns-clause-at g c = pushed_at c.args.layer.now.nodes.items c.push_behind.new.nodes.items c.args.node c.len-place.result c.in_ok-push_behind.ensures (let e = c.len-place.ensures in search rules)

@@ -1,0 +1,71 @@
+ghost use Rattle.std.specs.Prelude.{◌≡◌, ◌++◌, [], IfOk, OnOk};
+ghost use Rattle.i3c_explore.specs.Runs.{AreNodesOf};
+
+use crate::layer::Layer;
+use crate::limits::Limits;
+use crate::machine::Machine;
+use crate::node::Node;
+use crate::stop::Stop;
+use crate::twin::Stretch;
+use std::alloc::Global;
+
+/// What all jobs found.
+#[derive(Drop)]
+pub(crate) struct Gathered<M> {
+    /// The nodes of all jobs, one job's behind the other's. Jobs can have found the same one.
+    pub nodes: Vec<Node<M>>,
+    /// Each job's stretch of them.
+    pub stretches: Vec<Stretch>,
+    /// Nodes whose room is free to be taken.
+    pub spares: Vec<Node<M>>,
+    /// What is left of the limits.
+    pub limits: Limits,
+}
+
+impl<M: Machine> Gathered<M> {
+    /// Adds what a job found that began with these limits.
+    fn add(&mut self, layer: Layer<M>, limits: Limits) -> Result<(), Stop>
+        ensures { OnOk result (self.new.nodes.items ≡ self.old.nodes.items ++ layer.nodes.items) }
+    {
+        let (mut nodes, left, mut spares, index) = layer.taken_apart();
+        let steps = limits.steps.saturating_sub(left.steps);
+        let Some(left) = self.limits.steps.checked_sub(steps) else {
+            return Err(Stop::Most);
+        };
+        self.limits.steps = left;
+        let first = self.nodes.len();
+        self.nodes.append(&mut nodes)?;
+        self.spares.append(&mut spares)?;
+        match self.stretches.push(Stretch { first, index }) {
+            Ok(()) => Ok(()),
+            Err(_) => Err(Stop::Memory),
+        }
+    }
+}
+
+/// The layers of all jobs, one behind the other. Their steps are taken from the limits.
+pub(crate) fn gather<M: Machine>(
+    alloc: Global,
+    layers: Vec<Result<Layer<M>, Stop>>,
+    limits: Limits,
+) -> Result<Gathered<M>, Stop>
+    ensures { IfOk result (λ all. AreNodesOf layers.items all.nodes.items) }
+{
+    let mut all = Gathered {
+        nodes: Vec::new(alloc),
+        stretches: Vec::new(alloc),
+        spares: Vec::new(alloc),
+        limits,
+    };
+    for made in layers {
+        let layer = match made {
+            Ok(layer) => layer,
+            Err(stop) => return Err(stop),
+        };
+        match all.add(layer, limits) {
+            Ok(()) => {}
+            Err(stop) => return Err(stop),
+        }
+    }
+    Ok(all)
+}

@@ -1,0 +1,163 @@
+ghost use Rattle.std.specs.Prelude.{◌≡◌, ◌++◌, ◌∷◌, Contains, IfOk, IfSome, OnOk, Some, [], length, slice_get};
+ghost use Rattle.i3c_explore.specs.declared.twin.Twin.{Twin as TwinValue};
+ghost use Rattle.i3c_explore.specs.Layers.{ArePut, IsAlikeAt, IsPut};
+ghost use Rattle.i3c_explore.specs.Runs.{AreJoined};
+ghost use Rattle.i3c_explore.specs.Twins.{AllTwins};
+
+use crate::gathered::{Gathered, gather};
+use crate::layer::{Layer, merge};
+use crate::limits::Limits;
+use crate::machine::Machine;
+use crate::node::Node;
+use crate::stop::Stop;
+use crate::twin::{Stretch, Twin, all_twins, twins_of};
+use std::alloc::{AllocError, Global};
+use std::thread::{Threads, map_indices};
+
+/// Where the node before went that is like the next node, if one is. The nodes so far went to these places.
+fn place_before(twins: &[Twin], next: usize, places: &[usize]) -> Option<usize>
+    ensures { IfSome result (λ place. (twin : TwinValue) × Contains twins.now twin × (twin.later ≡ length places.now) × (slice_get places.now twin.before ≡ Some place)) }
+{
+    let twin = twins.get(next)?;
+    if twin.later != places.len() {
+        return None;
+    }
+    let place = places.get(twin.before)?;
+    Some(*place)
+}
+
+/// Adds a node behind the others.
+fn push_behind<M: Machine>(nodes: &mut Vec<Node<M>>, node: Node<M>) -> Result<(), AllocError>
+    ensures { OnOk result (nodes.new.items ≡ nodes.old.items ++ node ∷ []) }
+{
+    nodes.push(node)?;
+    Ok(())
+}
+
+/// Notes where the next node went.
+fn note(places: &mut Vec<usize>, place: usize) -> Result<(), AllocError>
+    ensures { OnOk result (places.new.items ≡ places.old.items ++ place ∷ []) }
+{
+    places.push(place)?;
+    Ok(())
+}
+
+/// Puts a node that a job found: behind the others, or merged with the one at a place, which is alike. Answers where it is.
+fn put_at<M: Machine>(
+    layer: &mut Layer<M>,
+    node: Node<M>,
+    place: Option<usize>,
+) -> Result<usize, Stop>
+    requires { IfSome place (λ place. IsAlikeAt layer.old.nodes.items place node.places.items node.state) }
+    ensures put { OnOk result (IsPut layer.old.nodes.items node layer.new.nodes.items) }
+    ensures at { IfOk result (λ place. IsAlikeAt layer.new.nodes.items place node.places.items node.state) }
+{
+    if let Some(place) = place {
+        merge(&mut layer.nodes, place, node.orders);
+        let _ = layer.spares.push(node);
+        return Ok(place);
+    }
+    let place = layer.nodes.len();
+    if place >= layer.limits.states {
+        return Err(Stop::Most);
+    }
+    push_behind(&mut layer.nodes, node)?;
+    Ok(place)
+}
+
+/// The nodes that all jobs found, as one layer in their order: twins are one node. Nothing is found in its table.
+fn merged<M: Machine>(
+    alloc: Global,
+    nodes: Vec<Node<M>>,
+    twins: &[Twin],
+    spares: Vec<Node<M>>,
+    limits: Limits,
+) -> Result<Layer<M>, Stop>
+    requires { AllTwins nodes.items twins.now }
+    ensures { IfOk result (λ layer. ArePut [] nodes.items layer.nodes.items) }
+{
+    let mut layer = Layer::new(alloc, limits);
+    layer.spares = spares;
+    let mut places = Vec::new(alloc);
+    let mut next = 0usize;
+    for node in nodes {
+        let before = place_before(twins, next, &places);
+        if before.is_some() {
+            next = next.saturating_add(1);
+        }
+        let place = match put_at(&mut layer, node, before) {
+            Ok(place) => place,
+            Err(stop) => return Err(stop),
+        };
+        note(&mut places, place)?;
+    }
+    Ok(layer)
+}
+
+/// The layers of all jobs as one: each node once, in the order in which one thread finds them. Which nodes are twins is found by
+/// a thread for each job.
+pub(crate) fn joined_by_jobs<R: Threads + Sync, M: Machine + Send + Sync>(
+    rt: &R,
+    alloc: Global,
+    layers: Vec<Result<Layer<M>, Stop>>,
+    limits: Limits,
+) -> Result<Layer<M>, Stop>
+where
+    M::Line: Sync,
+    M::Runner: Send,
+    ensures { IfOk result (λ both. AreJoined [] layers.items both.nodes.items) }
+{
+    let Gathered {
+        nodes,
+        stretches,
+        spares,
+        limits,
+    } = match gather(alloc, layers, limits) {
+        Ok(all) => all,
+        Err(stop) => return Err(stop),
+    };
+    let twins = found_by_jobs(rt, alloc, &nodes, &stretches)?;
+    match merged(alloc, nodes, &twins, spares, limits) {
+        Ok(layer) => Ok(layer),
+        Err(stop) => Err(stop),
+    }
+}
+
+/// The node with which a job begins to look for twins, of so many jobs. They look from the second stretch on, since nothing
+/// was found before the first one.
+fn search_from(stretches: &[Stretch], nodes: usize, job: usize) -> usize {
+    let jobs = stretches.len();
+    match stretches.get(1) {
+        Some(second) if job < jobs => {
+            let each = nodes.saturating_sub(second.first) / jobs;
+            second.first.saturating_add(each.saturating_mul(job))
+        }
+        _ => nodes,
+    }
+}
+
+/// The twins of some stretches of nodes, by as many jobs.
+fn found_by_jobs<R: Threads + Sync, M: Machine + Send + Sync>(
+    rt: &R,
+    alloc: Global,
+    nodes: &[Node<M>],
+    stretches: &[Stretch],
+) -> Result<Vec<Twin>, AllocError>
+where
+    M::Line: Sync,
+    M::Runner: Send,
+    ensures { IfOk result (λ twins. AllTwins nodes.now twins.items) }
+{
+    let search = |job: usize| -> Result<Vec<Twin>, AllocError>
+        ensures { IfOk result (λ twins. AllTwins nodes.entry.now twins.items) }
+    {
+        let from = search_from(stretches, nodes.len(), job);
+        let to = search_from(stretches, nodes.len(), job.saturating_add(1));
+        twins_of(alloc, nodes, stretches, from, to)
+    };
+    let found = map_indices(rt, alloc, stretches.len(), &search)?;
+    match all_twins(alloc, found) {
+        Ok(twins) => Ok(twins),
+        Err(why) => Err(why),
+    }
+}

@@ -1,0 +1,67 @@
+use crate::line::Line;
+use crate::live::Live;
+use crate::scene::Scene;
+use i3c_base::Slot;
+use std::alloc::{AllocError, Global};
+
+/// A bus awake that lines are run on, one after another.
+#[derive(Drop)]
+pub struct Runner {
+    pub(crate) live: Live,
+    // where the line that ran last changed one slot at most, this slot
+    pub(crate) touched: Option<Slot>,
+}
+
+impl Runner {
+    ghost use Rattle.std.specs.Prelude.{◌≡◌, ◌<◌, ◌^◌, IfOk, IfSome, IsTrue, OnOk};
+    ghost use Rattle.i3c_facts.specs.declared.holding.Before.{Before as BeforeValue};
+    ghost use Rattle.i3c_scene.specs.Near.{IsBehind};
+    ghost use Rattle.i3c_scene.specs.Trying.{Runs, all_hold};
+
+    /// One on which no line ran.
+    pub(crate) fn new(live: Live) -> Runner
+        ensures { result.live ≡ live }
+    {
+        Runner {
+            live,
+            touched: None,
+        }
+    }
+
+    /// It comes to a scene: where the line that ran last began there too and changed one slot, by that slot alone.
+    pub(crate) fn wake_to(
+        &mut self,
+        alloc: Global,
+        scene: &Scene,
+        again: bool,
+    ) -> Result<(), AllocError>
+        requires { IsTrue again → IfSome self.old.touched (λ slot. IsBehind slot scene.now self.old.live) }
+        ensures { OnOk result (self.new.live ≡ scene.now) }
+    {
+        match self.touched {
+            Some(slot) if again => {
+                self.live.wake_at(scene, slot);
+                Ok(())
+            }
+            _ => self.live.wake_to(alloc, scene),
+        }
+    }
+
+    /// Tries a line in a way from the scene that it is in: whether all that is expected holds.
+    pub(crate) fn tried(&mut self, line: &Line, way: usize) -> Result<bool, AllocError>
+        requires { way < 2 ^ 16 }
+        ensures tried { IfOk result (λ held. (before : BeforeValue) × Runs self.old.live line.now.command line.now.risk way before self.new.live × (held ≡ all_hold self.new.live before line.now.expectations.items)) }
+        ensures near { OnOk result (IfSome self.new.touched (λ slot. IsBehind slot self.old.live self.new.live)) }
+    {
+        match self.live.raise_of(line) {
+            Some((slot, byte)) => {
+                self.touched = Some(slot);
+                self.live.tried_raise(line, slot, byte)
+            }
+            None => {
+                self.touched = None;
+                self.live.tried(line, way)
+            }
+        }
+    }
+}
