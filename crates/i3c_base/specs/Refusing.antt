@@ -35,12 +35,12 @@ role_tests active s place =
     ∷ (in_slot (λ d. not (is_capable d.identity.bcr)) place, RoleRefusal.NotCapable)
     ∷ (in_slot (λ d. not d.kinds.role) place, RoleRefusal.Masked) ∷ []
 
--- the raises of a slot that has so many can't be counted further
+-- no further raise of a slot can be counted, which has raised so often
 abbrev pub is_uncounted : ℕ → Bool
 is_uncounted raised = nat_le (2 ^ 64 - 1) raised
 
--- a raise with this byte, by whatever is in a slot: no address, no interrupts by its BCR, a byte where none is due or none
--- where one is, interrupts disabled, or eight that wait or raises that can't be counted
+-- why a slot's device may not raise, in order: it has no address, can't interrupt by its BCR, the byte is missing or too
+-- many by its BCR, its interrupts are disabled, or eight wait or no more can be counted
 abbrev pub raise_faults : Option ℕ → Bool → Option Device → Tests RaiseRefusal
 raise_faults byte uncounted place =
     (in_slot (λ d. is_none d.address) place, RaiseRefusal.NoAddress)
@@ -49,6 +49,6 @@ raise_faults byte uncounted place =
     ∷ (in_slot (λ d. not d.kinds.interrupt) place, RaiseRefusal.Masked)
     ∷ (in_slot (λ d. nat_le WAITING (length d.waiting) || uncounted) place, RaiseRefusal.Full) ∷ []
 
--- a raise of slot s
+-- why a raise is refused, in order: by the slot, then by its device
 abbrev pub raise_tests : ℕ → ℕ → Option ℕ → Bool → Option Device → Tests RaiseRefusal
 raise_tests active s byte uncounted place = (is_none place, RaiseRefusal.NoDevice) ∷ (s == active, RaiseRefusal.IsActive) ∷ raise_faults byte uncounted place

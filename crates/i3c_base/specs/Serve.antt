@@ -66,7 +66,7 @@ pub record IsFirstIn (all : Population) (r : Request) : Type 0 where
 abbrev pub IsFirst : State → Request → Type 0
 IsFirst st r = IsFirstIn (population st) r
 
--- nobody of these drives a request
+-- none of these devices drives a request
 abbrev pub NobodyDrives : Population → Type 0
 NobodyDrives all = (s : ℕ) (r : Request) → drives_in all r s ≡ false
 

@@ -15,7 +15,7 @@ pub enum RaiseRefusal {
     /// The device's BCR says that it can't interrupt.
     #[error("the device can't interrupt")]
     NotCapable,
-    /// A mandatory byte is due by the device's BCR and is missing, or is given and isn't due.
+    /// The device's BCR asks for a mandatory byte and none was given, or the reverse.
     #[error("the mandatory byte and the device's BCR differ")]
     ByteMismatch,
     /// The device's interrupts are disabled.

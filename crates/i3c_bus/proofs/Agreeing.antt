@@ -20,7 +20,7 @@ use Rattle.i3c_bus.specs.Calls.{Carries}
 use Rattle.i3c_step.specs.Commands.{event_of}
 use Rattle.i3c_bus.specs.Wire.{IsWire}
 use Rattle.i3c_step.specs.declared.events.Command.{Command}
-use Rattle.i3c_bus.specs.declared.tokens.Hand.{Hand}
+use Rattle.i3c_bus.specs.declared.hand.Hand.{Hand}
 use Rattle.i3c_step.specs.Step.{Acts, IsShort, Step, checks, first_refusal}
 use Rattle.i3c_step.specs.declared.events.Event.{Event}
 use Rattle.i3c_step.specs.declared.replies.Refusal.{Refusal}

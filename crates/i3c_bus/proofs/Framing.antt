@@ -18,7 +18,7 @@ use Rattle.i3c_frame.proofs.TapLaws.{NotesAll-append, NotesAll-push}
 use Rattle.i3c_step.specs.declared.events.Event.{Event}
 use Rattle.i3c_step.specs.declared.replies.Refusal.{Refusal}
 use Rattle.i3c_step.specs.declared.replies.Reply.{Reply}
-use Rattle.i3c_bus.specs.declared.tokens.Hand.{Hand}
+use Rattle.i3c_bus.specs.declared.hand.Hand.{Hand}
 use Rattle.i3c_bus.specs.Beginning.{Begins, IsWay, LeavesBy}
 use Rattle.i3c_step.specs.Commands.{kinds_event}
 use Rattle.i3c_bus.specs.Hands.{HandFits}

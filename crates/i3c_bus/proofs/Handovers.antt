@@ -18,7 +18,7 @@ use Rattle.i3c_step.specs.declared.replies.Reply.{Reply}
 use Rattle.i3c_step.specs.Serving.{place_of}
 use Rattle.i3c_step.specs.Step.{cuts_active, first_refusal, hand_checks}
 use Rattle.i3c_step.proofs.Acting.{acting}
-use Rattle.i3c_bus.specs.declared.tokens.Hand.{Hand}
+use Rattle.i3c_bus.specs.declared.hand.Hand.{Hand}
 use Rattle.i3c_bus.specs.Calls.{Carries}
 use Rattle.i3c_bus.specs.Hands.{HandFits}
 use Rattle.i3c_bus.specs.Wire.{IsBegun, IsDeclinedPart, IsHandedWire, IsOn, IsUntaken}

@@ -13,7 +13,7 @@ use Rattle.i3c_step.specs.Serving.{place_of}
 use Rattle.i3c_step.specs.Step.{Acts, Announces, Becomes, checks, cuts_active, first_refusal, frame_checks}
 use Rattle.i3c_step.proofs.Acting.{acting}
 use Rattle.i3c_step.proofs.Slots.{Stands, Stands-same, Stands-serves}
-use Rattle.i3c_bus.specs.declared.tokens.Hand.{Hand}
+use Rattle.i3c_bus.specs.declared.hand.Hand.{Hand}
 use Rattle.i3c_bus.specs.Beginning.{Begins, IsWay, LeavesBy}
 use Rattle.i3c_bus.specs.Calls.{Carries}
 use Rattle.i3c_bus.specs.Hands.{HandFits}

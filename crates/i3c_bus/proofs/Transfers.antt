@@ -21,8 +21,8 @@ use Rattle.i3c_deftgts.specs.declared.entries.Entry.{Entry}
 use Rattle.i3c_frame.specs.declared.symbols.Symbol.{Symbol}
 use Rattle.i3c_frame.specs.Taps.{Tells}
 use Rattle.i3c_device.specs.Reading.{registers_of, PullsLow}
-use Rattle.i3c_xfer.specs.declared.outcome.Read.{Read}
-use Rattle.i3c_xfer.specs.declared.outcome.Write.{Write}
+use Rattle.i3c_xfer.specs.declared.answers.Read.{Read}
+use Rattle.i3c_xfer.specs.declared.answers.Write.{Write}
 use Rattle.i3c_xfer.specs.Transfers.{AnyAnswers, AreDriven, IsReadAs, IsWrittenBy}
 use Rattle.i3c_step.specs.declared.events.Event.{Event}
 use Rattle.i3c_step.specs.declared.replies.Refusal.{Refusal}
@@ -33,7 +33,7 @@ use Rattle.i3c_step.proofs.Acting.{acting}
 use Rattle.i3c_step.proofs.Slots.{Stands}
 use Rattle.i3c_step.proofs.Soundness.{sound_written}
 use Rattle.i3c_step.proofs.Transfers.{lengths_keep, reads_keep, writes_keep}
-use Rattle.i3c_bus.specs.declared.tokens.Hand.{Hand}
+use Rattle.i3c_bus.specs.declared.hand.Hand.{Hand}
 use Rattle.i3c_bus.specs.Beginning.{Begins, IsWay, LeavesBy}
 use Rattle.i3c_bus.specs.Calls.{Carries}
 use Rattle.i3c_bus.specs.Hands.{HandFits}

@@ -8,7 +8,7 @@ use Rattle.i3c_base.specs.Numbers.{kind_set}
 use Rattle.i3c_base.specs.Serve.{asks, is_empty}
 use Rattle.i3c_base.specs.State.{Device, has_address, is_the}
 use Rattle.i3c_device.specs.Hearing.{enabled}
-use Rattle.i3c_bus.specs.Wishing.{wish_by}
+use Rattle.i3c_device.specs.Wishing.{choice_of}
 
 -- a request is driven by a device of this address and these wishes, of which each kind is enabled
 abbrev is_driven : Option ℕ → Bool → Bool → Bool → Request → Bool
@@ -64,10 +64,10 @@ drives d Join = ap (λ b. is_none d.address && b) (and_any d.join_wish d.kinds.j
 drives d (Role a) = ap (λ b. has_address a d && b) (and_any d.role_wish d.kinds.role)
 drives d (Interrupt a) = ap (λ b. has_address a d && (not d.role_wish && b)) (and_any (not (is_empty d.waiting)) d.kinds.interrupt)
 
-wished_by : (address : Option ℕ) (d : Device) → wished address d.join_wish d.role_wish (is_empty d.waiting) ≡ wish_by address d
+wished_by : (address : Option ℕ) (d : Device) → wished address d.join_wish d.role_wish (is_empty d.waiting) ≡ choice_of address d
 wished_by None d = refl
 wished_by (Some a) d = refl
 
-pub wanted_is_wished : (d : Device) (result : Option Request) → MatchOption result ((q : Request) → asks (all_enabled d) q ≡ false) (λ r. asks (all_enabled d) r ≡ true) → result ≡ wish_by d.address d
+pub wanted_is_wished : (d : Device) (result : Option Request) → MatchOption result ((q : Request) → asks (all_enabled d) q ≡ false) (λ r. asks (all_enabled d) r ≡ true) → result ≡ choice_of d.address d
 wanted_is_wished d None h = driven_is_wished d.address d.join_wish d.role_wish (is_empty d.waiting) None (λ q. sym (drives d q) ∙ h q) ∙ wished_by d.address d
 wanted_is_wished d (Some r) h = driven_is_wished d.address d.join_wish d.role_wish (is_empty d.waiting) (Some r) (sym (drives d r) ∙ h) ∙ wished_by d.address d

@@ -7,8 +7,8 @@ use Rattle.i3c_handoff.specs.declared.faults.HandFault.{HandFault}
 use Rattle.i3c_step.specs.declared.replies.ActiveStays.{ActiveStays}
 use Rattle.i3c_step.specs.declared.replies.Refusal.{Refusal}
 use Rattle.i3c_step.specs.declared.replies.Reply.{Reply}
-use Rattle.i3c_bus.specs.declared.tokens.Hand.{Hand}
-use Rattle.i3c_bus.specs.declared.tokens.Hand.TheVariants.{Role, Session}
+use Rattle.i3c_bus.specs.declared.hand.Hand.{Hand}
+use Rattle.i3c_bus.specs.declared.hand.Hand.TheVariants.{Role, Session}
 
 -- the slot that holds it
 abbrev pub holder_of : Hand → ℕ

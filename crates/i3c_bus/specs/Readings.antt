@@ -5,7 +5,7 @@ use Rattle.i3c_base.specs.declared.requests.Request.{Request}
 use Rattle.i3c_base.specs.Numbers.{is_capable}
 use Rattle.i3c_base.specs.Serve.{IsFirst}
 use Rattle.i3c_base.specs.State.{Device, State, device_at, in_slot, population}
-use Rattle.i3c_device.specs.declared.sets.SlotSet.{SlotSet}
+use Rattle.i3c_device.specs.declared.slot_set.SlotSet.{SlotSet}
 use Rattle.i3c_device.specs.Walks.{AreDrivers}
 
 -- its address, if there is a device and it has one

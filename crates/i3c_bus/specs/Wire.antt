@@ -27,9 +27,9 @@ use Rattle.i3c_handoff.specs.Offers.{IsReadAs, SomeTakes, is_acknowledged, offer
 use Rattle.i3c_handoff.specs.Telling.{IsOfferWire}
 use Rattle.i3c_ibi.specs.Driving.{IsByteRead}
 use Rattle.i3c_ibi.specs.Telling.{byte_word, request_header}
-use Rattle.i3c_xfer.specs.declared.outcome.Get.{Get as Told}
-use Rattle.i3c_xfer.specs.declared.outcome.Read.{Read}
-use Rattle.i3c_xfer.specs.declared.outcome.Write.{Write}
+use Rattle.i3c_xfer.specs.declared.answers.Get.{Get as Told}
+use Rattle.i3c_xfer.specs.declared.answers.Read.{Read}
+use Rattle.i3c_xfer.specs.declared.answers.Write.{Write}
 use Rattle.i3c_xfer.specs.Getting.{IsToldAs, get_answer, is_get_acknowledged}
 use Rattle.i3c_xfer.specs.Telling.{IsGetWire, IsReadWire, IsWriteWire}
 use Rattle.i3c_xfer.specs.Transfers.{AnyAnswers, IsReadAs as IsDataAs, IsWrittenBy, is_read_acknowledged, is_write_acknowledged, read_answer, write_answer}

@@ -18,7 +18,7 @@ impl Bus {
     ghost use Rattle.i3c_bus.specs.Calls.{Carries};
     ghost use Rattle.i3c_bus.specs.Hands.{HandFits};
     ghost use Rattle.i3c_bus.specs.Wire.{IsListPart};
-    ghost use Rattle.i3c_bus.specs.declared.tokens.Hand.{Hand};
+    ghost use Rattle.i3c_bus.specs.declared.hand.Hand.{Hand};
     ghost use Rattle.i3c_step.specs.Replies.{announced_reply};
 
     /// Clears each address but the active controller's, what is kept for identities, and wishes for the role (RSTDAA, I3C

@@ -2,7 +2,7 @@ ghost use Rattle.std.specs.Prelude.{◌≡◌};
 ghost use Rattle.i3c_base.specs.State.{attached, fixed_of};
 ghost use Rattle.i3c_table.specs.Rows.{HasStatic};
 
-use crate::tokens::Hand;
+use crate::hand::Hand;
 use crate::wishes::wish;
 use i3c_base::{Addr7, Identity, RaiseRefusal, Record, Request, RoleRefusal, SLOTS, Setup, Slot};
 use i3c_deftgts::List;
@@ -86,7 +86,7 @@ impl Bus {
     ghost use Rattle.i3c_bus.specs.Room.{StaysAround};
     ghost use Rattle.i3c_step.specs.Replies.{attached_reply, dropped_reply, joins_reply, raised_reply, role_reply};
     ghost use Rattle.i3c_step.specs.declared.events.Event.{Event};
-    ghost use Rattle.i3c_bus.specs.declared.tokens.Hand.{Hand};
+    ghost use Rattle.i3c_bus.specs.declared.hand.Hand.{Hand};
 
     /// A bus with its main controller, in slot 0 at the least pickable address, beside these legacy targets and with these
     /// declared static addresses.

@@ -2,7 +2,7 @@ ghost use Rattle.std.specs.Prelude.{◌≡◌};
 ghost use Rattle.i3c_bus.specs.Hands.{unhanded};
 
 use crate::bus::Bus;
-use crate::tokens::Hand;
+use crate::hand::Hand;
 use i3c_base::{Addr7, Answer, Cuts, Fixed, Served};
 use i3c_frame::Tap;
 use i3c_handoff::HandFault;

@@ -4,7 +4,7 @@ ghost use Rattle.i3c_bus.specs.Beginning.{kept_in};
 ghost use Rattle.i3c_step.specs.Serving.{place_of};
 
 use crate::bus::Bus;
-use crate::tokens::Hand;
+use crate::hand::Hand;
 use i3c_base::{Addr7, Answer, Change, Cuts, Kinds, Record, Served};
 use i3c_events::{answer_of, hear_kinds, kinds_bits, tell_kinds};
 use i3c_frame::{Symbol, Tap};
@@ -43,7 +43,7 @@ impl Bus {
     ghost use Rattle.i3c_step.specs.Step.{cuts_active, is_no_target};
     ghost use Rattle.i3c_bus.specs.Wire.{IsAnswered, IsBegun, IsOn};
     ghost use Rattle.i3c_step.specs.declared.events.Event.{Event};
-    ghost use Rattle.i3c_bus.specs.declared.tokens.Hand.{Hand};
+    ghost use Rattle.i3c_bus.specs.declared.hand.Hand.{Hand};
 
     /// Serves the first request, and nothing else (I3C Basic 5.1.6.2): the policy decides on it, unless its address has
     /// no row. There must be room for a record, or it is made before the first bit: `OutOfMemory` changes nothing.

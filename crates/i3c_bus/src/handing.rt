@@ -15,7 +15,7 @@ impl Bus {
     ghost use Rattle.i3c_step.specs.declared.replies.Refusal.{Refusal};
     ghost use Rattle.i3c_bus.specs.Calls.{Carries};
     ghost use Rattle.i3c_bus.specs.Hands.{HandFits, hand_refusal, handed_hand, handed_reply};
-    ghost use Rattle.i3c_bus.specs.declared.tokens.Hand.{Hand};
+    ghost use Rattle.i3c_bus.specs.declared.hand.Hand.{Hand};
 
     /// Offers the role to the device at an address (GETACCCR, I3C Basic 5.1.9.3.16), and turns requests down. Where a
     /// willing device there acknowledges and its byte is read whole, it is the active controller, with its copy of the

@@ -5,11 +5,12 @@
 #![tactic(auto)]
 
 mod announcing;
-mod assigning;
+mod assignment;
 mod bus;
 mod dispatch;
 mod frames;
 mod getting;
+mod hand;
 mod handing;
 mod limiting;
 mod replying;
@@ -17,13 +18,13 @@ mod runs;
 mod sessions;
 mod setting;
 mod still;
-mod tokens;
 mod transferring;
 mod wire;
 mod wishes;
 
-pub use assigning::Assignment;
+pub use assignment::Assignment;
 pub use bus::{Bus, Records};
+pub use hand::{Hand, Session};
 pub use i3c_base::{
     Answer, Bytes, Datum, Direction, JoinRefusal, Length, RaiseRefusal, Request, RoundReply, Served,
 };
@@ -36,4 +37,3 @@ pub use i3c_step::{
 };
 pub use runs::{Outcome, run_events};
 pub use still::Still;
-pub use tokens::{Hand, Session};

@@ -20,7 +20,7 @@ impl Bus {
     ghost use Rattle.i3c_bus.specs.Calls.{Carries};
     ghost use Rattle.i3c_bus.specs.Hands.{HandFits};
     ghost use Rattle.i3c_bus.specs.Wire.{IsAnswered};
-    ghost use Rattle.i3c_bus.specs.declared.tokens.Hand.{Hand};
+    ghost use Rattle.i3c_bus.specs.declared.hand.Hand.{Hand};
 
     /// Sets the maximum length of writes (SETMWL, I3C Basic 5.1.9.3.5) or of reads (SETMRL, I3C Basic 5.1.9.3.6): of the
     /// devices at an address, or without one of all but the active controller. It serves the first request before. It

@@ -5,7 +5,7 @@ ghost use Rattle.i3c_step.specs.Runs.{IsLegalRun};
 ghost use Rattle.i3c_bus.specs.Hands.{HandFits};
 
 use crate::bus::Bus;
-use crate::tokens::Hand;
+use crate::hand::Hand;
 use i3c_base::Setup;
 use i3c_frame::Silent;
 use i3c_legacy::Legacies;

@@ -1,6 +1,6 @@
 use crate::bus::Bus;
 use crate::frames::FrameStart;
-use crate::tokens::Session;
+use crate::hand::Session;
 use crate::wire::tell_open;
 use i3c_base::{Cuts, RoundReply, Served};
 use i3c_entdaa::{Round, round, tell_round};
@@ -20,7 +20,7 @@ impl Bus {
     ghost use Rattle.i3c_step.specs.Step.{cuts_active};
     ghost use Rattle.i3c_step.specs.Replies.{opened_reply};
     ghost use Rattle.i3c_step.specs.declared.events.Event.{Event};
-    ghost use Rattle.i3c_bus.specs.declared.tokens.Hand.{Hand};
+    ghost use Rattle.i3c_bus.specs.declared.hand.Hand.{Hand};
 
     /// Opens a session (ENTDAA, I3C Basic 5.1.4.2): each device without an address hears it. Requests are turned down.
     /// Where the active controller is cut, it is refused, and the role comes back.
@@ -86,7 +86,7 @@ impl Session {
     ghost use Rattle.i3c_step.specs.Replies.{rounded_reply};
     ghost use Rattle.i3c_step.specs.declared.events.Event.{Event};
     ghost use Rattle.i3c_step.specs.declared.replies.Reply.{Reply};
-    ghost use Rattle.i3c_bus.specs.declared.tokens.Hand.{Hand};
+    ghost use Rattle.i3c_bus.specs.declared.hand.Hand.{Hand};
 
     /// One round: the least identity of those who hear gets its address (I3C Basic 5.1.4.2). Where the active controller
     /// is cut, it is refused.

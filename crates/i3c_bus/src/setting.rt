@@ -27,7 +27,7 @@ impl Bus {
     ghost use Rattle.i3c_bus.specs.Calls.{Carries};
     ghost use Rattle.i3c_bus.specs.Hands.{HandFits};
     ghost use Rattle.i3c_bus.specs.Wire.{IsNewPart, IsStaticPart};
-    ghost use Rattle.i3c_bus.specs.declared.tokens.Hand.{Hand};
+    ghost use Rattle.i3c_bus.specs.declared.hand.Hand.{Hand};
 
     /// Gives the device at a static address, while it has no dynamic one, this dynamic address (SETDASA, I3C Basic
     /// 5.1.9.3.10). It serves the first request before. Without a frame it answers `NoAnswer` where no identity is declared

@@ -1,7 +1,7 @@
 ghost use Rattle.std.specs.Prelude.{◌≡◌, ◌↔◌, IfOk, IsTrue, MatchOption, OnErr, OnOk};
 
 use crate::bus::Bus;
-use crate::tokens::Hand;
+use crate::hand::Hand;
 use i3c_base::{Record, SLOTS, Slot};
 use i3c_deftgts::List;
 use i3c_device::{Devices, Resting};

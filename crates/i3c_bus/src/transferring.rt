@@ -22,7 +22,7 @@ impl Bus {
     ghost use Rattle.i3c_bus.specs.Calls.{Carries};
     ghost use Rattle.i3c_bus.specs.Hands.{HandFits};
     ghost use Rattle.i3c_bus.specs.Wire.{IsReadPart, IsWritePart};
-    ghost use Rattle.i3c_bus.specs.declared.tokens.Hand.{Hand};
+    ghost use Rattle.i3c_bus.specs.declared.hand.Hand.{Hand};
 
     /// Reads the first registers of the devices, as many as their maximum lengths allow, or all of the legacy target, at an
     /// address (private read, I3C Basic 5.1.2.2, 5.1.9.3.6). It serves the first request before. It answers `NoAnswer`

@@ -5,7 +5,7 @@ use Rattle.std.proofs.lemmas.List.{get_or-replicate, get_or-set_other, get_or-se
 use Rattle.i3c_base.specs.declared.range.TheConstants.{ADDRESSES, SLOTS}
 use Rattle.i3c_device.specs.declared.answering.Answering.{Answering}
 use Rattle.i3c_device.specs.declared.answering.TheConstants.{NOWHERE}
-use Rattle.i3c_device.specs.declared.sets.SlotSet.{SlotSet}
+use Rattle.i3c_device.specs.declared.slot_set.SlotSet.{SlotSet}
 use Rattle.i3c_device.specs.Answering.{AreFound, set_at}
 use Rattle.i3c_device.specs.Sets.{has}
 

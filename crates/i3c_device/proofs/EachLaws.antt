@@ -10,7 +10,7 @@ use Rattle.i3c_base.specs.Serve.{drives_in, without}
 use Rattle.i3c_base.specs.State.{Device, Population, in_slot}
 use Rattle.i3c_base.proofs.Lookups.{length-changed}
 use Rattle.i3c_device.specs.declared.marks.Marks.{Marks}
-use Rattle.i3c_device.specs.declared.sets.SlotSet.{SlotSet}
+use Rattle.i3c_device.specs.declared.slot_set.SlotSet.{SlotSet}
 use Rattle.i3c_device.specs.Finding.{within}
 use Rattle.i3c_device.specs.Marks.{AreMarks, IsSetOf}
 use Rattle.i3c_device.specs.Sets.{has}

@@ -11,7 +11,7 @@ use Rattle.i3c_base.specs.State.{Device, Population, in_slot, with_active}
 use Rattle.i3c_header.specs.Keys.{IsFirstOf, IsLawful}
 use Rattle.i3c_header.proofs.KeyLaws.{key_of as key_of_request}
 use Rattle.i3c_device.specs.declared.enabled.Enabled.{Enabled}
-use Rattle.i3c_device.specs.declared.sets.SlotSet.{SlotSet}
+use Rattle.i3c_device.specs.declared.slot_set.SlotSet.{SlotSet}
 use Rattle.i3c_device.specs.Driven.{IsDrivenIn}
 use Rattle.i3c_device.specs.Enabling.{seen}
 use Rattle.i3c_device.specs.Marks.{AreKeys}

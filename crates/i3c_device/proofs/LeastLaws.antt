@@ -11,7 +11,7 @@ use Rattle.i3c_wires.specs.declared.planes.Planes.{Planes}
 use Rattle.i3c_wires.specs.declared.planes.Won.{Won}
 use Rattle.i3c_wires.specs.Planes.{IsWon}
 use Rattle.i3c_device.specs.declared.enabled.Enabled.{Enabled}
-use Rattle.i3c_device.specs.declared.sets.SlotSet.{SlotSet}
+use Rattle.i3c_device.specs.declared.slot_set.SlotSet.{SlotSet}
 use Rattle.i3c_device.specs.Enabling.{seen, under}
 use Rattle.i3c_device.specs.Least.{IsLeastHeard, NobodyHears}
 use Rattle.i3c_device.specs.Marks.{HavePlanes, IsSetOf}

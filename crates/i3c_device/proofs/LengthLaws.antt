@@ -11,7 +11,7 @@ use Rattle.i3c_base.specs.Frames.{least_length_from, length_of, reaches_at}
 use Rattle.i3c_base.specs.Numbers.{KindSet}
 use Rattle.i3c_base.specs.State.{Device, has_address, in_slot}
 use Rattle.i3c_device.specs.declared.enabled.Enabled.{Enabled}
-use Rattle.i3c_device.specs.declared.sets.SlotSet.{SlotSet}
+use Rattle.i3c_device.specs.declared.slot_set.SlotSet.{SlotSet}
 use Rattle.i3c_device.specs.Enabling.{kinds_in, seen, seen_in, under}
 use Rattle.i3c_device.specs.Holding.{length_in}
 use Rattle.i3c_device.specs.Lengths.{IsLeastLength}

@@ -17,7 +17,7 @@ use Rattle.i3c_wires.specs.Planes.{AreTurned}
 use Rattle.i3c_device.specs.declared.marks.Marks.{Marks}
 use Rattle.i3c_device.specs.declared.answering.Answering.{Answering}
 use Rattle.i3c_device.specs.declared.answering.TheConstants.{NOWHERE}
-use Rattle.i3c_device.specs.declared.sets.SlotSet.{SlotSet}
+use Rattle.i3c_device.specs.declared.slot_set.SlotSet.{SlotSet}
 use Rattle.i3c_device.specs.Addressing.{IsDynamicIn}
 use Rattle.i3c_device.specs.Answering.{AreFound}
 use Rattle.i3c_device.specs.Holding.{identity_in}

@@ -13,7 +13,7 @@ use Rattle.i3c_base.specs.declared.range.TheConstants.{SLOTS}
 use Rattle.i3c_base.specs.Cutting.{CutList, Lost, cut_of, is_by, lost_by}
 use Rattle.i3c_base.specs.State.{Device, Population, device_in, in_slot}
 use Rattle.i3c_base.specs.Frames.{reaches_at, written_at}
-use Rattle.i3c_device.specs.declared.sets.SlotSet.{SlotSet}
+use Rattle.i3c_device.specs.declared.slot_set.SlotSet.{SlotSet}
 use Rattle.i3c_device.specs.Reading.{AreBytesOf, Driving, IsByteFrom, IsByteOf, IsDrivenFrom, PullsLow, SomeZero, has_zero}
 use Rattle.i3c_device.specs.Sets.{has}
 use Rattle.i3c_device.specs.Walks.{AreReached}

@@ -5,7 +5,7 @@ use Rattle.std.proofs.lemmas.List.{ext_get_or}
 use Rattle.i3c_base.specs.declared.range.TheConstants.{SLOTS}
 use Rattle.i3c_base.specs.State.{Device}
 use Rattle.i3c_device.specs.declared.enabled.Enabled.{Enabled}
-use Rattle.i3c_device.specs.declared.sets.SlotSet.{SlotSet}
+use Rattle.i3c_device.specs.declared.slot_set.SlotSet.{SlotSet}
 use Rattle.i3c_device.specs.Enabling.{seen, seen_in}
 use Rattle.i3c_device.specs.Sets.{has}
 use Rattle.i3c_device.proofs.FindLaws.{TakesOut, still_in}

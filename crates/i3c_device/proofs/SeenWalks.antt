@@ -21,7 +21,7 @@ use Rattle.i3c_base.specs.declared.datum.Direction.{Direction}
 use Rattle.i3c_ccc.specs.declared.codes.Code.TheVariants.{Deftgts, Disec, DisecDirect, Enec, EnecDirect, Get, Getacccr, Other, SetLength, SetLengthDirect, Setdasa, Setnewda}
 use Rattle.i3c_device.specs.declared.enabled.Enabled.{Enabled}
 use Rattle.i3c_device.specs.declared.marks.Marks.{Marks}
-use Rattle.i3c_device.specs.declared.sets.SlotSet.{SlotSet}
+use Rattle.i3c_device.specs.declared.slot_set.SlotSet.{SlotSet}
 use Rattle.i3c_device.specs.Enabling.{kinds_in, seen, seen_in, under}
 use Rattle.i3c_device.specs.Finding.{IsLowestFound, IsNowhere, within}
 use Rattle.i3c_device.specs.Hearing.{named_kinds}

@@ -6,7 +6,7 @@ use Rattle.i3c_base.specs.Numbers.{IsInRange, number_of}
 use Rattle.i3c_base.specs.State.{Device, in_slot}
 use Rattle.i3c_wires.specs.declared.planes.Planes.{Planes}
 use Rattle.i3c_wires.specs.Planes.{AreTurned}
-use Rattle.i3c_device.specs.declared.sets.SlotSet.{SlotSet}
+use Rattle.i3c_device.specs.declared.slot_set.SlotSet.{SlotSet}
 use Rattle.i3c_device.specs.declared.marks.Marks.{Marks}
 use Rattle.i3c_device.specs.declared.answering.Answering.{Answering}
 use Rattle.i3c_device.specs.declared.answering.TheConstants.{NOWHERE}

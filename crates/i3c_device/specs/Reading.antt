@@ -7,7 +7,7 @@ use Rattle.i3c_base.specs.Cutting.{CutList, Lost, is_by, lost_by}
 use Rattle.i3c_base.specs.State.{Device, IsTargetIn, Population, in_slot}
 use Rattle.i3c_base.specs.declared.datum.Datum.{Datum}
 use Rattle.i3c_base.specs.Frames.{told_bytes}
-use Rattle.i3c_device.specs.declared.sets.SlotSet.{SlotSet}
+use Rattle.i3c_device.specs.declared.slot_set.SlotSet.{SlotSet}
 use Rattle.i3c_device.specs.Sets.{has}
 
 -- a byte as it is driven from bit `at` of a frame on, by a device that is cut at this bit of it: ones from there on

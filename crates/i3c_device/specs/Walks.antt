@@ -10,7 +10,7 @@ use Rattle.i3c_base.specs.Serve.{IsFirstIn, drives_in, without}
 use Rattle.i3c_base.specs.State.{Device, Population, in_slot}
 use Rattle.i3c_word.specs.declared.Word.{Word}
 use Rattle.i3c_ccc.specs.declared.codes.Code.{Code}
-use Rattle.i3c_device.specs.declared.sets.SlotSet.{SlotSet}
+use Rattle.i3c_device.specs.declared.slot_set.SlotSet.{SlotSet}
 use Rattle.i3c_device.specs.Hearing.{heard}
 use Rattle.i3c_device.specs.Sets.{has}
 

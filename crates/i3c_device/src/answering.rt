@@ -3,13 +3,13 @@ ghost use Rattle.i3c_base.specs.declared.range.TheConstants.{ADDRESSES as ADDRES
 ghost use Rattle.i3c_device.specs.Answering.{AreFound, set_at};
 ghost use Rattle.i3c_device.specs.Sets.{has};
 
-use crate::sets::SlotSet;
+use crate::slot_set::SlotSet;
 use i3c_base::{ADDRESSES, Addr7, SLOTS};
 
 /// In the place of an address where there is none.
 pub(crate) const NOWHERE: u8 = 0xFF;
 
-/// By slot, an address or `NOWHERE`, so kept that who has an address is found without a walk.
+/// The address of each slot, or `NOWHERE`, and the slots of each address, so that a frame finds its devices without a walk.
 #[derive(Clone, Copy)]
 pub(crate) struct Answering {
     addresses: [u8; SLOTS],

@@ -6,7 +6,7 @@ use crate::kinds::named;
 use crate::occupants::Occupants;
 use crate::places::{address_in, byte_in, front_in, identity_in, waiting_in};
 use crate::resting::Resting;
-use crate::sets::{SlotSet, lost_slots};
+use crate::slot_set::{SlotSet, lost_slots};
 use crate::walks::{
     Accepted, Ended, FrontLost, JoinWished, Limited, Lost, Opened, Readdressed, Registers, Reset,
     RoleLost, RoleWished, SlotUpdate, Told, Willing, Won, Written,

@@ -6,7 +6,7 @@ ghost use Rattle.i3c_device.specs.Driven.{IsDrivenIn};
 ghost use Rattle.i3c_device.specs.Sets.{has};
 ghost use Rattle.i3c_device.specs.Wishing.{request_of};
 
-use crate::sets::SlotSet;
+use crate::slot_set::SlotSet;
 use arrayvec::ArrayVec;
 use i3c_base::{Addr7, Request, SLOTS};
 use i3c_header::key;

@@ -7,7 +7,7 @@ ghost use Rattle.i3c_device.specs.Sets.{has};
 
 use crate::kinds::{may_ask_role, may_interrupt, may_join};
 use crate::own_kinds::OwnKinds;
-use crate::sets::SlotSet;
+use crate::slot_set::SlotSet;
 use i3c_base::Kinds;
 
 /// In which slots each kind of event is enabled.

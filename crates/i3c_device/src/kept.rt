@@ -4,7 +4,7 @@ ghost use Rattle.i3c_base.specs.declared.range.TheConstants.{SLOTS as SLOT_COUNT
 use crate::attached::Attached;
 use crate::occupants::Occupants;
 use crate::places::copy_all;
-use crate::sets::SlotSet;
+use crate::slot_set::SlotSet;
 use i3c_base::Slot;
 use std::alloc::{AllocError, Global};
 use std::marker::Model;

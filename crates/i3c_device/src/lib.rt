@@ -16,10 +16,10 @@ mod own_kinds;
 mod places;
 mod queues;
 mod resting;
-mod sets;
+mod slot_set;
 mod walks;
 
 pub use device::Device;
 pub use devices::Devices;
 pub use resting::Resting;
-pub use sets::SlotSet;
+pub use slot_set::SlotSet;

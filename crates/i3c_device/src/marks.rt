@@ -10,7 +10,7 @@ ghost use Rattle.i3c_device.specs.Wishing.{wishes_interrupt};
 use crate::answering::{Answering, NOWHERE};
 use crate::attached::Attached;
 use crate::places::{answer_in, hears, key_in, wishes_interrupt, wishes_join, wishes_role};
-use crate::sets::SlotSet;
+use crate::slot_set::SlotSet;
 use i3c_base::{SLOTS, Slot};
 use i3c_wires::Planes;
 

@@ -2,7 +2,7 @@ use crate::attached::Attached;
 use crate::kept::Kept;
 use crate::marks::Marks;
 use crate::places::{byte_from, length_in, pull_low, raise, stands, wishes_interrupt};
-use crate::sets::SlotSet;
+use crate::slot_set::SlotSet;
 use crate::walks::{Driven, SlotUpdate, Sought, happen_in};
 use i3c_base::{Addr7, Cuts, Direction, Length, REGISTERS, RaiseRefusal, SLOTS, Slot};
 use std::marker::Model;

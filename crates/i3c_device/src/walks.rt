@@ -32,8 +32,8 @@ pub(crate) trait SlotUpdate {
     fn happen(&self, place: &mut Option<Attached>, index: usize)
         ensures { place.new ≡ after self.now index place.old };
 
-    /// Marks what happened in this slot, in which this stands now: all that is marked of the slot is marked anew, unless
-    /// what happened changes less.
+    /// Updates the marks after this change in this slot: all that is marked of the slot is marked anew, unless less has
+    /// changed.
     fn noted(&self, marks: &mut Marks, index: usize, place: &Option<Attached>)
         requires { index < SLOT_COUNT }
         ensures { (places : List (Option DeviceState)) → length places ≡ SLOT_COUNT → AreMarks marks.old places → place.now ≡ after self.now index (slice_index_or places index None) → AreMarks marks.new (slice_set places index place.now) }

@@ -7,7 +7,7 @@ use Rattle.i3c_lines.specs.declared.refusals.Refusal.{Refusal}
 use Rattle.i3c_lines.specs.Capitals.{in_capitals}
 use Rattle.i3c_lines.specs.Forms.{HasNoForm, IsCommand, IsForm, IsSkipped, tokens}
 use Rattle.i3c_lines.proofs.CapitalLaws.{command_in_capitals, long_capitals, no_capitals}
-use Rattle.i3c_script.specs.declared.faults.Stop.{Stop}
+use Rattle.i3c_script.specs.declared.stop.Stop.{Stop}
 use Rattle.i3c_script.specs.Obeying.{IsObeyed, Obeys, ScriptState}
 use Rattle.i3c_script.proofs.Moving.{prints_by}
 

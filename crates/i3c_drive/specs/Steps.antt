@@ -1,7 +1,7 @@
 -- How the lines of a driven bus are answered, one after another.
 use Rattle.std.specs.Prelude.{◌≡◌, ℕ, ◌+◌, Bool, true, false, List, [], ◌∷◌, ◌++◌, drop, min, Option, Some, None, IfSome, Result, MatchResult}
 use Rattle.std.specs.Io.KnownBytes.{Appends}
-use Rattle.i3c_drive.specs.declared.driven.Driver.{Driver}
+use Rattle.i3c_drive.specs.declared.driver.Driver.{Driver}
 use Rattle.i3c_drive.specs.declared.form.Form.{Form}
 use Rattle.i3c_drive.specs.Answers.{AreAnswered, AreLinesOf, Asks, DrivenDoes, IsAnswered, IsNews, IsWritten, WentBefore, forgotten_of, log_of}
 use Rattle.i3c_lines.specs.declared.refusals.Refusal.{Refusal}
@@ -9,7 +9,7 @@ use Rattle.i3c_scenario.specs.declared.faults.ScriptFault.{ScriptFault}
 use Rattle.i3c_scenario.specs.Scripts.{LineRun, lines_bytes, lines_refused, refusals_of}
 use Rattle.i3c_script.specs.Obeying.{ScriptState, script}
 use Rattle.i3c_script.specs.Telling.{Prints}
-use Rattle.i3c_script.specs.declared.faults.Stop.{Stop}
+use Rattle.i3c_script.specs.declared.stop.Stop.{Stop}
 
 -- where the driver's script is
 abbrev pub state : Driver → ScriptState

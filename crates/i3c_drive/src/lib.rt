@@ -1,14 +1,14 @@
 //! A bus that another program drives: it sends a script's lines, and each is answered before the next is read.
 //!
-//! `input` reads one line after another and keeps no more than a piece of the input. `driven` runs each line and answers it, in
+//! `input` reads one line after another and keeps no more than a piece of the input. `driver` runs each line and answers it, in
 //! one of the forms of `form`. `laws` says that the lines that were answered do what they do in a script.
 #![tactic(auto)]
 
-mod driven;
+mod driver;
 mod form;
 mod input;
 mod laws;
 
-pub use driven::run_driven;
+pub use driver::run_driven;
 pub use form::Form;
 pub use laws::answered_lines_lead;

@@ -13,7 +13,7 @@ use Rattle.i3c_base.specs.State.{Device, State}
 use Rattle.i3c_base.proofs.NumberLaws.{below_number, number_below}
 use Rattle.i3c_base.proofs.LostLaws.{left_before, lost_counted, lost_later}
 use Rattle.i3c_wires.specs.Contest.{AllLost, EachBit, LostIsBelow, holders, is_lost}
-use Rattle.i3c_device.specs.declared.sets.SlotSet.{SlotSet}
+use Rattle.i3c_device.specs.declared.slot_set.SlotSet.{SlotSet}
 use Rattle.i3c_device.specs.Sets.{has}
 use Rattle.i3c_device.specs.Walks.{hears_as}
 use Rattle.i3c_entdaa.specs.Hearers.{IsContenderKey, contenders_from}

@@ -8,7 +8,7 @@ use Rattle.std.proofs.lemmas.Option.{none-some}
 use Rattle.i3c_base.specs.declared.range.TheConstants.{SLOTS}
 use Rattle.i3c_base.specs.State.{Device, in_slot}
 use Rattle.i3c_base.specs.Numbers.{IsInRange, number_of}
-use Rattle.i3c_device.specs.declared.sets.SlotSet.{SlotSet}
+use Rattle.i3c_device.specs.declared.slot_set.SlotSet.{SlotSet}
 use Rattle.i3c_device.specs.Sets.{has}
 use Rattle.i3c_device.specs.Walks.{AreHearers, hears_as}
 use Rattle.i3c_entdaa.specs.Hearers.{contender, contenders_from, IsContenderKey}

@@ -15,7 +15,7 @@ use Rattle.i3c_base.specs.State.{Device, State}
 use Rattle.i3c_base.proofs.NumberLaws.{below_number}
 use Rattle.i3c_wires.specs.Contest.{EachBit, drives_one, is_cut, is_in, is_one}
 use Rattle.i3c_wires.proofs.Reading.{all_kept}
-use Rattle.i3c_device.specs.declared.sets.SlotSet.{SlotSet}
+use Rattle.i3c_device.specs.declared.slot_set.SlotSet.{SlotSet}
 use Rattle.i3c_device.specs.Least.{IsLeastHeard}
 use Rattle.i3c_device.specs.Walks.{hears_as}
 use Rattle.i3c_entdaa.specs.Hearers.{IsContenderKey, contender, contenders_from}

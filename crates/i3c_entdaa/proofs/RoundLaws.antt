@@ -17,7 +17,7 @@ use Rattle.i3c_base.specs.Serve.{emptied, left_at}
 use Rattle.i3c_base.specs.State.{Device, State, IsPick, IsPickIn, IsPickable, IsPickableIn, IsKeptIn, IsUnknownIn, each_in, kept_entry_of}
 use Rattle.i3c_base.proofs.Lookups.{length-changed}
 use Rattle.i3c_base.proofs.NumberLaws.{same_number}
-use Rattle.i3c_device.specs.declared.sets.SlotSet.{SlotSet}
+use Rattle.i3c_device.specs.declared.slot_set.SlotSet.{SlotSet}
 use Rattle.i3c_device.specs.Sets.{has}
 use Rattle.i3c_device.specs.Walks.{hears_as, taken_at}
 use Rattle.i3c_device.proofs.EachLaws.{all_changed, changed_in}

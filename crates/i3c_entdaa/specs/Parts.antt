@@ -7,7 +7,7 @@ use Rattle.i3c_base.specs.Cutting.{CutList, lost_by}
 use Rattle.i3c_base.specs.Numbers.{IsInRange, number_of}
 use Rattle.i3c_base.specs.Round.{AllHearersLost, IsBeatenByLost, IsWinner}
 use Rattle.i3c_base.specs.State.{Device, State, IsKeptIn, IsPickIn, IsUnknownIn}
-use Rattle.i3c_device.specs.declared.sets.SlotSet.{SlotSet}
+use Rattle.i3c_device.specs.declared.slot_set.SlotSet.{SlotSet}
 use Rattle.i3c_device.specs.Sets.{has}
 use Rattle.i3c_device.specs.Walks.{hears_as}
 use Rattle.i3c_entdaa.specs.Rounds.{IsContested, IsHeard, IsTaken}

@@ -2,13 +2,13 @@
 //! winner takes the address that is sent; and how a round is told.
 #![tactic(auto)]
 
-mod assignment;
 mod hearers;
 mod identities;
 mod outcome;
+mod rounds;
 mod wire;
 
-pub use assignment::round;
 pub use i3c_base::RoundReply;
 pub use outcome::Round;
+pub use rounds::round;
 pub use wire::tell_round;

@@ -126,7 +126,7 @@ fn expand_run<M: Machine>(
     }
 }
 
-/// The layer that follows all nodes of a layer, by so many jobs, each with a run of them and a thread of its own.
+/// The layer that follows all nodes of a layer. Each job expands consecutive nodes, on a thread of its own.
 fn by_runs<R: Threads + Sync, M: Machine + Send + Sync>(
     rt: &R,
     alloc: Global,

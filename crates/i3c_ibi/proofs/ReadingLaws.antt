@@ -15,7 +15,7 @@ use Rattle.i3c_base.specs.State.{Device, Population, State, device_at, populatio
 use Rattle.i3c_base.specs.Serve.{DrivesByte, IsFrontOf, IsLowestDriver, drives}
 use Rattle.i3c_device.specs.Holding.{front_in}
 use Rattle.i3c_device.specs.Raising.{front_byte}
-use Rattle.i3c_device.specs.declared.sets.SlotSet.{SlotSet}
+use Rattle.i3c_device.specs.declared.slot_set.SlotSet.{SlotSet}
 use Rattle.i3c_device.specs.Sets.{IsLowestOf, has}
 use Rattle.i3c_device.specs.Walks.{AreDrivers}
 use Rattle.i3c_ibi.specs.Driving.{HaveBytes, IsByteRead, IsReading, Together, byte_beside, driven, slot_byte}

@@ -11,7 +11,7 @@ use Rattle.i3c_base.specs.declared.requests.Request.{Request}
 use Rattle.i3c_base.specs.Cutting.{CutList, cut_of}
 use Rattle.i3c_base.specs.State.{Device, HasDevices, State, population, with_active}
 use Rattle.i3c_base.specs.Serve.{IsFirst, IsFirstIn}
-use Rattle.i3c_device.specs.declared.sets.SlotSet.{SlotSet}
+use Rattle.i3c_device.specs.declared.slot_set.SlotSet.{SlotSet}
 use Rattle.i3c_device.specs.Sets.{has}
 use Rattle.i3c_device.specs.Walks.{AreDrivers, IsFirstDriven}
 use Rattle.i3c_device.proofs.FindLaws.{TakesOut, not_taken, still_in}

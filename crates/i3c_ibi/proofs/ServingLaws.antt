@@ -15,7 +15,7 @@ use Rattle.i3c_base.specs.Cutting.{CutList, Lost, cut_of, is_by, lost_by}
 use Rattle.i3c_base.specs.State.{Device, Entry, HasDevices, State, entry_in, population}
 use Rattle.i3c_base.specs.Serve.{IsFirst, IsRead, byte_due, drives, each_driver, each_driver_in, given_for, recorded, refuse_all, without, without_front, without_join, without_role, SomeDrives}
 use Rattle.i3c_base.proofs.Verdicts.{refuses}
-use Rattle.i3c_device.specs.declared.sets.SlotSet.{SlotSet}
+use Rattle.i3c_device.specs.declared.slot_set.SlotSet.{SlotSet}
 use Rattle.i3c_device.specs.Sets.{SomeLeft}
 use Rattle.i3c_device.specs.Walks.{AreDrivers}
 use Rattle.i3c_device.proofs.FirstLaws.{driven_below}

@@ -11,7 +11,7 @@ use Rattle.i3c_base.specs.Cutting.{CutList, cut_of, lost_by}
 use Rattle.i3c_base.specs.State.{Device, Population, State, device_in, with_active}
 use Rattle.i3c_base.specs.Serve.{AnyDrives, DrivesByte, IsAnd, IsFront, IsFrontOf, IsLowestDriver, drives, drives_in}
 use Rattle.i3c_device.specs.Raising.{front_byte}
-use Rattle.i3c_device.specs.declared.sets.SlotSet.{SlotSet}
+use Rattle.i3c_device.specs.declared.slot_set.SlotSet.{SlotSet}
 use Rattle.i3c_device.specs.Sets.{has}
 use Rattle.i3c_device.specs.Walks.{AreDrivers}
 

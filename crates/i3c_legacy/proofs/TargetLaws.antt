@@ -5,7 +5,7 @@ use Rattle.std.specs.List.{range_with_len}
 use Rattle.i3c_base.specs.declared.range.TheConstants.{ADDRESSES}
 use Rattle.i3c_base.specs.State.{cleared_registers, legacy_target_of, legacy_targets_of}
 use Rattle.i3c_legacy.specs.declared.legacies.Declared.{Declared}
-use Rattle.i3c_legacy.specs.declared.targets.Placed.{Placed}
+use Rattle.i3c_legacy.specs.declared.legacy_targets.Placed.{Placed}
 use Rattle.i3c_legacy.specs.Rows.{places, row_at}
 
 -- a declared target with its registers

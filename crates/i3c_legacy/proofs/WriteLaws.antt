@@ -8,7 +8,7 @@ use Rattle.i3c_base.specs.declared.range.TheConstants.{ADDRESSES}
 use Rattle.i3c_base.specs.declared.device.LegacyTarget.{LegacyTarget}
 use Rattle.i3c_base.specs.Frames.{legacy_written, overwritten}
 use Rattle.i3c_legacy.specs.declared.legacies.Declared.{Declared}
-use Rattle.i3c_legacy.specs.declared.targets.Placed.{Placed}
+use Rattle.i3c_legacy.specs.declared.legacy_targets.Placed.{Placed}
 use Rattle.i3c_legacy.specs.Rows.{places, row_at, HasOwnAddresses}
 use Rattle.i3c_legacy.proofs.LegacyLaws.{address_of}
 use Rattle.i3c_legacy.proofs.RowLaws.{addresses_set, places_at, places_set, row_here, row_none}

@@ -5,9 +5,9 @@ mod comparing;
 mod copying;
 mod faults;
 mod legacies;
-mod targets;
+mod legacy_targets;
 
 pub use faults::{DeclareFault, LegacyFault};
 pub use i3c_base::LegacyTarget;
 pub use legacies::{DECLARED, LEGACIES, Legacies, is_static};
-pub use targets::LegacyTargets;
+pub use legacy_targets::LegacyTargets;

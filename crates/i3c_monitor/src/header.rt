@@ -96,7 +96,7 @@ impl Header {
     }
 }
 
-/// What a header is where the frame stands, with the symbols behind it, before which the trace has so many.
+/// Decodes a header and the symbols behind it. The number is how many symbols of the trace precede them.
 #[inline(always)]
 pub(crate) fn read_header(
     alloc: Global,

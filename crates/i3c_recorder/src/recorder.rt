@@ -50,7 +50,7 @@ impl Model for Recorder {
     ghost use Rattle.std.specs.Prelude.{◌≡◌, Some};
     ghost use Rattle.i3c_base.specs.State.{IsStart};
     ghost use Rattle.i3c_bus.specs.Hands.{HandFits};
-    ghost use Rattle.i3c_bus.specs.declared.tokens.Hand.{Hand as HandValue};
+    ghost use Rattle.i3c_bus.specs.declared.hand.Hand.{Hand as HandValue};
     ghost use Rattle.i3c_recorder.specs.Beginning.{first_state};
     ghost use Rattle.i3c_recorder.specs.KeptRuns.{Leads};
     ghost use Rattle.i3c_recorder.specs.Values.{Recorded};

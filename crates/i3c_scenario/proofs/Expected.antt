@@ -2,7 +2,7 @@
 use Rattle.std.proofs.Common.{◌≡◌, ◌++◌, ℕ, List, Option, Some, None, Result, Ok, Err, inr, refl}
 use Rattle.i3c_lines.specs.declared.command.Command.{Command}
 use Rattle.i3c_lines.specs.declared.refusals.Refusal.{Refusal}
-use Rattle.i3c_script.specs.declared.faults.Stop.{Stop}
+use Rattle.i3c_script.specs.declared.stop.Stop.{Stop}
 use Rattle.i3c_lines.specs.Forms.{IsCommand}
 use Rattle.i3c_script.specs.Obeying.{IsObeyed, ScriptState}
 use Rattle.i3c_script.specs.Telling.{Prints}

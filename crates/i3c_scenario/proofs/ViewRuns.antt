@@ -1,7 +1,7 @@
 -- The run of a viewed script, line by line.
 use Rattle.std.proofs.Common.{◌≡◌, ◌⊎◌, ◌∙◌, ℕ, ◌+◌, List, [], ◌∷◌, ◌++◌, min, Option, IfSome, OnOk, Result, Ok, Err, ap, append_assoc, inl, inr, refl, subst, sym}
 use Rattle.i3c_frame.specs.declared.symbols.Symbol.{Symbol}
-use Rattle.i3c_script.specs.declared.faults.Stop.{Stop}
+use Rattle.i3c_script.specs.declared.stop.Stop.{Stop}
 use Rattle.i3c_script.specs.Obeying.{wire_on}
 use Rattle.i3c_script.specs.Printed.{end_text}
 use Rattle.i3c_script.specs.Stops.{refusals}

@@ -2,7 +2,7 @@
 use Rattle.std.proofs.Common.{◌≡◌, ◌∙◌, ℕ, ◌+◌, true, false, cond, codes, List, [], ◌∷◌, ◌++◌, length, min, arith, Option, IfSome, Result, ap, append_assoc, append-nil, inl, inr, refl, subst, sym}
 use Rattle.std.specs.Fmt.{decimal}
 use Rattle.std.specs.Io.KnownBytes.{Appends}
-use Rattle.i3c_script.specs.declared.faults.Stop.{Stop}
+use Rattle.i3c_script.specs.declared.stop.Stop.{Stop}
 use Rattle.i3c_script.specs.Printed.{end_text}
 use Rattle.i3c_script.specs.Stops.{refusals}
 use Rattle.i3c_scenario.specs.declared.script_lines.ScriptLines.{ScriptLines}

@@ -56,8 +56,8 @@ impl<'a, G: Gate> Watch for Unwatched<'a, G> {
     fn closed(&self, _closed: &Closed) {}
 }
 
-/// Devices in slots from 1 raise interrupts from threads of their own, each so many times with bytes that count from 0,
-/// while this thread serves as often as is tried in all. Then the bus is closed, and its run counted.
+/// Devices in slots from 1 raise interrupts from threads of their own, each `posts` times, with bytes that count from 0.
+/// This thread serves once for each try. Then the bus is closed, and its run counted.
 pub fn stress<R: Threads + Wait + Sync, P: Policy, G: Gate + Sync>(
     rt: &R,
     alloc: Global,

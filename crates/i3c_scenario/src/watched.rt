@@ -89,8 +89,8 @@ pub fn run_watched<R: Read, W: Write, T: Witness>(
 /// Names the run of a script that is watched.
 struct Watched;
 
-/// A watched run: its script, what is known for explanations, and of the line in hand what is shown before its number
-/// stands there, what is shown, and what the witness is told.
+/// The state of a watched run: the script, what explanations need, and of the current line its output, the same with its
+/// number, and what the witness is told.
 struct WatchedRun {
     script: Script,
     watching: Watching,

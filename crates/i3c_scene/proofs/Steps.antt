@@ -15,10 +15,10 @@ use Rattle.i3c_step.specs.declared.replies.Refusal.{Refusal as BusRefusal}
 use Rattle.i3c_step.specs.declared.replies.Reply.{Reply}
 use Rattle.i3c_step.specs.Commands.{event_of}
 use Rattle.i3c_step.specs.Step.{Step, cuts_in}
-use Rattle.i3c_bus.specs.declared.assigning.Assignment.{Assignment}
+use Rattle.i3c_bus.specs.declared.assignment.Assignment.{Assignment}
 use Rattle.i3c_bus.specs.Assigning.{AreRounds, IsAssignment}
 use Rattle.i3c_lines.specs.declared.refusals.Refusal.{Refusal}
-use Rattle.i3c_script.specs.declared.faults.Stop.{Stop}
+use Rattle.i3c_script.specs.declared.stop.Stop.{Stop}
 use Rattle.i3c_script.specs.declared.settings.Settings.{Settings}
 use Rattle.i3c_script.specs.Assigning.{cuts_left}
 use Rattle.i3c_script.specs.Stops.{Ends, reply_refusal}

@@ -2,14 +2,14 @@ ghost use Rattle.std.specs.Prelude.{◌≡◌, ◌≢◌, Some, None, Err, List,
 ghost use Rattle.i3c_script.specs.declared.settings.Settings.{Settings as SettingsValue};
 ghost use Rattle.i3c_base.specs.Cutting.{no_cuts};
 ghost use Rattle.i3c_bus.specs.Hands.{HandFits};
-ghost use Rattle.i3c_bus.specs.declared.tokens.Hand.{Hand as HandValue};
+ghost use Rattle.i3c_bus.specs.declared.hand.Hand.{Hand as HandValue};
 ghost use Rattle.i3c_script.specs.Assigning.{cuts_left};
 ghost use Rattle.i3c_step.specs.Commands.{event_of};
 ghost use Rattle.i3c_step.specs.declared.replies.Refusal.{Refusal as BusRefusalValue};
 ghost use Rattle.i3c_lines.specs.Naming.{slot_named};
 ghost use Rattle.i3c_lines.specs.declared.refusals.Refusal.{Refusal as RefusalValue};
 ghost use Rattle.i3c_script.specs.Stops.{Ends};
-ghost use Rattle.i3c_script.specs.declared.faults.Stop.{Stop as StopValue};
+ghost use Rattle.i3c_script.specs.declared.stop.Stop.{Stop as StopValue};
 ghost use Rattle.i3c_scene.specs.Going.{Assigns, sends, session_refusal};
 ghost use Rattle.i3c_scene.specs.Scenes.{seen};
 ghost use Rattle.i3c_scene.specs.declared.named.Named.{Named as NamedValue};
@@ -45,7 +45,7 @@ pub struct Live {
 impl Model for Live {
     ghost use Rattle.std.specs.Prelude.{◌≡◌, Some};
     ghost use Rattle.i3c_bus.specs.Hands.{HandFits};
-    ghost use Rattle.i3c_bus.specs.declared.tokens.Hand.{Hand as HandValue};
+    ghost use Rattle.i3c_bus.specs.declared.hand.Hand.{Hand as HandValue};
     ghost use Rattle.i3c_scene.specs.Scenes.{Seen, seen};
 
     ghost Value = { Seen };

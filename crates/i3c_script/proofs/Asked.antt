@@ -8,7 +8,7 @@ use Rattle.i3c_base.specs.declared.requests.Request.{Request}
 use Rattle.i3c_base.specs.Serve.{drives}
 use Rattle.i3c_base.specs.State.{State}
 use Rattle.i3c_bus.specs.Readings.{AreAskers}
-use Rattle.i3c_device.specs.declared.sets.SlotSet.{SlotSet}
+use Rattle.i3c_device.specs.declared.slot_set.SlotSet.{SlotSet}
 use Rattle.i3c_device.specs.Sets.{IsLowestOf, IsNone, has}
 use Rattle.i3c_lines.specs.declared.names.Names.{Names}
 use Rattle.i3c_lines.specs.Naming.{slot_names}

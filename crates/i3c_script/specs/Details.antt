@@ -5,7 +5,7 @@ use Rattle.i3c_base.specs.declared.range.TheConstants.{SLOTS}
 use Rattle.i3c_base.specs.declared.requests.Request.{Request}
 use Rattle.i3c_base.specs.declared.requests.Request.TheVariants.{Interrupt, Join, Role}
 use Rattle.i3c_base.specs.State.{Device, State, device_at}
-use Rattle.i3c_bus.specs.Wishing.{wish_by}
+use Rattle.i3c_device.specs.Wishing.{choice_of}
 use Rattle.i3c_lines.specs.declared.names.Name.{Name}
 use Rattle.i3c_lines.specs.declared.names.Names.{Names}
 use Rattle.i3c_lines.specs.Naming.{letters, slot_names}
@@ -42,7 +42,7 @@ described_text name identity kinds wish = codes "device " ++ (letters name ++ (r
 
 -- a present device: its name, its PID, BCR and DCR, the enabled kinds of its events, and its wish
 abbrev pub details_text : Option Name → Option Device → List ℕ
-details_text (Some name) (Some d) = described_text name d.identity (kinds_words d.kinds.interrupt d.kinds.role d.kinds.join) (wish_word (wish_by d.address d))
+details_text (Some name) (Some d) = described_text name d.identity (kinds_words d.kinds.interrupt d.kinds.role d.kinds.join) (wish_word (choice_of d.address d))
 details_text None device = []
 details_text (Some name) None = []
 

@@ -2,7 +2,7 @@ ghost use Rattle.std.specs.Prelude.{◌≡◌, ◌++◌, List, IfOk};
 ghost use Rattle.i3c_script.specs.declared.settings.Settings.{Settings as SettingsValue};
 ghost use Rattle.i3c_base.specs.Cutting.{no_cuts};
 ghost use Rattle.i3c_bus.specs.Hands.{HandFits};
-ghost use Rattle.i3c_bus.specs.declared.tokens.Hand.{Hand as HandValue};
+ghost use Rattle.i3c_bus.specs.declared.hand.Hand.{Hand as HandValue};
 ghost use Rattle.i3c_step.specs.declared.events.Event.{Event as EventValue};
 ghost use Rattle.i3c_step.specs.declared.replies.Reply.{Reply as ReplyValue};
 ghost use Rattle.i3c_script.specs.declared.tenures.Tenure.{Tenure as TenureValue};
@@ -11,7 +11,7 @@ ghost use Rattle.i3c_script.specs.Printed.{round_text};
 ghost use Rattle.i3c_script.specs.Ran.{ran_of};
 ghost use Rattle.i3c_script.specs.Telling.{Prints};
 
-use crate::faults::{Stop, outcome_of_round};
+use crate::stop::{Stop, outcome_of_round};
 use crate::telling::{show_request, show_round};
 use crate::wires::Wires;
 use i3c_base::{Cuts, RoundReply, SLOTS};

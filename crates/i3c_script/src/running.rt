@@ -1,13 +1,13 @@
 ghost use Rattle.std.specs.Prelude.{◌≡◌, Some, None};
 ghost use Rattle.i3c_base.specs.Cutting.{no_cuts};
-ghost use Rattle.i3c_bus.specs.declared.tokens.Hand.{Hand as HandValue};
+ghost use Rattle.i3c_bus.specs.declared.hand.Hand.{Hand as HandValue};
 
 use crate::asking::{entrance, slot_of_device, slots_of_devices};
 use crate::assigning;
 use crate::details::show_all;
-use crate::faults::Stop;
 use crate::settings::Settings;
 use crate::show::{show_bus, show_bus_behind};
+use crate::stop::Stop;
 use crate::telling::{
     count_from, subject_of, tell, tell_attached, tell_dropped, tell_frame, tell_join, tell_raised,
     tell_role,
@@ -42,7 +42,7 @@ pub struct Running {
 impl Model for Running {
     ghost use Rattle.std.specs.Prelude.{◌≡◌, Some};
     ghost use Rattle.i3c_bus.specs.Hands.{HandFits};
-    ghost use Rattle.i3c_bus.specs.declared.tokens.Hand.{Hand as HandValue};
+    ghost use Rattle.i3c_bus.specs.declared.hand.Hand.{Hand as HandValue};
     ghost use Rattle.i3c_script.specs.Ran.{Ran, ran_of};
 
     ghost Value = { Ran };

@@ -4,9 +4,9 @@ ghost use Rattle.i3c_lines.specs.declared.names.Names.{Names as NamesValue};
 ghost use Rattle.i3c_script.specs.Obeying.{IsObeyed, ObeysBefore, main_refusal, script};
 ghost use Rattle.i3c_script.specs.Telling.{Prints};
 
-use crate::faults::Stop;
 use crate::running::Running;
 use crate::show::{show_added, show_declared, show_main};
+use crate::stop::Stop;
 use crate::wires::Wires;
 use i3c_base::{Addr7, Bcr, Identity, Lvr, Setup, Slot};
 use i3c_bus::Refusal as BusRefusal;

@@ -57,7 +57,8 @@ pub(crate) fn show_tenures(
     show_tenure(active, from, records, text)
 }
 
-/// Prints the slot of who was active while the records behind the first so many came, up to a number, if any came.
+/// Prints which slot was active while the records behind the first `from` were made, up to record `to`, unless there are
+/// none.
 fn show_tenure(slot: Slot, from: usize, to: usize, text: &mut Text) -> Result<(), AllocError>
     ensures { OnOk result (text.new ≡ text.old ++ tenure_text slot from to) }
 {

@@ -335,7 +335,7 @@ impl Intake {
         None
     }
 
-    /// Spends it.
+    /// Ends it without closing the bus. Its recorder goes too.
     pub(crate) fn let_go(self) {
         let Intake { recorder, rings: _ } = self;
         recorder.let_go();

@@ -11,7 +11,7 @@ mod kept;
 mod laws;
 mod port;
 mod replying;
-mod shared;
+mod shared_bus;
 
 pub use closed::Closed;
 pub use faults::{AttachFault, CallFault, CloseFault, DropFault, HandOverFault, Left, StartFault};
@@ -20,4 +20,4 @@ pub use i3c_recorder::{Entry, Recorder, Run};
 pub use kept::{Kept, Unclosed};
 pub use laws::posts_are_accounted_for;
 pub use port::{Full, POSTS, Port, spend_ports};
-pub use shared::SharedBus;
+pub use shared_bus::SharedBus;

@@ -14,9 +14,9 @@ pub record IsFor (declared : List (Option Identity)) (i : Identity) (e : Entry) 
   pub kept : (j : Identity) → e.kept ≡ Some j → j ≡ i
   pub fixed : (f : ℕ) → e.fixed ≡ Some f → declared_in declared f ≡ Some i
 
--- each address in use stands in the table under its device's identity and is kept for no other, devices of one address
--- have one identity, and no address of the table, which has a place for each, is a legacy target's or declared. Each device
--- has the static address that is declared for its identity, and no legacy target has one that is declared
+-- Each address in use stands in the table under its device's identity and is kept for no other, and devices of one address
+-- have one identity. The table has a place for each address, and none of those in it is a legacy target's or declared. Each
+-- device has the static address that is declared for its identity, and no legacy target has one that is declared
 pub record Addresses (st : State) : Type 0 where
   pub used : (s a : ℕ) (d : Device) → device_at st s ≡ Some d → d.address ≡ Some a → (e : Entry) × (entry_at st a ≡ Some e) × IsFor st.declared d.identity e
   pub alike : (s t a : ℕ) (d e : Device) → device_at st s ≡ Some d → device_at st t ≡ Some e → d.address ≡ Some a → e.address ≡ Some a → d.identity ≡ e.identity

@@ -22,8 +22,8 @@ pub fn interrupts_are_recorded_once()
     ensures { InterruptsAreRecordedOnce }
 {}
 
-/// A frame that accepts its first request, an interrupt, records it, at its address, of the lowest driver's slot, with
-/// the number of its front; or it was torn, where a byte was due and each driver went in the frame.
+/// A frame whose first request is an interrupt that it accepts records it at its address, for the lowest driver's slot, with
+/// the number of its front. Or it was torn, if a byte was due and each driver was lost in the frame.
 pub fn accepted_interrupts_are_recorded()
     ensures { AcceptedInterruptsAreRecorded }
 {}
@@ -50,8 +50,8 @@ pub fn late_cuts_are_alike()
     ensures { LateCutsAreAlike }
 {}
 
-/// A step moves the active controller by a granted handover alone, to a willing device, opens and ends a session with
-/// those answers alone, and puts a device only into the slot of an accepted attachment.
+/// Only a granted handover moves the active controller, and only to a willing device. Only their own answers open and end a
+/// session. Only an accepted attachment puts a device into a slot.
 pub fn slots_are_kept()
     ensures { SlotsAreKept }
 {}
@@ -67,8 +67,8 @@ pub fn stays_begin_by_attachments()
     ensures { StaysBeginByAttachments }
 {}
 
-/// Of as many rounds as there are slots, in one session and without cuts, one answers that nobody hears any more, or that
-/// no address is left, whatever else happens between them (I3C Basic 5.1.4.2).
+/// Without cuts, one of 64 rounds of a session answers that nobody hears any more, or that no address is left, whatever
+/// happens between them (I3C Basic 5.1.4.2).
 pub fn sessions_end()
     ensures { SessionsEnd }
 {}

@@ -22,7 +22,7 @@ pub enum Refusal {
     HasAddress,
     /// The device can't do this by its BCR, or there is no row at the address that the role is offered to.
     NotCapable,
-    /// A mandatory byte is due by the device's BCR and is missing, or is given and isn't due.
+    /// The device's BCR asks for a mandatory byte and none was given, or the reverse.
     ByteMismatch,
     /// The device's events of this kind are disabled.
     Masked,

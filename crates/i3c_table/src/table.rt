@@ -150,7 +150,7 @@ impl Table {
             )
     }
 
-    // The same, also where the address wasn't given.
+    // The same, by the rows as they are read.
     fn has_equal_row(&self, other: &Table, address: Addr7) -> bool
         ensures { IsTrue result ↔ (entry_in self.now.given address ≡ entry_in other.now.given address) }
     {

@@ -40,8 +40,8 @@ pub(crate) fn push_broken(
     )
 }
 
-/// Appends the script of the lines of these numbers and of lines that run, the last of which breaks the expectation of this
-/// number's line.
+/// Appends an order as a script: the lines of these numbers, and the lines that run. The last of them breaks the expectation
+/// of the line with this number.
 fn push_script(
     alloc: Global,
     lines: &[Vec<u8>],

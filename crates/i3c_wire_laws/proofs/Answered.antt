@@ -17,9 +17,9 @@ use Rattle.i3c_events.specs.Telling.{IsKindsWire, IsLengthWire, IsSettingWire}
 use Rattle.i3c_handoff.specs.declared.outcome.Offer.{Offer}
 use Rattle.i3c_handoff.specs.Offers.{SomeTakes, is_acknowledged}
 use Rattle.i3c_handoff.specs.Telling.{IsOfferWire}
-use Rattle.i3c_xfer.specs.declared.outcome.Get.{Get as Told}
-use Rattle.i3c_xfer.specs.declared.outcome.Read.{Read}
-use Rattle.i3c_xfer.specs.declared.outcome.Write.{Write}
+use Rattle.i3c_xfer.specs.declared.answers.Get.{Get as Told}
+use Rattle.i3c_xfer.specs.declared.answers.Read.{Read}
+use Rattle.i3c_xfer.specs.declared.answers.Write.{Write}
 use Rattle.i3c_xfer.specs.Getting.{is_get_acknowledged}
 use Rattle.i3c_xfer.specs.Telling.{IsGetWire, IsReadWire, IsWriteWire}
 use Rattle.i3c_xfer.specs.Transfers.{AnyAnswers, is_read_acknowledged, is_write_acknowledged}

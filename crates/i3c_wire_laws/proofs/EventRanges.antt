@@ -18,8 +18,8 @@ use Rattle.i3c_entdaa.specs.declared.outcome.Round.{Round as RoundValue}
 use Rattle.i3c_entdaa.specs.Rounds.{IsRead}
 use Rattle.i3c_handoff.specs.declared.outcome.Offer.{Offer}
 use Rattle.i3c_handoff.specs.Offers.{IsReadAs as IsOfferReadAs}
-use Rattle.i3c_xfer.specs.declared.outcome.Get.{Get as Told}
-use Rattle.i3c_xfer.specs.declared.outcome.Read.{Read}
+use Rattle.i3c_xfer.specs.declared.answers.Get.{Get as Told}
+use Rattle.i3c_xfer.specs.declared.answers.Read.{Read}
 use Rattle.i3c_xfer.specs.Getting.{IsToldAs}
 use Rattle.i3c_xfer.specs.Transfers.{IsReadAs}
 use Rattle.i3c_step.specs.declared.events.Event.{Event}

@@ -19,9 +19,9 @@ use Rattle.i3c_handoff.specs.declared.outcome.Offer.{Offer}
 use Rattle.i3c_handoff.specs.Telling.{IsOfferWire}
 use Rattle.i3c_entdaa.specs.declared.outcome.Round.{Round}
 use Rattle.i3c_entdaa.specs.Telling.{IsRoundWire}
-use Rattle.i3c_xfer.specs.declared.outcome.Get.{Get as Told}
-use Rattle.i3c_xfer.specs.declared.outcome.Read.{Read}
-use Rattle.i3c_xfer.specs.declared.outcome.Write.{Write}
+use Rattle.i3c_xfer.specs.declared.answers.Get.{Get as Told}
+use Rattle.i3c_xfer.specs.declared.answers.Read.{Read}
+use Rattle.i3c_xfer.specs.declared.answers.Write.{Write}
 use Rattle.i3c_xfer.specs.Telling.{AreWritten, IsAskingWord, IsGetWire, IsReadWire, IsToldWire, IsWriteWire, IsWrittenWire, IsWrittenWord, answered_wire, read_words, word_of}
 use Rattle.i3c_wire_laws.specs.Fitting.{IsByte}
 

@@ -25,8 +25,8 @@ pub fn runs_are_wires()
     ensures { RunsAreWires }
 {}
 
-/// Who watches the levels of what a legal run sends, and reads what is heard, gets its symbols back, given the addresses of
-/// the bus's legacy targets, where no session is open at the end.
+/// A reader gets the symbols of a legal run back from its levels, given the addresses of the bus's legacy targets, if no
+/// session is open at the end.
 pub fn runs_are_read_back()
     ensures { RunsAreReadBack }
 {}

@@ -17,7 +17,7 @@ use Rattle.i3c_base.proofs.Lookups.{population_is}
 use Rattle.i3c_base.proofs.LostLaws.{left_before}
 use Rattle.i3c_device.specs.Reading.{AreBytesOf, Driving, PullsLow}
 use Rattle.i3c_xfer.specs.Transfers.{AnyAnswers, AreDrivenBy, HasLegacy, IsWrittenBy, is_write_acknowledged, write_answer}
-use Rattle.i3c_xfer.specs.declared.outcome.Write.{Write}
+use Rattle.i3c_xfer.specs.declared.answers.Write.{Write}
 
 -- some of those at the address are left among these devices, and on a bus that has them
 pub left_there : (st : State) (a : ℕ) (lost : Lost) (devices : List (Option Device)) (active : ℕ) → HasDevices st devices active → SomeLeftIn (with_active devices active) a lost → SomeLeftAt st a lost

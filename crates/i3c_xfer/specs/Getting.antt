@@ -5,7 +5,7 @@ use Rattle.i3c_base.specs.declared.datum.Datum.{Datum}
 use Rattle.i3c_base.specs.Cutting.{CutList}
 use Rattle.i3c_base.specs.Frames.{told_bytes}
 use Rattle.i3c_base.specs.State.{State}
-use Rattle.i3c_xfer.specs.declared.outcome.Get.{Get}
+use Rattle.i3c_xfer.specs.declared.answers.Get.{Get}
 use Rattle.i3c_xfer.specs.Transfers.{AreDrivenBy}
 
 -- the answer that it is

@@ -6,9 +6,9 @@ use Rattle.i3c_frame.specs.declared.symbols.Symbol.{Symbol}
 use Rattle.i3c_frame.specs.declared.symbols.Symbol.TheVariants.{Repeated, Stop, Header, LegacyWord}
 use Rattle.i3c_base.specs.declared.datum.Datum.{Datum}
 use Rattle.i3c_ccc.specs.Codes.{byte_of_datum}
-use Rattle.i3c_xfer.specs.declared.outcome.Get.{Get}
-use Rattle.i3c_xfer.specs.declared.outcome.Read.{Read}
-use Rattle.i3c_xfer.specs.declared.outcome.Write.{Write}
+use Rattle.i3c_xfer.specs.declared.answers.Get.{Get}
+use Rattle.i3c_xfer.specs.declared.answers.Read.{Read}
+use Rattle.i3c_xfer.specs.declared.answers.Write.{Write}
 use Rattle.i3c_xfer.specs.declared.wire.Side.{Side}
 use Rattle.i3c_xfer.specs.declared.wire.Side.TheVariants.{Devices, Legacy}
 

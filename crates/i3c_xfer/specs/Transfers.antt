@@ -7,8 +7,8 @@ use Rattle.i3c_base.specs.Cutting.{CutList, Lost}
 use Rattle.i3c_base.specs.Frames.{SomeLeftAt, transfer_length}
 use Rattle.i3c_base.specs.State.{State, legacy_target_at, population}
 use Rattle.i3c_device.specs.Reading.{AreBytesOf, Driving, registers_of}
-use Rattle.i3c_xfer.specs.declared.outcome.Read.{Read}
-use Rattle.i3c_xfer.specs.declared.outcome.Write.{Write}
+use Rattle.i3c_xfer.specs.declared.answers.Read.{Read}
+use Rattle.i3c_xfer.specs.declared.answers.Write.{Write}
 
 -- the answer that a read is
 abbrev pub read_answer : ℕ → Read → Answer

@@ -5,7 +5,7 @@ ghost use Rattle.i3c_base.specs.Serve.{byte_due};
 ghost use Rattle.i3c_base.specs.State.{Entry, HasDevices, State, entry_at};
 ghost use Rattle.i3c_xfer.specs.Getting.{IsToldAs, get_answer, is_get_acknowledged};
 
-use crate::outcome::{ASKED_BITS, Get};
+use crate::answers::{ASKED_BITS, Get};
 use i3c_base::{Addr7, Cuts, Datum, Slot};
 use i3c_device::Devices;
 use i3c_word::WORD_BITS;

@@ -5,7 +5,7 @@ ghost use Rattle.i3c_base.specs.Frames.{Reads, read_bits, transfer_length};
 ghost use Rattle.i3c_base.specs.State.{HasDevices, State};
 ghost use Rattle.i3c_xfer.specs.Transfers.{AnyAnswers, IsReadAs, bits_of_read, is_read_acknowledged, read_answer};
 
-use crate::outcome::{ACK_BITS, Read};
+use crate::answers::{ACK_BITS, Read};
 use i3c_base::{Addr7, Bytes, Cuts, Direction, Length, Slot};
 use i3c_device::Devices;
 use i3c_legacy::LegacyTargets;

@@ -2,7 +2,7 @@ ghost use Rattle.std.specs.Prelude.{◌≡◌, true};
 ghost use Rattle.i3c_frame.specs.Taps.{Tells};
 ghost use Rattle.i3c_xfer.specs.Telling.{IsGetWire, IsReadWire, IsUnansweredWire, IsWriteWire, IsWrittenWire, IsWrittenWord, answered_wire, read_words, word_of};
 
-use crate::outcome::{Get, Read, Write};
+use crate::answers::{Get, Read, Write};
 use i3c_base::{Addr7, Datum};
 use i3c_ccc::{Code, byte_of};
 use i3c_frame::{Symbol, Tap};

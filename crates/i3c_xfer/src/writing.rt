@@ -5,7 +5,7 @@ ghost use Rattle.i3c_base.specs.Frames.{Writes, write_bits};
 ghost use Rattle.i3c_base.specs.State.{HasDevices, State};
 ghost use Rattle.i3c_xfer.specs.Transfers.{AnyAnswers, IsWrittenBy, is_write_acknowledged, write_answer};
 
-use crate::outcome::{ACK_BITS, Write};
+use crate::answers::{ACK_BITS, Write};
 use i3c_base::{Addr7, Cuts, Slot};
 use i3c_device::Devices;
 use i3c_legacy::LegacyTargets;

@@ -8,7 +8,7 @@ use Rattle.i3c_tracks.specs.declared.exploring.Answer.{Answer}
 use Rattle.i3c_wave.specs.declared.capture_fault.CaptureFault.{CaptureFault}
 use Rattle.i3c_wave.specs.declared.fault.WaveFault.{WaveFault}
 use Rattle.i3cbus.specs.declared.fault.Fault.{Fault}
-use Rattle.i3cbus.specs.declared.status.Ending.{Ending}
+use Rattle.i3cbus.specs.declared.ending.Ending.{Ending}
 
 -- a script's fault, as standard error is told
 abbrev pub told_as : ScriptFault → Fault

@@ -8,15 +8,15 @@
 #![tactic(auto)]
 
 mod drawing;
+mod ending;
 mod fault;
-mod progress;
 mod run;
-mod status;
 mod stressing;
+mod task;
 mod version;
+mod watcher;
 mod waving;
 mod witness;
-mod words;
 
 use std::io::IsTerminal;
 use std::process::ExitCode;

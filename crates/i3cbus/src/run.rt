@@ -1,12 +1,12 @@
 use crate::drawing::draw_script;
+use crate::ending::{Ending, came_to, explored, ran, status_of, waved};
 use crate::fault::Fault;
-use crate::progress::Watcher;
-use crate::status::{Ending, came_to, explored, ran, status_of, waved};
 use crate::stressing::run_stress;
+use crate::task::{Capturing, STANDARD_INPUT, Task, Telling, Work, task_named};
 use crate::version::print_version;
+use crate::watcher::Watcher;
 use crate::waving::wave_script;
 use crate::witness::Errors;
-use crate::words::{Capturing, STANDARD_INPUT, Task, Telling, Work, task_named};
 use i3c_base::Addresses;
 use i3c_drive::run_driven;
 use i3c_explore::{Limits, Part};

@@ -1,5 +1,5 @@
 use crate::fault::Fault;
-use crate::words::Stress;
+use crate::task::Stress;
 use i3c_base::{Fixed, Slot, Verdict};
 use i3c_scenario::{Gate, MOST_DEVICES, MOST_POSTS, StressFault, StressReport, Tally, stress};
 use std::io;

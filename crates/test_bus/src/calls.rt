@@ -2,7 +2,7 @@
 // identities: 48 bits of a PID, 8 of a BCR and 8 of a DCR.
 ghost use Rattle.std.specs.Prelude.{IfOk};
 ghost use Rattle.i3c_bus.specs.Hands.{HandFits};
-ghost use Rattle.i3c_bus.specs.declared.tokens.Hand.{Hand as HandValue};
+ghost use Rattle.i3c_bus.specs.declared.hand.Hand.{Hand as HandValue};
 
 use crate::checks::{holds, same};
 use i3c_base::{Addr7, Cuts, Identity, Kinds, Setup, Slot};

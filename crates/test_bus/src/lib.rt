@@ -1,5 +1,5 @@
-//! Trials of the bus and of the plain machine by their public calls alone, in a crate of their own: what a crate's own
-//! tests are proved with is the crate once more.
+//! Tests of the bus and of the plain machine by their public calls alone. Tests inside a crate would have it proved again,
+//! so these have a crate of their own.
 //!
 //! `calls` has typed calls of the bus, and what a refused growth leaves; lists of events with their replies, wires and
 //! records are scripts, in `tests/scripts`. `plain` has the plain machine's own refusal; what it does else stands in

@@ -1,7 +1,7 @@
 // Facts of a bus with the main controller hub in slot 0 at 08 and t in slot 1 at 09, and of names that have no device.
 ghost use Rattle.std.specs.Prelude.{IfOk};
 ghost use Rattle.i3c_bus.specs.Hands.{HandFits};
-ghost use Rattle.i3c_bus.specs.declared.tokens.Hand.{Hand as HandValue};
+ghost use Rattle.i3c_bus.specs.declared.hand.Hand.{Hand as HandValue};
 
 use crate::checks::{expected, holds, same};
 use i3c_base::{Addr7, Cuts, Identity, Setup, Slot};

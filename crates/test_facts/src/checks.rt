@@ -1,18 +1,18 @@
-//! What a trial asserts, as calls: the code that an assertion stands for is proved here once, and not wherever a trial
-//! asserts.
+//! Assertions about a line as functions, so that each is proved once. Each crate of tests has its own: the gate takes a
+//! function that may abort in tests alone.
 use i3c_facts::{Facts, Mark, read_mark};
 use std::alloc::Global;
 use std::process::Abort;
 
-/// Fails the trial where a line's text isn't what is due, and shows both.
-pub(crate) fn same<R: Abort>(rt: &R, line: &str, found: &[u8], due: &str) {
+/// Fails unless a line's text is the expected one, and prints both.
+pub(crate) fn same<R: Abort>(rt: &R, line: &str, found: &[u8], expected: &str) {
     assert!(rt;
-        found == due.as_bytes(),
-        "{line} gave another text than {due}"
+        found == expected.as_bytes(),
+        "{line} gave another text than {expected}"
     );
 }
 
-/// Fails the trial where something isn't so of a line.
+/// Fails unless something is so of a line.
 pub(crate) fn holds<R: Abort>(rt: &R, is_so: bool, line: &str) {
     assert!(rt; is_so, "{line}");
 }

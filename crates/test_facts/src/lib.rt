@@ -1,5 +1,5 @@
-//! Trials of marks and facts by their public calls alone, in a crate of their own: what a crate's own tests are proved with
-//! is the crate once more.
+//! Tests of marks and facts by their public calls alone. Tests inside a crate would have it proved again, so these have a
+//! crate of their own.
 //!
 //! `lines` has which lines are marks, and what these are printed as. `bus` has facts of a bus, and what is there where they
 //! don't hold. `checks` has what they assert.

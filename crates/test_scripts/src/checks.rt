@@ -1,26 +1,26 @@
-//! What a trial asserts, as calls: the code that an assertion stands for is proved here once, and not wherever a trial
-//! asserts.
+//! Assertions of tests as functions, so that each is proved once and not wherever a test asserts. Each crate of tests has its
+//! own: the gate takes a function that may abort in tests alone.
 ghost use Rattle.std.specs.Prelude.{IsTrue};
 
 use std::fmt::{Debug, Display};
 use std::process::Abort;
 
-/// Fails the trial where what was found isn't what is due, and shows both.
-pub(crate) fn same<R: Abort, T: PartialEq + Debug + Drop>(rt: &R, found: T, due: T) {
-    assert_eq!(rt; found, due);
+/// Fails unless what was found is what was expected, and prints both.
+pub(crate) fn same<R: Abort, T: PartialEq + Debug + Drop>(rt: &R, found: T, expected: T) {
+    assert_eq!(rt; found, expected);
 }
 
-/// The same, and shows in which case it is.
+/// The same, and prints in which case it is.
 pub(crate) fn same_in<R: Abort, T: PartialEq + Debug + Drop, C: Display + Drop>(
     rt: &R,
     case: C,
     found: T,
-    due: T,
+    expected: T,
 ) {
-    assert_eq!(rt; found, due, "in the case {case}");
+    assert_eq!(rt; found, expected, "in the case {case}");
 }
 
-/// Fails the trial where this isn't so, and says what isn't.
+/// Fails unless this is so, and says what isn't.
 pub(crate) fn holds<R: Abort>(rt: &R, is_so: bool, what: &str)
     ensures { IsTrue is_so }
 {

@@ -1,9 +1,9 @@
-use super::checks::{holds, same};
 use super::setting::{
     Trial, address, assigned, attached, closed, commanded, ended, ends_with, entry, is_none,
     on_a_bus, only, opened, other_target, post_is_full, post_up_to, role_is_out, slot, target_at,
     unclosed, with,
 };
+use crate::checks::{holds, same};
 use i3c_base::Cuts;
 use i3c_shared::{CloseFault, HeldRole, Port, SharedBus, spend_ports};
 use i3c_step::{Command, Event, Refusal, Reply};

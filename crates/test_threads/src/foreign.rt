@@ -1,10 +1,10 @@
 ghost use Rattle.std.specs.Prelude.{◌≡◌};
 
-use super::checks::same;
 use super::setting::{
     Trial, ask_join, begun, both, closed, drop_off, entry, is_run, on_a_bus, post, slot, target,
     target_at, unclosed, with,
 };
+use crate::checks::same;
 use i3c_base::Slot;
 use i3c_shared::{CallFault, CloseFault, DropFault, HeldRole, Port, SharedBus};
 use i3c_step::{Event, Reply};

@@ -1,8 +1,8 @@
-use super::checks::{holds, same};
 use super::setting::{
     Trial, ask_role, attach, both, closed, drop_off, ends_with, entry, handed, is_none, on_a_bus,
     only, role_is_out, serves, slot, target, unclosed, with,
 };
+use crate::checks::{holds, same};
 use i3c_base::Served;
 use i3c_shared::{
     AttachFault, CallFault, CloseFault, DropFault, HeldRole, Port, SharedBus, spend_ports,

@@ -1,12 +1,11 @@
-//! Trials of the bus that threads share, and of devices that post from threads, by their public calls alone, in a crate
-//! of their own: what a crate's own tests are proved with is the crate once more.
+//! Tests of the bus that threads share, and of devices that post from threads, by their public calls alone. Tests inside a
+//! crate would have it proved again, so these have a crate of their own.
 //!
 //! `runs` has whole runs with each of their events, `handing` the role that is parked for its new holder, and `closing` when
 //! a bus may be closed. `foreign` has ports of another bus, `threads` devices that post while the bus is busy, `sharing`
 //! threads that call on one bus, and `stressed` what a stress run posts, serves and counts.
 //! `setting` has what they share: there a bus is made with its three ledgers (`Trial`), and a call that was short of memory
 //! is given again. `strict` makes each call once.
-//! `checks` has what they assert.
 #![tactic(auto)]
 
 #[cfg(test)]

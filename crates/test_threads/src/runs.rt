@@ -1,9 +1,9 @@
-use super::checks::{holds, same};
 use super::setting::{
     INTERRUPT, NONE, Trial, address, ask_join, assigned, attach, both, closed, commanded, ended,
     ends_with, entry, is_run, left, on_a_bus, only, opened, post, post_is_full, post_up_to, round,
     serves, slot, target, target_at,
 };
+use crate::checks::{holds, same};
 use i3c_base::{Answer, Cuts, Fixed, Record, RoundReply, Served, Slot, Verdict};
 use i3c_shared::{AttachFault, Entry, HeldRole, Left, Port, SharedBus};
 use i3c_step::{Command, Event, Framed, Refusal, Reply};

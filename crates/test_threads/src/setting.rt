@@ -2,7 +2,7 @@
 //! each trial ends as it does otherwise, whichever one allocation is refused.
 ghost use Rattle.std.specs.Prelude.{◌≡◌};
 
-use super::checks::{holds, same};
+use crate::checks::{holds, same};
 use i3c_base::{
     Addr7, Bcr, Cuts, Dcr, Fixed, Identity, Pid, RoundReply, Served, Setup, Slot, Verdict,
 };

@@ -1,10 +1,10 @@
 ghost use Rattle.std.specs.Prelude.{◌≡◌, ⊤};
 
-use super::checks::{holds, same};
 use super::setting::{
     INTERRUPT, ask_join, ask_role, assigned, attached, begun, both, closed, commanded_by,
     controller, ends_with, entry, got, other_target, post, reached, slot, target_at, with,
 };
+use crate::checks::{holds, same};
 use i3c_base::{Cuts, Request, Served, Setup, Slot, Verdict};
 use i3c_bus::Policy;
 use i3c_shared::{Entry, HeldRole, Port, Run, SharedBus};

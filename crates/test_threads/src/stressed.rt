@@ -1,5 +1,5 @@
-use super::checks::same;
 use super::setting::{NONE, entry, reached};
+use crate::checks::same;
 use i3c_base::{Cuts, Served, Slot};
 use i3c_scenario::{StressFault, StressReport, Watch, stress_watched};
 use i3c_shared::{Closed, Entry};

@@ -1,5 +1,5 @@
-use super::checks::{holds, same};
 use super::setting::{ALL, Trial, address, controller, entry, is_none, is_tried, slot};
+use crate::checks::{holds, same};
 use i3c_base::{Cuts, RoundReply, Served};
 use i3c_frame::Silent;
 use i3c_shared::{Closed, HeldRole, HeldSession, Left, Port, SharedBus};

@@ -1,10 +1,10 @@
 ghost use Rattle.std.specs.Prelude.{◌≡◌, ⊤};
 
-use super::checks::{holds, same};
 use super::setting::{
     ALL, address, assigned, attached, begun, both, closed, commanded_by, ends_with, entry,
     other_target, post, reached, slot, target_at, with,
 };
+use crate::checks::{holds, same};
 use i3c_base::{Addr7, Cuts, Request, Served, Slot, Verdict};
 use i3c_bus::Policy;
 use i3c_scenario::{Gate, StressFault, StressReport, stress};
@@ -80,8 +80,8 @@ fn devices_post_at_once(rt: HostRuntime) {
     }
 }
 
-/// What two threads have counted: how often the policy was asked as it should be, and how many answers the poster had; how
-/// many of these say that its post is in, and how often one of the threads waited for too long.
+/// What two threads have counted: how often the policy was asked as it should be, how many answers the poster had, how many
+/// of these say that its post is in, and how often one of the threads waited for too long.
 #[derive(Drop)]
 struct Counts {
     asked: AtomicU64,

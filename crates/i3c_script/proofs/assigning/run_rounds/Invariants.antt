@@ -1,7 +1,7 @@
 use Rattle.std.proofs.Common.{List}
 use Rattle.i3c_script.specs.declared.settings.Settings.{Settings}
 use Rattle.i3c_base.specs.Cutting.{no_cuts}
-use Rattle.i3c_bus.specs.declared.tokens.Hand.{Hand}
+use Rattle.i3c_bus.specs.declared.hand.Hand.{Hand}
 use Rattle.i3c_bus.specs.Hands.{HandFits}
 use Rattle.i3c_script.specs.declared.tenures.Tenure.{Tenure}
 use Rattle.i3c_script.specs.Ran.{ran_of}

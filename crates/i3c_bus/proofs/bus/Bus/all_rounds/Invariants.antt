@@ -4,7 +4,7 @@ use Rattle.i3c_frame.specs.Taps.{Tells}
 use Rattle.i3c_step.specs.Sessions.{hearers}
 use Rattle.i3c_bus.specs.Assigning.{AreRounds, given_reply}
 use Rattle.i3c_bus.specs.Hands.{HandFits}
-use Rattle.i3c_bus.specs.declared.tokens.Hand.{Hand}
+use Rattle.i3c_bus.specs.declared.hand.Hand.{Hand}
 use Rattle.i3c_bus.proofs.bus.Bus.all_rounds.Given as goal
 
 -- each round so far gave an address, and left one hearer fewer

@@ -7,7 +7,7 @@ use Rattle.i3c_base.specs.Cutting.{Lost}
 use Rattle.i3c_base.specs.Frames.{Rekinds, changed_kinds, kinds_bits}
 use Rattle.i3c_base.specs.Serve.{given_for, header_bits}
 use Rattle.i3c_base.specs.State.{State}
-use Rattle.i3c_bus.specs.declared.tokens.Hand.{Hand}
+use Rattle.i3c_bus.specs.declared.hand.Hand.{Hand}
 use Rattle.i3c_bus.specs.Beginning.{LeavesBy}
 use Rattle.i3c_step.specs.Step.{is_no_target}
 use Rattle.i3c_frame.specs.Taps.{Tells}

@@ -11,7 +11,7 @@ use Rattle.i3c_handoff.specs.Offers.{IsOffered, offer_bits}
 use Rattle.i3c_handoff.specs.Telling.{IsOfferWire}
 use Rattle.i3c_step.specs.declared.events.Event.{Event}
 use Rattle.i3c_step.specs.declared.replies.Reply.{Reply}
-use Rattle.i3c_bus.specs.declared.tokens.Hand.{Hand}
+use Rattle.i3c_bus.specs.declared.hand.Hand.{Hand}
 use Rattle.i3c_bus.specs.Calls.{Carries}
 use Rattle.i3c_bus.specs.Wire.{IsUntaken}
 use Rattle.i3c_bus.proofs.Handovers.{declined_carried, handed_carried, taken_by}

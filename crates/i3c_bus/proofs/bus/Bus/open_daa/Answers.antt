@@ -5,7 +5,7 @@ use Rattle.i3c_bus.specs.Calls.{Carries}
 use Rattle.i3c_frame.specs.Taps.{Tells}
 use Rattle.i3c_step.specs.declared.events.Event.{Event}
 use Rattle.i3c_step.specs.declared.replies.Reply.{Reply}
-use Rattle.i3c_bus.specs.declared.tokens.Hand.{Hand}
+use Rattle.i3c_bus.specs.declared.hand.Hand.{Hand}
 use Rattle.i3c_bus.proofs.Opening.{opening_carried}
 use Rattle.i3c_bus.proofs.bus.Bus.open_daa.Goals as goal
 

@@ -5,7 +5,7 @@ use Rattle.i3c_base.specs.State.{State}
 use Rattle.i3c_base.specs.Serve.{given_for}
 use Rattle.i3c_step.specs.declared.events.Event.{Event}
 use Rattle.i3c_step.specs.declared.replies.Reply.{Reply}
-use Rattle.i3c_bus.specs.declared.tokens.Hand.{Hand}
+use Rattle.i3c_bus.specs.declared.hand.Hand.{Hand}
 use Rattle.i3c_bus.specs.Beginning.{Begins, LeavesBy}
 use Rattle.i3c_step.specs.Step.{Nothing}
 use Rattle.i3c_frame.specs.Taps.{Tells}

@@ -6,7 +6,7 @@ use Rattle.i3c_step.specs.Giving.{given_by}
 use Rattle.i3c_step.specs.Replies.{wrote_reply}
 use Rattle.i3c_step.specs.declared.events.Event.{Event}
 use Rattle.i3c_step.specs.declared.replies.Reply.{Reply}
-use Rattle.i3c_bus.specs.declared.tokens.Hand.{Hand}
+use Rattle.i3c_bus.specs.declared.hand.Hand.{Hand}
 use Rattle.i3c_bus.specs.Calls.{Carries}
 use Rattle.i3c_bus.proofs.bus.Bus.write_kept.Goals as goal
 

@@ -1,7 +1,7 @@
 use Rattle.std.proofs.Common.{◌≡◌, ◌∙◌, Some, ap, refl, rules, subst, sym}
 use Rattle.i3c_base.specs.State.{device_at}
 use Rattle.i3c_bus.specs.Readings.{address_of}
-use Rattle.i3c_bus.specs.declared.tokens.Hand.{Hand}
+use Rattle.i3c_bus.specs.declared.hand.Hand.{Hand}
 use Rattle.i3c_recorder.specs.Beginning.{first_state}
 use Rattle.i3c_recorder.specs.KeptRuns.{Leads}
 use Rattle.i3c_recorder.proofs.Starting.{starts_there}

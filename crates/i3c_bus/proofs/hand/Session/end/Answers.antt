@@ -1,0 +1,5 @@
+use Rattle.std.proofs.Common.{rules}
+use Rattle.i3c_bus.proofs.hand.Session.end.Goals as goal
+
+pub returns : goal.returns
+returns g c = search rules

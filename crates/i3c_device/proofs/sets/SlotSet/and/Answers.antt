@@ -1,5 +1,0 @@
-use Rattle.i3c_device.proofs.KindLaws.{and_bit}
-use Rattle.i3c_device.proofs.sets.SlotSet.and.Goals as goal
-
-pub returns : goal.returns
-returns c s l = and_bit c.args.self.bits c.args.other.bits s
