@@ -7,6 +7,7 @@ pub mod Explained
 pub mod Feeds
 pub mod Gathered
 mod Expected
+mod Outlasting
 pub mod ScriptRuns
 pub mod ScriptRead
 pub mod AsciiLaws

@@ -9,7 +9,8 @@ use Rattle.i3c_script.specs.Ran.{Ran}
 use Rattle.i3c_script.proofs.Reaching.{IsSound, at_on}
 use Rattle.i3c_facts.specs.declared.claims.Claim.{Claim}
 use Rattle.i3c_facts.specs.declared.marks.Mark.{Mark}
-use Rattle.i3c_scenario.specs.Expecting.{HasBegun, MarkDoes, Standing, TestsAt, counted, tested}
+use Rattle.i3c_scenario.specs.Expecting.{AlwaysAt, HasBegun, LastsAt, MarkDoes, Standing, TestsAt, counted, lasting_from, went}
+use Rattle.i3c_scenario.specs.declared.lasting.Lasting.{Lasting}
 use Rattle.i3c_scenario.specs.Legal.{counted_made, line_made, lines_made, script_made}
 use Rattle.i3c_scenario.specs.Scripts.{CountedRuns, Lead, LineDoes, LineRun, LinesLead}
 
@@ -34,19 +35,28 @@ reached old lines new ran begun lead is =
     subst (IsSound (lines_made old lines new lead)) is (lines_on [] old lines new (subst (IsSound []) (sym begun.stage) refl) lead)
 
 -- an expectation leads nowhere
-tested_stays : (now : Standing) (met : Bool) → (tested now met).script ≡ now.script
-tested_stays now true = refl
-tested_stays now false = refl
-
 tests_stay : (now : Standing) (stage : Stage) (facts : List Claim) (said : List ℕ) (refused : Option Refusal) (new : Standing) → TestsAt now stage facts said refused new → new.script ≡ now.script
 tests_stay now (Stage.Before board) facts said refused new (none, why, same) = ap (λ s. s.script) same
-tests_stay now (Stage.Running ran) facts said refused new (text, why, same) = ap (λ s. s.script) same ∙ tested_stays now _
+tests_stay now (Stage.Running ran) facts said refused new (text, why, same) = ap (λ s. s.script) same
+
+-- nor does one that lasts
+from_stays : (now : Standing) (one : Lasting) (holds : Bool) → (lasting_from now one holds).script ≡ now.script
+from_stays now one true = refl
+from_stays now one false = refl
+
+always_stays : (now : Standing) (stage : Stage) (facts : List Claim) (said : List ℕ) (refused : Option Refusal) (new : Standing) → AlwaysAt now stage facts said refused new → new.script ≡ now.script
+always_stays now (Stage.Before board) facts said refused new (none, why, same) = ap (λ s. s.script) same
+always_stays now (Stage.Running ran) facts said refused new (text, why, same) = ap (λ s. s.script) same ∙ from_stays now _ _
+
+lasts_stay : (now : Standing) (stage : Stage) (told : List ℕ) (new : Standing) → LastsAt now stage told new → new.script ≡ now.script
+lasts_stay now (Stage.Before board) told new (none, same) = ap (λ s. s.script) same
+lasts_stay now (Stage.Running ran) told new (text, same) = ap (λ s. s.script) same
 
 -- nor does another mark
 mark_stays : (now : Standing) (mark : Mark) (said : List ℕ) (refused : Option Refusal) (new : Standing) → MarkDoes now mark said refused new → new.script ≡ now.script
 mark_stays now Mark.Any said refused new (none, why, same) = ap (λ s. s.script) same
 mark_stays now (Mark.Anywhere name) said refused new (none, why, same) = ap (λ s. s.script) same
-mark_stays now (Mark.Always facts) said refused new (none, why, same) = ap (λ s. s.script) same
+mark_stays now (Mark.Always facts) said refused new always = always_stays now now.script.stage facts said refused new always
 mark_stays now Mark.Track said refused new (none, why, same) = ap (λ s. s.script) same
 mark_stays now Mark.Close said refused new (none, why, same) = ap (λ s. s.script) same
 mark_stays now (Mark.Expect facts) said refused new tests = tests_stay now now.script.stage facts said refused new tests
@@ -55,10 +65,10 @@ counted_on : (steps : List Made) (now : Standing) (line said : List ℕ) (refuse
     → IsSound (steps ++ counted_made now line said refused new h) new.script.stage
 counted_on steps now line said refused new s (inl (bad, none, why, same)) = stays steps now.script new.script s (ap (λ s. s.script) same)
 counted_on steps now line said refused new s (inr (inl (skipped, none, why, same))) = stays steps now.script new.script s (ap (λ s. s.script) same)
-counted_on steps now line said refused new s (inr (inr (inl (mark, is, takes, does)))) = stays steps now.script new.script s (mark_stays now mark said refused new does)
-counted_on steps now line said refused new s (inr (inr (inr (command, state, asks, obeys, same)))) =
-    subst (λ (script : ScriptState). IsSound (steps ++ counted_made now line said refused new (inr (inr (inr (command, state, asks, obeys, same))))) script.stage) (sym (ap (λ s. s.script) same))
-    (at_on steps now.script.stage now.script.names command said refused state s obeys)
+counted_on steps now line said refused new s (inr (inr (inl (mark, is, does)))) = stays steps now.script new.script s (mark_stays now mark said refused new does)
+counted_on steps now line said refused new s (inr (inr (inr (command, state, own, told, asks, obeys, text, lasts)))) =
+    subst (λ (script : ScriptState). IsSound (steps ++ counted_made now line said refused new (inr (inr (inr (command, state, own, told, asks, obeys, text, lasts))))) script.stage)
+    (sym (lasts_stay (went now state refused) state.stage told new lasts)) (at_on steps now.script.stage now.script.names command own refused state s obeys)
 
 script_on : (steps : List Made) (old : Standing) (lines : List LineRun) (new : Standing) → IsSound steps old.script.stage → (h : LinesLead old lines new) → IsSound (steps ++ script_made old lines new h) new.script.stage
 script_on steps old [] new s same = stays steps old.script new.script s (ap (λ s. s.script) same)

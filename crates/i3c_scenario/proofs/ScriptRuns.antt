@@ -10,7 +10,7 @@ use Rattle.std.specs.Io.KnownBytes.{Appends}
 use Rattle.i3c_lines.specs.Forms.{HasNoForm, IsCommand, IsSkipped}
 use Rattle.i3c_script.specs.Obeying.{ScriptState}
 use Rattle.i3c_facts.specs.Forms.{IsMark}
-use Rattle.i3c_scenario.specs.Expecting.{IsBad, IsTaken, Standing}
+use Rattle.i3c_scenario.specs.Expecting.{IsBad, IsMarked, Standing}
 use Rattle.i3c_scenario.specs.Outcomes.{AppendsSome, GoesLast, HasNoFeed, Output, Puts, PutsOrFails, PutsSome, written}
 use Rattle.i3c_script.specs.Printed.{end_text}
 use Rattle.i3c_scenario.specs.Scripts.{LineDoes, LineRun, LineRuns, LinesLead, lines_bytes, lines_out, lines_refused, refusals_of, refused_text, run_text}
@@ -75,14 +75,14 @@ mark_short n line short = take_all (suc n) line (omega (arith, short))
 
 -- whatever may not stand by its first bytes may not
 bad_whole : (line : List ℕ) → IsBad (take 257 line) → IsBad line
-bad_whole line (form, none) = (no_form_whole line form, λ taken. none (subst IsTaken (sym (mark_short 256 line taken.1.0)) taken))
+bad_whole line (form, none) = (no_form_whole line form, λ marked. none (subst IsMarked (sym (mark_short 256 line marked.1.0)) marked))
 
 -- a line of a script does what it does by its first bytes
 pub runs_whole : (old : Standing) (line said : List ℕ) (refused : Option Refusal) (new : Standing) → LineRuns old (take 257 line) said refused new → LineRuns old line said refused new
 runs_whole old line said refused new (inl (bad, none, why, same)) = inl (bad_whole line bad, none, why, same)
 runs_whole old line said refused new (inr (inl (skipped, none, why, same))) = inr (inl (subst IsSkipped (taken_whole line skipped.0) skipped, none, why, same))
-runs_whole old line said refused new (inr (inr (inl (mark, is, takes, does)))) = inr (inr (inl (mark, subst (λ l. IsMark l mark) (taken_whole line is.0) is, takes, does)))
-runs_whole old line said refused new (inr (inr (inr (command, state, is, obeys, goes)))) = inr (inr (inr (command, state, subst (λ l. IsCommand l command) (taken_whole line is.0) is, obeys, goes)))
+runs_whole old line said refused new (inr (inr (inl (mark, is, does)))) = inr (inr (inl (mark, subst (λ l. IsMark l mark) (taken_whole line is.0) is, does)))
+runs_whole old line said refused new (inr (inr (inr (command, state, own, told, is, obeys, text, lasts)))) = inr (inr (inr (command, state, own, told, subst (λ l. IsCommand l command) (taken_whole line is.0) is, obeys, text, lasts)))
 
 -- what begins a line, in pieces
 pub take_both : (n : ℕ) (xs ys : List ℕ) → take n (take n xs ++ ys) ≡ take n (xs ++ ys)

@@ -10,7 +10,7 @@ use Rattle.i3c_lines.specs.Naming.{is_same, place_named}
 use Rattle.i3c_lines.specs.Namings.{name_given, names_meant}
 use Rattle.i3c_scenario.specs.declared.faults.ScriptFault.{ScriptFault}
 use Rattle.i3c_scenario.specs.declared.script.Tally.{Tally}
-use Rattle.i3c_scenario.specs.Expecting.{IsBad, IsTaken}
+use Rattle.i3c_scenario.specs.Expecting.{IsBad, IsMarked}
 use Rattle.i3c_scenario.specs.Outcomes.{AppendsSome, HasNoFeed}
 
 -- a name is known: a line gave it
@@ -39,7 +39,7 @@ Gives old new (Some name) = (other : Name) → is_given new other ≡ (if is_sam
 abbrev pub LineChecked : Names → ℕ → List ℕ → List ℕ → Names → Type 0
 LineChecked old number line told new = (IsBad line × IsToldLine number told × (new ≡ old))
     ⊎ (IsSkipped line × (told ≡ []) × (new ≡ old))
-    ⊎ (IsTaken line × (told ≡ []) × (new ≡ old))
+    ⊎ (IsMarked line × (told ≡ []) × (new ≡ old))
     ⊎ ((command : Command) × IsCommand line command × NameTold old number (names_meant command) told × Gives old new (name_given command))
 
 -- a line that was checked: its bytes without the line feed, and what was told of it

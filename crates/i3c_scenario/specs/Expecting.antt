@@ -1,4 +1,4 @@
--- Where a script is between two lines, and what the marks do that a run takes.
+-- Where a script is between two lines, and what marks do.
 use Rattle.std.specs.Prelude.{◌≡◌, ℕ, ◌+◌, Bool, true, false, List, [], ◌∷◌, ◌++◌, codes, min, Option, Some, None, slice_index_or}
 use Rattle.std.specs.Fmt.{decimal}
 use Rattle.i3c_base.specs.State.{State}
@@ -13,15 +13,17 @@ use Rattle.i3c_lines.specs.declared.names.Names.{Names}
 use Rattle.i3c_lines.specs.declared.refusals.Refusal.{Refusal}
 use Rattle.i3c_lines.specs.Forms.{HasNoForm}
 use Rattle.i3c_lines.specs.Naming.{place_named, slot_names}
+use Rattle.i3c_scenario.specs.declared.lasting.Lasting.{Lasting}
 use Rattle.i3c_script.specs.declared.stage.Stage.{Stage}
 use Rattle.i3c_script.specs.Obeying.{IsBegun, ScriptState}
 
--- where a script is between two lines: its bus and names, the number of the line before, what the last command came to, and how many expectations weren't met
+-- where a script is between two lines: its bus and names, the number of the line before, what the last command came to, how many expectations weren't met, and those that last
 pub record Standing : Type 0 where
   pub script : ScriptState
   pub lines : ℕ
   pub before : Before
   pub unmet : ℕ
+  pub lasting : List Lasting
 
 -- the start of a script: no line was run
 pub record HasBegun (start : Standing) : Type 0 where
@@ -29,6 +31,7 @@ pub record HasBegun (start : Standing) : Type 0 where
   pub lines : start.lines ≡ 0
   pub before : start.before ≡ Before.Nothing
   pub unmet : start.unmet ≡ 0
+  pub lasting : start.lasting ≡ []
 
 -- one more, as far as 64 bits count
 abbrev pub one_more : ℕ → ℕ
@@ -42,44 +45,93 @@ counted old = record old { lines = one_more old.lines }
 abbrev pub went : Standing → ScriptState → Option Refusal → Standing
 went now script refused = record now { script = script; before = came_to refused }
 
+-- one more expectation that isn't met, unless it is
+abbrev pub unmet_if : Bool → ℕ → ℕ
+unmet_if true unmet = unmet
+unmet_if false unmet = one_more unmet
+
 -- an expectation was tested
 abbrev pub tested : Standing → Bool → Standing
-tested now true = now
-tested now false = record now { unmet = one_more now.unmet }
+tested now met = record now { unmet = unmet_if met now.unmet }
 
--- whether one of these claims holds of a bus
-abbrev pub is_met : Standing → State → List Claim → Bool
-is_met now st facts = claims_hold st (place_named now.script.names) now.before facts
+-- whether one of these claims holds of a bus, with these names and what the line before came to
+abbrev pub is_met : State → Names → Before → List Claim → Bool
+is_met st names before facts = claims_hold st (place_named names) before facts
 
 -- the name that was last given to a slot
 abbrev pub name_in_slot : Names → ℕ → Option Name
 name_in_slot names slot = slice_index_or (slot_names names) slot None
 
--- what an expectation prints: that it is met, or its line's number and the first fact as it would hold
+-- the line of an expectation that isn't met: the number of its own line, and the first fact as it would hold
+abbrev pub unmet_line : State → Names → Before → ℕ → List Claim → List ℕ
+unmet_line st names before number facts = codes "unmet " ++ (decimal number ++ (codes " " ++ (unmet_text st (place_named names) (name_in_slot names) before facts ++ 10 ∷ [])))
+
+-- what an expectation prints: that it is met, or that it isn't
 abbrev pub test_text : Standing → State → List Claim → Bool → List ℕ
 test_text now st facts true = codes "met" ++ 10 ∷ []
-test_text now st facts false = codes "unmet " ++ (decimal now.lines ++ (codes " " ++ (unmet_text st (place_named now.script.names) (name_in_slot now.script.names) now.before facts ++ 10 ∷ [])))
+test_text now st facts false = unmet_line st now.script.names now.before now.lines facts
 
 -- an expectation changes nothing but the count of those that weren't met. Before the bus it is refused
 abbrev pub TestsAt : Standing → Stage → List Claim → List ℕ → Option Refusal → Standing → Type 0
 TestsAt now (Stage.Before board) facts said refused new = (said ≡ []) × (refused ≡ Some Refusal.NoBus) × (new ≡ went now now.script (Some Refusal.NoBus))
 TestsAt now (Stage.Running ran) facts said refused new =
-    (said ≡ test_text now ran.state facts (is_met now ran.state facts)) × (refused ≡ None) × (new ≡ tested now (is_met now ran.state facts))
+    (said ≡ test_text now ran.state facts (is_met ran.state now.script.names now.before facts)) × (refused ≡ None) × (new ≡ tested now (is_met ran.state now.script.names now.before facts))
 
--- the marks that a run takes: `always` asks for more than one place of a script
-abbrev pub takes : Mark → Bool
-takes (Mark.Always facts) = false
-takes _ = true
+-- what is told of an expectation that lasts: nothing where it holds
+abbrev pub lasting_line : State → Names → Before → Lasting → Bool → List ℕ
+lasting_line st names before one true = []
+lasting_line st names before one false = unmet_line st names before one.number one.facts
 
--- what a mark does: an expectation is tested, and what says which lines may overlap does nothing
+-- what is told of some of them, in their order
+abbrev pub lasting_text : State → Names → Before → List Lasting → List ℕ
+lasting_text st names before [] = []
+lasting_text st names before (one ∷ rest) = lasting_line st names before one (is_met st names before one.facts) ++ lasting_text st names before rest
+
+-- it lasts on where it holds
+abbrev pub lasts_if : Bool → Lasting → List Lasting → List Lasting
+lasts_if true one rest = one ∷ rest
+lasts_if false one rest = rest
+
+-- those of them that hold
+abbrev pub still_lasting : State → Names → Before → List Lasting → List Lasting
+still_lasting st names before [] = []
+still_lasting st names before (one ∷ rest) = lasts_if (is_met st names before one.facts) one (still_lasting st names before rest)
+
+-- the number of expectations that weren't met, and of these that don't hold
+abbrev pub unmet_with : State → Names → Before → List Lasting → ℕ → ℕ
+unmet_with st names before [] unmet = unmet
+unmet_with st names before (one ∷ rest) unmet = unmet_with st names before rest (unmet_if (is_met st names before one.facts) unmet)
+
+-- behind a command those that last are tested: each is told where it first doesn't hold
+abbrev pub LastsAt : Standing → Stage → List ℕ → Standing → Type 0
+LastsAt now (Stage.Before board) told new = (told ≡ []) × (new ≡ now)
+LastsAt now (Stage.Running ran) told new = (told ≡ lasting_text ran.state now.script.names now.before now.lasting)
+    × (new ≡ record now { lasting = still_lasting ran.state now.script.names now.before now.lasting; unmet = unmet_with ran.state now.script.names now.before now.lasting now.unmet })
+
+-- an expectation begins to last, unless it doesn't hold at once
+abbrev pub lasting_from : Standing → Lasting → Bool → Standing
+lasting_from now one true = record now { lasting = now.lasting ++ one ∷ [] }
+lasting_from now one false = record now { unmet = one_more now.unmet }
+
+-- an expectation that is to last is tested at once. Before the bus it is refused
+abbrev pub AlwaysAt : Standing → Stage → List Claim → List ℕ → Option Refusal → Standing → Type 0
+AlwaysAt now (Stage.Before board) facts said refused new = (said ≡ []) × (refused ≡ Some Refusal.NoBus) × (new ≡ went now now.script (Some Refusal.NoBus))
+AlwaysAt now (Stage.Running ran) facts said refused new =
+    let one : Lasting = record { number = now.lines; facts = facts } in
+    let holds = is_met ran.state now.script.names now.before facts in
+    (said ≡ lasting_line ran.state now.script.names now.before one holds) × (refused ≡ None) × (new ≡ lasting_from now one holds)
+
+-- what a mark does: expectations are tested, a block's end is the end of those that last, and what says which lines may overlap does nothing
 abbrev pub MarkDoes : Standing → Mark → List ℕ → Option Refusal → Standing → Type 0
 MarkDoes now (Mark.Expect facts) said refused new = TestsAt now now.script.stage facts said refused new
+MarkDoes now (Mark.Always facts) said refused new = AlwaysAt now now.script.stage facts said refused new
+MarkDoes now Mark.Close said refused new = (said ≡ []) × (refused ≡ None) × (new ≡ record now { lasting = [] })
 MarkDoes now _ said refused new = (said ≡ []) × (refused ≡ None) × (new ≡ now)
 
--- a line is a mark that a run takes
-abbrev pub IsTaken : List ℕ → Type 0
-IsTaken line = (mark : Mark) × IsMark line mark × (takes mark ≡ true)
+-- a line is a mark
+abbrev pub IsMarked : List ℕ → Type 0
+IsMarked line = (mark : Mark) × IsMark line mark
 
--- a line is none that a script may have: it has no form, and isn't a mark that a run takes
+-- a line is none that a script may have: it has no form, and isn't a mark
 abbrev pub IsBad : List ℕ → Type 0
-IsBad line = HasNoForm line × (IsTaken line → ⊥)
+IsBad line = HasNoForm line × (IsMarked line → ⊥)

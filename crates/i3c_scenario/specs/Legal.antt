@@ -26,7 +26,7 @@ abbrev pub counted_made : (now : Standing) (line said : List ℕ) (refused : Opt
 counted_made now line said refused new (inl bad) = []
 counted_made now line said refused new (inr (inl skipped)) = []
 counted_made now line said refused new (inr (inr (inl mark))) = []
-counted_made now line said refused new (inr (inr (inr (command, state, asks, obeys, is)))) = command_made now.script.stage now.script.names command said refused state obeys
+counted_made now line said refused new (inr (inr (inr (command, state, own, told, asks, obeys, text, lasts)))) = command_made now.script.stage now.script.names command own refused state obeys
 
 -- the steps that lines of a script are, in order
 abbrev pub script_made : (old : Standing) (lines : List LineRun) (new : Standing) → LinesLead old lines new → List Made

@@ -1,5 +1,5 @@
 -- How a script is run, piece by piece of its bytes.
-use Rattle.std.specs.Prelude.{◌≡◌, ℕ, ◌+◌, List, [], ◌∷◌, ◌++◌, length, min, take, Option, IfSome, Result, Ok, Err, MatchResult}
+use Rattle.std.specs.Prelude.{◌≡◌, ⊤, ℕ, ◌+◌, List, [], ◌∷◌, ◌++◌, length, min, take, Option, IfSome, Result, Ok, Err, MatchResult}
 use Rattle.std.specs.Io.KnownBytes.{Consumes}
 use Rattle.i3c_lines.specs.declared.refusals.Refusal.{Refusal}
 use Rattle.i3c_scenario.specs.declared.faults.ScriptFault.{ScriptFault}
@@ -8,7 +8,7 @@ use Rattle.i3c_scenario.specs.declared.script.Script.{Script}
 use Rattle.i3c_script.specs.Obeying.{script}
 use Rattle.i3c_script.specs.Telling.{Prints}
 use Rattle.i3c_facts.specs.declared.holding.Before.{Before}
-use Rattle.i3c_scenario.specs.Expecting.{Standing}
+use Rattle.i3c_scenario.specs.Expecting.{LastsAt, Standing}
 use Rattle.i3c_scenario.specs.Outcomes.{HasNoFeed, Output, Puts, PutsSome, written}
 use Rattle.i3c_scenario.specs.Scripts.{CountedRuns, LineRun, LineRuns, LinesLead, OutBefore, lines_bytes, lines_out, lines_refused, refusals_of, refused_text}
 
@@ -18,7 +18,7 @@ pub record Progress : Type 0 where
   pub refused : ℕ
 
 abbrev pub state : Script → Standing
-state running = record { script = script running.stage running.names; lines = running.lines; before = running.before; unmet = running.unmet }
+state running = record { script = script running.stage running.names; lines = running.lines; before = running.before; unmet = running.unmet; lasting = running.lasting.items }
 
 abbrev pub progress : Script → Progress
 progress running = record { state = state running; refused = running.refused }
@@ -36,6 +36,22 @@ noted now (Err Stop.Memory) = now
 -- what a line comes to that was counted
 abbrev pub ReadsCounted : Standing → List ℕ → List ℕ → List ℕ → Result (Unit {0}) Stop → Standing → Type 0
 ReadsCounted now line before after result new = Prints (λ said refused. CountedRuns now line said refused new) before after result
+
+-- the expectations that last were tested, and told behind a text
+abbrev pub HaveLasted : Standing → List ℕ → List ℕ → Standing → Type 0
+HaveLasted now before after new = (told : List ℕ) × (after ≡ before ++ told) × LastsAt now now.script.stage told new
+
+-- the same behind a command that came to this, which its line comes to as well. Nothing is said where memory is short
+abbrev pub Outlasts : Standing → List ℕ → List ℕ → Result (Unit {0}) Stop → Result (Unit {0}) Stop → Standing → Type 0
+Outlasts now before after (Ok done) (Ok same) new = HaveLasted now before after new
+Outlasts now before after (Ok done) (Err (Stop.Refused why)) new = ⊥
+Outlasts now before after (Ok done) (Err Stop.Memory) new = ⊤
+Outlasts now before after (Err (Stop.Refused why)) (Ok done) new = ⊥
+Outlasts now before after (Err (Stop.Refused why)) (Err (Stop.Refused same)) new = (same ≡ why) × HaveLasted (record now { before = Before.Refused why }) before after new
+Outlasts now before after (Err (Stop.Refused why)) (Err Stop.Memory) new = ⊤
+Outlasts now before after (Err Stop.Memory) (Ok done) new = ⊥
+Outlasts now before after (Err Stop.Memory) (Err (Stop.Refused why)) new = ⊥
+Outlasts now before after (Err Stop.Memory) (Err Stop.Memory) new = ⊤
 
 -- a line was run, and what it puts out was put behind and counted
 pub record LineDone (line : List ℕ) (old new : Output) (from to : Progress) : Type 0 where

@@ -10,7 +10,7 @@ use Rattle.i3c_scenario.specs.declared.script.Tally.{Tally}
 use Rattle.i3c_script.specs.Obeying.{Obeys, ScriptState}
 use Rattle.i3c_facts.specs.declared.marks.Mark.{Mark}
 use Rattle.i3c_facts.specs.Forms.{IsMark}
-use Rattle.i3c_scenario.specs.Expecting.{HasBegun, IsBad, MarkDoes, Standing, counted, takes, went}
+use Rattle.i3c_scenario.specs.Expecting.{HasBegun, IsBad, LastsAt, MarkDoes, Standing, counted, went}
 use Rattle.i3c_scenario.specs.Outcomes.{AppendsSome, HasNoFeed}
 
 -- a line that was run: its bytes without the line feed, what it printed, and why it was refused, if it was
@@ -45,13 +45,14 @@ abbrev pub Lead : ScriptState → List LineRun → ScriptState → Type 0
 Lead old [] new = new ≡ old
 Lead old (run ∷ rest) new = (mid : ScriptState) × IsRun old run mid × Lead mid rest new
 
--- of a script: what a line that was counted prints, why it is refused, if it is, and where the script is after it. A mark that
--- a run takes does what the mark does, and is none of the lines before that a later fact speaks of
+-- of a script: what a line that was counted prints, why it is refused, if it is, and where the script is after it. A mark does
+-- what it does, and is none of the lines before that a later fact speaks of. Behind what a command prints stands which
+-- expectations that last no longer hold
 abbrev pub CountedRuns : Standing → List ℕ → List ℕ → Option Refusal → Standing → Type 0
 CountedRuns now line said refused new = (IsBad line × (said ≡ []) × (refused ≡ Some Refusal.BadLine) × (new ≡ went now now.script (Some Refusal.BadLine)))
     ⊎ (IsSkipped line × (said ≡ []) × (refused ≡ None) × (new ≡ now))
-    ⊎ ((mark : Mark) × IsMark line mark × (takes mark ≡ true) × MarkDoes now mark said refused new)
-    ⊎ ((command : Command) × (state : ScriptState) × IsCommand line command × Obeys now.script command said refused state × (new ≡ went now state refused))
+    ⊎ ((mark : Mark) × IsMark line mark × MarkDoes now mark said refused new)
+    ⊎ ((command : Command) × (state : ScriptState) × (own told : List ℕ) × IsCommand line command × Obeys now.script command own refused state × (said ≡ own ++ told) × LastsAt (went now state refused) state.stage told new)
 
 -- the same of a line that comes next
 abbrev pub LineRuns : Standing → List ℕ → List ℕ → Option Refusal → Standing → Type 0

@@ -14,7 +14,7 @@ use i3c_text::Text;
 use std::alloc::{AllocError, Global};
 use std::io::{Read, Write};
 
-/// Checks a script without running it. It tells each line that has no form and is no mark that a run takes, with its number,
+/// Checks a script without running it. It tells each line that has no form and is no mark, with its number,
 /// and why. It also tells each line that means a device by a name that no line before it gives, with the first such name. It
 /// counts the lines that are told.
 ///
@@ -56,7 +56,7 @@ struct Check {
 impl Check {
     ghost use Rattle.std.specs.Prelude.{[]};
     ghost use Rattle.i3c_lines.specs.Forms.{HasNoForm};
-    ghost use Rattle.i3c_scenario.specs.Expecting.{IsTaken};
+    ghost use Rattle.i3c_scenario.specs.Expecting.{IsMarked};
     ghost use Rattle.i3c_scenario.specs.Checks.{ChecksAll, Gives, IsStart, IsToldLine, LineChecked, NameTold, tells};
 
     /// Before the first line.
@@ -130,7 +130,7 @@ impl Check {
     /// Checks the names of a line that has a form. A mark means no device: a name may be that of one that is gone.
     fn check_formed(&mut self, number: u64, line: &[u8]) -> Result<(), AllocError>
         requires fresh { self.old.text ≡ [] }
-        requires formed { HasNoForm line.now → IsTaken line.now }
+        requires formed { HasNoForm line.now → IsMarked line.now }
         ensures { OnOk result (LineChecked self.old.names number line.now self.new.text self.new.names × (min self.new.told u64.MAX ≡ min (self.old.told + tells self.new.text) u64.MAX)) }
     {
         match read_line(line) {

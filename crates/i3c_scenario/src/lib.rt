@@ -2,7 +2,7 @@
 //! devices that post from threads of their own.
 //!
 //! - `script` parts the bytes of a script into lines, runs them and counts the refusals.
-//! - `expecting` reads the marks that a run takes, and prints whether expectations are met.
+//! - `expecting` prints whether expectations are met, and `lasting` tests those that last to the end of a block.
 //! - `check` tells a script's lines without a form, by `script_lines`, which reads one line after another.
 //! - `watched` runs a script and shows more of it, with the `reasons` of refusals.
 //! - `viewed` shows each line to a viewer, with what it printed and the symbols that it sent.
@@ -16,6 +16,7 @@ mod check;
 mod expecting;
 mod explaining;
 mod faults;
+mod lasting;
 mod laws;
 mod linting;
 mod output;

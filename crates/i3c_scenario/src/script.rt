@@ -4,23 +4,25 @@ ghost use Rattle.i3c_lines.specs.Gathering.{gathered};
 ghost use Rattle.i3c_scenario.specs.Outcomes.{HasNoFeed, output, written};
 ghost use Rattle.i3c_script.specs.Printed.{end_text};
 ghost use Rattle.i3c_facts.specs.declared.holding.Before.{Before as BeforeValue};
+ghost use Rattle.i3c_script.specs.declared.stop.Stop.{Stop as StopValue};
 ghost use Rattle.i3c_scenario.specs.Scripts.{LinesGoOut, refused_text};
 ghost use Rattle.i3c_lines.specs.Forms.{HasNoForm};
-ghost use Rattle.i3c_scenario.specs.Expecting.{HasBegun, MarkDoes, TestsAt};
+ghost use Rattle.i3c_scenario.specs.Expecting.{AlwaysAt, HasBegun, MarkDoes, TestsAt};
 ghost use Rattle.i3c_script.specs.Telling.{Prints};
-ghost use Rattle.i3c_scenario.specs.ScriptSteps.{LineEnds, Reads, ReadsAll, ReadsCounted, Runs, Takes, noted, progress, state};
+ghost use Rattle.i3c_scenario.specs.ScriptSteps.{HaveLasted, LineEnds, Outlasts, Reads, ReadsAll, ReadsCounted, Runs, Takes, noted, progress, state};
 ghost use Rattle.i3c_scenario.specs.Faults.{IsLineFault};
 ghost use Rattle.i3c_script.specs.Stops.{refusals};
 
-use crate::expecting::{push_met, push_unmet, read_taken};
+use crate::expecting::{push_met, push_unmet};
 use crate::faults::ScriptFault;
+use crate::lasting::{Lasting, keep, test_all, test_one};
 use crate::output::{gather, position_of_feed, show_refusal, write_last};
 use crate::reading::{CHUNK, MOST_BYTES, Piece, read_piece};
-use i3c_facts::{Before, Facts, Mark};
+use i3c_facts::{Before, Facts, Mark, read_mark};
 use i3c_lines::{Command, Line, Names, Refusal, is_skipped};
 use i3c_script::{Stage, Stop};
 use i3c_text::Text;
-use std::alloc::Global;
+use std::alloc::{AllocError, Global};
 use std::io::{Read, Write};
 use std::mem;
 
@@ -70,7 +72,8 @@ pub fn run_script<R: Read, W: Write>(
 struct Plain;
 
 /// The state of a running script: its bus and names, the partial line, the current command, that command's output, output
-/// not yet written, and what expectations speak of: the number of the line, and what the last command came to.
+/// not yet written, what expectations speak of (the number of the line, and what the last command came to), and the
+/// expectations that last.
 pub(crate) struct Script {
     pub(crate) alloc: Global,
     pub(crate) stage: Stage,
@@ -84,6 +87,7 @@ pub(crate) struct Script {
     lines: u64,
     before: Before,
     unmet: u64,
+    lasting: Vec<Lasting>,
 }
 
 impl Script {
@@ -105,6 +109,7 @@ impl Script {
             lines: 0,
             before: Before::Nothing,
             unmet: 0,
+            lasting: Vec::new(alloc),
         }
     }
 
@@ -249,8 +254,13 @@ impl Script {
             Some(()) => {
                 // unless it is refused, which `settle` notes
                 self.before = Before::Done;
-                self.stage
-                    .obey::<K>(self.alloc, &mut self.names, &self.command, &mut self.text)
+                let outcome = self
+                    .stage
+                    .obey::<K>(self.alloc, &mut self.names, &self.command, &mut self.text);
+                if self.lasting.is_empty() {
+                    return outcome;
+                }
+                self.outlast(outcome)
             }
             None => self.obey_mark(line),
         }
@@ -266,24 +276,108 @@ impl Script {
         ensures refused { self.new.refused ≡ self.old.refused }
         ensures reads { ReadsCounted (state self.old) line.now self.old.text self.new.text result (noted (state self.new) result) }
     {
-        match read_taken(self.alloc, line) {
-            Ok(Some(mark)) => self.obey_taken(&mark),
+        match read_mark(self.alloc, line) {
+            Ok(Some(mark)) => self.obey_read(mark),
             Ok(None) => Err(Stop::Refused(Refusal::BadLine)),
             Err(_) => Err(Stop::Memory),
         }
     }
 
-    /// Obeys a mark that a run takes.
-    fn obey_taken(&mut self, mark: &Mark) -> Result<(), Stop>
+    /// Obeys a mark that was read.
+    fn obey_read(&mut self, mark: Mark) -> Result<(), Stop>
         ensures held { self.new.line ≡ self.old.line }
         ensures gathered { self.new.gathered ≡ self.old.gathered }
         ensures refused { self.new.refused ≡ self.old.refused }
-        ensures does { Prints (λ said refused. MarkDoes (state self.old) mark.now said refused (noted (state self.new) result)) self.old.text self.new.text result }
+        ensures does { Prints (λ said refused. MarkDoes (state self.old) mark said refused (noted (state self.new) result)) self.old.text self.new.text result }
     {
         match mark {
-            Mark::Expect(facts) => self.test(facts),
-            Mark::Any | Mark::Anywhere(_) | Mark::Track | Mark::Close | Mark::Always(_) => Ok(()),
+            Mark::Expect(facts) => self.test(&facts),
+            Mark::Always(facts) => self.last(facts),
+            Mark::Close => {
+                self.lasting = Vec::new(self.alloc);
+                Ok(())
+            }
+            Mark::Any | Mark::Anywhere(_) | Mark::Track => Ok(()),
         }
+    }
+
+    /// Tests an expectation that is to last. It lasts if it holds.
+    fn last(&mut self, facts: Facts) -> Result<(), Stop>
+        ensures held { self.new.line ≡ self.old.line }
+        ensures gathered { self.new.gathered ≡ self.old.gathered }
+        ensures refused { self.new.refused ≡ self.old.refused }
+        ensures begins { Prints (λ said refused. AlwaysAt (state self.old) self.old.stage facts said refused (noted (state self.new) result)) self.old.text self.new.text result }
+    {
+        let Stage::Running(running) = &self.stage else {
+            return Err(Stop::Refused(Refusal::NoBus));
+        };
+        let number = self.lines;
+        let one = Lasting { number, facts };
+        if test_one(
+            running.bus(),
+            &self.names,
+            &self.before,
+            &one,
+            &mut self.unmet,
+            &mut self.text,
+        )? {
+            keep(&mut self.lasting, one)?;
+        }
+        Ok(())
+    }
+
+    /// Tests the expectations that last, behind a command that came to this.
+    #[cold]
+    #[inline(never)]
+    fn outlast(&mut self, outcome: Result<(), Stop>) -> Result<(), Stop>
+        ensures held { self.new.line ≡ self.old.line }
+        ensures gathered { self.new.gathered ≡ self.old.gathered }
+        ensures refused { self.new.refused ≡ self.old.refused }
+        ensures lasts { Outlasts (state self.old) self.old.text self.new.text outcome result (state self.new) }
+    {
+        match outcome {
+            Ok(()) => {
+                self.retest()?;
+                Ok(())
+            }
+            Err(Stop::Refused(why)) => self.outlast_refused(&why),
+            Err(Stop::Memory) => Err(Stop::Memory),
+        }
+    }
+
+    /// Tests the expectations that last, behind a command that was refused, and passes the refusal on.
+    fn outlast_refused(&mut self, why: &Refusal) -> Result<(), Stop>
+        ensures held { self.new.line ≡ self.old.line }
+        ensures gathered { self.new.gathered ≡ self.old.gathered }
+        ensures refused { self.new.refused ≡ self.old.refused }
+        ensures lasts { Outlasts (state self.old) self.old.text self.new.text (Err (StopValue.Refused why.now)) result (state self.new) }
+    {
+        self.before = Before::Refused(*why);
+        self.retest()?;
+        Err(Stop::Refused(*why))
+    }
+
+    /// Tests the expectations that last: those that don't hold are told, and last no longer.
+    fn retest(&mut self) -> Result<(), AllocError>
+        ensures held { self.new.line ≡ self.old.line }
+        ensures gathered { self.new.gathered ≡ self.old.gathered }
+        ensures refused { self.new.refused ≡ self.old.refused }
+        ensures lasts { OnOk result (HaveLasted (state self.old) self.old.text self.new.text (state self.new)) }
+    {
+        let Stage::Running(running) = &self.stage else {
+            return Ok(());
+        };
+        let lasting = mem::replace(&mut self.lasting, Vec::new(self.alloc));
+        self.lasting = test_all(
+            self.alloc,
+            running.bus(),
+            &self.names,
+            &self.before,
+            lasting,
+            &mut self.unmet,
+            &mut self.text,
+        )?;
+        Ok(())
     }
 
     /// Tests what is expected, and prints whether it is met.
@@ -367,6 +461,7 @@ impl Script {
             lines: _,
             before: _,
             unmet,
+            lasting: _,
         } = self;
         stage.retire();
         Tally { refused, unmet }
