@@ -67,7 +67,7 @@ impl Attached {
     ghost use Rattle.i3c_base.specs.Filling.{filled_up};
     ghost use Rattle.i3c_base.specs.Frames.{length_of, limited, overwritten, pending, readdressed, told_bytes, unaddressed_device};
     ghost use Rattle.i3c_device.specs.declared.attached.TheConstants.{LONGEST as MOST_TOLD};
-    ghost use Rattle.i3c_base.specs.State.{attached};
+    ghost use Rattle.i3c_base.specs.State.{attached, has_address};
     ghost use Rattle.i3c_base.specs.Serve.{without_front, without_join, without_role};
     ghost use Rattle.i3c_base.specs.Round.{hears, unhearing, winner};
     ghost use Rattle.i3c_base.specs.Local.{with_raise};
@@ -199,6 +199,13 @@ impl Attached {
         ensures { result ≡ self.now.address }
     {
         self.address.get()
+    }
+
+    /// Whether this is its dynamic address.
+    pub(crate) fn is_at(&self, address: Addr7) -> bool
+        ensures { result ≡ has_address address self.now }
+    {
+        self.address.is(address)
     }
 
     /// How many of its interrupts wait.

@@ -25,6 +25,7 @@ impl Model for ByteAddress {
 
 impl ByteAddress {
     ghost use Rattle.std.specs.Prelude.{◌≡◌, None, is_none};
+    ghost use Rattle.i3c_base.specs.State.{is_the};
     ghost use Rattle.i3c_device.specs.Brief.{IsSmall, byte_of};
 
     /// No address.
@@ -39,8 +40,9 @@ impl ByteAddress {
         ensures { result ≡ address }
     {
         match address {
+            // the remainder is the number itself, and tells the compiler that it is an address
             Some(address) => ByteAddress {
-                value: address.get(),
+                value: address.get() % NONE,
             },
             None => ByteAddress::none(),
         }
@@ -68,6 +70,13 @@ impl ByteAddress {
         ensures { result ≡ is_none self.now }
     {
         self.value == NONE
+    }
+
+    /// Whether it is this address.
+    pub fn is(&self, address: Addr7) -> bool
+        ensures { result ≡ is_the address self.now }
+    {
+        self.value == address.get()
     }
 
     /// Its byte.
