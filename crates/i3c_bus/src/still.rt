@@ -14,6 +14,9 @@ use std::alloc::{AllocError, Global};
 use std::marker::Model;
 use std::mem;
 
+/// Of how many of the last records the slots are hashed.
+const HASHED: usize = 8;
+
 /// A bus at rest. Nobody has its role in hand, so it can be dropped, and it can be woken more than once.
 ///
 /// Clauses see the state of the bus.
@@ -64,23 +67,16 @@ impl Bus {
     pub fn key(&self) -> u64 {
         let mut key = mixed(self.records.len() as u64, self.active.slot().index() as u64);
         key = mixed(key, with_flag(with_flag(0, self.in_session), self.listed()));
-        key = mixed(key, self.devices.kinds_key());
+        key = mixed(key, self.devices.key());
+        let first = self.records.len().saturating_sub(HASHED);
+        for record in &self.records[first..] {
+            key = mixed(key, record.slot.index() as u64);
+        }
         let mut left = self.devices.present();
         while let Some(index) = left.take_lowest() {
-            let slot = Slot::from_index(index);
-            key ^= self.raised[index] << 16 ^ self.device_key(slot);
-            key = key.wrapping_mul(0x9E37_79B9_7F4A_7C15);
+            key = (key ^ self.raised[index]).wrapping_mul(0x9E37_79B9_7F4A_7C15);
         }
         key
-    }
-
-    /// The same of a slot's device: its address, and how many of its interrupts wait.
-    fn device_key(&self, slot: Slot) -> u64 {
-        let address = match self.devices.address(slot) {
-            Some(address) => address.get(),
-            None => 0,
-        };
-        u64::from(address) << 8 | self.devices.waiting(slot) as u64
     }
 }
 
@@ -264,7 +260,7 @@ impl Still {
     {
         self.active == other.active
             && self.in_session == other.in_session
-            && self.raised == other.raised
+            && are_equal(&self.raised, &other.raised)
             && are_same(&self.records, &other.records)
             && self.devices.is_same(&other.devices)
     }
@@ -282,7 +278,7 @@ impl Still {
     {
         self.active == bus.active.slot()
             && self.in_session == bus.in_session
-            && self.raised == bus.raised
+            && are_equal(&self.raised, &bus.raised)
             && are_same(&self.records, &bus.records)
             && self.devices.is_of(&bus.devices)
     }
@@ -305,6 +301,17 @@ fn mixed(key: u64, more: u64) -> u64 {
 /// A number with one bit more.
 fn with_flag(key: u64, flag: bool) -> u64 {
     key << 1 | u64::from(flag)
+}
+
+/// Whether both are the same numbers, slot by slot. All are looked at, which is faster than to stop at the first that differs.
+fn are_equal(numbers: &[u64; SLOTS], others: &[u64; SLOTS]) -> bool
+    ensures { IsTrue result ↔ (numbers.now ≡ others.now) }
+{
+    let mut same = true;
+    for index in 0..SLOTS {
+        same = same & (numbers[index] == others[index]);
+    }
+    same
 }
 
 /// Whether both are the same records, in the same order.

@@ -1,7 +1,7 @@
 -- The least maximum length of the devices at an address.
-use Rattle.std.proofs.Common.{◌≡◌, ℕ, zero, suc, ◌+◌, ◌<◌, ◌≤◌, ◌⊎◌, Bool, true, false, not, ◌&&◌, ◌==◌, if◌then◌else◌, min, List, [], ◌∷◌, length, get_or, Option, Some, None, inl, inr, refl, sym, ap, ◌∙◌, subst, arith}
+use Rattle.std.proofs.Common.{◌≡◌, ℕ, zero, suc, ◌+◌, ◌<◌, ◌≤◌, ◌⊎◌, Bool, true, false, if◌then◌else◌, min, List, [], ◌∷◌, length, get_or, Option, Some, None, inl, inr, refl, sym, ap, ◌∙◌, subst, arith}
 use Rattle.std.proofs.Math.Nat.{min-eq_left, min-eq_right}
-use Rattle.std.proofs.lemmas.Bool.{both_ways, cases_eq, cases_lt, cond-true, cond-false, eq-eqb, ne_eqb}
+use Rattle.std.proofs.lemmas.Bool.{both_ways, cases_lt}
 use Rattle.std.proofs.lemmas.List.{get_or_past}
 use Rattle.std.proofs.lemmas.Option.{none-some, same_Some}
 use Rattle.i3c_base.specs.declared.datum.Direction.{Direction}
@@ -9,7 +9,7 @@ use Rattle.i3c_base.specs.declared.device.TheConstants.{REGISTERS}
 use Rattle.i3c_base.specs.declared.range.TheConstants.{SLOTS}
 use Rattle.i3c_base.specs.Frames.{least_length_from, length_of, reaches_at}
 use Rattle.i3c_base.specs.Numbers.{KindSet}
-use Rattle.i3c_base.specs.State.{Device, has_address, in_slot}
+use Rattle.i3c_base.specs.State.{Device, in_slot}
 use Rattle.i3c_device.specs.declared.enabled.Enabled.{Enabled}
 use Rattle.i3c_device.specs.declared.slot_set.SlotSet.{SlotSet}
 use Rattle.i3c_device.specs.Enabling.{kinds_in, seen, seen_in, under}
@@ -17,7 +17,6 @@ use Rattle.i3c_device.specs.Holding.{length_in}
 use Rattle.i3c_device.specs.Lengths.{IsLeastLength}
 use Rattle.i3c_device.specs.Sets.{has}
 use Rattle.i3c_device.specs.Walks.{AreReached}
-use Rattle.i3c_device.proofs.FindLaws.{TakesOut}
 use Rattle.i3c_device.proofs.SeenWalks.{now_at, unseen}
 
 -- n is the least maximum length of the devices at an address, in places of which the first is slot s

@@ -2,9 +2,12 @@ ghost use Rattle.std.specs.Prelude.{◌≡◌, ◌≤◌, ◌+◌, ◌↔◌, Is
 ghost use Rattle.std.specs.Int.{from_le_bytes, w64};
 ghost use Rattle.i3c_base.specs.declared.device.TheConstants.{REGISTERS as REGISTER_COUNT};
 ghost use Rattle.i3c_base.specs.Frames.{pid_bytes};
+ghost use Rattle.i3c_device.specs.Brief.{HaveSameBriefs, IsBrief, brief_bytes};
 ghost use Rattle.i3c_device.specs.Registers.{eight_from};
 
 use crate::answering::NOWHERE;
+use crate::byte_address::ByteAddress;
+use crate::flag::Flag;
 use crate::queues::{are_same, copied, copy_from};
 use arrayvec::ArrayVec;
 use i3c_base::{
@@ -21,16 +24,17 @@ pub(crate) const LONGEST: usize = 6;
 #[derive(Drop)]
 pub(crate) struct Attached {
     identity: Identity,
-    willing: bool,
-    fixed: Option<Addr7>,
-    address: Option<Addr7>,
-    waiting: ArrayVec<Waiting, WAITING>,
-    join_wish: bool,
-    role_wish: bool,
-    hearing: bool,
-    registers: [u8; REGISTERS],
+    // the next eight have a byte each, so that two devices compare them as one number
+    fixed: ByteAddress,
+    address: ByteAddress,
+    willing: Flag,
+    join_wish: Flag,
+    role_wish: Flag,
+    hearing: Flag,
     most_written: Length,
     most_read: Length,
+    registers: [u8; REGISTERS],
+    waiting: ArrayVec<Waiting, WAITING>,
 }
 
 impl Model for Attached {
@@ -63,7 +67,7 @@ impl Attached {
     ghost use Rattle.i3c_base.specs.Filling.{filled_up};
     ghost use Rattle.i3c_base.specs.Frames.{length_of, limited, overwritten, pending, readdressed, told_bytes, unaddressed_device};
     ghost use Rattle.i3c_device.specs.declared.attached.TheConstants.{LONGEST as MOST_TOLD};
-    ghost use Rattle.i3c_base.specs.State.{attached};
+    ghost use Rattle.i3c_base.specs.State.{attached, has_address};
     ghost use Rattle.i3c_base.specs.Serve.{without_front, without_join, without_role};
     ghost use Rattle.i3c_base.specs.Round.{hears, unhearing, winner};
     ghost use Rattle.i3c_base.specs.Local.{with_raise};
@@ -78,16 +82,16 @@ impl Attached {
     {
         Attached {
             identity: setup.identity,
-            willing: setup.willing,
-            fixed,
-            address: None,
-            waiting: ArrayVec::new(),
-            join_wish: false,
-            role_wish: false,
-            hearing: false,
-            registers: [0; REGISTERS],
+            fixed: ByteAddress::of(fixed),
+            address: ByteAddress::none(),
+            willing: Flag::of(setup.willing),
+            join_wish: Flag::of(false),
+            role_wish: Flag::of(false),
+            hearing: Flag::of(false),
             most_written: Length::most(),
             most_read: Length::most(),
+            registers: [0; REGISTERS],
+            waiting: ArrayVec::new(),
         }
     }
 
@@ -97,16 +101,16 @@ impl Attached {
     {
         Attached {
             identity: self.identity,
-            willing: self.willing,
-            fixed: self.fixed,
-            address: self.address,
-            waiting: copied(&self.waiting),
-            join_wish: self.join_wish,
-            role_wish: self.role_wish,
-            hearing: self.hearing,
-            registers: self.registers,
+            fixed: self.fixed.copied(),
+            address: self.address.copied(),
+            willing: self.willing.copied(),
+            join_wish: self.join_wish.copied(),
+            role_wish: self.role_wish.copied(),
+            hearing: self.hearing.copied(),
             most_written: self.most_written,
             most_read: self.most_read,
+            registers: self.registers,
+            waiting: copied(&self.waiting),
         }
     }
 
@@ -115,16 +119,16 @@ impl Attached {
         ensures { self.new ≡ other.now }
     {
         self.identity = other.identity;
-        self.willing = other.willing;
-        self.fixed = other.fixed;
-        self.address = other.address;
-        copy_from(&mut self.waiting, &other.waiting);
-        self.join_wish = other.join_wish;
-        self.role_wish = other.role_wish;
-        self.hearing = other.hearing;
-        self.registers = other.registers;
+        self.fixed = other.fixed.copied();
+        self.address = other.address.copied();
+        self.willing = other.willing.copied();
+        self.join_wish = other.join_wish.copied();
+        self.role_wish = other.role_wish.copied();
+        self.hearing = other.hearing.copied();
         self.most_written = other.most_written;
         self.most_read = other.most_read;
+        self.registers = other.registers;
+        copy_from(&mut self.waiting, &other.waiting);
     }
 
     /// Whether the other device is the same: clauses see no difference between the two.
@@ -133,31 +137,33 @@ impl Attached {
         ensures kinds { self.now.kinds ≡ other.now.kinds }
     {
         self.identity == other.identity
-            && self.willing == other.willing
-            && self.fixed == other.fixed
-            && self.has_same_wishes(other)
-            && self.has_same_data(other)
-    }
-
-    /// Whether the other device has the same dynamic address and the same wishes, and either both or neither hear the open
-    /// session.
-    fn has_same_wishes(&self, other: &Attached) -> bool
-        ensures { IsTrue result ↔ ((self.now.address ≡ other.now.address) × (self.now.join_wish ≡ other.now.join_wish) × (self.now.role_wish ≡ other.now.role_wish) × (self.now.hearing ≡ other.now.hearing)) }
-    {
-        self.address == other.address
-            && self.join_wish == other.join_wish
-            && self.role_wish == other.role_wish
-            && self.hearing == other.hearing
-    }
-
-    /// Whether the other device has the same waiting interrupts, the same registers and the same lengths.
-    fn has_same_data(&self, other: &Attached) -> bool
-        ensures { IsTrue result ↔ ((self.now.waiting ≡ other.now.waiting) × (self.now.registers ≡ other.now.registers) × (self.now.most_written ≡ other.now.most_written) × (self.now.most_read ≡ other.now.most_read)) }
-    {
-        are_same(&self.waiting, &other.waiting)
+            && self.has_same_brief(other)
             && are_same_registers(&self.registers, &other.registers)
-            && self.most_written == other.most_written
-            && self.most_read == other.most_read
+            && are_same(&self.waiting, &other.waiting)
+    }
+
+    /// Whether the other device has the same of what has a byte each.
+    fn has_same_brief(&self, other: &Attached) -> bool
+        ensures { IsTrue result ↔ HaveSameBriefs self.now other.now }
+    {
+        self.brief() == other.brief()
+    }
+
+    /// Its addresses, its willingness, its wishes, whether it hears the open session, and its lengths, as one number.
+    fn brief(&self) -> u64
+        ensures number { result ≡ from_le_bytes w64 (brief_bytes self.now) }
+        ensures ranged { IsBrief self.now }
+    {
+        u64::from_le_bytes([
+            self.fixed.byte(),
+            self.address.byte(),
+            self.willing.byte(),
+            self.join_wish.byte(),
+            self.role_wish.byte(),
+            self.hearing.byte(),
+            self.most_written.get(),
+            self.most_read.get(),
+        ])
     }
 
     /// What the device is.
@@ -171,28 +177,35 @@ impl Attached {
     pub fn has_role_wish(&self) -> bool
         ensures { result ≡ self.now.role_wish }
     {
-        self.role_wish
+        self.role_wish.get()
     }
 
     /// Whether it hears the open session.
     pub fn is_hearing(&self) -> bool
         ensures { result ≡ self.now.hearing }
     {
-        self.hearing
+        self.hearing.get()
     }
 
     /// Its static address, if it has one.
     pub fn fixed(&self) -> Option<Addr7>
         ensures { result ≡ self.now.fixed }
     {
-        self.fixed
+        self.fixed.get()
     }
 
     /// Its dynamic address, if it has one.
     pub fn address(&self) -> Option<Addr7>
         ensures { result ≡ self.now.address }
     {
-        self.address
+        self.address.get()
+    }
+
+    /// Whether this is its dynamic address.
+    pub(crate) fn is_at(&self, address: Addr7) -> bool
+        ensures { result ≡ has_address address self.now }
+    {
+        self.address.is(address)
     }
 
     /// How many of its interrupts wait.
@@ -206,7 +219,7 @@ impl Attached {
     pub fn is_willing(&self) -> bool
         ensures { result ≡ self.now.willing }
     {
-        self.willing
+        self.willing.get()
     }
 
     /// Its registers, which private transfers read and write (I3C Basic 5.1.2.2).
@@ -272,7 +285,7 @@ impl Attached {
         ensures { self.new ≡ hears self.old }
     {
         if self.address.is_none() {
-            self.hearing = true;
+            self.hearing = Flag::of(true);
         }
     }
 
@@ -280,15 +293,15 @@ impl Attached {
     pub fn lose_address(&mut self)
         ensures { self.new ≡ unaddressed_device self.old }
     {
-        self.address = None;
-        self.role_wish = false;
+        self.address = ByteAddress::none();
+        self.role_wish = Flag::of(false);
     }
 
     /// The session ends: it hears no more.
     pub fn fall_silent(&mut self)
         ensures { self.new ≡ unhearing self.old }
     {
-        self.hearing = false;
+        self.hearing = Flag::of(false);
     }
 
     /// The request that it drives into an arbitrable header while that kind is enabled: a join without an address, else
@@ -296,14 +309,14 @@ impl Attached {
     pub fn choice(&self) -> Option<Request>
         ensures { result ≡ choice_of self.now.address self.now }
     {
-        let Some(address) = self.address else {
-            return if self.join_wish {
+        let Some(address) = self.address.get() else {
+            return if self.join_wish.get() {
                 Some(Request::Join)
             } else {
                 None
             };
         };
-        if self.role_wish {
+        if self.role_wish.get() {
             Some(Request::Role(address))
         } else if !self.waiting.is_empty() {
             Some(Request::Interrupt(address))
@@ -318,9 +331,9 @@ impl Attached {
         ensures key { result ≡ key_of self.now.address self.now.role_wish }
         ensures dynamic { IsDynamic self.now.address }
     {
-        match self.address {
+        match self.address.get() {
             None => key(Request::Join),
-            Some(address) if self.role_wish => key(Request::Role(address)),
+            Some(address) if self.role_wish.get() => key(Request::Role(address)),
             Some(address) => key(Request::Interrupt(address)),
         }
     }
@@ -329,7 +342,7 @@ impl Attached {
     pub(crate) fn answer(&self) -> u8
         ensures { result ≡ answer_of self.now.address self.now.fixed }
     {
-        match self.address.or(self.fixed) {
+        match self.address.get().or(self.fixed.get()) {
             Some(address) => address.get(),
             None => NOWHERE,
         }
@@ -341,9 +354,9 @@ impl Attached {
         requires { 8 ≤ address }
         ensures { self.new ≡ winner address self.old }
     {
-        self.address = Some(address);
-        self.hearing = false;
-        self.join_wish = false;
+        self.address = ByteAddress::of(Some(address));
+        self.hearing = Flag::of(false);
+        self.join_wish = Flag::of(false);
     }
 
     /// It has this dynamic address from now on, and nothing else of it changes (SETNEWDA, I3C Basic 5.1.9.3.11). No dynamic
@@ -352,7 +365,7 @@ impl Attached {
         requires { 8 ≤ address }
         ensures { self.new ≡ readdressed address self.old }
     {
-        self.address = Some(address);
+        self.address = ByteAddress::of(Some(address));
     }
 
     /// Whether it may raise an interrupt with this byte now, where its interrupts are enabled or aren't: the first fault,
@@ -427,35 +440,35 @@ impl Attached {
     pub(crate) fn wishes_join(&self) -> bool
         ensures { result ≡ wishes_join self.now }
     {
-        self.address.is_none() && self.join_wish
+        self.address.is_none() && self.join_wish.get()
     }
 
     /// Whether it wishes for the role, and has an address.
     pub(crate) fn wishes_role(&self) -> bool
         ensures { result ≡ wishes_role self.now }
     {
-        self.address.is_some() && self.role_wish
+        !self.address.is_none() && self.role_wish.get()
     }
 
     /// Whether it wishes to interrupt, and not for the role, and has an address.
     pub(crate) fn wishes_interrupt(&self) -> bool
         ensures { result ≡ wishes_interrupt self.now }
     {
-        self.address.is_some() && !self.role_wish && !self.waiting.is_empty()
+        !self.address.is_none() && !self.role_wish.get() && !self.waiting.is_empty()
     }
 
     /// It wishes to join.
     pub fn wish_join(&mut self)
         ensures { self.new ≡ record self.old { join_wish = true } }
     {
-        self.join_wish = true;
+        self.join_wish = Flag::of(true);
     }
 
     /// It wishes for the controller role.
     pub fn wish_role(&mut self)
         ensures { self.new ≡ record self.old { role_wish = true } }
     {
-        self.role_wish = true;
+        self.role_wish = Flag::of(true);
     }
 
     /// Its interrupt was accepted: the front leaves its waiting list.
@@ -471,14 +484,14 @@ impl Attached {
     pub fn lose_join_wish(&mut self)
         ensures { self.new ≡ without_join self.old }
     {
-        self.join_wish = false;
+        self.join_wish = Flag::of(false);
     }
 
     /// Its role request was accepted: the wish is gone.
     pub fn lose_role_wish(&mut self)
         ensures { self.new ≡ without_role self.old }
     {
-        self.role_wish = false;
+        self.role_wish = Flag::of(false);
     }
 }
 

@@ -185,13 +185,16 @@ impl Devices {
         present.and(self.enabled.roles).has(slot.index())
     }
 
-    /// A number of the kinds of events that are enabled, which equal devices have in common.
-    pub fn kinds_key(&self) -> u64 {
-        let present = self.occupants.marks().present;
-        let interrupts = present.and(self.enabled.interrupts).bits();
-        let roles = present.and(self.enabled.roles).bits();
-        let joins = present.and(self.enabled.joins).bits();
-        interrupts ^ roles.rotate_left(21) ^ joins.rotate_left(42)
+    /// A number that equal devices have in common: of the kinds of events that are enabled, and of what they wish for.
+    pub fn key(&self) -> u64 {
+        let marks = self.occupants.marks();
+        let interrupts = marks.present.and(self.enabled.interrupts).bits();
+        let roles = marks.present.and(self.enabled.roles).bits();
+        let joins = marks.present.and(self.enabled.joins).bits();
+        let kinds = interrupts ^ roles.rotate_left(21) ^ joins.rotate_left(42);
+        let wishes = marks.interrupting.bits() ^ marks.asking.bits().rotate_left(21);
+        let others = marks.joining.bits() ^ marks.unaddressed.bits().rotate_left(21);
+        kinds ^ wishes.rotate_left(11) ^ others.rotate_left(33)
     }
 
     /// A device enters a slot.

@@ -1,4 +1,4 @@
-ghost use Rattle.std.specs.Prelude.{◌≡◌, ℕ, ◌<◌, ◌==◌, if◌then◌else◌};
+ghost use Rattle.std.specs.Prelude.{◌≡◌, ◌↔◌, ℕ, ◌<◌, ◌==◌, false, if◌then◌else◌};
 ghost use Rattle.i3c_base.specs.declared.range.TheConstants.{SLOTS as SLOT_COUNT};
 ghost use Rattle.i3c_base.specs.Frames.{with_kinds, without_kinds};
 ghost use Rattle.i3c_base.specs.Numbers.{kind_set};
@@ -38,6 +38,16 @@ impl Enabled {
             role: self.roles.has(index),
             join: self.joins.has(index),
         }
+    }
+
+    /// The slots for which others have other kinds.
+    pub fn differing(self, others: Enabled) -> SlotSet
+        ensures { (s : ℕ) → s < SLOT_COUNT → (has result s ≡ false) ↔ (kinds_in self s ≡ kinds_in others s) }
+    {
+        let interrupts = self.interrupts.apart(others.interrupts);
+        let roles = self.roles.apart(others.roles);
+        let joins = self.joins.apart(others.joins);
+        interrupts.or(roles).or(joins)
     }
 
     /// These kinds in this slot, and in the others as they are.

@@ -4,10 +4,12 @@
 
 mod answering;
 mod attached;
+mod byte_address;
 mod device;
 mod devices;
 mod driven;
 mod enabled;
+mod flag;
 mod kept;
 mod kinds;
 mod marks;

@@ -1,4 +1,4 @@
-ghost use Rattle.std.specs.Prelude.{◌≡◌, ◌↔◌, IsTrue};
+ghost use Rattle.std.specs.Prelude.{◌≡◌};
 ghost use Rattle.i3c_base.specs.Frames.{with_kinds, without_kinds};
 ghost use Rattle.i3c_base.specs.Numbers.{kind_set};
 ghost use Rattle.i3c_base.specs.State.{all_kinds};
@@ -26,13 +26,6 @@ impl OwnKinds {
             role: true,
             join: true,
         }
-    }
-
-    /// Whether the other kinds are the same.
-    pub fn are_same(self, others: OwnKinds) -> bool
-        ensures { IsTrue result ↔ (kinds_of self ≡ kinds_of others) }
-    {
-        self.interrupt == others.interrupt && self.role == others.role && self.join == others.join
     }
 
     /// These kinds more.

@@ -211,7 +211,7 @@ pub(crate) fn reaches(
         return false;
     }
     match to {
-        Some(at) => device.address() == Some(*at),
+        Some(at) => device.is_at(*at),
         None => true,
     }
 }

@@ -1,11 +1,11 @@
-ghost use Rattle.std.specs.Prelude.{◌≡◌, ◌↔◌, IsTrue, option_map, option_copied};
-ghost use Rattle.i3c_device.specs.Enabling.{kinds_of, under};
+ghost use Rattle.std.specs.Prelude.{◌≡◌, ◌↔◌, IsTrue, false, option_map, option_copied};
+ghost use Rattle.i3c_base.specs.Numbers.{KindSet};
+ghost use Rattle.i3c_device.specs.Enabling.{under};
 
 use crate::attached::Attached;
 use crate::devices::Devices;
 use crate::enabled::Enabled;
 use crate::kept::Kept;
-use crate::own_kinds::OwnKinds;
 use i3c_base::{Addr7, Slot};
 use std::alloc::{AllocError, Global};
 use std::marker::Model;
@@ -65,11 +65,12 @@ impl Resting {
     pub fn is_same(&self, others: &Resting) -> bool
         ensures { IsTrue result ↔ (self.now ≡ others.now) }
     {
+        let differing = self.enabled.differing(others.enabled);
         let mut left = self.kept.present().or(others.kept.present());
         while let Some(index) = left.take_lowest() {
             let slot = Slot::from_index(index);
-            let kinds = (self.enabled.at(index), others.enabled.at(index));
-            if !are_same(self.kept.at(slot), others.kept.at(slot), kinds) {
+            let differ = differing.has(index);
+            if !are_same(self.kept.at(slot), others.kept.at(slot), differ) {
                 return false;
             }
         }
@@ -80,14 +81,15 @@ impl Resting {
     pub fn is_of(&self, devices: &Devices) -> bool
         ensures { IsTrue result ↔ (self.now ≡ devices.now) }
     {
+        let differing = self.enabled.differing(devices.enabled);
         let mut left = self.kept.present().or(devices.present());
         while let Some(index) = left.take_lowest() {
             let slot = Slot::from_index(index);
-            let kinds = (self.enabled.at(index), devices.enabled.at(index));
+            let differ = differing.has(index);
             if !are_same(
                 self.kept.at(slot),
                 devices.occupants.at(slot).as_ref(),
-                kinds,
+                differ,
             ) {
                 return false;
             }
@@ -106,13 +108,13 @@ impl Resting {
     }
 }
 
-/// Whether both are the same device, with these kinds of events enabled for the two, or nobody.
-fn are_same(one: Option<&Attached>, other: Option<&Attached>, kinds: (OwnKinds, OwnKinds)) -> bool
-    ensures { IsTrue result ↔ (option_map (under (kinds_of kinds.0)) (option_copied one.entry) ≡ option_map (under (kinds_of kinds.1)) (option_copied other.entry)) }
+/// Whether both are the same device, with kinds of events enabled for the two that differ or don't, or nobody.
+fn are_same(one: Option<&Attached>, other: Option<&Attached>, differ: bool) -> bool
+    ensures { (kinds others : KindSet) → (differ ≡ false) ↔ (kinds ≡ others) → IsTrue result ↔ (option_map (under kinds) (option_copied one.entry) ≡ option_map (under others) (option_copied other.entry)) }
 {
     match (one, other) {
         (None, None) => true,
-        (Some(device), Some(twin)) => device.is_same(twin) && kinds.0.are_same(kinds.1),
+        (Some(device), Some(twin)) => !differ && device.is_same(twin),
         (None, Some(_)) => false,
         (Some(_), None) => false,
     }

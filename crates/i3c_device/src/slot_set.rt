@@ -143,6 +143,13 @@ impl SlotSet {
         }
     }
 
+    /// The slots that are in one of both sets alone.
+    pub(crate) fn apart(self, other: SlotSet) -> SlotSet
+        ensures { (s : ℕ) → s < SLOT_COUNT → (has result s ≡ false) ↔ (has self s ≡ has other s) }
+    {
+        self.without(other).or(other.without(self))
+    }
+
     /// All of its slots, or none.
     pub(crate) fn only_if(self, is_so: bool) -> SlotSet
         ensures { (s : ℕ) → has result s ≡ (is_so && has self s) }

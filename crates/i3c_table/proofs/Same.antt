@@ -1,14 +1,15 @@
 -- When two tables have the same rows.
-use Rattle.std.proofs.Common.{◌≡◌, ℕ, ◌^◌, ◌<◌, ◌≤◌, false, List, length, Option, None, ◌⊎◌, sym, ap, ◌∙◌, inl, inr, arith, subst}
+use Rattle.std.proofs.Common.{◌≡◌, ℕ, ◌^◌, ◌<◌, ◌≤◌, Bool, true, false, not, ◌&&◌, is_some, refl, List, length, Option, None, ◌⊎◌, sym, ap, ◌∙◌, inl, inr, arith, subst}
 use Rattle.std.specs.Int.{bit_at}
-use Rattle.std.proofs.lemmas.Bool.{both_ways, cases_lt}
+use Rattle.std.proofs.lemmas.Bool.{both_ways, cases_lt, false≢true}
 use Rattle.std.proofs.lemmas.List.{ext_get_or}
 use Rattle.std.proofs.lemmas.Nat.Bits.{bit_at-lt, same_from_bits_below}
-use Rattle.i3c_base.specs.State.{Entry, IsFree, entry_in}
+use Rattle.i3c_base.specs.State.{Entry, IsFree, entry_in, kept_of}
 use Rattle.i3c_base.specs.Sets.{is_in}
 use Rattle.i3c_base.proofs.SetLaws.{in_from, in_to}
 use Rattle.i3c_table.specs.declared.registers.Registers.{Registers}
 use Rattle.i3c_table.specs.Stored.{stored}
+use Rattle.i3c_table.proofs.Alike.{in_kept}
 use Rattle.i3c_table.proofs.StoredLaws.{IsSmall, entry_stored, free_stored, length-stored, out_of, some_or_none}
 
 -- ---- the addresses that were given
@@ -59,3 +60,18 @@ AreSameBut left given other = (a : ℕ) → is_in left a ≡ false → entry_in 
 -- none is left
 pub same_all : (left : ℕ) (given other : List (Option Entry)) → length given ≡ 128 → length other ≡ 128 → AreSameBut left given other → ((a : ℕ) → is_in left a ≡ false) → given ≡ other
 same_all left given other long others_long so_far none = ext_get_or None given other (long ∙ sym others_long) (λ a _. so_far a (none a))
+
+-- an address isn't left because it wasn't given, or because it is kept and has the same in both
+pub left_alike : (held kept : ℕ) (registers : List Registers) (numbers : List ℕ) (given other : List (Option Entry)) (left : ℕ) (is_so : Bool) (a : ℕ) → stored held kept registers numbers ≡ given → IsSmall held
+    → is_in left a ≡ (is_in held a && not (is_so && is_in kept a)) → (is_so ≡ true → (b : ℕ) → is_some (kept_of (entry_in given b)) ≡ true → entry_in given b ≡ entry_in other b)
+    → (is_in held a ≡ false → entry_in given a ≡ entry_in other a) → is_in left a ≡ false → entry_in given a ≡ entry_in other a
+left_alike held kept registers numbers given other left is_so a view fits is keeps free out = elim (some_or_none (is_in held a)) [
+  | inr none ↦ free none
+  | inl has ↦ (let both = both_so is_so (is_in kept a) (ap (λ here. here && not (is_so && is_in kept a)) (sym has) ∙ (sym is ∙ out)) in
+      keeps both.0 a (ap (λ g. is_some (kept_of (entry_in g a))) (sym view) ∙ (ap (λ e. is_some (kept_of e)) (entry_stored held kept registers numbers a fits) ∙ in_kept held kept registers numbers a has both.1)))
+]
+  where
+    both_so : (so has : Bool) → (true && not (so && has)) ≡ false → (so ≡ true) × (has ≡ true)
+    both_so true true h = (refl, refl)
+    both_so true false h = absurd (false≢true (sym h))
+    both_so false has h = absurd (false≢true (sym h))

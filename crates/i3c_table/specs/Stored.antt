@@ -27,6 +27,10 @@ abbrev pub stored_at : ℕ → ℕ → List Registers → List ℕ → ℕ → O
 stored_at held kept registers numbers a =
     if is_in held a then Some (record { bcr = (slice_index_or registers a no_registers).bcr; dcr = (slice_index_or registers a no_registers).dcr; kept = kept_at kept numbers a; fixed = (slice_index_or registers a no_registers).fixed }) else None
 
+-- the same registers and the same number stand at the address a in both
+abbrev pub IsStoredAlike : List Registers → List ℕ → List Registers → List ℕ → ℕ → Type 0
+IsStoredAlike registers numbers others more a = (slice_index_or registers a no_registers ≡ slice_index_or others a no_registers) × (slice_index_or numbers a 0 ≡ slice_index_or more a 0)
+
 -- the entries at all addresses
 unfoldable pub stored : ℕ → ℕ → List Registers → List ℕ → List (Option Entry)
 stored held kept registers numbers = map (stored_at held kept registers numbers) (range_with_len 0 ADDRESSES)

@@ -1,7 +1,7 @@
-ghost use Rattle.std.specs.Prelude.{◌≡◌, ◌≢◌, ◌↔◌, ℕ, ◌||◌, false, IsTrue};
+ghost use Rattle.std.specs.Prelude.{◌≡◌, ◌≢◌, ◌↔◌, ◌<◌, ℕ, ◌||◌, ◌&&◌, false, length, not, slice_index, IsTrue};
 ghost use Rattle.i3c_base.specs.Sets.{is_in};
 ghost use Rattle.i3c_table.specs.Rows.{static_in};
-ghost use Rattle.i3c_table.specs.Stored.{kept_at};
+ghost use Rattle.i3c_table.specs.Stored.{kept_at, IsStoredAlike};
 
 use crate::keeping::{keep_for, keep_homes};
 use crate::order::Order;
@@ -115,14 +115,15 @@ impl Table {
             && self.legacies.is_same(&other.legacies)
     }
 
-    // Whether both tables have the same rows. Only the addresses that were given are looked at.
+    // Whether both tables have the same rows. Only the addresses that were given are looked at, first those that are kept
+    // for an identity, in their order.
     fn has_same_rows(&self, other: &Table) -> bool
         ensures { IsTrue result ↔ (self.now.given ≡ other.now.given) }
     {
         if !are_same(self.held, other.held) {
             return false;
         }
-        let mut left = self.held;
+        let mut left = without_if(self.held, self.kept, self.keeps_same(other));
         while let Some(address) = left.lowest() {
             if !self.has_same_row(other, address) {
                 return false;
@@ -130,6 +131,20 @@ impl Table {
             left = left.without(address);
         }
         true
+    }
+
+    // Whether each address that is kept for an identity has the same row in another table.
+    fn keeps_same(&self, other: &Table) -> bool
+        ensures { IsTrue result → (a : ℕ) → is_some (kept_of (entry_in self.now.given a)) ≡ true → entry_in self.now.given a ≡ entry_in other.now.given a }
+    {
+        are_same(self.kept, other.kept)
+            && are_stored_alike(
+                self.order.as_slice(),
+                &self.registers,
+                &self.numbers,
+                &other.registers,
+                &other.numbers,
+            )
     }
 
     // Whether both tables have the same row at an address, or none.
@@ -368,6 +383,45 @@ fn are_same_registers(registers: &Registers, others: &Registers) -> bool
     ensures { IsTrue result ↔ (registers.now ≡ others.now) }
 {
     registers.bcr == others.bcr && registers.dcr == others.dcr && registers.fixed == others.fixed
+}
+
+// Whether the same registers and the same numbers stand at each of these addresses.
+fn are_stored_alike(
+    addresses: &[Addr7],
+    registers: &[Registers; ADDRESSES],
+    numbers: &[u64; ADDRESSES],
+    others: &[Registers; ADDRESSES],
+    more: &[u64; ADDRESSES],
+) -> bool
+    ensures { IsTrue result → (k : ℕ) → k < length addresses.now → IsStoredAlike registers.now numbers.now others.now more.now (slice_index addresses.now k) }
+{
+    for index in 0..addresses.len() {
+        if !is_stored_alike(addresses[index], registers, numbers, others, more) {
+            return false;
+        }
+    }
+    true
+}
+
+// Whether the same registers and the same number stand at an address.
+fn is_stored_alike(
+    address: Addr7,
+    registers: &[Registers; ADDRESSES],
+    numbers: &[u64; ADDRESSES],
+    others: &[Registers; ADDRESSES],
+    more: &[u64; ADDRESSES],
+) -> bool
+    ensures { IsTrue result → IsStoredAlike registers.now numbers.now others.now more.now address }
+{
+    let index = address.get() as usize;
+    numbers[index] == more[index] && are_same_registers(&registers[index], &others[index])
+}
+
+// A set without the addresses of another, or as it is.
+fn without_if(set: Addresses, others: Addresses, is_so: bool) -> Addresses
+    ensures { (a : ℕ) → is_in result.0 a ≡ (is_in set.0 a && not (is_so && is_in others.0 a)) }
+{
+    if is_so { set.without_all(others) } else { set }
 }
 
 // Whether an address is kept for one identity by both of two sets with the numbers at their addresses, or for nobody.

@@ -1,7 +1,7 @@
 -- Both halves are the same numbers, or one isn't.
 use Rattle.std.proofs.Common.{ap, sym, ◌∙◌}
 use Rattle.std.specs.Int.{from_le_bytes, w64}
-use Rattle.std.proofs.lemmas.Bool.{eq-eqb, eqb-true, false≢true}
+use Rattle.std.proofs.lemmas.Bool.{eq-eqb, eqb-true}
 use Rattle.i3c_device.specs.Registers.{eight_from}
 use Rattle.i3c_device.proofs.EightLaws.{same_registers}
 use Rattle.i3c_device.proofs.attached.are_same_registers.Goals as goal

@@ -1,5 +1,4 @@
 -- The slot holds what rests there, with its kinds.
-use Rattle.std.proofs.Common.{◌∙◌, ap, set, sym}
 use Rattle.std.specs.Option.{option_copied}
 use Rattle.i3c_device.specs.Enabling.{kinds_of}
 use Rattle.i3c_device.proofs.SeenLaws.{woken_seen}

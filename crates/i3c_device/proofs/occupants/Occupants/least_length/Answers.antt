@@ -1,8 +1,5 @@
 -- One slot more, until none is left.
-use Rattle.std.proofs.Common.{◌≡◌, ◌<◌, ◌≤◌, ◌∙◌, None, ap, arith, get_or, inl, inr, length, refl, subst, sym}
-use Rattle.std.proofs.lemmas.List.{get_or_default}
-use Rattle.i3c_base.specs.declared.device.TheConstants.{REGISTERS}
-use Rattle.i3c_device.specs.Holding.{length_in}
+use Rattle.std.proofs.Common.{subst, sym}
 use Rattle.i3c_device.specs.Lengths.{IsLeastLength}
 use Rattle.i3c_device.proofs.LengthLaws.{LeastSoFar, least_all, least_none}
 use Rattle.i3c_device.proofs.occupants.Occupants.least_length.Goals as goal

@@ -2,7 +2,7 @@
 use Rattle.std.proofs.Common.{◌≡◌, ◌∙◌, Decides, ap, get_or, None, refl, sym}
 use Rattle.std.proofs.lemmas.Bool.{false≢true}
 use Rattle.std.specs.Option.{option_copied}
-use Rattle.i3c_device.specs.Enabling.{kinds_of}
+use Rattle.i3c_device.specs.Enabling.{kinds_in}
 use Rattle.i3c_device.proofs.KeepLaws.{decided, length-seen_kept, some_seen}
 use Rattle.i3c_device.proofs.SameLaws.{same_all, same_empty, same_more}
 use Rattle.i3c_device.proofs.resting.Resting.is_same.Goals as goal
@@ -10,9 +10,13 @@ use Rattle.i3c_device.proofs.resting.Resting.is_same.Goals.{After-are_same}
 
 is_decided : (c : After-are_same) → Decides c.are_same.result (get_or c.args.self.now c.from_index-slot.result None ≡ get_or c.args.others.now c.from_index-slot.result None)
 is_decided c =
-    decided c.self.inside.enabled c.others.inside.enabled c.self.inside.kept c.others.inside.kept c.args.self.now c.args.others.now c.from_index-slot.result c.in-Some.index
-    (kinds_of c.at.result) (kinds_of c.at-in-Some.result) (option_copied c.at-in-Some-2.result) (option_copied c.at-in-Some-3.result) c.are_same.result c.self.view_is c.others.view_is c.from_index-slot.ensures
-    c.at.ensures c.at-in-Some.ensures c.at-in-Some-2.ensures.place c.at-in-Some-3.ensures.place c.are_same.ensures
+    let i = c.in-Some.index in
+    let own = kinds_in c.self.inside.enabled i in
+    let its = kinds_in c.others.inside.enabled i in
+    let alike = c.differing-differing.ensures i c.in-Some.ensures.taken.0 in
+    decided c.self.inside.enabled c.others.inside.enabled c.self.inside.kept c.others.inside.kept c.args.self.now c.args.others.now c.from_index-slot.result i own its (option_copied c.at.result) (option_copied c.at-in-Some.result)
+    c.are_same.result c.self.view_is c.others.view_is c.from_index-slot.ensures refl refl c.at.ensures.place c.at-in-Some.ensures.place
+    (c.are_same.ensures own its (λ f. alike.0 (sym c.has-differ.ensures ∙ f), λ same. c.has-differ.ensures ∙ alike.1 same))
 
 pub loop-index-init : goal.loop-index-init
 loop-index-init c =

@@ -1,0 +1,63 @@
+-- Bytes that stand for what clauses see.
+use Rattle.std.proofs.Common.{◌≡◌, ◌∙◌, ℕ, zero, suc, ◌<◌, Bool, true, false, [], ◌∷◌, get_or, Option, Some, None, ap, arith, refl, sym}
+use Rattle.std.specs.Int.{from_le_bytes, to_le_bytes, w64}
+use Rattle.std.proofs.lemmas.Nat.{le_bytes_8}
+use Rattle.i3c_base.specs.State.{Device}
+use Rattle.i3c_device.specs.Brief.{HaveSameBriefs, IsBrief, IsSmall, bit_of, brief_bytes, byte_of}
+
+bit_small : (b : Bool) → bit_of b < 256
+bit_small false = omega arith
+bit_small true = omega arith
+
+byte_small : (a : Option ℕ) → IsSmall a → byte_of a < 256
+byte_small None h = omega arith
+byte_small (Some a) h = omega (arith, h)
+
+brief_small : (d : Device) → IsBrief d → (i : ℕ) → get_or (brief_bytes d) i 0 < 256
+brief_small d h zero = byte_small d.fixed h.fixed
+brief_small d h (suc zero) = byte_small d.address h.address
+brief_small d h (suc (suc zero)) = bit_small d.willing
+brief_small d h (suc (suc (suc zero))) = bit_small d.join_wish
+brief_small d h (suc (suc (suc (suc zero)))) = bit_small d.role_wish
+brief_small d h (suc (suc (suc (suc (suc zero))))) = bit_small d.hearing
+brief_small d h (suc (suc (suc (suc (suc (suc zero)))))) = h.written
+brief_small d h (suc (suc (suc (suc (suc (suc (suc zero))))))) = h.read
+brief_small d h (suc (suc (suc (suc (suc (suc (suc (suc i)))))))) = omega arith
+
+-- one number is of one list of bytes
+same_bytes : (d e : Device) (n m : ℕ) → IsBrief d → IsBrief e → n ≡ from_le_bytes w64 (brief_bytes d) → m ≡ from_le_bytes w64 (brief_bytes e) → n ≡ m → brief_bytes d ≡ brief_bytes e
+same_bytes d e n m h k is are same =
+    sym (le_bytes_8 (brief_bytes d) n refl (brief_small d h) is) ∙ (ap (to_le_bytes w64) same ∙ le_bytes_8 (brief_bytes e) m refl (brief_small e k) are)
+
+bit_own : (b c : Bool) → bit_of b ≡ bit_of c → b ≡ c
+bit_own false false h = refl
+bit_own false true h = absurd (omega (arith, h))
+bit_own true false h = absurd (omega (arith, h))
+bit_own true true h = refl
+
+byte_own : (a b : Option ℕ) → IsSmall a → IsSmall b → byte_of a ≡ byte_of b → a ≡ b
+byte_own None None h k e = refl
+byte_own None (Some b) h k e = absurd (omega (arith, k, e))
+byte_own (Some a) None h k e = absurd (omega (arith, h, e))
+byte_own (Some a) (Some b) h k e = ap Some e
+
+-- they are where the numbers are
+pub same_briefs : (d e : Device) (n m : ℕ) → IsBrief d → IsBrief e → n ≡ from_le_bytes w64 (brief_bytes d) → m ≡ from_le_bytes w64 (brief_bytes e) → n ≡ m → HaveSameBriefs d e
+same_briefs d e n m h k is are same = (
+  byte_own d.fixed e.fixed h.fixed k.fixed (at 0),
+  byte_own d.address e.address h.address k.address (at 1),
+  bit_own d.willing e.willing (at 2),
+  bit_own d.join_wish e.join_wish (at 3),
+  bit_own d.role_wish e.role_wish (at 4),
+  bit_own d.hearing e.hearing (at 5),
+  at 6,
+  at 7,
+)
+  where
+    at : (i : ℕ) → get_or (brief_bytes d) i 0 ≡ get_or (brief_bytes e) i 0
+    at i = ap (λ bytes. get_or bytes i 0) (same_bytes d e n m h k is are same)
+
+-- and then the bytes are the same
+pub brief_alike : (d e : Device) → HaveSameBriefs d e → brief_bytes d ≡ brief_bytes e
+brief_alike d e h i =
+    byte_of (h.0 i) ∷ byte_of (h.1 i) ∷ bit_of (h.2 i) ∷ bit_of (h.3 i) ∷ bit_of (h.4 i) ∷ bit_of (h.5 i) ∷ h.6 i ∷ h.7 i ∷ []
