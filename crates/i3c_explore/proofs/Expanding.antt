@@ -1,5 +1,5 @@
 -- What a layer has of the nodes before it, as nodes are added.
-use Rattle.std.proofs.Common.{◌≡◌, ◌∙◌, ◌<◌, ℕ, List, Some, arith, get_or, inl, inr, length, refl, subst, sym}
+use Rattle.std.proofs.Common.{◌≡◌, ◌∙◌, ℕ, List, Some, arith, get_or, inl, inr, length, refl, subst, sym}
 use Rattle.std.specs.List.{Contains, slice_get}
 use Rattle.std.proofs.lemmas.Option.{get_or_from_slice_get, slice_get_read}
 use Rattle.i3c_explore.specs.declared.node.Node.{Node}
@@ -36,9 +36,9 @@ from_more steps lines node old mid new first second n is = elim (second n is) [
   | inr made ↦ inr made
 ]
 
-pub passed_kept : {S L : Type 0} (steps : S → L → ℕ → S → Type 0) (lines : ℕ → List L) (count : ℕ) (layer : List (Node S)) (first last : ℕ) (old new : List (Node S))
-    → Keeps old new → AreExpanded steps lines count layer first last old → AreExpanded steps lines count layer first last new
-passed_kept steps lines count layer first last old new keeps passed k lt le n is = expanded_kept steps lines count n old new keeps (passed k lt le n is)
+pub passed_kept : {S L : Type 0} (steps : S → L → ℕ → S → Type 0) (ran : ℕ → ℕ → List L) (count : ℕ) (layer : List (Node S)) (first last : ℕ) (old new : List (Node S))
+    → Keeps old new → AreExpanded steps ran count layer first last old → AreExpanded steps ran count layer first last new
+passed_kept steps ran count layer first last old new keeps passed k lt le n is = expanded_kept steps (ran k) count n old new keeps (passed k lt le n is)
 
 pub passed_here : {S L : Type 0} (steps : S → L → ℕ → S → Type 0) (lines : ℕ → List L) (count : ℕ) (layer : List (Node S)) (index : ℕ) (node : Node S) (next : List (Node S))
     → node ≡ get_or layer index node → IsExpanded steps lines count node next
@@ -47,5 +47,5 @@ passed_here {S} steps lines count layer index node next is expanded n found =
     subst (λ (m : Node S). IsExpanded steps lines count m next) (is ∙ get_or_from_slice_get layer index n node found) expanded
 
 pub all_passed : {S L : Type 0} (steps : S → L → ℕ → S → Type 0) (lines : ℕ → List L) (count : ℕ) (layer : List (Node S)) (next : List (Node S))
-    → AreExpanded steps lines count layer 0 (length layer) next → (n : Node S) → Contains layer n → IsExpanded steps lines count n next
+    → AreExpanded steps (λ _. lines) count layer 0 (length layer) next → (n : Node S) → Contains layer n → IsExpanded steps lines count n next
 all_passed steps lines count layer next passed n (k, lt, is) = passed k lt (omega arith) n (slice_get_read layer (length layer) k n refl lt (sym is))

@@ -1,30 +1,24 @@
--- Runs of a layer's nodes, and the layer that the layers of all runs make.
-use Rattle.std.proofs.Common.{◌≡◌, ◌∙◌, ◌≤◌, ◌<◌, ◌++◌, ◌∷◌, [], ℕ, suc, zero, List, Result, Ok, Err, IfOk, ap, arith, get_or, inl, length, refl, subst, sym}
+-- The layer that the layers of all jobs make.
+use Rattle.std.proofs.Common.{◌≡◌, ◌∙◌, ◌<◌, ◌+◌, ◌++◌, ◌∷◌, [], ℕ, suc, List, Result, Ok, Err, IfOk, ap, arith, get_or, inl, length, refl, subst, sym}
 use Rattle.std.specs.Global.{Vec}
 use Rattle.std.proofs.lemmas.List.{append-nil, append_assoc}
 use Rattle.i3c_explore.specs.declared.layer.Layer.{Layer}
 use Rattle.i3c_explore.specs.declared.node.Node.{Node}
-use Rattle.i3c_explore.specs.declared.runs.Run.{Run}
+use Rattle.i3c_explore.specs.declared.jobs.Job.{Job}
 use Rattle.i3c_explore.specs.declared.stop.Stop.{Stop}
 use Rattle.i3c_explore.specs.Layers.{ArePut}
 use Rattle.i3c_explore.specs.Nexts.{IsNextOf}
-use Rattle.i3c_explore.specs.Runs.{AreJoined, AreRuns}
-use Rattle.i3c_explore.proofs.Nexts.{next_both}
+use Rattle.i3c_explore.specs.Jobs.{AreJobs, AreJoined}
+use Rattle.i3c_explore.specs.Owners.{own, own_below}
+use Rattle.i3c_explore.proofs.Nexts.{next_split}
+use Rattle.i3c_explore.proofs.Owning.{own_split}
 
-pub runs_more : {S : Type 0} (runs : List (Run S)) (run : Run S) (from mid : ℕ) → AreRuns runs from mid → run.first ≡ mid → run.first ≤ run.last → AreRuns (runs ++ run ∷ []) from run.last
-runs_more [] run from mid same first le = (first ∙ sym same, le, refl)
-runs_more (other ∷ runs) run from mid (at, up, rest) first le = (at, up, runs_more runs run other.last mid rest first le)
+jobs_more : {S : Type 0} (jobs : List (Job S)) (job : Job S) (from to : ℕ) → AreJobs jobs from to → job.number ≡ to → AreJobs (jobs ++ job ∷ []) from (suc to)
+jobs_more [] job from to same number = (number ∙ sym same, ap suc same)
+jobs_more (other ∷ jobs) job from to (at, rest) number = (at, jobs_more jobs job (suc from) to rest number)
 
-runs_up : {S : Type 0} (runs : List (Run S)) (from to : ℕ) → AreRuns runs from to → from ≤ to
-runs_up [] from to same = omega arith
-runs_up (run ∷ runs) from to (at, up, rest) = let more = runs_up runs run.last to rest in omega arith
-
--- each run is within
-pub run_within : {S : Type 0} (runs : List (Run S)) (from to i : ℕ) (run : Run S) → AreRuns runs from to → i < length runs → run ≡ get_or runs i run → (run.first ≤ run.last) × (run.last ≤ to)
-run_within [] from to i run are lt is = absurd (omega arith)
-run_within {S} (other ∷ runs) from to zero run (at, up, rest) lt is =
-    subst (λ (r : Run S). (r.first ≤ r.last) × (r.last ≤ to)) (sym is) (up, runs_up runs other.last to rest)
-run_within (other ∷ runs) from to (suc i) run (at, up, rest) lt is = run_within runs other.last to i run rest (omega arith) is
+pub jobs_next : {S : Type 0} (jobs : List (Job S)) (job : Job S) (from to : ℕ) → AreJobs jobs from to → job.number ≡ to → AreJobs (jobs ++ job ∷ []) from (to + 1)
+jobs_next {S} jobs job from to are number = let next : suc to ≡ to + 1 = omega arith in subst (λ (k : ℕ). AreJobs (jobs ++ job ∷ []) from k) next (jobs_more jobs job from to are number)
 
 pub joined_more : {S : Type 0} (old mid new : List (Node S)) (made : List (Result (Layer S) Stop)) (layer : Layer S) → AreJoined old made mid → ArePut mid layer.nodes.items new → AreJoined old (made ++ Ok layer ∷ []) new
 joined_more {S} old mid new [] layer same put = (new, subst (λ (l : List (Node S)). ArePut l layer.nodes.items new) same put, refl)
@@ -41,19 +35,22 @@ pub put_first : {S : Type 0} (old nodes : List (Node S)) → length old ≡ 0 �
 put_first [] nodes none = put_behind [] nodes
 put_first (n ∷ old) nodes none = absurd (omega arith)
 
--- the layers of runs, joined, follow all nodes of the runs
-pub runs_follow : {S L : Type 0} (steps : S → L → ℕ → S → Type 0) (tracks : List (Vec L)) (lines : ℕ → List L) (layer : List (Node S)) (runs : List (Run S)) (made : List (Result (Layer S) Stop)) (from to : ℕ) (old new : List (Node S))
-    → length made ≡ length runs
-    → ((i : ℕ) → i < length runs → (run : Run S) (one : Result (Layer S) Stop) → IfOk (get_or made i one) (λ (next : Layer S). IsNextOf steps tracks lines layer (get_or runs i run).first (get_or runs i run).last next.nodes.items))
-    → AreRuns runs from to → AreJoined old made new → IsNextOf steps tracks lines layer 0 from old → IsNextOf steps tracks lines layer 0 to new
-runs_follow {S} steps tracks lines layer [] [] from to old new len each same joined before =
-    subst (λ (l : List (Node S)). IsNextOf steps tracks lines layer 0 to l) (sym joined) (subst (λ (k : ℕ). IsNextOf steps tracks lines layer 0 k old) same before)
-runs_follow steps tracks lines layer [] (one ∷ made) from to old new len each same joined before = absurd (omega arith)
-runs_follow steps tracks lines layer (run ∷ runs) [] from to old new len each are joined before = absurd (omega arith)
-runs_follow steps tracks lines layer (run ∷ runs) (Err stop ∷ made) from to old new len each are never before = absurd never
-runs_follow {S} {L} steps tracks lines layer (run ∷ runs) (Ok next ∷ made) from to old new len each (at, up, rest) (mid, put, more) before =
-    let here : IsNextOf steps tracks lines layer from run.last next.nodes.items =
-    subst (λ (k : ℕ). IsNextOf steps tracks lines layer k run.last next.nodes.items) at (each 0 (omega arith) run (Ok next)) in
-    let low : from ≤ run.last = omega arith in
-    let both = next_both steps tracks lines layer 0 from run.last old next.nodes.items mid (omega arith) low put before here in
-    runs_follow steps tracks lines layer runs made run.last to mid new (omega arith) (λ i lt r one. each (suc i) (omega arith) r one) rest more both
+-- the layers of jobs, joined, follow all nodes by the lines of all of them
+pub jobs_follow : {S L : Type 0} (steps : S → L → ℕ → S → Type 0) (tracks : List (Vec L)) (lines : ℕ → List L) (owners : List ℕ) (layer : List (Node S)) (jobs : List (Job S)) (made : List (Result (Layer S) Stop)) (from to : ℕ) (old new : List (Node S))
+    → length made ≡ length jobs
+    → ((i : ℕ) → i < length jobs → (job : Job S) (one : Result (Layer S) Stop) → IfOk (get_or made i one) (λ (next : Layer S). IsNextOf steps tracks lines (own owners (length tracks) (get_or jobs i job).number lines) layer 0 (length layer) next.nodes.items))
+    → AreJobs jobs from to → AreJoined old made new → IsNextOf steps tracks lines (own_below owners (length tracks) from lines) layer 0 (length layer) old
+    → IsNextOf steps tracks lines (own_below owners (length tracks) to lines) layer 0 (length layer) new
+jobs_follow {S} steps tracks lines owners layer [] [] from to old new len each same joined before =
+    subst (λ (l : List (Node S)). IsNextOf steps tracks lines (own_below owners (length tracks) to lines) layer 0 (length layer) l) (sym joined)
+    (subst (λ (k : ℕ). IsNextOf steps tracks lines (own_below owners (length tracks) k lines) layer 0 (length layer) old) same before)
+jobs_follow steps tracks lines owners layer [] (one ∷ made) from to old new len each same joined before = absurd (omega arith)
+jobs_follow steps tracks lines owners layer (job ∷ jobs) [] from to old new len each are joined before = absurd (omega arith)
+jobs_follow steps tracks lines owners layer (job ∷ jobs) (Err stop ∷ made) from to old new len each are never before = absurd never
+jobs_follow {S} {L} steps tracks lines owners layer (job ∷ jobs) (Ok next ∷ made) from to old new len each (at, rest) (mid, put, more) before =
+    let count = length tracks in
+    let here : IsNextOf steps tracks lines (own owners count from lines) layer 0 (length layer) next.nodes.items =
+    subst (λ (k : ℕ). IsNextOf steps tracks lines (own owners count k lines) layer 0 (length layer) next.nodes.items) at (each 0 (omega arith) job (Ok next)) in
+    let both = next_split steps tracks lines (own_below owners count from lines) (own owners count from lines) (own_below owners count (suc from) lines) layer 0 (length layer) old next.nodes.items mid
+    (own_split owners count from lines) put before here in
+    jobs_follow steps tracks lines owners layer jobs made (suc from) to mid new (omega arith) (λ i lt r one. each (suc i) (omega arith) r one) rest more both

@@ -1,6 +1,6 @@
 -- What is in a layer after the nodes of another one were put there.
-use Rattle.std.proofs.Common.{◌≡◌, ◌⊎◌, ◌∙◌, ◌<◌, ◌++◌, ◌∷◌, [], ℕ, suc, zero, List, Some, ap, arith, inl, inr, length, refl, subst, sym}
-use Rattle.std.specs.List.{Contains, slice_get}
+use Rattle.std.proofs.Common.{◌≡◌, ◌⊎◌, ◌∙◌, ◌<◌, ◌++◌, ◌∷◌, [], ℕ, suc, zero, List, ap, arith, inl, inr, length, refl, subst, sym}
+use Rattle.std.specs.List.{Contains}
 use Rattle.std.proofs.lemmas.List.Elements.{Contains-append_cases, Contains-append_left, Contains-append_right}
 use Rattle.std.proofs.lemmas.Option.{same_Some}
 use Rattle.i3c_explore.specs.declared.node.Node.{Node}
@@ -8,7 +8,7 @@ use Rattle.i3c_explore.specs.Counts.{IsShared}
 use Rattle.i3c_explore.specs.Layers.{ArePut, Has, IsLike, IsPut, Keeps}
 use Rattle.i3c_explore.specs.Nexts.{AreSuccessors}
 use Rattle.i3c_explore.specs.Shares.{IsAdded, IsMeant, IsOwn}
-use Rattle.i3c_explore.proofs.Expanding.{keeps_both, like_successor}
+use Rattle.i3c_explore.proofs.Expanding.{like_successor}
 use Rattle.i3c_explore.proofs.Putting.{has_moved, put_from, put_has, put_keeps}
 use Rattle.i3c_explore.proofs.Sharing.{added_both, added_none, contains_here, contains_there, put_added}
 

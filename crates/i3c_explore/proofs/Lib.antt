@@ -5,10 +5,12 @@ pub mod Counting
 pub mod NextLines
 pub mod Expanding
 pub mod Joining
+pub mod Owning
 pub mod Shares
 pub mod Nexts
 pub mod Following
 pub mod Merging
+pub mod Moving
 pub mod Turns
 pub mod Splitting
 pub mod Opening

@@ -1,17 +1,17 @@
 -- The nodes that jobs found, which are merged by what is known of them.
-use Rattle.std.proofs.Common.{◌≡◌, ◌∙◌, ◌<◌, ◌++◌, ◌∷◌, [], ℕ, suc, zero, List, Ok, Err, Option, Result, IfOk, IfSome, None, Some, ap, arith, get_or, inl, inr, length, refl, subst, sym}
+use Rattle.std.proofs.Common.{◌≡◌, ◌∙◌, ◌<◌, ◌++◌, ◌∷◌, [], ℕ, suc, List, Ok, Err, Option, Result, IfOk, IfSome, None, Some, ap, arith, get_or, inl, inr, length, refl, subst, sym}
 use Rattle.std.specs.Global.{Vec}
 use Rattle.std.specs.List.{Contains, slice_get}
 use Rattle.std.proofs.lemmas.Bool.Decides.{eqb_tells}
 use Rattle.std.proofs.lemmas.List.{append-nil, append_assoc}
 use Rattle.std.proofs.lemmas.List.Elements.{Contains-append_cases}
-use Rattle.std.proofs.lemmas.Option.{same_Some, slice_get_within}
+use Rattle.std.proofs.lemmas.Option.{same_Some}
 use Rattle.i3c_explore.specs.declared.layer.Layer.{Layer}
 use Rattle.i3c_explore.specs.declared.node.Node.{Node}
 use Rattle.i3c_explore.specs.declared.stop.Stop.{Stop}
 use Rattle.i3c_explore.specs.declared.twin.Twin.{Twin}
 use Rattle.i3c_explore.specs.Layers.{ArePut, IsAlikeAt, IsPut}
-use Rattle.i3c_explore.specs.Runs.{AreJoined, AreNodesOf}
+use Rattle.i3c_explore.specs.Jobs.{AreJoined, AreNodesOf}
 use Rattle.i3c_explore.specs.Twins.{AllTwins, AreFound, AreTwins}
 use Rattle.i3c_explore.proofs.Joining.{put_more}
 use Rattle.i3c_explore.proofs.Lists.{contains_get, get_before_push, get_contains, get_push, get_set_other, push_cases}

@@ -39,6 +39,17 @@ fn restart_all<M>(alloc: Global, nodes: &mut Vec<Node<M>>, count: usize) -> Resu
     Ok(())
 }
 
+/// Nodes of two lists. Those of the shorter one move; where there is no memory to keep them, they are let go.
+fn together<M: Machine>(one: Vec<Node<M>>, other: Vec<Node<M>>) -> Vec<Node<M>> {
+    let (mut more, mut fewer) = if one.len() < other.len() {
+        (other, one)
+    } else {
+        (one, other)
+    };
+    let _ = more.append(&mut fewer);
+    more
+}
+
 /// Whether a layer ends a block, where so many lines have run: none follows it. A part that begins with no line has an
 /// empty layer behind the first line.
 fn is_over<M>(next: &Vec<Node<M>>, part: Part, ran: u64) -> bool
@@ -104,8 +115,9 @@ pub(crate) fn explore_block<
             layer.spares = next.spares;
             return Ok(layer);
         }
-        // where there is no memory to keep them, they are let go
-        let _ = next.spares.append(&mut layer.nodes);
+        let spares = mem::replace(&mut next.spares, Vec::new(alloc));
+        let done = mem::replace(&mut layer.nodes, Vec::new(alloc));
+        next.spares = together(spares, done);
         layer = next;
     }
     Err(Stop::Most)

@@ -5,14 +5,16 @@ ghost use Rattle.i3c_explore.specs.declared.stop.Stop.{Stop as StopValue};
 ghost use Rattle.i3c_explore.specs.declared.turn.Turn.{Turn as TurnValue};
 ghost use Rattle.i3c_explore.specs.Shares.{Gains, by_track, by_tracks, by_turn};
 ghost use Rattle.i3c_explore.specs.Layers.{AreFrom, Has, IsBreak, IsExpanded, IsNextAt, IsTracked, Keeps, advanced};
-ghost use Rattle.i3c_explore.specs.Nexts.{BreaksNext, IsNextOf};
+ghost use Rattle.i3c_explore.specs.Nexts.{BreaksNext, FollowsAll, IsNextOf};
 ghost use Rattle.i3c_explore.specs.Orders.{track as lines_of};
+ghost use Rattle.i3c_explore.specs.Owners.{own};
 ghost use Rattle.i3c_explore.specs.Parts.{opening};
 
 use crate::layer::Layer;
 use crate::limits::Limits;
 use crate::machine::Machine;
 use crate::node::Node;
+use crate::owners::Owners;
 use crate::part::Part;
 use crate::stop::Stop;
 use crate::turn::{Turn, extended};
@@ -103,10 +105,47 @@ fn run_track<M: Machine>(
     Ok(near)
 }
 
-/// Runs the next line of each track from a node, of those by which orders of a part begin.
+/// Runs the next line of a track from a node of a layer, if a job takes it.
+fn take_turn<M: Machine>(
+    alloc: Global,
+    node: &Node<M>,
+    index: usize,
+    owners: &Owners,
+    job: usize,
+    tracks: &[Vec<M::Line>],
+    part: Part,
+    track: usize,
+    again: bool,
+    runner: &mut M::Runner,
+    next: &mut Layer<M>,
+) -> Result<bool, Stop>
+    requires within { track < length tracks.now }
+    requires sized { length node.now.places.items ≡ length tracks.now }
+    requires again { IsTrue again → M.near runner.old node.now.state }
+    ensures keeps { OnOk result (Keeps next.old.nodes.items next.new.nodes.items) }
+    ensures tracked { OnOk result (IsTracked M.steps (own owners.now.jobs.items (length tracks.now) job (opening part tracks.now) index) track node.now next.new.nodes.items) }
+    ensures from { OnOk result (AreFrom M.steps (opening part tracks.now) node.now next.old.nodes.items next.new.nodes.items) }
+    ensures counted { OnOk result (Gains M.steps tracks.now node.now next.old.nodes.items next.new.nodes.items (by_track (own owners.now.jobs.items (length tracks.now) job (opening part tracks.now) index) node.now.places.items track)) }
+    ensures broken { IfErr result (λ stop. (order : VecValue TurnValue) → stop ≡ StopValue.Breaks order → IsBreak M.breaks (opening part tracks.now) node.now order.items) }
+    ensures near { IfOk result (λ near. IsTrue near → M.near runner.new node.now.state) }
+{
+    if !owners.takes(job, index, track, tracks.len()) {
+        return Ok(again);
+    }
+    next.turn_to(index.wrapping_mul(tracks.len()).wrapping_add(track));
+    match run_track(alloc, node, tracks, part, track, again, runner, next) {
+        Ok(near) => Ok(near),
+        Err(stop) => Err(stop),
+    }
+}
+
+/// Runs the next line of each track from a node of a layer, of those that a job takes and by which orders of a part begin.
 fn expand<M: Machine>(
     alloc: Global,
     node: &Node<M>,
+    index: usize,
+    owners: &Owners,
+    job: usize,
     tracks: &[Vec<M::Line>],
     part: Part,
     runner: &mut M::Runner,
@@ -114,14 +153,16 @@ fn expand<M: Machine>(
 ) -> Result<(), Stop>
     requires sized { length node.now.places.items ≡ length tracks.now }
     ensures keeps { OnOk result (Keeps next.old.nodes.items next.new.nodes.items) }
-    ensures expanded { OnOk result (IsExpanded M.steps (opening part tracks.now) (length tracks.now) node.now next.new.nodes.items) }
+    ensures expanded { OnOk result (IsExpanded M.steps (own owners.now.jobs.items (length tracks.now) job (opening part tracks.now) index) (length tracks.now) node.now next.new.nodes.items) }
     ensures from { OnOk result (AreFrom M.steps (opening part tracks.now) node.now next.old.nodes.items next.new.nodes.items) }
-    ensures counted { OnOk result (Gains M.steps tracks.now node.now next.old.nodes.items next.new.nodes.items (by_tracks (opening part tracks.now) node.now.places.items (length tracks.now))) }
+    ensures counted { OnOk result (Gains M.steps tracks.now node.now next.old.nodes.items next.new.nodes.items (by_tracks (own owners.now.jobs.items (length tracks.now) job (opening part tracks.now) index) node.now.places.items (length tracks.now))) }
     ensures broken { IfErr result (λ stop. (order : VecValue TurnValue) → stop ≡ StopValue.Breaks order → IsBreak M.breaks (opening part tracks.now) node.now order.items) }
 {
     let mut again = false;
     for track in 0..tracks.len() {
-        match run_track(alloc, node, tracks, part, track, again, runner, next) {
+        match take_turn(
+            alloc, node, index, owners, job, tracks, part, track, again, runner, next,
+        ) {
             Ok(near) => again = near,
             Err(stop) => return Err(stop),
         }
@@ -129,13 +170,13 @@ fn expand<M: Machine>(
     Ok(())
 }
 
-/// The layer that follows a range of a layer's nodes: what each of them leads to, by one more line of the tracks by which
-/// orders of a part begin. A watcher is told after each node.
-pub(crate) fn expand_range<M: Machine, W: Watch>(
+/// What a job finds behind a layer: what each node leads to by one more line of those that the job takes and by which orders of a
+/// part begin. A watcher is told after each node.
+pub(crate) fn expand_turns<M: Machine, W: Watch>(
     alloc: Global,
     layer: &[Node<M>],
-    first: usize,
-    last: usize,
+    owners: &Owners,
+    job: usize,
     limits: Limits,
     tracks: &[Vec<M::Line>],
     part: Part,
@@ -143,19 +184,52 @@ pub(crate) fn expand_range<M: Machine, W: Watch>(
     spares: Vec<Node<M>>,
     view: &View<'_, W>,
 ) -> Result<Layer<M>, Stop>
-    requires within { (first ≤ last) × (last ≤ length layer.now) }
     requires sized { (n : NodeValue M) → Contains layer.now n → length n.places.items ≡ length tracks.now }
-    ensures next { IfOk result (λ next. IsNextOf M.steps tracks.now (opening part tracks.now) layer.now first last next.nodes.items) }
+    ensures next { IfOk result (λ next. IsNextOf M.steps tracks.now (opening part tracks.now) (own owners.now.jobs.items (length tracks.now) job (opening part tracks.now)) layer.now 0 (length layer.now) next.nodes.items) }
     ensures broken { IfErr result (λ stop. (order : VecValue TurnValue) → stop ≡ StopValue.Breaks order → BreaksNext M.breaks tracks.now part layer.now order.items) }
 {
     let mut next = Layer::new(alloc, limits);
     next.spares = spares;
-    for index in first..last {
-        match expand(alloc, &layer[index], tracks, part, runner, &mut next) {
+    for index in 0..layer.len() {
+        match expand(
+            alloc,
+            &layer[index],
+            index,
+            owners,
+            job,
+            tracks,
+            part,
+            runner,
+            &mut next,
+        ) {
             Ok(()) => {}
             Err(stop) => return Err(stop),
         }
         view.tell(layer, &next.nodes, next.limits);
     }
     Ok(next)
+}
+
+/// The layer that follows all nodes of a layer, by one thread.
+pub(crate) fn expand_all<M: Machine, W: Watch>(
+    alloc: Global,
+    layer: &[Node<M>],
+    limits: Limits,
+    tracks: &[Vec<M::Line>],
+    part: Part,
+    runner: &mut M::Runner,
+    spares: Vec<Node<M>>,
+    view: &View<'_, W>,
+) -> Result<Layer<M>, Stop>
+    requires sized { (n : NodeValue M) → Contains layer.now n → length n.places.items ≡ length tracks.now }
+    ensures next { IfOk result (λ next. FollowsAll M.steps tracks.now part layer.now next.nodes.items) }
+    ensures broken { IfErr result (λ stop. (order : VecValue TurnValue) → stop ≡ StopValue.Breaks order → BreaksNext M.breaks tracks.now part layer.now order.items) }
+{
+    let owners = Owners::none(alloc);
+    match expand_turns(
+        alloc, layer, &owners, 0, limits, tracks, part, runner, spares, view,
+    ) {
+        Ok(next) => Ok(next),
+        Err(stop) => Err(stop),
+    }
 }

@@ -1,7 +1,7 @@
 ghost use Rattle.std.specs.Prelude.{◌≡◌, ◌++◌, [], IfOk, OnOk};
-ghost use Rattle.i3c_explore.specs.Runs.{AreNodesOf};
+ghost use Rattle.i3c_explore.specs.Jobs.{AreNodesOf};
 
-use crate::layer::Layer;
+use crate::layer::{Found, Layer};
 use crate::limits::Limits;
 use crate::machine::Machine;
 use crate::node::Node;
@@ -16,6 +16,8 @@ pub(crate) struct Gathered<M> {
     pub nodes: Vec<Node<M>>,
     /// Each job's stretch of them.
     pub stretches: Vec<Stretch>,
+    /// Where each node stands in the order in which one thread finds them.
+    pub ranks: Vec<usize>,
     /// Nodes whose room is free to be taken.
     pub spares: Vec<Node<M>>,
     /// What is left of the limits.
@@ -27,7 +29,13 @@ impl<M: Machine> Gathered<M> {
     fn add(&mut self, layer: Layer<M>, limits: Limits) -> Result<(), Stop>
         ensures { OnOk result (self.new.nodes.items ≡ self.old.nodes.items ++ layer.nodes.items) }
     {
-        let (mut nodes, left, mut spares, index) = layer.taken_apart();
+        let Found {
+            mut nodes,
+            limits: left,
+            mut spares,
+            index,
+            mut ranks,
+        } = layer.taken_apart();
         let steps = limits.steps.saturating_sub(left.steps);
         let Some(left) = self.limits.steps.checked_sub(steps) else {
             return Err(Stop::Most);
@@ -35,6 +43,7 @@ impl<M: Machine> Gathered<M> {
         self.limits.steps = left;
         let first = self.nodes.len();
         self.nodes.append(&mut nodes)?;
+        self.ranks.append(&mut ranks)?;
         self.spares.append(&mut spares)?;
         match self.stretches.push(Stretch { first, index }) {
             Ok(()) => Ok(()),
@@ -54,6 +63,7 @@ pub(crate) fn gather<M: Machine>(
     let mut all = Gathered {
         nodes: Vec::new(alloc),
         stretches: Vec::new(alloc),
+        ranks: Vec::new(alloc),
         spares: Vec::new(alloc),
         limits,
     };

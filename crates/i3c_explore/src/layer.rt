@@ -24,6 +24,24 @@ pub(crate) struct Layer<M> {
     // the room of the places of the node that is put
     room: Vec<usize>,
     index: Index,
+    /// Where each node stands among those of all jobs.
+    pub ranks: Vec<usize>,
+    rank: usize,
+}
+
+/// What a job found.
+#[derive(Drop)]
+pub(crate) struct Found<M> {
+    /// The nodes, in the order in which they were found.
+    pub nodes: Vec<Node<M>>,
+    /// What is left of the limits.
+    pub limits: Limits,
+    /// Nodes whose room is free to be taken.
+    pub spares: Vec<Node<M>>,
+    /// The table by which the nodes are found.
+    pub index: Index,
+    /// Where each node stands among those of all jobs.
+    pub ranks: Vec<usize>,
 }
 
 /// The hash of places and of the state that a runner is in.
@@ -102,7 +120,16 @@ impl<M: Machine> Layer<M> {
             spares: Vec::new(alloc),
             room: Vec::new(alloc),
             index: Index::new(alloc),
+            ranks: Vec::new(alloc),
+            rank: 0,
         }
+    }
+
+    /// New nodes stand here among those of all jobs, from now on.
+    pub(crate) fn turn_to(&mut self, rank: usize)
+        ensures { self.new.nodes ≡ self.old.nodes }
+    {
+        self.rank = rank;
     }
 
     /// The index of a node at these places, with the state that a runner is in.
@@ -135,6 +162,7 @@ impl<M: Machine> Layer<M> {
         ensures { OnOk result (self.new.nodes.items ≡ self.old.nodes.items ++ node ∷ []) }
     {
         self.index.add(alloc, key)?;
+        self.ranks.push(self.rank)?;
         self.nodes.push(node)?;
         Ok(())
     }
@@ -170,9 +198,9 @@ impl<M: Machine> Layer<M> {
         Ok(())
     }
 
-    /// Its nodes, what is left of the limits, its spare nodes, and the table by which its nodes are found.
-    pub(crate) fn taken_apart(self) -> (Vec<Node<M>>, Limits, Vec<Node<M>>, Index)
-        ensures { result.0 ≡ self.nodes }
+    /// What it found.
+    pub(crate) fn taken_apart(self) -> Found<M>
+        ensures { result.nodes ≡ self.nodes }
     {
         let Layer {
             nodes,
@@ -180,7 +208,15 @@ impl<M: Machine> Layer<M> {
             spares,
             room: _,
             index,
+            ranks,
+            rank: _,
         } = self;
-        (nodes, limits, spares, index)
+        Found {
+            nodes,
+            limits,
+            spares,
+            index,
+            ranks,
+        }
     }
 }

@@ -13,10 +13,11 @@
 //! [`explore_part`] tries the orders of one [`Part`] alone. Each order is in exactly one part, and the parts' numbers of orders
 //! add up ([`parts_share_all`]).
 //!
-//! [`explore_on`] does so by several jobs, each on a thread of its own: a job expands a run of a layer's nodes into a layer of
-//! its own. Which nodes two jobs found is found by the jobs, by the tables of their layers; then one thread moves the nodes into
-//! one layer, in the order of the runs, and merges those. Where a job breaks an expectation or reaches a limit, one thread makes
-//! the layer again, so that each number of jobs stops at the same place. A [`Watch`] is told how far it is.
+//! [`explore_on`] does so by several jobs, each on a thread of its own. Each line that runs from a node of a layer is of one job, by the
+//! places that it leads to. So equal states are found by one job, which keeps them once. Only where many lines lead to the same
+//! places, several jobs share these, and states that two of them found are merged. Then the nodes are brought into the order in which one
+//! thread finds them. Where a job breaks an expectation or reaches a limit, one thread makes the layer again, so that each number of
+//! jobs stops at the same place. A [`Watch`] is told how far it is.
 //!
 //! Not claimed: that there is memory enough, that the limits are, or how much time it takes. Where a machine's steps are not
 //! determined, what its `run` doesn't choose is not tried.
@@ -27,13 +28,15 @@ mod expand;
 mod fork;
 mod gathered;
 mod index;
+mod jobs;
 mod layer;
 mod limits;
 mod machine;
 mod merged;
 mod node;
+mod ordered;
+mod owners;
 mod part;
-mod runs;
 mod splits;
 mod stop;
 mod turn;

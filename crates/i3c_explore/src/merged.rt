@@ -1,7 +1,9 @@
-ghost use Rattle.std.specs.Prelude.{◌≡◌, ◌++◌, ◌∷◌, Contains, IfOk, IfSome, OnOk, Some, [], length, slice_get};
+ghost use Rattle.std.specs.Prelude.{◌≡◌, ◌++◌, ◌∷◌, List, Contains, IfOk, IfSome, OnOk, Some, [], length, slice_get};
+ghost use Rattle.i3c_explore.specs.declared.node.Node.{Node as NodeValue};
 ghost use Rattle.i3c_explore.specs.declared.twin.Twin.{Twin as TwinValue};
 ghost use Rattle.i3c_explore.specs.Layers.{ArePut, IsAlikeAt, IsPut};
-ghost use Rattle.i3c_explore.specs.Runs.{AreJoined};
+ghost use Rattle.i3c_explore.specs.Jobs.{AreJoined};
+ghost use Rattle.i3c_explore.specs.Moves.{AreMoved};
 ghost use Rattle.i3c_explore.specs.Twins.{AllTwins};
 
 use crate::gathered::{Gathered, gather};
@@ -9,6 +11,7 @@ use crate::layer::{Layer, merge};
 use crate::limits::Limits;
 use crate::machine::Machine;
 use crate::node::Node;
+use crate::ordered::order;
 use crate::stop::Stop;
 use crate::twin::{Stretch, Twin, all_twins, twins_of};
 use std::alloc::{AllocError, Global};
@@ -26,11 +29,16 @@ fn place_before(twins: &[Twin], next: usize, places: &[usize]) -> Option<usize>
     Some(*place)
 }
 
-/// Adds a node behind the others.
-fn push_behind<M: Machine>(nodes: &mut Vec<Node<M>>, node: Node<M>) -> Result<(), AllocError>
-    ensures { OnOk result (nodes.new.items ≡ nodes.old.items ++ node ∷ []) }
+/// Adds a node behind the others, with its rank.
+fn push_behind<M: Machine>(
+    layer: &mut Layer<M>,
+    node: Node<M>,
+    rank: usize,
+) -> Result<(), AllocError>
+    ensures { OnOk result (layer.new.nodes.items ≡ layer.old.nodes.items ++ node ∷ []) }
 {
-    nodes.push(node)?;
+    layer.ranks.push(rank)?;
+    layer.nodes.push(node)?;
     Ok(())
 }
 
@@ -42,10 +50,19 @@ fn note(places: &mut Vec<usize>, place: usize) -> Result<(), AllocError>
     Ok(())
 }
 
+/// The rank of a node that a job found.
+fn rank_of(ranks: &[usize], node: usize) -> usize {
+    match ranks.get(node) {
+        Some(rank) => *rank,
+        None => node,
+    }
+}
+
 /// Puts a node that a job found: behind the others, or merged with the one at a place, which is alike. Answers where it is.
 fn put_at<M: Machine>(
     layer: &mut Layer<M>,
     node: Node<M>,
+    rank: usize,
     place: Option<usize>,
 ) -> Result<usize, Stop>
     requires { IfSome place (λ place. IsAlikeAt layer.old.nodes.items place node.places.items node.state) }
@@ -61,7 +78,7 @@ fn put_at<M: Machine>(
     if place >= layer.limits.states {
         return Err(Stop::Most);
     }
-    push_behind(&mut layer.nodes, node)?;
+    push_behind(layer, node, rank)?;
     Ok(place)
 }
 
@@ -69,6 +86,7 @@ fn put_at<M: Machine>(
 fn merged<M: Machine>(
     alloc: Global,
     nodes: Vec<Node<M>>,
+    ranks: &[usize],
     twins: &[Twin],
     spares: Vec<Node<M>>,
     limits: Limits,
@@ -85,7 +103,8 @@ fn merged<M: Machine>(
         if before.is_some() {
             next = next.saturating_add(1);
         }
-        let place = match put_at(&mut layer, node, before) {
+        let rank = rank_of(ranks, places.len());
+        let place = match put_at(&mut layer, node, rank, before) {
             Ok(place) => place,
             Err(stop) => return Err(stop),
         };
@@ -94,30 +113,92 @@ fn merged<M: Machine>(
     Ok(layer)
 }
 
-/// The layers of all jobs as one: each node once, in the order in which one thread finds them. Which nodes are twins is found by
-/// a thread for each job.
+/// The layers of all jobs as one, in the order in which one thread finds the nodes. Where jobs' layers overlap, they can have found the
+/// same node, which then is one.
 pub(crate) fn joined_by_jobs<R: Threads + Sync, M: Machine + Send + Sync>(
     rt: &R,
     alloc: Global,
     layers: Vec<Result<Layer<M>, Stop>>,
+    overlap: bool,
     limits: Limits,
 ) -> Result<Layer<M>, Stop>
 where
     M::Line: Sync,
     M::Runner: Send,
-    ensures { IfOk result (λ both. AreJoined [] layers.items both.nodes.items) }
+    ensures { IfOk result (λ both. (joined : List (NodeValue M)) × AreJoined [] layers.items joined × AreMoved joined both.nodes.items) }
+{
+    let all = match gather(alloc, layers, limits) {
+        Ok(all) => all,
+        Err(stop) => return Err(stop),
+    };
+    let mut layer = match put_together(rt, alloc, all, overlap) {
+        Ok(layer) => layer,
+        Err(stop) => return Err(stop),
+    };
+    order(alloc, &mut layer.nodes, &layer.ranks)?;
+    Ok(layer)
+}
+
+/// The nodes that all jobs found, as one layer. Where jobs' layers overlap, some can be like one another.
+fn put_together<R: Threads + Sync, M: Machine + Send + Sync>(
+    rt: &R,
+    alloc: Global,
+    all: Gathered<M>,
+    overlap: bool,
+) -> Result<Layer<M>, Stop>
+where
+    M::Line: Sync,
+    M::Runner: Send,
+    ensures { IfOk result (λ layer. ArePut [] all.nodes.items layer.nodes.items) }
+{
+    if overlap {
+        without_twins(rt, alloc, all)
+    } else {
+        all_at_once(alloc, all)
+    }
+}
+
+/// The nodes that all jobs found, as one layer: none is like another.
+fn all_at_once<M: Machine>(alloc: Global, all: Gathered<M>) -> Result<Layer<M>, Stop>
+    ensures { IfOk result (λ layer. ArePut [] all.nodes.items layer.nodes.items) }
+{
+    let Gathered {
+        nodes,
+        stretches: _,
+        ranks,
+        spares,
+        limits,
+    } = all;
+    if nodes.len() > limits.states {
+        return Err(Stop::Most);
+    }
+    let mut layer = Layer::new(alloc, limits);
+    layer.nodes = nodes;
+    layer.ranks = ranks;
+    layer.spares = spares;
+    Ok(layer)
+}
+
+/// The nodes that all jobs found, as one layer: each once. Which nodes are twins is found by a thread for each job.
+fn without_twins<R: Threads + Sync, M: Machine + Send + Sync>(
+    rt: &R,
+    alloc: Global,
+    all: Gathered<M>,
+) -> Result<Layer<M>, Stop>
+where
+    M::Line: Sync,
+    M::Runner: Send,
+    ensures { IfOk result (λ layer. ArePut [] all.nodes.items layer.nodes.items) }
 {
     let Gathered {
         nodes,
         stretches,
+        ranks,
         spares,
         limits,
-    } = match gather(alloc, layers, limits) {
-        Ok(all) => all,
-        Err(stop) => return Err(stop),
-    };
+    } = all;
     let twins = found_by_jobs(rt, alloc, &nodes, &stretches)?;
-    match merged(alloc, nodes, &twins, spares, limits) {
+    match merged(alloc, nodes, &ranks, &twins, spares, limits) {
         Ok(layer) => Ok(layer),
         Err(stop) => Err(stop),
     }

@@ -12,14 +12,14 @@ ghost use Rattle.i3c_explore.specs.Orders.{IsDetermined, IsExclusive};
 ghost use Rattle.i3c_explore.specs.Parts.{IsOfPart};
 
 use crate::block::explore_block;
-use crate::expand::expand_range;
+use crate::expand::expand_all;
 use crate::fork::fork;
+use crate::jobs::next_by_jobs;
 use crate::layer::Layer;
 use crate::limits::Limits;
 use crate::machine::Machine;
 use crate::node::{Node, sum};
 use crate::part::Part;
-use crate::runs::next_by_jobs;
 use crate::stop::Stop;
 use crate::watch::{Unwatched, View, Watch, lines_of};
 use std::alloc::{AllocError, Global};
@@ -158,10 +158,7 @@ pub fn explore_part<M: Machine>(
         ensures next { IfOk result (λ next. FollowsAll M.steps tracks.now opening layer.now next.nodes.items) }
         ensures broken { IfErr result (λ stop. (order : VecValue TurnValue) → stop ≡ StopValue.Breaks order → BreaksNext M.breaks tracks.now opening layer.now order.items) }
     {
-        let last = layer.len();
-        match expand_range(
-            alloc, layer, 0, last, limits, tracks, opening, runner, spares, &view,
-        ) {
+        match expand_all(alloc, layer, limits, tracks, opening, runner, spares, &view) {
             Ok(next) => Ok(next),
             Err(stop) => Err(stop),
         }

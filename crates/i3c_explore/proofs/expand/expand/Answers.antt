@@ -3,6 +3,7 @@ use Rattle.std.proofs.lemmas.Bool.{false≢true}
 use borrow.Author.Count.{below_more}
 use Rattle.i3c_explore.proofs.Expanding.{expanded_kept, from_more, from_same, keeps_both}
 use Rattle.i3c_explore.specs.Shares.{Gains, IsLed, by_tracks}
+use Rattle.i3c_explore.specs.Owners.{own}
 use Rattle.i3c_explore.specs.Parts.{opening}
 use Rattle.i3c_explore.proofs.Counting.{gains_track}
 use Rattle.i3c_explore.proofs.Sharing.{added_none}
@@ -11,13 +12,13 @@ use Rattle.i3c_explore.proofs.expand.expand.Goals as goal
 pub loop-track-preserved : goal.loop-track-preserved
 loop-track-preserved g c =
     let done = c.in-Ok.ensures in let was = c.loop-track.invariant in
-    let steps = g.M.Machine.steps in let tracks = c.args.tracks.now in let lines = opening c.args.part tracks in let node = c.args.node.now in
-    let old = c.args.next.now.nodes.items in let mid = c.loop-track.next.nodes.items in let new = c.run_track.new.next.nodes.items in record {
+    let steps = g.M.Machine.steps in let tracks = c.args.tracks.now in let lines = own c.args.owners.now.jobs.items (length tracks) c.args.job (opening c.args.part tracks) c.args.index in let node = c.args.node.now in
+    let old = c.args.next.now.nodes.items in let mid = c.loop-track.next.nodes.items in let new = c.take_turn.new.next.nodes.items in record {
       keeps = keeps_both old mid new was.keeps done.keeps;
       expanded = below_more _ _ (expanded_kept steps lines c.loop-track.track node mid new done.keeps was.expanded) done.tracked;
       counted = gains_track steps tracks lines node old mid new c.loop-track.track was.counted done.counted;
       near = done.near;
-      from = from_more steps lines node old mid new was.from done.from;
+      from = from_more steps (opening c.args.part tracks) node old mid new was.from done.from;
     }
 
 pub loop-track-init : goal.loop-track-init
@@ -33,4 +34,4 @@ pub returns-clause-counted : goal.returns-clause-counted
 returns-clause-counted g c =
     let tracks = c.args.tracks.now in let node = c.args.node.now in
     let all : c.loop-track.track ≡ length tracks = omega arith in
-    subst (λ (count : ℕ). Gains g.M.Machine.steps tracks node c.args.next.now.nodes.items c.loop-track.next.nodes.items (by_tracks (opening c.args.part tracks) node.places.items count)) all c.loop-track.invariant.counted
+    subst (λ (count : ℕ). Gains g.M.Machine.steps tracks node c.args.next.now.nodes.items c.loop-track.next.nodes.items (by_tracks (own c.args.owners.now.jobs.items (length tracks) c.args.job (opening c.args.part tracks) c.args.index) node.places.items count)) all c.loop-track.invariant.counted

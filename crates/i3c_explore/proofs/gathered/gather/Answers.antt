@@ -1,7 +1,7 @@
 use Rattle.std.proofs.Common.{◌++◌, ◌∷◌, [], Result, subst, sym}
 use Rattle.i3c_explore.specs.declared.layer.Layer.{Layer}
 use Rattle.i3c_explore.specs.declared.stop.Stop.{Stop}
-use Rattle.i3c_explore.specs.Runs.{AreNodesOf}
+use Rattle.i3c_explore.specs.Jobs.{AreNodesOf}
 use Rattle.i3c_explore.proofs.Merging.{nodes_more}
 use Rattle.i3c_explore.proofs.gathered.gather.Goals as goal
 

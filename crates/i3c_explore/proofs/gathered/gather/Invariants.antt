@@ -1,4 +1,4 @@
-use Rattle.i3c_explore.specs.Runs.{AreNodesOf}
+use Rattle.i3c_explore.specs.Jobs.{AreNodesOf}
 use Rattle.i3c_explore.proofs.gathered.gather.Given as goal
 
 -- the nodes are those of the layers so far

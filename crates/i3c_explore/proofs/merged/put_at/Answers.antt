@@ -10,4 +10,4 @@ returns-in-Some-clause-at g c =
     alike_kept old c.merge.new.nodes.items node (inr (c.merge.ensures node here refl)) place node.places.items node.state here
 
 pub returns-clause-at : goal.returns-clause-at
-returns-clause-at g c = pushed_at c.args.layer.now.nodes.items c.push_behind.new.nodes.items c.args.node c.len-place.result c.in_ok-push_behind.ensures (let e = c.len-place.ensures in search rules)
+returns-clause-at g c = pushed_at c.args.layer.now.nodes.items c.push_behind.new.layer.nodes.items c.args.node c.len-place.result c.in_ok-push_behind.ensures (let e = c.len-place.ensures in search rules)

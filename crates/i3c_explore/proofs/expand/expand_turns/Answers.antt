@@ -2,28 +2,29 @@ use borrow.Author.Count.{below_more}
 use Rattle.std.proofs.Common.{◌≡◌, ◌<◌, ℕ, ap, arith, inl, inr, length, subst, sym}
 use Rattle.i3c_explore.proofs.Expanding.{like_successor, passed_here, passed_kept}
 use Rattle.i3c_explore.specs.Nexts.{IsNextOf}
+use Rattle.i3c_explore.specs.Owners.{own}
 use Rattle.i3c_explore.specs.Parts.{opening}
 use Rattle.i3c_explore.proofs.Nexts.{next_none}
 use Rattle.i3c_explore.proofs.Shares.{shares_more}
-use Rattle.i3c_explore.proofs.expand.expand_range.Goals as goal
+use Rattle.i3c_explore.proofs.expand.expand_turns.Goals as goal
 
 pub loop-index-init : goal.loop-index-init
 loop-index-init g c =
-    let tracks = c.args.tracks.now in
-    next_none g.M.Machine.steps tracks (opening c.args.part tracks) c.args.layer.now c.args.first c.new-next.result.nodes.items (ap length c.new-next.ensures.nodes)
+    let tracks = c.args.tracks.now in let lines = opening c.args.part tracks in
+    next_none g.M.Machine.steps tracks lines (own c.args.owners.now.jobs.items (length tracks) c.args.job lines) c.args.layer.now 0 c.new-next.result.nodes.items (ap length c.new-next.ensures.nodes)
 
 pub loop-index-preserved : goal.loop-index-preserved
 loop-index-preserved g c =
     let done = c.in-Ok.ensures in let was = c.loop-index.invariant in
-    let steps = g.M.Machine.steps in let tracks = c.args.tracks.now in let lines = opening c.args.part tracks in let count = length tracks in let layer = c.args.layer.now in let index = c.loop-index.index in
+    let steps = g.M.Machine.steps in let tracks = c.args.tracks.now in let lines = opening c.args.part tracks in let count = length tracks in let ran = own c.args.owners.now.jobs.items count c.args.job lines in let layer = c.args.layer.now in let index = c.loop-index.index in
     let old = c.loop-index.next.nodes.items in let new = c.expand.new.next.nodes.items in let node = c.index-layer-index.result in
     let lt : index < length layer = omega arith in record {
-      expanded = below_more _ _ (passed_kept steps lines count layer c.args.first index old new done.keeps was.expanded) (λ le. passed_here steps lines count layer index node new c.index-layer-index.is done.expanded);
+      expanded = below_more _ _ (passed_kept steps ran count layer 0 index old new done.keeps was.expanded) (λ le. passed_here steps (ran index) count layer index node new c.index-layer-index.is done.expanded);
       from = λ n is. elim (done.from n is) [
         | inl (m, before, like) ↦ (let (o, at, made) = was.from m before in (o, at, like_successor steps lines o n m like made))
         | inr made ↦ (node, (index, lt, sym c.index-layer-index.is), made)
       ];
-      counted = shares_more steps tracks lines count layer c.args.first index node old new (omega arith) lt c.index-layer-index.is was.counted done.counted;
+      counted = shares_more steps tracks ran count layer 0 index node old new (omega arith) lt c.index-layer-index.is was.counted done.counted;
     }
 
 pub returns-in-Err-clause-broken : goal.returns-in-Err-clause-broken
@@ -31,6 +32,6 @@ returns-in-Err-clause-broken g c order is = (c.index-layer-index.result, (c.loop
 
 pub returns-clause-next : goal.returns-clause-next
 returns-clause-next g c =
-    let tracks = c.args.tracks.now in
-    let all : c.loop-index.index ≡ c.args.last = omega arith in
-    subst (λ (k : ℕ). IsNextOf g.M.Machine.steps tracks (opening c.args.part tracks) c.args.layer.now c.args.first k c.loop-index.next.nodes.items) all c.loop-index.invariant
+    let tracks = c.args.tracks.now in let lines = opening c.args.part tracks in
+    let all : c.loop-index.index ≡ length c.args.layer.now = omega arith in
+    subst (λ (k : ℕ). IsNextOf g.M.Machine.steps tracks lines (own c.args.owners.now.jobs.items (length tracks) c.args.job lines) c.args.layer.now 0 k c.loop-index.next.nodes.items) all c.loop-index.invariant

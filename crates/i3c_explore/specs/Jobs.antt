@@ -1,15 +1,15 @@
--- Runs of a layer's nodes, which jobs expand, and the layers that they make.
-use Rattle.std.specs.Prelude.{◌≡◌, ◌≤◌, ℕ, List, [], ◌∷◌, ◌++◌, IsOkAnd, Result}
+-- The jobs that make a layer, and the layers that they make.
+use Rattle.std.specs.Prelude.{◌≡◌, ℕ, suc, List, [], ◌∷◌, ◌++◌, IsOkAnd, Result}
+use Rattle.i3c_explore.specs.declared.jobs.Job.{Job}
 use Rattle.i3c_explore.specs.declared.layer.Layer.{Layer}
 use Rattle.i3c_explore.specs.declared.node.Node.{Node}
-use Rattle.i3c_explore.specs.declared.runs.Run.{Run}
 use Rattle.i3c_explore.specs.declared.stop.Stop.{Stop}
 use Rattle.i3c_explore.specs.Layers.{ArePut}
 
--- runs, one behind the other, have the nodes from one index up to the one before another
-abbrev pub AreRuns : {S : Type 0} → List (Run S) → ℕ → ℕ → Type 0
-AreRuns [] from to = from ≡ to
-AreRuns (run ∷ runs) from to = (run.first ≡ from) × (run.first ≤ run.last) × AreRuns runs run.last to
+-- the jobs have the numbers from one up to the one before another
+abbrev pub AreJobs : {S : Type 0} → List (Job S) → ℕ → ℕ → Type 0
+AreJobs [] from to = from ≡ to
+AreJobs (job ∷ jobs) from to = (job.number ≡ from) × AreJobs jobs (suc from) to
 
 -- the nodes of all layers are put, one layer after another
 abbrev pub AreJoined : {S : Type 0} → List (Node S) → List (Result (Layer S) Stop) → List (Node S) → Type 0

@@ -1,17 +1,19 @@
-ghost use Rattle.std.specs.Prelude.{◌≡◌, ◌≤◌, [], IfErr, IfOk, length};
+ghost use Rattle.std.specs.Prelude.{◌≡◌, ◌<◌, IfErr, IfOk, length};
 ghost use Rattle.std.specs.Global.{Vec as VecValue};
 ghost use Rattle.i3c_explore.specs.declared.stop.Stop.{Stop as StopValue};
 ghost use Rattle.i3c_explore.specs.declared.turn.Turn.{Turn as TurnValue};
 ghost use Rattle.i3c_explore.specs.Nexts.{ArePlaced, BreaksNext, FollowsAll, IsNextOf};
 ghost use Rattle.i3c_explore.specs.Parts.{opening};
-ghost use Rattle.i3c_explore.specs.Runs.{AreRuns};
+ghost use Rattle.i3c_explore.specs.Jobs.{AreJobs};
+ghost use Rattle.i3c_explore.specs.Owners.{own};
 
-use crate::expand::expand_range;
+use crate::expand::{expand_all, expand_turns};
 use crate::layer::Layer;
 use crate::limits::Limits;
 use crate::machine::Machine;
 use crate::merged::joined_by_jobs;
 use crate::node::Node;
+use crate::owners::{Owners, owners_of};
 use crate::part::Part;
 use crate::stop::Stop;
 use crate::watch::{Unwatched, View, Watch};
@@ -22,23 +24,13 @@ use std::thread::{Threads, map_vec};
 /// How few nodes are worth a thread of their own.
 const FEW: usize = 16;
 
-/// Consecutive nodes of a layer that one job expands: from the first one up to the one before the last, by their indices.
+/// One of the jobs that make a layer.
 #[derive(Drop)]
-struct Run<M> {
-    first: usize,
-    last: usize,
+struct Job<M> {
+    // counted from 0
+    number: usize,
     // nodes whose room the job may take
     spares: Vec<Node<M>>,
-}
-
-/// The index of a layer's node with which a job begins, of so many jobs. Each but the last gets the same number of nodes.
-fn begin_of(nodes: usize, jobs: usize, job: usize) -> usize
-    ensures { result ≤ nodes }
-{
-    match nodes.checked_div(jobs) {
-        Some(each) => each.saturating_mul(job).min(nodes),
-        None => nodes,
-    }
 }
 
 /// A job's share of the spare nodes, of so many jobs.
@@ -52,55 +44,38 @@ fn share_of<M: Machine>(
     }
 }
 
-/// The runs of so many jobs, which have all nodes of a layer, in their order.
-fn runs_of<M: Machine>(
+/// So many jobs, in their order.
+fn jobs_of<M: Machine>(
     alloc: Global,
-    nodes: usize,
     jobs: usize,
     spares: Vec<Node<M>>,
-) -> Result<Vec<Run<M>>, AllocError>
-    ensures { IfOk result (λ runs. AreRuns runs.items 0 nodes) }
+) -> Result<Vec<Job<M>>, AllocError>
+    ensures { IfOk result (λ all. AreJobs all.items 0 jobs) }
 {
     let mut rest = spares;
-    let mut runs = Vec::new(alloc);
-    let mut first = 0usize;
-    for job in 1..jobs {
-        let last = begin_of(nodes, jobs, job).max(first);
-        let spares = share_of(&mut rest, jobs)?;
-        runs.push(Run {
-            first,
-            last,
-            spares,
-        })?;
-        first = last;
+    let mut all = Vec::new(alloc);
+    for number in 0..jobs {
+        let spares = share_of(&mut rest, jobs - number)?;
+        all.push(Job { number, spares })?;
     }
-    runs.push(Run {
-        first,
-        last: nodes,
-        spares: rest,
-    })?;
-    Ok(runs)
+    Ok(all)
 }
 
-/// The layer that follows a run of a layer's nodes, on a runner of its own.
-fn expand_run<M: Machine>(
+/// The nodes that a job finds behind a layer, on a runner of its own.
+fn expand_job<M: Machine>(
     alloc: Global,
     layer: &[Node<M>],
-    run: Run<M>,
+    owners: &Owners,
+    job: Job<M>,
     limits: Limits,
     tracks: &[Vec<M::Line>],
     part: Part,
 ) -> Result<Layer<M>, Stop>
-    requires within { (run.first ≤ run.last) × (run.last ≤ length layer.now) }
     requires sized { ArePlaced layer.now tracks.now }
-    ensures { IfOk result (λ next. IsNextOf M.steps tracks.now (opening part tracks.now) layer.now run.first run.last next.nodes.items) }
+    ensures { IfOk result (λ next. IsNextOf M.steps tracks.now (opening part tracks.now) (own owners.now.jobs.items (length tracks.now) job.number (opening part tracks.now)) layer.now 0 (length layer.now) next.nodes.items) }
 {
-    let Run {
-        first,
-        last,
-        spares,
-    } = run;
-    let Some(node) = layer.get(first) else {
+    let Job { number, spares } = job;
+    let Some(node) = layer.first() else {
         return Err(Stop::Most);
     };
     let mut runner = node.state.runner(alloc)?;
@@ -109,11 +84,11 @@ fn expand_run<M: Machine>(
         lines: 0,
         limits,
     };
-    match expand_range(
+    match expand_turns(
         alloc,
         layer,
-        first,
-        last,
+        owners,
+        number,
         limits,
         tracks,
         part,
@@ -126,8 +101,8 @@ fn expand_run<M: Machine>(
     }
 }
 
-/// The layer that follows all nodes of a layer. Each job expands consecutive nodes, on a thread of its own.
-fn by_runs<R: Threads + Sync, M: Machine + Send + Sync>(
+/// The layer that follows all nodes of a layer. Each job runs the lines that it owns, on a thread of its own.
+fn by_owners<R: Threads + Sync, M: Machine + Send + Sync>(
     rt: &R,
     alloc: Global,
     jobs: usize,
@@ -140,16 +115,18 @@ fn by_runs<R: Threads + Sync, M: Machine + Send + Sync>(
 where
     M::Line: Sync,
     M::Runner: Send,
+    requires some { 0 < jobs }
     requires sized { ArePlaced layer.now tracks.now }
     ensures { IfOk result (λ next. FollowsAll M.steps tracks.now part layer.now next.nodes.items) }
 {
-    let runs = runs_of(alloc, layer.len(), jobs, spares)?;
-    let expand = |run: Run<M>| -> Result<Layer<M>, Stop>
-        requires { (run.first ≤ run.last) × (run.last ≤ length layer.now) × ArePlaced layer.now tracks.now }
-        ensures { IfOk result (λ next. IsNextOf M.steps tracks.entry.now (opening part tracks.entry.now) layer.entry.now run.first run.last next.nodes.items) }
-    { expand_run(alloc, layer, run, limits, tracks, part) };
-    let layers = map_vec(rt, runs, &expand)?;
-    match joined_by_jobs(rt, alloc, layers, limits) {
+    let owners = owners_of(alloc, layer, tracks, part, jobs)?;
+    let all = jobs_of(alloc, jobs, spares)?;
+    let expand = |job: Job<M>| -> Result<Layer<M>, Stop>
+        requires { ArePlaced layer.now tracks.now }
+        ensures { IfOk result (λ next. IsNextOf M.steps tracks.entry.now (opening part tracks.entry.now) (own owners.jobs.items (length tracks.entry.now) job.number (opening part tracks.entry.now)) layer.entry.now 0 (length layer.entry.now) next.nodes.items) }
+    { expand_job(alloc, layer, &owners, job, limits, tracks, part) };
+    let layers = map_vec(rt, all, &expand)?;
+    match joined_by_jobs(rt, alloc, layers, owners.overlap, limits) {
         Ok(next) => Ok(next),
         Err(stop) => Err(stop),
     }
@@ -176,18 +153,15 @@ where
     ensures next { IfOk result (λ next. FollowsAll M.steps tracks.now part layer.now next.nodes.items) }
     ensures broken { IfErr result (λ stop. (order : VecValue TurnValue) → stop ≡ StopValue.Breaks order → BreaksNext M.breaks tracks.now part layer.now order.items) }
 {
-    let last = layer.len();
-    let useful = jobs.min(last / FEW);
+    let useful = jobs.min(layer.len() / FEW);
     if useful > 1 {
         let lent = mem::replace(&mut spares, Vec::new(alloc));
-        if let Ok(next) = by_runs(rt, alloc, useful, layer, limits, tracks, part, lent) {
+        if let Ok(next) = by_owners(rt, alloc, useful, layer, limits, tracks, part, lent) {
             view.tell(layer, &next.nodes, next.limits);
             return Ok(next);
         }
     }
-    match expand_range(
-        alloc, layer, 0, last, limits, tracks, part, runner, spares, view,
-    ) {
+    match expand_all(alloc, layer, limits, tracks, part, runner, spares, view) {
         Ok(next) => Ok(next),
         Err(stop) => Err(stop),
     }

@@ -1,0 +1,29 @@
+use Rattle.std.proofs.Common.{◌≡◌, true, length, rules, subst, sym}
+use Rattle.std.specs.Global.{Vec as VecValue}
+use Rattle.i3c_explore.specs.declared.node.Node.{Node as NodeValue}
+use Rattle.i3c_explore.specs.Layers.{AreFrom, Keeps}
+use Rattle.i3c_explore.specs.Owners.{own, takes}
+use Rattle.i3c_explore.specs.Parts.{opening}
+use Rattle.i3c_explore.specs.Shares.{Gains, by_track}
+use Rattle.i3c_explore.proofs.Expanding.{from_same}
+use Rattle.i3c_explore.proofs.Owning.{chosen, gains_as}
+use Rattle.i3c_explore.proofs.expand.take_turn.Goals as goal
+
+pub returns-then-not-takes-clause-from : goal.returns-then-not-takes-clause-from
+returns-then-not-takes-clause-from g c = from_same g.M.Machine.steps (opening c.args.part c.args.tracks.now) c.args.node.now c.args.next.now.nodes.items
+
+pub returns-in-Ok-clause-keeps : goal.returns-in-Ok-clause-keeps
+returns-in-Ok-clause-keeps g c = subst (λ (v : VecValue (NodeValue g.row.M.Denot)). Keeps v.items c.run_track.new.next.nodes.items) c.turn_to.ensures c.in-Ok.ensures.keeps
+
+pub returns-in-Ok-clause-from : goal.returns-in-Ok-clause-from
+returns-in-Ok-clause-from g c =
+    subst (λ (v : VecValue (NodeValue g.row.M.Denot)). AreFrom g.M.Machine.steps (opening c.args.part c.args.tracks.now) c.args.node.now v.items c.run_track.new.next.nodes.items) c.turn_to.ensures c.in-Ok.ensures.from
+
+pub returns-in-Ok-clause-counted : goal.returns-in-Ok-clause-counted
+returns-in-Ok-clause-counted g c =
+    let steps = g.M.Machine.steps in let tracks = c.args.tracks.now in let lines = opening c.args.part tracks in let owners = c.args.owners.now.jobs.items in let node = c.args.node.now in
+    let new = c.run_track.new.next.nodes.items in
+    let is : takes owners (length tracks) c.args.job c.args.index c.args.track ≡ true = (let e = c.takes.ensures in let f = c.if-not-takes.false in search rules) in
+    let more = subst (λ (v : VecValue (NodeValue g.row.M.Denot)). Gains steps tracks node v.items new (by_track lines node.places.items c.args.track)) c.turn_to.ensures c.in-Ok.ensures.counted in
+    gains_as steps tracks lines (own owners (length tracks) c.args.job lines c.args.index) node c.args.next.now.nodes.items new c.args.track
+    (sym (chosen (takes owners (length tracks) c.args.job c.args.index c.args.track) (lines c.args.track) is)) more

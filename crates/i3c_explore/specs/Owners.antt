@@ -1,0 +1,26 @@
+-- Which job runs the next line of a track from a node of a layer.
+use Rattle.std.specs.Prelude.{◌+◌, ◌*◌, ◌==◌, ◌<◌, ◌≡◌, ℕ, Bool, suc, List, [], Option, None, Some, nat_le, if◌then◌else◌, slice_get}
+
+-- a job's number, which is the first one's where none is noted
+abbrev pub number : Option ℕ → ℕ
+number None = 0
+number (Some job) = job
+
+-- the job that runs the next line of a track from a node, where each node has so many tracks
+abbrev pub owner : List ℕ → ℕ → ℕ → ℕ → ℕ
+owner jobs tracks node track = number (slice_get jobs (node * tracks + track))
+
+abbrev pub takes : List ℕ → ℕ → ℕ → ℕ → ℕ → Bool
+takes jobs tracks job node track = owner jobs tracks node track == job
+
+-- each line is run by one of so many jobs
+abbrev pub AreOwned : List ℕ → ℕ → Type 0
+AreOwned jobs count = (k job : ℕ) → slice_get jobs k ≡ Some job → job < count
+
+-- the lines of each track that a job runs from a node
+abbrev pub own : {L : Type 0} → List ℕ → ℕ → ℕ → (ℕ → List L) → ℕ → ℕ → List L
+own jobs tracks job lines node track = if takes jobs tracks job node track then lines track else []
+
+-- and those that the jobs below a number run
+abbrev pub own_below : {L : Type 0} → List ℕ → ℕ → ℕ → (ℕ → List L) → ℕ → ℕ → List L
+own_below jobs tracks count lines node track = if nat_le (suc (owner jobs tracks node track)) count then lines track else []
