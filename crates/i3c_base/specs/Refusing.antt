@@ -35,12 +35,12 @@ role_tests active s place =
     ∷ (in_slot (λ d. not (is_capable d.identity.bcr)) place, RoleRefusal.NotCapable)
     ∷ (in_slot (λ d. not d.kinds.role) place, RoleRefusal.Masked) ∷ []
 
--- no further raise of a slot can be counted, which has raised so often
+-- a slot that has raised so often can count no further raise
 abbrev pub is_uncounted : ℕ → Bool
 is_uncounted raised = nat_le (2 ^ 64 - 1) raised
 
--- why a slot's device may not raise, in order: it has no address, can't interrupt by its BCR, the byte is missing or too
--- many by its BCR, its interrupts are disabled, or eight wait or no more can be counted
+-- Why a slot's device may not raise, in order. It has no address. It can't interrupt by its BCR. The byte is missing, or
+-- the BCR has none. Its interrupts are disabled. Eight wait already, or no more can be counted.
 abbrev pub raise_faults : Option ℕ → Bool → Option Device → Tests RaiseRefusal
 raise_faults byte uncounted place =
     (in_slot (λ d. is_none d.address) place, RaiseRefusal.NoAddress)

@@ -1,13 +1,9 @@
 //! The list of DEFTGTS: what a controller tells the other controllers of its table (I3C Basic 5.1.9.3.7).
 //!
-//! A list is a count, and then four words for each entry, the active controller's first:
+//! A list is a count, and then four words for each entry, the active controller's first. An address is in bits 7:1.
 //!
-//! | Word | A device | A legacy target |
-//! |---|---|---|
-//! | 1 | its dynamic address in bits 7:1 | `00` |
-//! | 2 | its DCR | its LVR |
-//! | 3 | its BCR | `00` |
-//! | 4 | its static address in bits 7:1, `00` without one | its static address in bits 7:1 |
+//! * The words of a device are its dynamic address, its DCR, its BCR, and its static address or `00`.
+//! * The words of a legacy target are `00`, its LVR, `00`, and its static address.
 #![tactic(auto)]
 
 mod copies;

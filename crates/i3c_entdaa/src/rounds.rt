@@ -54,8 +54,8 @@ fn give(
 /// to 64, the address byte bits 65 to 72, and its ACK is bit 73.
 ///
 /// The least identity that isn't beaten by one that is lost wins. It takes the address kept for it, else the least that
-/// may be picked; without a pickable address nothing is sent. Nobody wins where each winner is lost by the ACK. Then no
-/// row is put, and no address is used up.
+/// may be picked; without a pickable address nothing is sent. Nobody wins where each winner is lost by the ACK. Then the
+/// table gets no row, and the address stays free.
 pub fn round(devices: &mut Devices, table: &mut Table, cuts: &Cuts) -> Round
     ensures rounds { (st : State) → st.devices ≡ devices.old → IsTable st table.old
         → Rounds st cuts.now (reply_of result) (record st { devices = devices.new; given = table.new.given; listed = table.new.listed }) }

@@ -14,8 +14,8 @@ const KEY_BITS: u32 = 8;
 /// The number of requests for which a short list of contenders is enough.
 const FEW: usize = 4;
 
-/// The request that wins the header which all of these drive at once (I3C Basic 5.1.2.2.1): a join before all else, then
-/// the lower address, then at one address the role request. Their keys contend on the lines, bit by bit. `None` only
+/// The request that wins the header which all of these drive at once (I3C Basic 5.1.2.2.1): a join if there is
+/// one, otherwise the smallest address, and at one address the role request. Their keys contend on the lines, bit by bit. `None` only
 /// where there is none.
 pub fn arbitrate(requests: &[Request]) -> Option<Request>
     requires few { length requests.now ≤ SLOT_COUNT }

@@ -1,15 +1,23 @@
-//! What a user runs: a script, whose lines are read, run in order, and print what came of them; a trace, told in lines; and
-//! devices that post from threads of their own.
+//! What a user runs: a script, a trace that is told in lines, and devices that post from threads of their own.
 //!
-//! - `script` parts the bytes of a script into lines, runs them and counts the refusals.
-//! - `expecting` prints whether expectations are met, and `lasting` tests those that last to the end of a block.
-//! - `check` tells a script's lines without a form, by `script_lines`, which reads one line after another.
-//! - `watched` runs a script and shows more of it, with the `reasons` of refusals.
-//! - `viewed` shows each line to a viewer, with what it printed and the symbols that it sent.
-//! - `trace` tells what a trace says, `linting` its faults too, and `explaining` why its lines are refused.
-//! - `reading` and `output` are how all of these read and write.
-//! - `stress_bus` sets a bus with its devices up and closes it, `stressing` lets them post, and `report` counts the run.
-//! - `laws` says that the lines of a script make a legal run.
+//! * `script` reads a script's lines, runs them and counts the refusals.
+//! * `expecting` prints whether expectations are met.
+//! * `lasting` tests those that last to the end of a block.
+//! * `check` tells which lines of a script have no form.
+//! * `script_lines` reads one line after another.
+//! * `watched` runs a script and shows more of it.
+//! * `reasons` says why a line was refused.
+//! * `viewed` shows each line to a viewer, with what it printed and the symbols that it sent.
+//! * `trace` tells what a trace says.
+//! * `linting` tells its faults too.
+//! * `explaining` tells why its lines are refused.
+//! * `reading` reads bytes and lines.
+//! * `output` writes what is printed.
+//! * `faults` has why a run was given up.
+//! * `stress_bus` sets a bus with its devices up and closes it.
+//! * `stressing` lets the devices post.
+//! * `report` counts the run.
+//! * `laws` says that the lines of a script make a legal run.
 #![tactic(auto)]
 
 mod check;

@@ -1,11 +1,13 @@
-//! The bus of a script as a machine whose lines are tried in every order, with devices that lose power at any bit of a frame.
+//! The bus of a script as a machine. Its lines are tried in every order, with devices that lose power at any bit of a frame.
 //!
-//! - `scene` is a bus between two lines: it is at rest, and can be compared, kept and dropped.
-//! - `live` is a bus awake, which comes to a scene and obeys a line's command.
-//! - `runner` is the same with the slot that its last line changed.
-//! - `line` has the lines with what is expected behind them, and `machine` tries them, each in every way that can matter.
-//! - `known` is what names stand for, `named` one name.
-//! - `showing` prints a scene, and what is unmet there.
+//! * `scene` is a bus between two lines: it is at rest, and can be compared, kept and dropped.
+//! * `live` is a bus awake, which comes to a scene and obeys a line's command.
+//! * `runner` is the same with the slot that its last line changed.
+//! * `line` has the lines with what is expected behind them.
+//! * `machine` tries the lines, each in every way that can matter.
+//! * `known` is what names stand for.
+//! * `named` is one name.
+//! * `showing` prints a scene, and what is unmet there.
 #![tactic(auto)]
 
 mod known;

@@ -1,14 +1,21 @@
-//! What the lines of a script do: each one's command is obeyed on a stage, before the bus or with it, and prints what came
-//! of it.
+//! What the lines of a script do. Each line's command is obeyed on a stage, before the bus or with it, and prints its result.
 //!
 //! A line of one event takes one path: `stage` hands its command to `running`, which makes the event and has the bus
 //! answer it, and `telling` prints the reply.
 //!
-//! - `stage` is where a script is, before its bus and with it, and `settings` what its lines have set.
-//! - `asking` finds the slots that names mean, and `assigning` plays the whole session of a `daa`.
-//! - `show` prints the bus, `details` all of it, and `tenures` who was active when interrupts were recorded.
-//! - `wires` keeps the last symbols, and `symbols` and `frames` print them.
-//! - `stop` says why a line did not come to its end, and `laws` that lines make legal runs.
+//! * `stage` is where a script is, before its bus and with it.
+//! * `settings` is what the script's lines have set.
+//! * `running` makes a command's event.
+//! * `telling` prints a reply.
+//! * `asking` finds the slots that names mean.
+//! * `assigning` plays the whole session of a `daa`.
+//! * `show` prints the bus.
+//! * `details` prints all of it.
+//! * `tenures` tells who was active when interrupts were recorded.
+//! * `wires` keeps the last symbols.
+//! * `symbols` and `frames` print them.
+//! * `stop` says why a line did not come to its end.
+//! * `laws` says that lines make legal runs.
 #![tactic(auto)]
 
 mod asking;

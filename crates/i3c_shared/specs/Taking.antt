@@ -69,7 +69,8 @@ abbrev pub PutsOut : ℕ → Reading → Reply → Log → Log → Type 0
 PutsOut s ring reply old new = new ≡ record old { rings = if is_attached reply then put_out s ring old.rings else old.rings }
 
 -- The run is legal and leads to the bus. What was received from the ring of each port that is out are the bytes of its
--- raises. The books are the active slot, 1 while a session is open, and the number of frame events in the run.
+-- raises. The three books have the active slot, whether a session is open (1) or not (0), and how many of the run's events
+-- are frames.
 pub record IsKept (log : Log) (books : BooksValue) : Type 0 where
   pub begun : IsBegun log.start
   pub leads : Leads log.start log.run log.state

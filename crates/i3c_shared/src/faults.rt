@@ -72,7 +72,7 @@ pub enum HandOverFault {
 /// Why a bus can't be closed.
 #[derive(Clone, Copy, Debug, PartialEq, Eq, Drop, Error)]
 pub enum CloseFault {
-    /// A session is open, or no role is handed in and none is parked.
+    /// The role wasn't handed in and isn't parked, or an assignment is under way.
     #[error("the role is out")]
     RoleOut,
     /// The slot's port is out and isn't handed in: the lowest such slot.

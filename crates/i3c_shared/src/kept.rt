@@ -405,7 +405,7 @@ impl<L: Ledger, M: Ledger, N: Ledger> Kept<L, M, N> {
         }
     }
 
-    /// Whether a session is open, or no role is handed in and none is parked.
+    /// Whether an assignment is under way, or the role is neither handed in nor parked.
     fn is_role_out(&self, role: &Option<HeldRole<L, M, N>>) -> bool
         ensures { result ≡ is_role_out self.now role.now }
     {

@@ -51,8 +51,8 @@ abbrev pub RunsAreHistories : Type 0
 RunsAreHistories = (start : State) (events : List Event) (replies : List Reply) (new : State) → IsRun start events replies new
     → (h : History) × IsLegal start h × (reached start h ≡ new) × (events_of h ≡ events) × (replies_of h ≡ replies)
 
--- Each accepted interrupt is recorded once, under the address of the device that raised it while enabled, where
--- devices present together always had distinct identities.
+-- An interrupt that was accepted is in the log once, at the address of its device, which raised it while enabled. This holds
+-- where devices present together always had distinct identities.
 abbrev pub InterruptsAreRecordedOnce : Type 0
 InterruptsAreRecordedOnce = (main : Setup) (board : Board) (start : State) (h : History)
     → IsStart main board start → IsLegal start h → AllDistinct start h → HasFaithfulRecords start h

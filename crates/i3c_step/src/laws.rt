@@ -16,8 +16,8 @@ pub fn runs_are_histories()
     ensures { RunsAreHistories }
 {}
 
-/// Over every legal history: each accepted interrupt is recorded once, under the address of the device that raised it
-/// while its interrupts were enabled.
+/// Over every legal history: an interrupt that was accepted is in the log once, at the address of its device, which raised
+/// it with interrupts enabled.
 pub fn interrupts_are_recorded_once()
     ensures { InterruptsAreRecordedOnce }
 {}

@@ -52,11 +52,11 @@ pub fn run_explore<T: Threads + Sync, R: Read, W: Write, V: Watch>(
     ensures whole { OnOk result (IsAtEnd (R.remaining reader.new)) }
     ensures fits { OnOk result (IfSome (R.remaining reader.old) (λ bytes. length bytes ≤ 1048576)) }
     ensures large { result ≡ Err ScriptFault.TooLarge → IfSome (R.remaining reader.old) (λ bytes. 1048576 < length bytes) }
-    // every order of the part, by the plan that the file's lines have, leads on and breaks no expectation; or one breaks one,
-    // and no shorter one of the part does
+    // Every order of the part, by the plan that the file's lines have, leads on and breaks no expectation; or one breaks one,
+    // and no shorter one of the part does.
     ensures answer { IfOk result (λ answer. (lines : List (VecValue ℕ)) × AreLines (R.remaining reader.old) lines × IsExplored lines part answer) }
-    // what went out is a refusal; or an order that breaks an expectation, as a script of the file's lines; or the ends to which
-    // all orders of the part lead, each with an order that leads there, and the numbers of orders
+    // What went out is one of three. It is a refusal. Or it is an order that breaks an expectation, as a script of the file's
+    // lines. Or it has the ends to which all orders of the part lead, each with an order that leads there, and how many orders do.
     ensures printed { IfOk result (λ answer. (lines : List (VecValue ℕ)) × (said : List ℕ) × AreLines (R.remaining reader.old) lines × IsPrinted lines part answer [] said × Appends (W.contents writer.old) (W.contents writer.new) said) }
 {
     let lines = match read_lines(alloc, reader) {

@@ -207,7 +207,7 @@ fn torn() -> Reply {
     })
 }
 
-/// A device that a cut took away leaves its port out: its slot is free once that port came back. The attachment that is
+/// A cut takes a device away, and its port stays out. The slot is free once that port came back. The attachment that is
 /// refused before is no event.
 struct ACutDeviceLeavesItsPortOut;
 

@@ -80,13 +80,16 @@ fn devices_post_at_once(rt: HostRuntime) {
     }
 }
 
-/// What two threads have counted: how often the policy was asked as it should be, how many answers the poster had, how many
-/// of these say that its post is in, and how often one of the threads waited for too long.
+/// What two threads have counted.
 #[derive(Drop)]
 struct Counts {
+    /// How often the policy was asked as it should be.
     asked: AtomicU64,
+    /// How many answers the poster had.
     answers: AtomicU64,
+    /// How many of these say that its post is in.
     posted: AtomicU64,
+    /// How often one of the threads waited for too long.
     late: AtomicU64,
 }
 
