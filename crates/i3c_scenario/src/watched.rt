@@ -309,7 +309,7 @@ fn push_formless(
     fault.push(alloc, text)
 }
 
-/// Appends a text, each of whose lines begins with these words.
+/// Appends a text, with this start in front of each of its lines.
 fn push_numbered(text: &mut Text, start: &[u8], plain: &[u8]) -> Result<(), AllocError>
     ensures { OnOk result (text.new ≡ text.old ++ numbered start.now true plain.now) }
 {

@@ -1,6 +1,6 @@
 ghost use Rattle.std.specs.Prelude.{◌≡◌, [], ◌∷◌, ◌++◌, OnOk, codes};
 ghost use Rattle.std.specs.Fmt.{decimal};
-ghost use Rattle.i3c_script.specs.Printed.{assigned_text, attached_text, field_text, frame_subject, framed_text, handed_text, identity_text, opened_text, raised_text, read_word, reply_text, request_text, round_text, served_text, subject_of};
+ghost use Rattle.i3c_script.specs.Printed.{assigned_text, attached_text, field_text, frame_subject, framed_text, handed_text, identity_text, opened_text, raised_text, read_token, reply_text, request_text, round_text, served_text, subject_of};
 ghost use Rattle.i3c_step.specs.Replies.{attached_reply, dropped_reply, joins_reply, raised_reply, role_reply};
 ghost use Rattle.i3c_lines.specs.declared.names.Names.{Names as NamesValue};
 ghost use Rattle.i3c_script.specs.declared.telling.Subject.{Subject as SubjectValue};
@@ -15,7 +15,7 @@ use i3c_base::{
 use i3c_bus::{
     Command as Frame, DropRefusal, Event, Framed, Refusal as BusRefusal, Reply, SlotTaken,
 };
-use i3c_lines::{Names, Refusal, told_word};
+use i3c_lines::{Names, Refusal, told_token};
 use i3c_text::Text;
 use std::alloc::AllocError;
 
@@ -248,12 +248,12 @@ fn show_raised(number: u64, text: &mut Text) -> Result<(), AllocError>
     show_number(b"raised ", number, text)
 }
 
-/// Prints a line of some words and a number.
+/// Prints a line of some tokens and a number.
 #[inline(always)]
-fn show_number(words: &[u8], number: u64, text: &mut Text) -> Result<(), AllocError>
-    ensures { OnOk result (text.new ≡ text.old ++ (words.now ++ (decimal number ++ 10 ∷ []))) }
+fn show_number(tokens: &[u8], number: u64, text: &mut Text) -> Result<(), AllocError>
+    ensures { OnOk result (text.new ≡ text.old ++ (tokens.now ++ (decimal number ++ 10 ∷ []))) }
 {
-    text.push_numbered(words, number)
+    text.push_numbered(tokens, number)
 }
 
 /// Prints the name and the slot of a device that was attached.
@@ -308,7 +308,7 @@ fn show_framed(subject: Subject, framed: &Framed, text: &mut Text) -> Result<(),
     match &framed.answer {
         Answer::Done => text.push(b"done\n"),
         Answer::Bytes(bytes) => {
-            show_read_word(subject, text)?;
+            show_read_token(subject, text)?;
             text.push_bytes(bytes.as_slice())?;
             text.end()
         }
@@ -316,13 +316,13 @@ fn show_framed(subject: Subject, framed: &Framed, text: &mut Text) -> Result<(),
     }
 }
 
-/// Prints the word before bytes that were read, and a space.
-fn show_read_word(subject: Subject, text: &mut Text) -> Result<(), AllocError>
-    ensures { OnOk result (text.new ≡ text.old ++ (read_word subject ++ codes " ")) }
+/// Prints the token before bytes that were read, and a space.
+fn show_read_token(subject: Subject, text: &mut Text) -> Result<(), AllocError>
+    ensures { OnOk result (text.new ≡ text.old ++ (read_token subject ++ codes " ")) }
 {
     match subject {
         Subject::Told(what) => {
-            text.push(told_word(what).as_bytes())?;
+            text.push(told_token(what).as_bytes())?;
             text.push(b" ")
         }
         Subject::Attached(_) | Subject::HandedTo(_) | Subject::Nothing => text.push(b"bytes "),
