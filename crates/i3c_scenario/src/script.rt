@@ -18,8 +18,8 @@ use crate::output::{gather, position_of_feed, show_refusal, write_last};
 use crate::reading::{CHUNK, MOST_BYTES, Piece, read_piece};
 use i3c_facts::{Before, Facts, Mark};
 use i3c_lines::{Command, Line, Names, Refusal, is_skipped};
-use i3c_script::{Stage, Stop};
-use i3c_text::Text;
+use i3c_script::Stage;
+use i3c_text::{Stop, Text};
 use std::alloc::Global;
 use std::io::{Read, Write};
 use std::mem;
@@ -232,7 +232,7 @@ impl Script {
 
     /// Obeys a line, if it has a command or is a mark. `settle` notes a refusal. Whoever calls it is named by `K`, so that each
     /// caller has it in line.
-    pub(crate) fn obey<K>(&mut self, line: &[u8]) -> Result<(), Stop>
+    pub(crate) fn obey<K>(&mut self, line: &[u8]) -> Result<(), Stop<Refusal>>
         ensures held { self.new.line ≡ self.old.line }
         ensures gathered { self.new.gathered ≡ self.old.gathered }
         ensures refused { self.new.refused ≡ self.old.refused }
@@ -259,7 +259,7 @@ impl Script {
     /// Obeys a line without a command, which may be a mark.
     #[cold]
     #[inline(never)]
-    fn obey_mark(&mut self, line: &[u8]) -> Result<(), Stop>
+    fn obey_mark(&mut self, line: &[u8]) -> Result<(), Stop<Refusal>>
         requires { HasNoForm line.now }
         ensures held { self.new.line ≡ self.old.line }
         ensures gathered { self.new.gathered ≡ self.old.gathered }
@@ -274,7 +274,7 @@ impl Script {
     }
 
     /// Obeys a mark that a run takes.
-    fn obey_taken(&mut self, mark: &Mark) -> Result<(), Stop>
+    fn obey_taken(&mut self, mark: &Mark) -> Result<(), Stop<Refusal>>
         ensures held { self.new.line ≡ self.old.line }
         ensures gathered { self.new.gathered ≡ self.old.gathered }
         ensures refused { self.new.refused ≡ self.old.refused }
@@ -287,7 +287,7 @@ impl Script {
     }
 
     /// Tests what is expected, and prints whether it is met.
-    fn test(&mut self, facts: &Facts) -> Result<(), Stop>
+    fn test(&mut self, facts: &Facts) -> Result<(), Stop<Refusal>>
         ensures held { self.new.line ≡ self.old.line }
         ensures gathered { self.new.gathered ≡ self.old.gathered }
         ensures refused { self.new.refused ≡ self.old.refused }
@@ -315,7 +315,10 @@ impl Script {
     }
 
     /// What a line comes to: a refusal is printed, counted and noted, and want of memory ends the run.
-    pub(crate) fn settle<K>(&mut self, outcome: Result<(), Stop>) -> Result<(), ScriptFault>
+    pub(crate) fn settle<K>(
+        &mut self,
+        outcome: Result<(), Stop<Refusal>>,
+    ) -> Result<(), ScriptFault>
         ensures fault { IfErr result (λ fault. fault ≡ ScriptFault.Memory) }
         ensures memory { outcome ≡ Err Stop.Memory → result ≡ Err ScriptFault.Memory }
         ensures told { OnOk result (self.new.text ≡ self.old.text ++ end_text outcome) }

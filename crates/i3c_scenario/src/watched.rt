@@ -10,9 +10,8 @@ use crate::reading::{CHUNK, MOST_BYTES};
 use crate::reasons::Known;
 use crate::script::{Script, Tally};
 use crate::script_lines::ScriptLines;
-use i3c_lines::FormFault;
-use i3c_script::Stop;
-use i3c_text::Text;
+use i3c_lines::{FormFault, Refusal};
+use i3c_text::{Stop, Text};
 use std::alloc::{AllocError, Global};
 use std::io::{Read, Write};
 
@@ -223,7 +222,7 @@ impl WatchedRun {
         &mut self,
         number: u64,
         line: &[u8],
-        outcome: &Result<(), Stop>,
+        outcome: &Result<(), Stop<Refusal>>,
     ) -> Result<(), AllocError>
         ensures script { self.new.script ≡ self.old.script }
         ensures watching { self.new.watching ≡ self.old.watching }

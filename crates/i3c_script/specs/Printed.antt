@@ -25,12 +25,13 @@ use Rattle.i3c_text.specs.Hex.{byte_text, bytes_text, hex_text}
 use Rattle.i3c_lines.specs.Data.{told_token}
 use Rattle.i3c_lines.specs.Naming.{legacy_names, letters, slot_names}
 use Rattle.i3c_lines.specs.Refusing.{refusal_text}
-use Rattle.i3c_script.specs.declared.stop.Stop.{Stop}
+use Rattle.i3c_lines.specs.declared.refusals.Refusal.{Refusal}
+use Rattle.i3c_text.specs.declared.stop.Stop.{Stop}
 use Rattle.i3c_script.specs.declared.telling.Subject.{Subject}
 use Rattle.i3c_script.specs.Framing.{whole_frames}
 
 -- what a line's end prints: its refusal, if it is refused
-abbrev pub end_text : Result (Unit {0}) Stop → List ℕ
+abbrev pub end_text : Result (Unit {0}) (Stop Refusal) → List ℕ
 end_text (Ok done) = []
 end_text (Err Stop.Memory) = []
 end_text (Err (Stop.Refused why)) = codes "refused " ++ (refusal_text why ++ 10 ∷ [])

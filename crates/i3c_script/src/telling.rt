@@ -7,7 +7,7 @@ ghost use Rattle.i3c_script.specs.declared.telling.Subject.{Subject as SubjectVa
 ghost use Rattle.i3c_script.specs.Telling.{Counts, IsTold, Prints};
 ghost use Rattle.i3c_log_laws.specs.Behind.{counted_from, reply_from};
 
-use crate::stop::{Stop, outcome_of};
+use crate::stop::outcome_of;
 use i3c_base::{
     Addr7, Answer, Datum, Identity, JoinRefusal, RaiseRefusal, RoleRefusal, RoundReply, Served,
     Slot,
@@ -16,7 +16,7 @@ use i3c_bus::{
     Command as Frame, DropRefusal, Event, Framed, Refusal as BusRefusal, Reply, SlotTaken,
 };
 use i3c_lines::{Names, Refusal, told_token};
-use i3c_text::Text;
+use i3c_text::{Stop, Text};
 use std::alloc::AllocError;
 
 /// What a drop-off prints.
@@ -68,7 +68,7 @@ pub(crate) fn tell_frame(
     frame: &Frame,
     reply: &Reply,
     text: &mut Text,
-) -> Result<(), Stop>
+) -> Result<(), Stop<Refusal>>
     ensures { Prints (IsTold names.now (frame_subject frame.now) reply.now) text.old text.new result }
 {
     match reply {
@@ -91,7 +91,7 @@ pub(crate) fn tell(
     subject: Subject,
     reply: &Reply,
     text: &mut Text,
-) -> Result<(), Stop>
+) -> Result<(), Stop<Refusal>>
     ensures { Prints (IsTold names.now subject reply.now) text.old text.new result }
 {
     match show_reply(names, subject, reply, text) {
@@ -106,7 +106,7 @@ pub(crate) fn tell(
 ///
 /// The number is more than a `usize` holds.
 #[inline(always)]
-pub(crate) fn count_from(forgotten: usize, reply: &mut Reply) -> Result<(), Stop>
+pub(crate) fn count_from(forgotten: usize, reply: &mut Reply) -> Result<(), Stop<Refusal>>
     ensures { Counts forgotten reply.old reply.new result }
 {
     if forgotten == 0 {
@@ -148,7 +148,10 @@ fn number_served(forgotten: usize, served: &mut Served) -> Result<(), AllocError
 
 /// Prints what a raise came to, as `tell` does for a reply.
 #[inline(always)]
-pub(crate) fn tell_raised(raised: Result<u64, RaiseRefusal>, text: &mut Text) -> Result<(), Stop>
+pub(crate) fn tell_raised(
+    raised: Result<u64, RaiseRefusal>,
+    text: &mut Text,
+) -> Result<(), Stop<Refusal>>
     ensures { (names : NamesValue) → Prints (IsTold names SubjectValue.Nothing (raised_reply raised)) text.old text.new result }
 {
     match raised {
@@ -166,7 +169,7 @@ pub(crate) fn tell_attached(
     slot: Slot,
     attached: Result<(), SlotTaken>,
     text: &mut Text,
-) -> Result<(), Stop>
+) -> Result<(), Stop<Refusal>>
     ensures { Prints (IsTold names.now (SubjectValue.Attached slot) (attached_reply attached)) text.old text.new result }
 {
     match attached {
@@ -179,7 +182,10 @@ pub(crate) fn tell_attached(
 }
 
 /// Prints what a drop-off came to, as `tell` does for a reply.
-pub(crate) fn tell_dropped(dropped: Result<(), DropRefusal>, text: &mut Text) -> Result<(), Stop>
+pub(crate) fn tell_dropped(
+    dropped: Result<(), DropRefusal>,
+    text: &mut Text,
+) -> Result<(), Stop<Refusal>>
     ensures { (names : NamesValue) → Prints (IsTold names SubjectValue.Nothing (dropped_reply dropped)) text.old text.new result }
 {
     match dropped {
@@ -192,7 +198,10 @@ pub(crate) fn tell_dropped(dropped: Result<(), DropRefusal>, text: &mut Text) ->
 }
 
 /// Prints what a wish to join came to, as `tell` does for a reply.
-pub(crate) fn tell_join(asked: Result<(), JoinRefusal>, text: &mut Text) -> Result<(), Stop>
+pub(crate) fn tell_join(
+    asked: Result<(), JoinRefusal>,
+    text: &mut Text,
+) -> Result<(), Stop<Refusal>>
     ensures { (names : NamesValue) → Prints (IsTold names SubjectValue.Nothing (joins_reply asked)) text.old text.new result }
 {
     match asked {
@@ -205,7 +214,10 @@ pub(crate) fn tell_join(asked: Result<(), JoinRefusal>, text: &mut Text) -> Resu
 }
 
 /// Prints what a wish for the role came to, as `tell` does for a reply.
-pub(crate) fn tell_role(asked: Result<(), RoleRefusal>, text: &mut Text) -> Result<(), Stop>
+pub(crate) fn tell_role(
+    asked: Result<(), RoleRefusal>,
+    text: &mut Text,
+) -> Result<(), Stop<Refusal>>
     ensures { (names : NamesValue) → Prints (IsTold names SubjectValue.Nothing (role_reply asked)) text.old text.new result }
 {
     match asked {
