@@ -16,7 +16,7 @@ use Rattle.i3c_ibi.specs.declared.serving.Reading.TheVariants.{Quiet, Refused, J
 use Rattle.i3c_ibi.specs.Serving.{FitsTable, IsServing, kept, served_as, word_bits}
 use Rattle.i3c_bus.specs.Beginning.{Begins, kept_in}
 use Rattle.i3c_step.specs.Sound.{IsSound}
-use Rattle.i3c_ibi.specs.Telling.{begun}
+use Rattle.i3c_ibi.specs.Wire.{begun}
 use Rattle.i3c_bus.specs.Wire.{IsAck, IsBegun}
 use Rattle.i3c_step.proofs.Drivers.{Drives-from}
 use Rattle.i3c_step.proofs.Maps.{same_device}

@@ -11,7 +11,7 @@ use Rattle.i3c_frame.specs.Taps.{Tells}
 use Rattle.i3c_handoff.specs.declared.outcome.Offer.{Offer}
 use Rattle.i3c_handoff.specs.declared.outcome.Offer.TheVariants.{Nobody, Torn, Taken}
 use Rattle.i3c_handoff.specs.Offers.{IsOffered, IsReadAs, SomeTakes, is_acknowledged, offer_bits}
-use Rattle.i3c_handoff.specs.Telling.{IsOfferWire}
+use Rattle.i3c_handoff.specs.Wire.{IsOfferWire}
 use Rattle.i3c_step.specs.declared.events.Event.{Event}
 use Rattle.i3c_step.specs.declared.replies.Refusal.{Refusal}
 use Rattle.i3c_step.specs.declared.replies.Reply.{Reply}

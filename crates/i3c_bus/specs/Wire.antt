@@ -20,18 +20,18 @@ use Rattle.i3c_deftgts.specs.Entries.{entries_of}
 use Rattle.i3c_deftgts.specs.Layout.{Carry, list_bytes}
 use Rattle.i3c_entdaa.specs.declared.outcome.Round.{Round}
 use Rattle.i3c_entdaa.specs.Rounds.{IsAcknowledged, IsRead, reply_of}
-use Rattle.i3c_entdaa.specs.Telling.{IsRoundWire}
-use Rattle.i3c_events.specs.Telling.{IsKindsWire, IsLengthWire, IsSettingWire, IsWord}
+use Rattle.i3c_entdaa.specs.Wire.{IsRoundWire}
+use Rattle.i3c_events.specs.Wire.{IsKindsWire, IsLengthWire, IsSettingWire, IsWord}
 use Rattle.i3c_handoff.specs.declared.outcome.Offer.{Offer}
 use Rattle.i3c_handoff.specs.Offers.{IsReadAs, SomeTakes, is_acknowledged, offer_bits}
-use Rattle.i3c_handoff.specs.Telling.{IsOfferWire}
+use Rattle.i3c_handoff.specs.Wire.{IsOfferWire}
 use Rattle.i3c_ibi.specs.Driving.{IsByteRead}
-use Rattle.i3c_ibi.specs.Telling.{byte_word, request_header}
+use Rattle.i3c_ibi.specs.Wire.{byte_word, request_header}
 use Rattle.i3c_xfer.specs.declared.answers.Get.{Get as Told}
 use Rattle.i3c_xfer.specs.declared.answers.Read.{Read}
 use Rattle.i3c_xfer.specs.declared.answers.Write.{Write}
 use Rattle.i3c_xfer.specs.Getting.{IsToldAs, get_answer, is_get_acknowledged}
-use Rattle.i3c_xfer.specs.Telling.{IsGetWire, IsReadWire, IsWriteWire}
+use Rattle.i3c_xfer.specs.Wire.{IsGetWire, IsReadWire, IsWriteWire}
 use Rattle.i3c_xfer.specs.Transfers.{AnyAnswers, IsReadAs as IsDataAs, IsWrittenBy, is_read_acknowledged, is_write_acknowledged, read_answer, write_answer}
 use Rattle.i3c_frame.specs.declared.symbols.Symbol.{Symbol}
 use Rattle.i3c_frame.specs.declared.symbols.Symbol.TheVariants.{Start, Repeated, Stop, Header}

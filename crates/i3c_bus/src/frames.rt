@@ -28,7 +28,7 @@ impl Bus {
     ghost use Rattle.i3c_base.specs.Cutting.{Lost, lost_by};
     ghost use Rattle.i3c_base.specs.Frames.{Rekinds, changed_kinds, kinds_bits};
     ghost use Rattle.i3c_base.specs.Serve.{IsWordBits, Serves, emptied, given_for, header_bits, refuse_all};
-    ghost use Rattle.i3c_events.specs.Telling.{IsKindsWire};
+    ghost use Rattle.i3c_events.specs.Wire.{IsKindsWire};
     ghost use Rattle.i3c_frame.specs.Taps.{Tells};
     ghost use Rattle.i3c_ibi.specs.Policies.{Decides};
     ghost use Rattle.i3c_bus.specs.Asking.{Asks};

@@ -9,7 +9,7 @@ use i3c_step::{Framed, TargetFault};
 impl Bus {
     ghost use Rattle.std.specs.Prelude.{◌≡◌, ◌+◌, ◌≤◌, false};
     ghost use Rattle.i3c_base.specs.Frames.{SetsLength, length_bits};
-    ghost use Rattle.i3c_events.specs.Telling.{IsLengthWire};
+    ghost use Rattle.i3c_events.specs.Wire.{IsLengthWire};
     ghost use Rattle.i3c_frame.specs.Taps.{Tells};
     ghost use Rattle.i3c_step.specs.Giving.{given_by};
     ghost use Rattle.i3c_step.specs.Replies.{framed_reply};

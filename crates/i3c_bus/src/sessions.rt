@@ -13,7 +13,7 @@ impl Bus {
     ghost use Rattle.std.specs.Prelude.{◌≡◌, true, false, IfErr};
     ghost use Rattle.i3c_base.specs.Round.{Rounds, ended, opened};
     ghost use Rattle.i3c_entdaa.specs.Rounds.{IsAcknowledged, IsRead, reply_of};
-    ghost use Rattle.i3c_entdaa.specs.Telling.{IsRoundWire};
+    ghost use Rattle.i3c_entdaa.specs.Wire.{IsRoundWire};
     ghost use Rattle.i3c_frame.specs.Taps.{Tells};
     ghost use Rattle.i3c_bus.specs.Calls.{Carries};
     ghost use Rattle.i3c_bus.specs.Hands.{HandFits, opened_hand};

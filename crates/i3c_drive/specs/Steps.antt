@@ -9,14 +9,14 @@ use Rattle.i3c_scenario.specs.declared.faults.ScriptFault.{ScriptFault}
 use Rattle.i3c_scenario.specs.Scripts.{LineRun, lines_bytes, lines_refused, refusals_of}
 use Rattle.i3c_script.specs.Obeying.{ScriptState, script}
 use Rattle.i3c_script.specs.Telling.{Prints}
-use Rattle.i3c_script.specs.declared.stop.Stop.{Stop}
+use Rattle.i3c_text.specs.declared.stop.Stop.{Stop}
 
 -- where the driver's script is
 abbrev pub state : Driver → ScriptState
 state driver = script driver.stage driver.names
 
 -- what a line comes to, with what is printed before and after it: a mark has no form here
-abbrev pub Reads : ScriptState → List ℕ → List ℕ → List ℕ → Result (Unit {0}) Stop → ScriptState → Type 0
+abbrev pub Reads : ScriptState → List ℕ → List ℕ → List ℕ → Result (Unit {0}) (Stop Refusal) → ScriptState → Type 0
 Reads old line before after result new = Prints (λ said refused. DrivenDoes old line said refused new) before after result
 
 -- the driver knows who asks

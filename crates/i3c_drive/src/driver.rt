@@ -14,8 +14,8 @@ use i3c_base::Record;
 use i3c_json::{Answer, push_object};
 use i3c_lines::{Command, Names, Refusal, is_skipped, push_capitals};
 use i3c_scenario::{ScriptFault, Tally, write_out};
-use i3c_script::{Stage, Stop, show_askers, show_records_behind, sum_of};
-use i3c_text::Text;
+use i3c_script::{Stage, show_askers, show_records_behind, sum_of};
+use i3c_text::{Stop, Text};
 use std::alloc::{AllocError, Global};
 use std::io::{Read, Write};
 
@@ -236,7 +236,7 @@ impl Driver {
     }
 
     /// Obeys a line, if it has a command.
-    fn obey(&mut self, line: &[u8]) -> Result<(), Stop>
+    fn obey(&mut self, line: &[u8]) -> Result<(), Stop<Refusal>>
         ensures refused { self.new.refused ≡ self.old.refused }
         ensures asked { self.new.asked ≡ self.old.asked }
         ensures reads { Reads (state self.old) line.now self.old.answer self.new.answer result (state self.new) }
@@ -260,7 +260,7 @@ impl Driver {
     /// Obeys a line that has no form as it stands by its form in capitals, if it has one.
     #[cold]
     #[inline(never)]
-    fn obey_in_capitals(&mut self, line: &[u8]) -> Result<(), Stop>
+    fn obey_in_capitals(&mut self, line: &[u8]) -> Result<(), Stop<Refusal>>
         requires short { length line.now ≤ 256 }
         requires formless { HasNoForm line.now }
         ensures refused { self.new.refused ≡ self.old.refused }

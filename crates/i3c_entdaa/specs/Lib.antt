@@ -1,4 +1,4 @@
 pub mod Hearers
 pub mod Rounds
 pub mod Parts
-pub mod Telling
+pub mod Wire

@@ -2,7 +2,7 @@ ghost use Rattle.std.specs.Prelude.{◌≡◌, ℕ, true, [], ◌∷◌};
 ghost use Rattle.i3c_word.specs.Parity.{IsAddressByte};
 ghost use Rattle.i3c_frame.specs.Taps.{Tells};
 ghost use Rattle.i3c_frame.specs.declared.symbols.Symbol.{Symbol as SymbolValue};
-ghost use Rattle.i3c_entdaa.specs.Telling.{IsRoundWire};
+ghost use Rattle.i3c_entdaa.specs.Wire.{IsRoundWire};
 
 use crate::outcome::Round;
 use i3c_base::Addr7;

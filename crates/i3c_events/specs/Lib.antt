@@ -1,3 +1,3 @@
 pub mod Words
 pub mod Hearing
-pub mod Telling
+pub mod Wire

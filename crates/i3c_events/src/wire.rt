@@ -1,7 +1,7 @@
 ghost use Rattle.std.specs.Prelude.{Some, None};
 ghost use Rattle.i3c_base.specs.declared.answers.Answer.{Answer as AnswerValue};
 ghost use Rattle.i3c_events.specs.Hearing.{answer_of};
-ghost use Rattle.i3c_events.specs.Telling.{IsKindsWire, IsLengthWire, IsSettingWire, IsUnsetWire};
+ghost use Rattle.i3c_events.specs.Wire.{IsKindsWire, IsLengthWire, IsSettingWire, IsUnsetWire};
 ghost use Rattle.i3c_events.specs.Words.{setting_byte};
 ghost use Rattle.i3c_frame.specs.Taps.{Tells};
 

@@ -1,4 +1,4 @@
-pub mod WordLaws
+pub mod TokenLaws
 pub mod FactArgs
 pub mod ReasonLaws
 pub mod ClaimLaws

@@ -5,20 +5,20 @@ use Rattle.i3c_facts.specs.declared.marks.Mark.{Mark}
 use Rattle.i3c_facts.specs.Forms.{IsMarkForm, IsPlainForm}
 use Rattle.i3c_facts.specs.Laws.{MarksAreNoCommands}
 use Rattle.i3c_lines.specs.declared.command.Command.{Command}
-use Rattle.i3c_lines.specs.Forms.{IsCommand, IsForm, IsSkipped, tokens, with_first}
+use Rattle.i3c_lines.specs.Forms.{IsCommand, IsForm, IsSkipped, tokens_of, with_first}
 use Rattle.i3c_lines.specs.Parsing.{Reads}
 use Rattle.i3c_lines.proofs.Meanings.{as_meant}
 
 abbrev first_of : List (List ℕ) → List ℕ
 first_of [] = []
-first_of (word ∷ words) = word
+first_of (token ∷ tokens) = token
 
 abbrev letter_of : List ℕ → ℕ
 letter_of [] = 0
-letter_of (byte ∷ word) = byte
+letter_of (byte ∷ token) = byte
 
 abbrev first_letter : List (List ℕ) → ℕ
-first_letter words = letter_of (first_of words)
+first_letter tokens = letter_of (first_of tokens)
 
 no_mark : (first : List ℕ) (rest : List (List ℕ)) → (first ≡ codes "always" → ⊥) → (first ≡ codes "expect" → ⊥) → ((mark : Mark) → IsPlainForm (first ∷ rest) mark → ⊥) → (mark : Mark) → IsMarkForm (first ∷ rest) mark → ⊥
 no_mark first rest always expect none Mark.Any e = none Mark.Any e
@@ -28,45 +28,45 @@ no_mark first rest always expect none Mark.Track e = none Mark.Track e
 no_mark first rest always expect none Mark.Close e = none Mark.Close e
 no_mark first rest always expect none (Mark.Expect facts) (more, e, are) = expect (ap first_of e)
 
-plain_mark : (words : List (List ℕ)) (mark : Mark) → IsPlainForm words mark → IsMarkForm words mark
-plain_mark words Mark.Any e = e
-plain_mark words (Mark.Anywhere name) form = form
-plain_mark words (Mark.Always facts) form = absurd form
-plain_mark words Mark.Track e = e
-plain_mark words Mark.Close e = e
-plain_mark words (Mark.Expect facts) form = absurd form
+plain_mark : (tokens : List (List ℕ)) (mark : Mark) → IsPlainForm tokens mark → IsMarkForm tokens mark
+plain_mark tokens Mark.Any e = e
+plain_mark tokens (Mark.Anywhere name) form = form
+plain_mark tokens (Mark.Always facts) form = absurd form
+plain_mark tokens Mark.Track e = e
+plain_mark tokens Mark.Close e = e
+plain_mark tokens (Mark.Expect facts) form = absurd form
 
--- words that don't begin with `always` or `expect` are the mark that they are without facts
+-- tokens that don't begin with `always` or `expect` are the mark that they are without facts
 pub plain_of : (first : List ℕ) (rest : List (List ℕ)) (result : Option Mark) → (first ≡ codes "always" → ⊥) → (first ≡ codes "expect" → ⊥) → Reads IsPlainForm (first ∷ rest) result → Reads IsMarkForm (first ∷ rest) result
 plain_of first rest None always expect none = no_mark first rest always expect none
 plain_of first rest (Some mark) always expect form = plain_mark (first ∷ rest) mark form
 
-begins : (byte : ℕ) (words : List (List ℕ)) → byte ≡ first_letter (with_first byte words)
+begins : (byte : ℕ) (tokens : List (List ℕ)) → byte ≡ first_letter (with_first byte tokens)
 begins byte [] = refl
-begins byte (word ∷ words) = refl
+begins byte (token ∷ tokens) = refl
 
--- the first byte of a line is that of its first word
-first_byte : (line : List ℕ) (letter : ℕ) (word : List ℕ) (rest : List (List ℕ)) → tokens line ≡ (letter ∷ word) ∷ rest → slice_get line 0 ≡ Some letter
-first_byte [] letter word rest e = absurd (omega (arith, ap (λ ws. length (first_of ws)) e))
-first_byte (byte ∷ line) letter word rest e =
-    elim (eqb byte 32) as (λ b. cond b ([] ∷ tokens line) (with_first byte (tokens line)) ≡ (letter ∷ word) ∷ rest → Some byte ≡ Some letter) [
+-- the first byte of a line is that of its first token
+first_byte : (line : List ℕ) (letter : ℕ) (token : List ℕ) (rest : List (List ℕ)) → tokens_of line ≡ (letter ∷ token) ∷ rest → slice_get line 0 ≡ Some letter
+first_byte [] letter token rest e = absurd (omega (arith, ap (λ ws. length (first_of ws)) e))
+first_byte (byte ∷ line) letter token rest e =
+    elim (eqb byte 32) as (λ b. cond b ([] ∷ tokens_of line) (with_first byte (tokens_of line)) ≡ (letter ∷ token) ∷ rest → Some byte ≡ Some letter) [
       | true ↦ λ is. absurd (omega (arith, ap (λ ws. length (first_of ws)) is))
-      | false ↦ λ is. ap Some (begins byte (tokens line) ∙ ap first_letter is)
+      | false ↦ λ is. ap Some (begins byte (tokens_of line) ∙ ap first_letter is)
     ] e
 
 some_same : (one other : ℕ) → Some one ≡ Some other → one ≡ other
 some_same one other e = cc
 
-not_skipped : (line : List ℕ) (letter : ℕ) (word : List ℕ) (rest : List (List ℕ)) → tokens line ≡ (letter ∷ word) ∷ rest → (letter ≡ 35 → ⊥) → IsSkipped line → ⊥
-not_skipped line letter word rest e unlike (short, inl none) = omega (arith, ap (λ ws. length (first_of ws)) (sym e ∙ ap tokens none))
-not_skipped line letter word rest e unlike (short, inr hash) = unlike (some_same letter 35 (sym (first_byte line letter word rest e) ∙ hash))
+not_skipped : (line : List ℕ) (letter : ℕ) (token : List ℕ) (rest : List (List ℕ)) → tokens_of line ≡ (letter ∷ token) ∷ rest → (letter ≡ 35 → ⊥) → IsSkipped line → ⊥
+not_skipped line letter token rest e unlike (short, inl none) = omega (arith, ap (λ ws. length (first_of ws)) (sym e ∙ ap tokens_of none))
+not_skipped line letter token rest e unlike (short, inr hash) = unlike (some_same letter 35 (sym (first_byte line letter token rest e) ∙ hash))
 
--- a line that begins with a word of no command, and not with `#`
-apart : (line : List ℕ) (letter : ℕ) (word : List ℕ) (rest : List (List ℕ)) → tokens line ≡ (letter ∷ word) ∷ rest → (letter ≡ 35 → ⊥) → ((command : Command) → IsForm ((letter ∷ word) ∷ rest) command → ⊥)
+-- a line that begins with a token of no command, and not with `#`
+apart : (line : List ℕ) (letter : ℕ) (token : List ℕ) (rest : List (List ℕ)) → tokens_of line ≡ (letter ∷ token) ∷ rest → (letter ≡ 35 → ⊥) → ((command : Command) → IsForm ((letter ∷ token) ∷ rest) command → ⊥)
     → ((command : Command) → IsCommand line command → ⊥) × (IsSkipped line → ⊥)
-apart line letter word rest e unlike none = (λ command is. none command (subst (λ ws. IsForm ws command) e is.1), not_skipped line letter word rest e unlike)
+apart line letter token rest e unlike none = (λ command is. none command (subst (λ ws. IsForm ws command) e is.1), not_skipped line letter token rest e unlike)
 
--- no command begins with the words of marks
+-- no command begins with the tokens of marks
 no_any : (rest : List (List ℕ)) (command : Command) → IsForm (codes "any" ∷ rest) command → ⊥
 no_any rest command form = omega (arith, ap first_letter (as_meant (codes "any" ∷ rest) command form))
 
@@ -87,7 +87,7 @@ no_expect rest command form = omega (arith, ap first_letter (as_meant (codes "ex
 
 pub marks_apart : MarksAreNoCommands
 marks_apart line Mark.Any (short, e) = apart line 97 (codes "ny") [] e (λ is. omega (arith, is)) (no_any [])
-marks_apart line (Mark.Anywhere name) (short, (word, e, is)) = apart line 97 (codes "nywhere") (word ∷ []) e (λ is. omega (arith, is)) (no_anywhere (word ∷ []))
+marks_apart line (Mark.Anywhere name) (short, (token, e, is)) = apart line 97 (codes "nywhere") (token ∷ []) e (λ is. omega (arith, is)) (no_anywhere (token ∷ []))
 marks_apart line (Mark.Always facts) (short, (rest, e, are)) = apart line 97 (codes "lways") rest e (λ is. omega (arith, is)) (no_always rest)
 marks_apart line Mark.Track (short, e) = apart line 116 (codes "rack") [] e (λ is. omega (arith, is)) (no_track [])
 marks_apart line Mark.Close (short, e) = apart line 99 (codes "lose") [] e (λ is. omega (arith, is)) (no_close [])

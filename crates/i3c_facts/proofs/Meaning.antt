@@ -1,4 +1,4 @@
--- The fact, the claims and the mark that words can be at most.
+-- The fact, the claims and the mark that tokens can be at most.
 use Rattle.std.proofs.Common.{◌≡◌, ◌∙◌, ℕ, ◌-◌, Bool, true, false, cond, inl, inr, List, [], ◌∷◌, Option, Some, None, ap, arith, codes, length, refl, replicate, subst, sym, take}
 use Rattle.std.proofs.lemmas.List.{take_all}
 use Rattle.std.proofs.Math.Seq.{take-append_seam}
@@ -9,9 +9,9 @@ use Rattle.i3c_legacy.specs.declared.faults.LegacyFault.{LegacyFault}
 use Rattle.i3c_step.specs.declared.replies.Refusal.{Refusal as BusRefusal}
 use Rattle.i3c_lines.specs.declared.names.Name.{Name}
 use Rattle.i3c_lines.specs.declared.refusals.Refusal.{Refusal}
-use Rattle.i3c_lines.specs.Forms.{IsNamed, tokens}
-use Rattle.i3c_lines.specs.Refusing.{refusal_word}
-use Rattle.i3c_lines.specs.Words.{IsDecimal, IsHex}
+use Rattle.i3c_lines.specs.Forms.{IsNamed, tokens_of}
+use Rattle.i3c_lines.specs.Refusing.{refusal_token}
+use Rattle.i3c_lines.specs.Tokens.{IsDecimal, IsHex}
 use Rattle.i3c_lines.proofs.Meanings.{are_same, hex, named, same_name}
 use Rattle.i3c_facts.specs.declared.claims.Claim.{Claim}
 use Rattle.i3c_facts.specs.declared.fact.Fact.{Fact}
@@ -21,9 +21,9 @@ use Rattle.i3c_facts.specs.Laws.{LinesAreOfOneMark}
 use Rattle.i3c_facts.specs.Reading.{plain_reasons}
 use Rattle.i3c_facts.proofs.FactArgs.{first_letter, first_of, letter_of, rest_of, second_of, tail_of}
 
-named_is : (word : List ℕ) (name : Name) → IsNamed word name → named word ≡ name
-named_is word name is =
-    same_name (named word) name (take-append_seam (take 16 word) (replicate (16 - length (take 16 word)) 0) ∙ take_all 16 word (omega (arith, is.0.1)) ∙ sym is.1)
+named_is : (token : List ℕ) (name : Name) → IsNamed token name → named token ≡ name
+named_is token name is =
+    same_name (named token) name (take-append_seam (take 16 token) (replicate (16 - length (take 16 token)) 0) ∙ take_all 16 token (omega (arith, is.0.1)) ∙ sym is.1)
 
 -- other letters
 differ : (one other : List ℕ) → (one ≡ other → ⊥) → are_same one other ≡ false
@@ -33,8 +33,8 @@ differ one other unlike = elim (are_same one other) as (λ b. are_same one other
 no_digit : IsDecimal (codes "gone") → ⊥
 no_digit is = let digit = is.1 0 0 (omega arith) in omega (arith, digit)
 
-no_gone : (word : List ℕ) → IsDecimal word → are_same word (codes "gone") ≡ false
-no_gone word is = differ word (codes "gone") (λ e. no_digit (subst IsDecimal e is))
+no_gone : (token : List ℕ) → IsDecimal token → are_same token (codes "gone") ≡ false
+no_gone token is = differ token (codes "gone") (λ e. no_digit (subst IsDecimal e is))
 
 -- what stands for no byte
 abbrev dashes : List ℕ
@@ -43,16 +43,16 @@ dashes = codes "--"
 no_digits : IsHex 2 dashes → ⊥
 no_digits is = elim (is.1 0 0 (omega arith)) [ inl digit ↦ omega (arith, digit) | inr letter ↦ omega (arith, letter) ]
 
-no_dashes : (word : List ℕ) → IsHex 2 word → are_same word dashes ≡ false
-no_dashes word is = differ word dashes (λ e. no_digits (subst (λ w. IsHex 2 w) e is))
+no_dashes : (token : List ℕ) → IsHex 2 token → are_same token dashes ≡ false
+no_dashes token is = differ token dashes (λ e. no_digits (subst (λ w. IsHex 2 w) e is))
 
--- the refusal of a list that is printed as this word
+-- the refusal of a list that is printed as this token
 abbrev reason_in : List ℕ → List Refusal → Refusal
-reason_in word [] = Refusal.BadLine
-reason_in word (why ∷ reasons) = cond (are_same word (refusal_word why)) why (reason_in word reasons)
+reason_in token [] = Refusal.BadLine
+reason_in token (why ∷ reasons) = cond (are_same token (refusal_token why)) why (reason_in token reasons)
 
 abbrev byte_of : List ℕ → Option ℕ
-byte_of word = cond (are_same word dashes) None (Some (hex word))
+byte_of token = cond (are_same token dashes) None (Some (hex token))
 
 abbrev of_one : List ℕ → Fact
 of_one a = cond (are_same a (codes "assigned")) Fact.Assigned (cond (are_same a (codes "listed")) Fact.Listed (cond (are_same a (codes "open")) Fact.Open Fact.Done))
@@ -74,7 +74,7 @@ of_three a b c =
     cond (are_same b (codes "at")) (place_of (named a) c)
     (cond (are_same b (codes "waiting")) (Fact.Waiting (named a) (digits_value 10 c)) (Fact.Refused (reason_at b c)))
 
--- the fact that words can be at most
+-- the fact that tokens can be at most
 abbrev fact_of : List (List ℕ) → Fact
 fact_of [] = Fact.Done
 fact_of (a ∷ []) = of_one a
@@ -82,9 +82,9 @@ fact_of (a ∷ b ∷ []) = of_two a b
 fact_of (a ∷ b ∷ c ∷ []) = of_three a b c
 fact_of (a ∷ b ∷ c ∷ d ∷ more) = Fact.Recorded (named b) (byte_of c) (digits_value 10 d)
 
-byte_is : (word : List ℕ) (byte : Option ℕ) → IsByteOrNone word byte → byte_of word ≡ byte
-byte_is word None e = ap byte_of e
-byte_is word (Some byte) writes = ap (λ b. cond b None (Some (hex word))) (no_dashes word writes.0) ∙ ap Some (sym writes.1)
+byte_is : (token : List ℕ) (byte : Option ℕ) → IsByteOrNone token byte → byte_of token ≡ byte
+byte_is token None e = ap byte_of e
+byte_is token (Some byte) writes = ap (λ b. cond b None (Some (hex token))) (no_dashes token writes.0) ∙ ap Some (sym writes.1)
 
 abbrev refused : List (List ℕ) → Fact
 refused rest = fact_of (codes "refused" ∷ rest)
@@ -120,32 +120,32 @@ refused_is rest (Refusal.Bus (BusRefusal.BadAddress address)) (w, e, is) = ap re
 refused_is rest (Refusal.Declare DeclareFault.LegacyAddress) is = absurd is
 refused_is rest (Refusal.Declare DeclareFault.LegacyTwice) is = absurd is
 
-fact_is : (words : List (List ℕ)) (fact : Fact) → IsFact words fact → fact_of words ≡ fact
-fact_is words (Fact.Active name) (w, e, is) = ap fact_of e ∙ ap Fact.Active (named_is w name is)
-fact_is words (Fact.At name address) (w, place, e, is, writes) =
+fact_is : (tokens : List (List ℕ)) (fact : Fact) → IsFact tokens fact → fact_of tokens ≡ fact
+fact_is tokens (Fact.Active name) (w, e, is) = ap fact_of e ∙ ap Fact.Active (named_is w name is)
+fact_is tokens (Fact.At name address) (w, place, e, is, writes) =
     ap fact_of e
     ∙ ap (λ b. cond b (Fact.AtAny (named w)) (cond (are_same place (codes "none")) (Fact.AtNone (named w)) (Fact.At (named w) (hex place)))) (differ place (codes "any") (λ same. omega (arith, writes.0.0.0, ap length same)))
     ∙ ap (λ b. cond b (Fact.AtNone (named w)) (Fact.At (named w) (hex place))) (differ place (codes "none") (λ same. omega (arith, writes.0.0.0, ap length same)))
     ∙ (λ i. Fact.At (named_is w name is i) (sym writes.0.1 i))
-fact_is words (Fact.AtAny name) (w, e, is) = ap fact_of e ∙ ap Fact.AtAny (named_is w name is)
-fact_is words (Fact.AtNone name) (w, e, is) = ap fact_of e ∙ ap Fact.AtNone (named_is w name is)
-fact_is words (Fact.Gone name) (w, e, is, unlike) =
+fact_is tokens (Fact.AtAny name) (w, e, is) = ap fact_of e ∙ ap Fact.AtAny (named_is w name is)
+fact_is tokens (Fact.AtNone name) (w, e, is) = ap fact_of e ∙ ap Fact.AtNone (named_is w name is)
+fact_is tokens (Fact.Gone name) (w, e, is, unlike) =
     ap fact_of e ∙ ap (λ b. cond b (Fact.Active (named (codes "gone"))) (Fact.Gone (named w))) (differ w (codes "active") unlike) ∙ ap Fact.Gone (named_is w name is)
-fact_is words (Fact.Waiting name count) (w, digits, e, is, unlike, writes) = ap fact_of e ∙ (λ i. Fact.Waiting (named_is w name is i) (sym writes.1 i))
-fact_is words (Fact.AllWaiting count) (digits, e, writes) =
+fact_is tokens (Fact.Waiting name count) (w, digits, e, is, unlike, writes) = ap fact_of e ∙ (λ i. Fact.Waiting (named_is w name is i) (sym writes.1 i))
+fact_is tokens (Fact.AllWaiting count) (digits, e, writes) =
     ap fact_of e ∙ ap (λ b. cond b (Fact.Gone (named (codes "waiting"))) (Fact.AllWaiting (digits_value 10 digits))) (no_gone digits writes.0) ∙ ap Fact.AllWaiting (sym writes.1)
-fact_is words (Fact.Records count) (digits, e, writes) =
+fact_is tokens (Fact.Records count) (digits, e, writes) =
     ap fact_of e ∙ ap (λ b. cond b (Fact.Gone (named (codes "records"))) (Fact.Records (digits_value 10 digits))) (no_gone digits writes.0) ∙ ap Fact.Records (sym writes.1)
-fact_is words (Fact.Recorded name byte count) (w, code, digits, e, is, has, writes) = ap fact_of e ∙ (λ i. Fact.Recorded (named_is w name is i) (byte_is code byte has i) (sym writes.1 i))
-fact_is words Fact.Assigned e = ap fact_of e
-fact_is words Fact.Listed e = ap fact_of e
-fact_is words Fact.Open e = ap fact_of e
-fact_is words Fact.Done e = ap fact_of e
-fact_is words (Fact.Refused why) (rest, e, is) = ap fact_of e ∙ refused_is rest why is
+fact_is tokens (Fact.Recorded name byte count) (w, code, digits, e, is, has, writes) = ap fact_of e ∙ (λ i. Fact.Recorded (named_is w name is i) (byte_is code byte has i) (sym writes.1 i))
+fact_is tokens Fact.Assigned e = ap fact_of e
+fact_is tokens Fact.Listed e = ap fact_of e
+fact_is tokens Fact.Open e = ap fact_of e
+fact_is tokens Fact.Done e = ap fact_of e
+fact_is tokens (Fact.Refused why) (rest, e, is) = ap fact_of e ∙ refused_is rest why is
 
--- the second letter of the first word
+-- the second letter of the first token
 abbrev second_letter : List (List ℕ) → ℕ
-second_letter words = letter_of (tail_of (first_of words))
+second_letter tokens = letter_of (tail_of (first_of tokens))
 
 -- what stands behind `not` is never a fact by itself, if with `not` it is one
 at_two : (spot : List ℕ) → (spot ≡ codes "gone" → ⊥) → (fact : Fact) → IsFact (codes "at" ∷ spot ∷ []) fact → ⊥
@@ -196,11 +196,11 @@ not_both rest Fact.Open other e form = omega (arith, ap first_letter e)
 not_both rest Fact.Done other e form = omega (arith, ap first_letter e)
 not_both rest (Fact.Refused why) other (more, e, is) form = omega (arith, ap first_letter e)
 
-claim_is : (words : List (List ℕ)) (fact other : Fact) (one two : Bool) → IsClaimOf words fact one → IsClaimOf words other two → (fact ≡ other) × (one ≡ two)
-claim_is words fact other false false form same = (sym (fact_is words fact form) ∙ fact_is words other same, refl)
-claim_is words fact other false true form (rest, e, same) = absurd (not_both rest fact other (subst (λ ws. IsFact ws fact) e form) same)
-claim_is words fact other true false (rest, e, form) same = absurd (not_both rest other fact (subst (λ ws. IsFact ws other) e same) form)
-claim_is words fact other true true (rest, e, form) (more, e', same) =
+claim_is : (tokens : List (List ℕ)) (fact other : Fact) (one two : Bool) → IsClaimOf tokens fact one → IsClaimOf tokens other two → (fact ≡ other) × (one ≡ two)
+claim_is tokens fact other false false form same = (sym (fact_is tokens fact form) ∙ fact_is tokens other same, refl)
+claim_is tokens fact other false true form (rest, e, same) = absurd (not_both rest fact other (subst (λ ws. IsFact ws fact) e form) same)
+claim_is tokens fact other true false (rest, e, form) same = absurd (not_both rest other fact (subst (λ ws. IsFact ws other) e same) form)
+claim_is tokens fact other true true (rest, e, form) (more, e', same) =
     (sym (fact_is rest fact form) ∙ ap fact_of (ap rest_of (sym e ∙ e')) ∙ fact_is more other same, refl)
 
 claims_are : (parts : List (List (List ℕ))) (one other : List Claim) → AreClaims parts one → AreClaims parts other → one ≡ other
@@ -213,15 +213,15 @@ claims_are (part ∷ more) (claim ∷ claims) (next ∷ others) are same =
     let is = claim_is part claim.fact next.fact claim.negated next.negated are.0 same.0 in
     λ i. record { fact = is.0 i; negated = is.1 i } ∷ claims_are more claims others are.1 same.1 i
 
--- the same claims behind the same first word
-facts_are : (first : List ℕ) (words rest more : List (List ℕ)) (one other : List Claim) → words ≡ first ∷ rest → words ≡ first ∷ more → AreClaims (parts rest) one → AreClaims (parts more) other
+-- the same claims behind the same first token
+facts_are : (first : List ℕ) (tokens rest more : List (List ℕ)) (one other : List Claim) → tokens ≡ first ∷ rest → tokens ≡ first ∷ more → AreClaims (parts rest) one → AreClaims (parts more) other
     → one ≡ other
-facts_are first words rest more one other e e' are same =
+facts_are first tokens rest more one other e e' are same =
     claims_are (parts more) one other (subst (λ ws. AreClaims (parts ws) one) (ap rest_of (sym e ∙ e')) are) same
 
--- two first words
+-- two first tokens
 abbrev first_length : List (List ℕ) → ℕ
-first_length words = length (first_of words)
+first_length tokens = length (first_of tokens)
 
 pub one_mark : LinesAreOfOneMark
 one_mark line Mark.Any Mark.Any (short, e1) (fits, e2) = refl
@@ -238,7 +238,7 @@ one_mark line (Mark.Anywhere name1) Mark.Close (short, (w1, e1, is1)) (fits, e2)
 one_mark line (Mark.Anywhere name1) (Mark.Expect facts2) (short, (w1, e1, is1)) (fits, (w2, e2, is2)) = absurd (omega (arith, ap first_length (sym e1 ∙ e2)))
 one_mark line (Mark.Always facts1) Mark.Any (short, (w1, e1, is1)) (fits, e2) = absurd (omega (arith, ap first_length (sym e1 ∙ e2)))
 one_mark line (Mark.Always facts1) (Mark.Anywhere name2) (short, (w1, e1, is1)) (fits, (w2, e2, is2)) = absurd (omega (arith, ap first_length (sym e1 ∙ e2)))
-one_mark line (Mark.Always facts1) (Mark.Always facts2) (short, (w1, e1, is1)) (fits, (w2, e2, is2)) = ap Mark.Always (facts_are (codes "always") (tokens line) w1 w2 facts1 facts2 e1 e2 is1 is2)
+one_mark line (Mark.Always facts1) (Mark.Always facts2) (short, (w1, e1, is1)) (fits, (w2, e2, is2)) = ap Mark.Always (facts_are (codes "always") (tokens_of line) w1 w2 facts1 facts2 e1 e2 is1 is2)
 one_mark line (Mark.Always facts1) Mark.Track (short, (w1, e1, is1)) (fits, e2) = absurd (omega (arith, ap first_length (sym e1 ∙ e2)))
 one_mark line (Mark.Always facts1) Mark.Close (short, (w1, e1, is1)) (fits, e2) = absurd (omega (arith, ap first_length (sym e1 ∙ e2)))
 one_mark line (Mark.Always facts1) (Mark.Expect facts2) (short, (w1, e1, is1)) (fits, (w2, e2, is2)) = absurd (omega (arith, ap first_letter (sym e1 ∙ e2)))
@@ -259,4 +259,4 @@ one_mark line (Mark.Expect facts1) (Mark.Anywhere name2) (short, (w1, e1, is1)) 
 one_mark line (Mark.Expect facts1) (Mark.Always facts2) (short, (w1, e1, is1)) (fits, (w2, e2, is2)) = absurd (omega (arith, ap first_letter (sym e1 ∙ e2)))
 one_mark line (Mark.Expect facts1) Mark.Track (short, (w1, e1, is1)) (fits, e2) = absurd (omega (arith, ap first_length (sym e1 ∙ e2)))
 one_mark line (Mark.Expect facts1) Mark.Close (short, (w1, e1, is1)) (fits, e2) = absurd (omega (arith, ap first_length (sym e1 ∙ e2)))
-one_mark line (Mark.Expect facts1) (Mark.Expect facts2) (short, (w1, e1, is1)) (fits, (w2, e2, is2)) = ap Mark.Expect (facts_are (codes "expect") (tokens line) w1 w2 facts1 facts2 e1 e2 is1 is2)
+one_mark line (Mark.Expect facts1) (Mark.Expect facts2) (short, (w1, e1, is1)) (fits, (w2, e2, is2)) = ap Mark.Expect (facts_are (codes "expect") (tokens_of line) w1 w2 facts1 facts2 e1 e2 is1 is2)

@@ -9,11 +9,11 @@ use Rattle.i3c_legacy.specs.declared.faults.LegacyFault.{LegacyFault}
 use Rattle.i3c_step.specs.declared.replies.Refusal.{Refusal as BusRefusal}
 use Rattle.i3c_lines.specs.declared.names.Name.{Name}
 use Rattle.i3c_lines.specs.declared.refusals.Refusal.{Refusal}
-use Rattle.i3c_lines.specs.Forms.{tokens}
+use Rattle.i3c_lines.specs.Forms.{tokens_of}
 use Rattle.i3c_lines.specs.Naming.{letters}
 use Rattle.i3c_lines.specs.Printing.{IsWithin, behind}
-use Rattle.i3c_lines.specs.Refusing.{refusal_word}
-use Rattle.i3c_lines.specs.Words.{IsDecimal, IsHex}
+use Rattle.i3c_lines.specs.Refusing.{refusal_token}
+use Rattle.i3c_lines.specs.Tokens.{IsDecimal, IsHex}
 use Rattle.i3c_lines.proofs.PrintedLines.{Apart, byte_writes, decimal_writes, plain, tokens_spaced}
 use Rattle.i3c_lines.proofs.SplitLaws.{HasNoSpace, hex_no_space, name_no_space}
 use Rattle.i3c_text.specs.Hex.{byte_text}
@@ -25,10 +25,10 @@ use Rattle.i3c_facts.specs.Laws.{PrintedMarksAreRead}
 use Rattle.i3c_facts.specs.Printing.{AreSayable, FactHasLine, HaveLines, IsSayable, ReasonHasLine, byte_or_none, claim_text, claims_text, fact_text, more_text, negation_text}
 use Rattle.i3c_facts.proofs.ClaimLaws.{not_or}
 
--- none of these words is `or`
+-- none of these tokens is `or`
 abbrev HasNoOr : List (List ℕ) → Type 0
 HasNoOr [] = Unit {0}
-HasNoOr (word ∷ words) = (is_or word ≡ false) × HasNoOr words
+HasNoOr (token ∷ tokens) = (is_or token ≡ false) × HasNoOr tokens
 
 no_decimal_or : IsDecimal (codes "or") → ⊥
 no_decimal_or is = let digit = is.1 0 0 (omega arith) in omega (arith, digit)
@@ -48,51 +48,51 @@ byte_apart byte h = hex_no_space (byte_text byte) (byte_writes byte h).0.1
 byte_no_or : (byte : ℕ) → byte < 256 → is_or (byte_text byte) ≡ false
 byte_no_or byte h = not_or (byte_text byte) (λ e. no_hex_or (subst (λ w. IsHex 2 w) e (byte_writes byte h).0))
 
--- a printed fact's first word
-abbrev first_word : Fact → List ℕ
-first_word (Fact.Active name) = codes "active"
-first_word (Fact.At name address) = letters name
-first_word (Fact.AtAny name) = letters name
-first_word (Fact.AtNone name) = letters name
-first_word (Fact.Gone name) = letters name
-first_word (Fact.Waiting name count) = letters name
-first_word (Fact.AllWaiting count) = codes "waiting"
-first_word (Fact.Records count) = codes "records"
-first_word (Fact.Recorded name byte count) = codes "record"
-first_word Fact.Assigned = codes "assigned"
-first_word Fact.Listed = codes "listed"
-first_word Fact.Open = codes "open"
-first_word Fact.Done = codes "done"
-first_word (Fact.Refused why) = codes "refused"
+-- a printed fact's first token
+abbrev first_token : Fact → List ℕ
+first_token (Fact.Active name) = codes "active"
+first_token (Fact.At name address) = letters name
+first_token (Fact.AtAny name) = letters name
+first_token (Fact.AtNone name) = letters name
+first_token (Fact.Gone name) = letters name
+first_token (Fact.Waiting name count) = letters name
+first_token (Fact.AllWaiting count) = codes "waiting"
+first_token (Fact.Records count) = codes "records"
+first_token (Fact.Recorded name byte count) = codes "record"
+first_token Fact.Assigned = codes "assigned"
+first_token Fact.Listed = codes "listed"
+first_token Fact.Open = codes "open"
+first_token Fact.Done = codes "done"
+first_token (Fact.Refused why) = codes "refused"
 
-abbrev address_words : Refusal → List (List ℕ)
-address_words (Refusal.Bus (BusRefusal.NoAnswer address)) = byte_text address ∷ []
-address_words (Refusal.Bus (BusRefusal.BadAddress address)) = byte_text address ∷ []
-address_words _ = []
+abbrev address_tokens : Refusal → List (List ℕ)
+address_tokens (Refusal.Bus (BusRefusal.NoAnswer address)) = byte_text address ∷ []
+address_tokens (Refusal.Bus (BusRefusal.BadAddress address)) = byte_text address ∷ []
+address_tokens _ = []
 
 -- and those behind it
-abbrev other_words : Fact → List (List ℕ)
-other_words (Fact.Active name) = letters name ∷ []
-other_words (Fact.At name address) = codes "at" ∷ byte_text address ∷ []
-other_words (Fact.AtAny name) = codes "at" ∷ codes "any" ∷ []
-other_words (Fact.AtNone name) = codes "at" ∷ codes "none" ∷ []
-other_words (Fact.Gone name) = codes "gone" ∷ []
-other_words (Fact.Waiting name count) = codes "waiting" ∷ decimal count ∷ []
-other_words (Fact.AllWaiting count) = decimal count ∷ []
-other_words (Fact.Records count) = decimal count ∷ []
-other_words (Fact.Recorded name byte count) = letters name ∷ byte_or_none byte ∷ decimal count ∷ []
-other_words Fact.Assigned = []
-other_words Fact.Listed = []
-other_words Fact.Open = []
-other_words Fact.Done = []
-other_words (Fact.Refused why) = refusal_word why ∷ address_words why
+abbrev other_tokens : Fact → List (List ℕ)
+other_tokens (Fact.Active name) = letters name ∷ []
+other_tokens (Fact.At name address) = codes "at" ∷ byte_text address ∷ []
+other_tokens (Fact.AtAny name) = codes "at" ∷ codes "any" ∷ []
+other_tokens (Fact.AtNone name) = codes "at" ∷ codes "none" ∷ []
+other_tokens (Fact.Gone name) = codes "gone" ∷ []
+other_tokens (Fact.Waiting name count) = codes "waiting" ∷ decimal count ∷ []
+other_tokens (Fact.AllWaiting count) = decimal count ∷ []
+other_tokens (Fact.Records count) = decimal count ∷ []
+other_tokens (Fact.Recorded name byte count) = letters name ∷ byte_or_none byte ∷ decimal count ∷ []
+other_tokens Fact.Assigned = []
+other_tokens Fact.Listed = []
+other_tokens Fact.Open = []
+other_tokens Fact.Done = []
+other_tokens (Fact.Refused why) = refusal_token why ∷ address_tokens why
 
--- words that are a text, a fact's form, without spaces and without `or`
+-- tokens that are a text, a fact's form, without spaces and without `or`
 abbrev Fits : List ℕ → Type 0 → List ℕ → List (List ℕ) → Type 0
-Fits text Form first words = (text ≡ first ++ behind words) × Form × Apart (first ∷ words) × HasNoOr (first ∷ words)
+Fits text Form first tokens = (text ≡ first ++ behind tokens) × Form × Apart (first ∷ tokens) × HasNoOr (first ∷ tokens)
 
 abbrev FactFits : Fact → Type 0
-FactFits fact = Fits (fact_text fact) (IsFact (first_word fact ∷ other_words fact) fact) (first_word fact) (other_words fact)
+FactFits fact = Fits (fact_text fact) (IsFact (first_token fact ∷ other_tokens fact) fact) (first_token fact) (other_tokens fact)
 
 name_apart : (name : Name) → IsSayable name → HasNoSpace (letters name)
 name_apart name is = name_no_space (letters name) is.0
@@ -101,31 +101,31 @@ name_no_or : (name : Name) → IsSayable name → is_or (letters name) ≡ false
 name_no_or name is = not_or (letters name) is.1
 
 reason_fits : (why : Refusal) → ReasonHasLine why → FactFits (Fact.Refused why)
-reason_fits Refusal.BadLine h = (refl, (refusal_word Refusal.BadLine ∷ [], refl, refl), (plain (codes "refused") tt, (plain (refusal_word Refusal.BadLine) tt, tt)), (refl, (refl, tt)))
-reason_fits Refusal.NoBus h = (refl, (refusal_word Refusal.NoBus ∷ [], refl, refl), (plain (codes "refused") tt, (plain (refusal_word Refusal.NoBus) tt, tt)), (refl, (refl, tt)))
-reason_fits Refusal.BusMade h = (refl, (refusal_word Refusal.BusMade ∷ [], refl, refl), (plain (codes "refused") tt, (plain (refusal_word Refusal.BusMade) tt, tt)), (refl, (refl, tt)))
-reason_fits Refusal.NameTaken h = (refl, (refusal_word Refusal.NameTaken ∷ [], refl, refl), (plain (codes "refused") tt, (plain (refusal_word Refusal.NameTaken) tt, tt)), (refl, (refl, tt)))
-reason_fits Refusal.NoName h = (refl, (refusal_word Refusal.NoName ∷ [], refl, refl), (plain (codes "refused") tt, (plain (refusal_word Refusal.NoName) tt, tt)), (refl, (refl, tt)))
-reason_fits Refusal.NoEnd h = (refl, (refusal_word Refusal.NoEnd ∷ [], refl, refl), (plain (codes "refused") tt, (plain (refusal_word Refusal.NoEnd) tt, tt)), (refl, (refl, tt)))
-reason_fits (Refusal.Legacy LegacyFault.LegacyAddress) h = (refl, (refusal_word (Refusal.Legacy LegacyFault.LegacyAddress) ∷ [], refl, refl), (plain (codes "refused") tt, (plain (refusal_word (Refusal.Legacy LegacyFault.LegacyAddress)) tt, tt)), (refl, (refl, tt)))
-reason_fits (Refusal.Legacy LegacyFault.LegacyTwice) h = (refl, (refusal_word (Refusal.Legacy LegacyFault.LegacyTwice) ∷ [], refl, refl), (plain (codes "refused") tt, (plain (refusal_word (Refusal.Legacy LegacyFault.LegacyTwice)) tt, tt)), (refl, (refl, tt)))
-reason_fits (Refusal.Legacy LegacyFault.TooManyLegacy) h = (refl, (refusal_word (Refusal.Legacy LegacyFault.TooManyLegacy) ∷ [], refl, refl), (plain (codes "refused") tt, (plain (refusal_word (Refusal.Legacy LegacyFault.TooManyLegacy)) tt, tt)), (refl, (refl, tt)))
-reason_fits (Refusal.Declare DeclareFault.IdentityTwice) h = (refl, (refusal_word (Refusal.Declare DeclareFault.IdentityTwice) ∷ [], refl, refl), (plain (codes "refused") tt, (plain (refusal_word (Refusal.Declare DeclareFault.IdentityTwice)) tt, tt)), (refl, (refl, tt)))
-reason_fits (Refusal.Declare DeclareFault.TooManyDeclared) h = (refl, (refusal_word (Refusal.Declare DeclareFault.TooManyDeclared) ∷ [], refl, refl), (plain (codes "refused") tt, (plain (refusal_word (Refusal.Declare DeclareFault.TooManyDeclared)) tt, tt)), (refl, (refl, tt)))
-reason_fits (Refusal.Bus BusRefusal.SessionOpen) h = (refl, (refusal_word (Refusal.Bus BusRefusal.SessionOpen) ∷ [], refl, refl), (plain (codes "refused") tt, (plain (refusal_word (Refusal.Bus BusRefusal.SessionOpen)) tt, tt)), (refl, (refl, tt)))
-reason_fits (Refusal.Bus BusRefusal.NoSession) h = (refl, (refusal_word (Refusal.Bus BusRefusal.NoSession) ∷ [], refl, refl), (plain (codes "refused") tt, (plain (refusal_word (Refusal.Bus BusRefusal.NoSession)) tt, tt)), (refl, (refl, tt)))
-reason_fits (Refusal.Bus BusRefusal.ActiveStays) h = (refl, (refusal_word (Refusal.Bus BusRefusal.ActiveStays) ∷ [], refl, refl), (plain (codes "refused") tt, (plain (refusal_word (Refusal.Bus BusRefusal.ActiveStays)) tt, tt)), (refl, (refl, tt)))
-reason_fits (Refusal.Bus BusRefusal.SlotTaken) h = (refl, (refusal_word (Refusal.Bus BusRefusal.SlotTaken) ∷ [], refl, refl), (plain (codes "refused") tt, (plain (refusal_word (Refusal.Bus BusRefusal.SlotTaken)) tt, tt)), (refl, (refl, tt)))
-reason_fits (Refusal.Bus BusRefusal.NoDevice) h = (refl, (refusal_word (Refusal.Bus BusRefusal.NoDevice) ∷ [], refl, refl), (plain (codes "refused") tt, (plain (refusal_word (Refusal.Bus BusRefusal.NoDevice)) tt, tt)), (refl, (refl, tt)))
-reason_fits (Refusal.Bus BusRefusal.IsActive) h = (refl, (refusal_word (Refusal.Bus BusRefusal.IsActive) ∷ [], refl, refl), (plain (codes "refused") tt, (plain (refusal_word (Refusal.Bus BusRefusal.IsActive)) tt, tt)), (refl, (refl, tt)))
-reason_fits (Refusal.Bus BusRefusal.NoAddress) h = (refl, (refusal_word (Refusal.Bus BusRefusal.NoAddress) ∷ [], refl, refl), (plain (codes "refused") tt, (plain (refusal_word (Refusal.Bus BusRefusal.NoAddress)) tt, tt)), (refl, (refl, tt)))
-reason_fits (Refusal.Bus BusRefusal.HasAddress) h = (refl, (refusal_word (Refusal.Bus BusRefusal.HasAddress) ∷ [], refl, refl), (plain (codes "refused") tt, (plain (refusal_word (Refusal.Bus BusRefusal.HasAddress)) tt, tt)), (refl, (refl, tt)))
-reason_fits (Refusal.Bus BusRefusal.NotCapable) h = (refl, (refusal_word (Refusal.Bus BusRefusal.NotCapable) ∷ [], refl, refl), (plain (codes "refused") tt, (plain (refusal_word (Refusal.Bus BusRefusal.NotCapable)) tt, tt)), (refl, (refl, tt)))
-reason_fits (Refusal.Bus BusRefusal.ByteMismatch) h = (refl, (refusal_word (Refusal.Bus BusRefusal.ByteMismatch) ∷ [], refl, refl), (plain (codes "refused") tt, (plain (refusal_word (Refusal.Bus BusRefusal.ByteMismatch)) tt, tt)), (refl, (refl, tt)))
-reason_fits (Refusal.Bus BusRefusal.Masked) h = (refl, (refusal_word (Refusal.Bus BusRefusal.Masked) ∷ [], refl, refl), (plain (codes "refused") tt, (plain (refusal_word (Refusal.Bus BusRefusal.Masked)) tt, tt)), (refl, (refl, tt)))
-reason_fits (Refusal.Bus BusRefusal.Full) h = (refl, (refusal_word (Refusal.Bus BusRefusal.Full) ∷ [], refl, refl), (plain (codes "refused") tt, (plain (refusal_word (Refusal.Bus BusRefusal.Full)) tt, tt)), (refl, (refl, tt)))
-reason_fits (Refusal.Bus BusRefusal.ListStale) h = (refl, (refusal_word (Refusal.Bus BusRefusal.ListStale) ∷ [], refl, refl), (plain (codes "refused") tt, (plain (refusal_word (Refusal.Bus BusRefusal.ListStale)) tt, tt)), (refl, (refl, tt)))
-reason_fits (Refusal.Bus BusRefusal.TooLong) h = (refl, (refusal_word (Refusal.Bus BusRefusal.TooLong) ∷ [], refl, refl), (plain (codes "refused") tt, (plain (refusal_word (Refusal.Bus BusRefusal.TooLong)) tt, tt)), (refl, (refl, tt)))
+reason_fits Refusal.BadLine h = (refl, (refusal_token Refusal.BadLine ∷ [], refl, refl), (plain (codes "refused") tt, (plain (refusal_token Refusal.BadLine) tt, tt)), (refl, (refl, tt)))
+reason_fits Refusal.NoBus h = (refl, (refusal_token Refusal.NoBus ∷ [], refl, refl), (plain (codes "refused") tt, (plain (refusal_token Refusal.NoBus) tt, tt)), (refl, (refl, tt)))
+reason_fits Refusal.BusMade h = (refl, (refusal_token Refusal.BusMade ∷ [], refl, refl), (plain (codes "refused") tt, (plain (refusal_token Refusal.BusMade) tt, tt)), (refl, (refl, tt)))
+reason_fits Refusal.NameTaken h = (refl, (refusal_token Refusal.NameTaken ∷ [], refl, refl), (plain (codes "refused") tt, (plain (refusal_token Refusal.NameTaken) tt, tt)), (refl, (refl, tt)))
+reason_fits Refusal.NoName h = (refl, (refusal_token Refusal.NoName ∷ [], refl, refl), (plain (codes "refused") tt, (plain (refusal_token Refusal.NoName) tt, tt)), (refl, (refl, tt)))
+reason_fits Refusal.NoEnd h = (refl, (refusal_token Refusal.NoEnd ∷ [], refl, refl), (plain (codes "refused") tt, (plain (refusal_token Refusal.NoEnd) tt, tt)), (refl, (refl, tt)))
+reason_fits (Refusal.Legacy LegacyFault.LegacyAddress) h = (refl, (refusal_token (Refusal.Legacy LegacyFault.LegacyAddress) ∷ [], refl, refl), (plain (codes "refused") tt, (plain (refusal_token (Refusal.Legacy LegacyFault.LegacyAddress)) tt, tt)), (refl, (refl, tt)))
+reason_fits (Refusal.Legacy LegacyFault.LegacyTwice) h = (refl, (refusal_token (Refusal.Legacy LegacyFault.LegacyTwice) ∷ [], refl, refl), (plain (codes "refused") tt, (plain (refusal_token (Refusal.Legacy LegacyFault.LegacyTwice)) tt, tt)), (refl, (refl, tt)))
+reason_fits (Refusal.Legacy LegacyFault.TooManyLegacy) h = (refl, (refusal_token (Refusal.Legacy LegacyFault.TooManyLegacy) ∷ [], refl, refl), (plain (codes "refused") tt, (plain (refusal_token (Refusal.Legacy LegacyFault.TooManyLegacy)) tt, tt)), (refl, (refl, tt)))
+reason_fits (Refusal.Declare DeclareFault.IdentityTwice) h = (refl, (refusal_token (Refusal.Declare DeclareFault.IdentityTwice) ∷ [], refl, refl), (plain (codes "refused") tt, (plain (refusal_token (Refusal.Declare DeclareFault.IdentityTwice)) tt, tt)), (refl, (refl, tt)))
+reason_fits (Refusal.Declare DeclareFault.TooManyDeclared) h = (refl, (refusal_token (Refusal.Declare DeclareFault.TooManyDeclared) ∷ [], refl, refl), (plain (codes "refused") tt, (plain (refusal_token (Refusal.Declare DeclareFault.TooManyDeclared)) tt, tt)), (refl, (refl, tt)))
+reason_fits (Refusal.Bus BusRefusal.SessionOpen) h = (refl, (refusal_token (Refusal.Bus BusRefusal.SessionOpen) ∷ [], refl, refl), (plain (codes "refused") tt, (plain (refusal_token (Refusal.Bus BusRefusal.SessionOpen)) tt, tt)), (refl, (refl, tt)))
+reason_fits (Refusal.Bus BusRefusal.NoSession) h = (refl, (refusal_token (Refusal.Bus BusRefusal.NoSession) ∷ [], refl, refl), (plain (codes "refused") tt, (plain (refusal_token (Refusal.Bus BusRefusal.NoSession)) tt, tt)), (refl, (refl, tt)))
+reason_fits (Refusal.Bus BusRefusal.ActiveStays) h = (refl, (refusal_token (Refusal.Bus BusRefusal.ActiveStays) ∷ [], refl, refl), (plain (codes "refused") tt, (plain (refusal_token (Refusal.Bus BusRefusal.ActiveStays)) tt, tt)), (refl, (refl, tt)))
+reason_fits (Refusal.Bus BusRefusal.SlotTaken) h = (refl, (refusal_token (Refusal.Bus BusRefusal.SlotTaken) ∷ [], refl, refl), (plain (codes "refused") tt, (plain (refusal_token (Refusal.Bus BusRefusal.SlotTaken)) tt, tt)), (refl, (refl, tt)))
+reason_fits (Refusal.Bus BusRefusal.NoDevice) h = (refl, (refusal_token (Refusal.Bus BusRefusal.NoDevice) ∷ [], refl, refl), (plain (codes "refused") tt, (plain (refusal_token (Refusal.Bus BusRefusal.NoDevice)) tt, tt)), (refl, (refl, tt)))
+reason_fits (Refusal.Bus BusRefusal.IsActive) h = (refl, (refusal_token (Refusal.Bus BusRefusal.IsActive) ∷ [], refl, refl), (plain (codes "refused") tt, (plain (refusal_token (Refusal.Bus BusRefusal.IsActive)) tt, tt)), (refl, (refl, tt)))
+reason_fits (Refusal.Bus BusRefusal.NoAddress) h = (refl, (refusal_token (Refusal.Bus BusRefusal.NoAddress) ∷ [], refl, refl), (plain (codes "refused") tt, (plain (refusal_token (Refusal.Bus BusRefusal.NoAddress)) tt, tt)), (refl, (refl, tt)))
+reason_fits (Refusal.Bus BusRefusal.HasAddress) h = (refl, (refusal_token (Refusal.Bus BusRefusal.HasAddress) ∷ [], refl, refl), (plain (codes "refused") tt, (plain (refusal_token (Refusal.Bus BusRefusal.HasAddress)) tt, tt)), (refl, (refl, tt)))
+reason_fits (Refusal.Bus BusRefusal.NotCapable) h = (refl, (refusal_token (Refusal.Bus BusRefusal.NotCapable) ∷ [], refl, refl), (plain (codes "refused") tt, (plain (refusal_token (Refusal.Bus BusRefusal.NotCapable)) tt, tt)), (refl, (refl, tt)))
+reason_fits (Refusal.Bus BusRefusal.ByteMismatch) h = (refl, (refusal_token (Refusal.Bus BusRefusal.ByteMismatch) ∷ [], refl, refl), (plain (codes "refused") tt, (plain (refusal_token (Refusal.Bus BusRefusal.ByteMismatch)) tt, tt)), (refl, (refl, tt)))
+reason_fits (Refusal.Bus BusRefusal.Masked) h = (refl, (refusal_token (Refusal.Bus BusRefusal.Masked) ∷ [], refl, refl), (plain (codes "refused") tt, (plain (refusal_token (Refusal.Bus BusRefusal.Masked)) tt, tt)), (refl, (refl, tt)))
+reason_fits (Refusal.Bus BusRefusal.Full) h = (refl, (refusal_token (Refusal.Bus BusRefusal.Full) ∷ [], refl, refl), (plain (codes "refused") tt, (plain (refusal_token (Refusal.Bus BusRefusal.Full)) tt, tt)), (refl, (refl, tt)))
+reason_fits (Refusal.Bus BusRefusal.ListStale) h = (refl, (refusal_token (Refusal.Bus BusRefusal.ListStale) ∷ [], refl, refl), (plain (codes "refused") tt, (plain (refusal_token (Refusal.Bus BusRefusal.ListStale)) tt, tt)), (refl, (refl, tt)))
+reason_fits (Refusal.Bus BusRefusal.TooLong) h = (refl, (refusal_token (Refusal.Bus BusRefusal.TooLong) ∷ [], refl, refl), (plain (codes "refused") tt, (plain (refusal_token (Refusal.Bus BusRefusal.TooLong)) tt, tt)), (refl, (refl, tt)))
 reason_fits (Refusal.Bus (BusRefusal.NoAnswer address)) h =
     let small : address < 256 = omega (arith, h) in (
       refl,
@@ -197,21 +197,21 @@ fact_fits Fact.Open h = (refl, refl, (plain (codes "open") tt, tt), (refl, tt))
 fact_fits Fact.Done h = (refl, refl, (plain (codes "done") tt, tt), (refl, tt))
 fact_fits (Fact.Refused why) h = reason_fits why h
 
--- a printed claim's first word, and those behind it
+-- a printed claim's first token, and those behind it
 abbrev first_said : Fact → Bool → List ℕ
-first_said fact false = first_word fact
+first_said fact false = first_token fact
 first_said fact true = codes "not"
 
 abbrev others_said : Fact → Bool → List (List ℕ)
-others_said fact false = other_words fact
-others_said fact true = first_word fact ∷ other_words fact
+others_said fact false = other_tokens fact
+others_said fact true = first_token fact ∷ other_tokens fact
 
 said_fits : (fact : Fact) (negated : Bool) → FactHasLine fact
     → Fits (negation_text negated ++ fact_text fact) (IsClaimOf (first_said fact negated ∷ others_said fact negated) fact negated) (first_said fact negated) (others_said fact negated)
 said_fits fact false h = fact_fits fact h
 said_fits fact true h =
     let fits = fact_fits fact h in
-    (ap (λ l. codes "not " ++ l) fits.0, (first_word fact ∷ other_words fact, refl, fits.1), (plain (codes "not") tt, fits.2), (refl, fits.3))
+    (ap (λ l. codes "not " ++ l) fits.0, (first_token fact ∷ other_tokens fact, refl, fits.1), (plain (codes "not") tt, fits.2), (refl, fits.3))
 
 abbrev first_of_claim : Claim → List ℕ
 first_of_claim claim = first_said claim.fact claim.negated
@@ -219,61 +219,61 @@ first_of_claim claim = first_said claim.fact claim.negated
 abbrev others_of_claim : Claim → List (List ℕ)
 others_of_claim claim = others_said claim.fact claim.negated
 
-abbrev words_of_claim : Claim → List (List ℕ)
-words_of_claim claim = first_of_claim claim ∷ others_of_claim claim
+abbrev tokens_of_claim : Claim → List (List ℕ)
+tokens_of_claim claim = first_of_claim claim ∷ others_of_claim claim
 
--- the words of further claims, each behind an `or`
-abbrev more_words : List Claim → List (List ℕ)
-more_words [] = []
-more_words (claim ∷ claims) = codes "or" ∷ (words_of_claim claim ++ more_words claims)
+-- the tokens of further claims, each behind an `or`
+abbrev more_tokens : List Claim → List (List ℕ)
+more_tokens [] = []
+more_tokens (claim ∷ claims) = codes "or" ∷ (tokens_of_claim claim ++ more_tokens claims)
 
-behind_both : (words more : List (List ℕ)) → behind words ++ behind more ≡ behind (words ++ more)
+behind_both : (tokens more : List (List ℕ)) → behind tokens ++ behind more ≡ behind (tokens ++ more)
 behind_both [] more = refl
-behind_both (word ∷ words) more = ap (λ t. 32 ∷ t) (append_assoc word (behind words) (behind more) ∙ ap (λ t. word ++ t) (behind_both words more))
+behind_both (token ∷ tokens) more = ap (λ t. 32 ∷ t) (append_assoc token (behind tokens) (behind more) ∙ ap (λ t. token ++ t) (behind_both tokens more))
 
-apart_both : (words more : List (List ℕ)) → Apart words → Apart more → Apart (words ++ more)
+apart_both : (tokens more : List (List ℕ)) → Apart tokens → Apart more → Apart (tokens ++ more)
 apart_both [] more one other = other
-apart_both (word ∷ words) more one other = (one.0, apart_both words more one.1 other)
+apart_both (token ∷ tokens) more one other = (one.0, apart_both tokens more one.1 other)
 
--- a claim's words, and those of further ones
-one_text : (claim : Claim) (claims : List Claim) → FactHasLine claim.fact → more_text claims ≡ behind (more_words claims)
-    → claim_text claim ++ more_text claims ≡ first_of_claim claim ++ behind (others_of_claim claim ++ more_words claims)
+-- a claim's tokens, and those of further ones
+one_text : (claim : Claim) (claims : List Claim) → FactHasLine claim.fact → more_text claims ≡ behind (more_tokens claims)
+    → claim_text claim ++ more_text claims ≡ first_of_claim claim ++ behind (others_of_claim claim ++ more_tokens claims)
 one_text claim claims h more =
     let fits = said_fits claim.fact claim.negated h in
     ap (λ l. l ++ more_text claims) fits.0 ∙ ap (λ l. (first_of_claim claim ++ behind (others_of_claim claim)) ++ l) more
-    ∙ append_assoc (first_of_claim claim) (behind (others_of_claim claim)) (behind (more_words claims)) ∙ ap (λ l. first_of_claim claim ++ l) (behind_both (others_of_claim claim) (more_words claims))
+    ∙ append_assoc (first_of_claim claim) (behind (others_of_claim claim)) (behind (more_tokens claims)) ∙ ap (λ l. first_of_claim claim ++ l) (behind_both (others_of_claim claim) (more_tokens claims))
 
-more_is : (claims : List Claim) → HaveLines claims → more_text claims ≡ behind (more_words claims)
+more_is : (claims : List Claim) → HaveLines claims → more_text claims ≡ behind (more_tokens claims)
 more_is [] have = refl
 more_is (claim ∷ claims) (h, have) = ap (λ l. codes " or " ++ l) (one_text claim claims h (more_is claims have))
 
-more_apart : (claims : List Claim) → HaveLines claims → Apart (more_words claims)
+more_apart : (claims : List Claim) → HaveLines claims → Apart (more_tokens claims)
 more_apart [] have = tt
-more_apart (claim ∷ claims) (h, have) = (plain (codes "or") tt, apart_both (words_of_claim claim) (more_words claims) (said_fits claim.fact claim.negated h).2 (more_apart claims have))
+more_apart (claim ∷ claims) (h, have) = (plain (codes "or") tt, apart_both (tokens_of_claim claim) (more_tokens claims) (said_fits claim.fact claim.negated h).2 (more_apart claims have))
 
-none_or : (words : List (List ℕ)) → HasNoOr words → All (λ word. is_or word ≡ false) words
-none_or [] none = All-nil (λ word. is_or word ≡ false)
-none_or (word ∷ words) none = All-cons (λ w. is_or w ≡ false) word words none.0 (none_or words none.1)
+none_or : (tokens : List (List ℕ)) → HasNoOr tokens → All (λ token. is_or token ≡ false) tokens
+none_or [] none = All-nil (λ token. is_or token ≡ false)
+none_or (token ∷ tokens) none = All-cons (λ w. is_or w ≡ false) token tokens none.0 (none_or tokens none.1)
 
 -- the parts between each two `or` are the claims
-parts_are : (claim : Claim) (claims : List Claim) → FactHasLine claim.fact → HaveLines claims → AreClaims (parts (words_of_claim claim ++ more_words claims)) (claim ∷ claims)
+parts_are : (claim : Claim) (claims : List Claim) → FactHasLine claim.fact → HaveLines claims → AreClaims (parts (tokens_of_claim claim ++ more_tokens claims)) (claim ∷ claims)
 parts_are claim [] h have =
     let fits = said_fits claim.fact claim.negated h in
-    let words = words_of_claim claim in
-    subst (λ ps. AreClaims ps (claim ∷ [])) (sym (ap parts (append-nil words) ∙ slice_split_none is_or words (none_or words fits.3))) (fits.1, tt)
+    let tokens = tokens_of_claim claim in
+    subst (λ ps. AreClaims ps (claim ∷ [])) (sym (ap parts (append-nil tokens) ∙ slice_split_none is_or tokens (none_or tokens fits.3))) (fits.1, tt)
 parts_are claim (next ∷ claims) h (more, have) =
     let fits = said_fits claim.fact claim.negated h in
-    let words = words_of_claim claim in
-    subst (λ ps. AreClaims ps (claim ∷ next ∷ claims)) (sym (slice_split_at is_or words (codes "or") (words_of_claim next ++ more_words claims) (none_or words fits.3) refl)) (fits.1, parts_are next claims more have)
+    let tokens = tokens_of_claim claim in
+    subst (λ ps. AreClaims ps (claim ∷ next ∷ claims)) (sym (slice_split_at is_or tokens (codes "or") (tokens_of_claim next ++ more_tokens claims) (none_or tokens fits.3) refl)) (fits.1, parts_are next claims more have)
 
--- claims behind a first word
-claims_said : (first : List ℕ) (claims : List Claim) → HasNoSpace first → AreSayable claims → (rest : List (List ℕ)) × (tokens (first ++ 32 ∷ claims_text claims) ≡ first ∷ rest) × AreClaims (parts rest) claims
+-- claims behind a first token
+claims_said : (first : List ℕ) (claims : List Claim) → HasNoSpace first → AreSayable claims → (rest : List (List ℕ)) × (tokens_of (first ++ 32 ∷ claims_text claims) ≡ first ∷ rest) × AreClaims (parts rest) claims
 claims_said first [] apart have = absurd have
 claims_said first (claim ∷ claims) apart (h, have) =
-    let words = words_of_claim claim ++ more_words claims in
-    let all : Apart words = apart_both (words_of_claim claim) (more_words claims) (said_fits claim.fact claim.negated h).2 (more_apart claims have) in (
-      words,
-      ap (λ l. tokens (first ++ 32 ∷ l)) (one_text claim claims h (more_is claims have)) ∙ tokens_spaced first words apart all,
+    let tokens = tokens_of_claim claim ++ more_tokens claims in
+    let all : Apart tokens = apart_both (tokens_of_claim claim) (more_tokens claims) (said_fits claim.fact claim.negated h).2 (more_apart claims have) in (
+      tokens,
+      ap (λ l. tokens_of (first ++ 32 ∷ l)) (one_text claim claims h (more_is claims have)) ∙ tokens_spaced first tokens apart all,
       parts_are claim claims h have,
     )
 
@@ -281,7 +281,7 @@ pub read_again : PrintedMarksAreRead
 read_again Mark.Any h short = (short, refl)
 read_again (Mark.Anywhere name) h short = (
   short,
-  (letters name, ap (λ l. tokens (codes "anywhere " ++ l)) (sym (append-nil (letters name))) ∙ tokens_spaced (codes "anywhere") (letters name ∷ []) (plain (codes "anywhere") tt) (name_no_space (letters name) h, tt), (h, refl)),
+  (letters name, ap (λ l. tokens_of (codes "anywhere " ++ l)) (sym (append-nil (letters name))) ∙ tokens_spaced (codes "anywhere") (letters name ∷ []) (plain (codes "anywhere") tt) (name_no_space (letters name) h, tt), (h, refl)),
 )
 read_again (Mark.Always facts) h short = (short, claims_said (codes "always") facts (plain (codes "always") tt) h)
 read_again Mark.Track h short = (short, refl)

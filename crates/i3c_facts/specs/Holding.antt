@@ -12,7 +12,7 @@ use Rattle.i3c_facts.specs.declared.holding.Before.{Before}
 use Rattle.i3c_lines.specs.declared.names.Name.{Name}
 use Rattle.i3c_lines.specs.declared.names.Place.{Place}
 use Rattle.i3c_lines.specs.declared.refusals.Refusal.{Refusal}
-use Rattle.i3c_lines.specs.Refusing.{refusal_word}
+use Rattle.i3c_lines.specs.Refusing.{refusal_token}
 
 -- the name of the device that a fact is about
 abbrev pub name_of : Fact → Option Name
@@ -80,7 +80,7 @@ address_about _ = None
 
 -- two refusals are printed the same: by the same name, and with the same address
 abbrev pub is_same_refusal : Refusal → Refusal → Bool
-is_same_refusal why other = pointwise nat_eq (refusal_word why) (refusal_word other) && same_number (address_about why) (address_about other)
+is_same_refusal why other = pointwise nat_eq (refusal_token why) (refusal_token other) && same_number (address_about why) (address_about other)
 
 -- what a line came to, for the facts behind it
 abbrev pub came_to : Option Refusal → Before

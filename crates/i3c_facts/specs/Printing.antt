@@ -143,7 +143,7 @@ ReasonHasLine (Refusal.Declare DeclareFault.LegacyAddress) = ⊥
 ReasonHasLine (Refusal.Declare DeclareFault.LegacyTwice) = ⊥
 ReasonHasLine _ = ⊤
 
--- a fact that a line can say: its numbers are in range, and its name isn't taken for a word of another fact
+-- a fact that a line can say: its numbers are in range, and its name isn't taken for a token of another fact
 abbrev pub FactHasLine : Fact → Type 0
 FactHasLine (Fact.Active name) = IsSayable name
 FactHasLine (Fact.At name address) = IsSayable name × (address < 128)

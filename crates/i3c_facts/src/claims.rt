@@ -6,7 +6,7 @@ ghost use Rattle.i3c_lines.specs.Parsing.{Reads};
 use crate::fact::Fact;
 use crate::facts::{NOT, read_fact};
 use i3c_lines::Refusal;
-use i3c_lines::tokens::is_word;
+use i3c_lines::tokens::is_token;
 use i3c_step::Refusal as BusRefusal;
 use std::alloc::{AllocError, Global};
 use std::marker::Model;
@@ -61,24 +61,24 @@ impl Facts {
     }
 }
 
-/// The facts that some words say, if they have their form.
-pub(crate) fn read_facts(alloc: Global, words: &[&[u8]]) -> Result<Option<Facts>, AllocError>
-    ensures { IfOk result (Reads AreFacts (texts words.now)) }
+/// The facts that some tokens say, if they have their form.
+pub(crate) fn read_facts(alloc: Global, tokens: &[&[u8]]) -> Result<Option<Facts>, AllocError>
+    ensures { IfOk result (Reads AreFacts (texts tokens.now)) }
 {
     let mut claims = Vec::new(alloc);
-    match read_claims(words, &mut claims)? {
+    match read_claims(tokens, &mut claims)? {
         Some(()) => Ok(Some(Facts { claims })),
         None => Ok(None),
     }
 }
 
-/// Appends the claims that some words make, if they have their form.
-fn read_claims(words: &[&[u8]], claims: &mut Vec<Claim>) -> Result<Option<()>, AllocError>
-    ensures { IfOk result (Extends (parts (texts words.now)) claims.old.items claims.new.items) }
+/// Appends the claims that some tokens make, if they have their form.
+fn read_claims(tokens: &[&[u8]], claims: &mut Vec<Claim>) -> Result<Option<()>, AllocError>
+    ensures { IfOk result (Extends (parts (texts tokens.now)) claims.old.items claims.new.items) }
 {
     // names types that the check doesn't find by itself
     let _parts: (Option<Fact>, Option<Refusal>, Option<BusRefusal>) = (None, None, None);
-    let (first, rest) = split_or(words);
+    let (first, rest) = split_or(tokens);
     let Some(claim) = read_claim(first) else {
         return Ok(None);
     };
@@ -89,38 +89,38 @@ fn read_claims(words: &[&[u8]], claims: &mut Vec<Claim>) -> Result<Option<()>, A
     }
 }
 
-/// The words before the first `or`, and those behind it if there is one.
-fn split_or<'a, 'b>(words: &'a [&'b [u8]]) -> (&'a [&'b [u8]], Option<&'a [&'b [u8]]>)
-    ensures parts { parts (texts words.entry.now) ≡ texts result.0.now ∷ parts_left (option_copied result.1) }
-    ensures shorter { IfSome result.1 (λ rest. length rest.now < length words.entry.now) }
+/// The tokens before the first `or`, and those behind it if there is one.
+fn split_or<'a, 'b>(tokens: &'a [&'b [u8]]) -> (&'a [&'b [u8]], Option<&'a [&'b [u8]]>)
+    ensures parts { parts (texts tokens.entry.now) ≡ texts result.0.now ∷ parts_left (option_copied result.1) }
+    ensures shorter { IfSome result.1 (λ rest. length rest.now < length tokens.entry.now) }
 {
-    for at in 0..words.len() {
-        if is_word(words[at], OR) {
-            return (&words[..at], Some(&words[at + 1..]));
+    for at in 0..tokens.len() {
+        if is_token(tokens[at], OR) {
+            return (&tokens[..at], Some(&tokens[at + 1..]));
         }
     }
-    (words, None)
+    (tokens, None)
 }
 
-/// The claim that some words make, if they have its form.
-fn read_claim(words: &[&[u8]]) -> Option<Claim>
-    ensures { Reads IsClaim (texts words.now) result }
+/// The claim that some tokens make, if they have its form.
+fn read_claim(tokens: &[&[u8]]) -> Option<Claim>
+    ensures { Reads IsClaim (texts tokens.now) result }
 {
-    if let Some(fact) = read_negated(words) {
+    if let Some(fact) = read_negated(tokens) {
         let negated = true;
         return Some(Claim { fact, negated });
     }
-    let fact = read_fact(words)?;
+    let fact = read_fact(tokens)?;
     let negated = false;
     Some(Claim { fact, negated })
 }
 
-/// The fact that stands behind `not`, if the words have this form.
-fn read_negated(words: &[&[u8]]) -> Option<Fact>
-    ensures { Reads (λ words fact. IsClaim words (record { fact = fact; negated = true })) (texts words.now) result }
+/// The fact that stands behind `not`, if the tokens have this form.
+fn read_negated(tokens: &[&[u8]]) -> Option<Fact>
+    ensures { Reads (λ tokens fact. IsClaim tokens (record { fact = fact; negated = true })) (texts tokens.now) result }
 {
-    let (first, rest) = words.split_first()?;
-    if is_word(first, NOT) {
+    let (first, rest) = tokens.split_first()?;
+    if is_token(first, NOT) {
         read_fact(rest)
     } else {
         None

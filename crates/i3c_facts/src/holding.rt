@@ -149,7 +149,7 @@ fn is_refused(why: &Refusal, before: &Before) -> bool
 fn is_same_refusal(why: &Refusal, other: &Refusal) -> bool
     ensures { result ≡ is_same_refusal why.now other.now }
 {
-    why.word().as_bytes() == other.word().as_bytes() && address_about(why) == address_about(other)
+    why.token().as_bytes() == other.token().as_bytes() && address_about(why) == address_about(other)
 }
 
 /// The address that a refusal is about.

@@ -1,17 +1,17 @@
 ghost use Rattle.std.specs.Prelude.{◌≡◌, ◌∷◌, ◌==◌, [], IfOk, MatchOption, codes, map};
 ghost use Rattle.i3c_facts.specs.Forms.{IsMark, IsMarkForm, IsPlainForm, texts};
-ghost use Rattle.i3c_lines.specs.Forms.{tokens};
+ghost use Rattle.i3c_lines.specs.Forms.{tokens_of};
 ghost use Rattle.i3c_lines.specs.Parsing.{Reads};
 
 use crate::claims::{Facts, read_facts};
 use i3c_lines::Name;
-use i3c_lines::tokens::is_word;
+use i3c_lines::tokens::is_token;
 use std::alloc::{AllocError, Global};
 
 /// How many bytes a line may have, without its line feed.
 const LINE_LENGTH: usize = 256;
 
-/// What parts the words of a line.
+/// What parts the tokens of a line.
 const SPACE: u8 = b' ';
 
 const ALWAYS: &[u8] = b"always";
@@ -54,69 +54,69 @@ pub fn read_mark(alloc: Global, line: &[u8]) -> Result<Option<Mark>, AllocError>
     if line.len() > LINE_LENGTH {
         return Ok(None);
     }
-    let words = split_words(alloc, line)?;
-    mark_of(alloc, words.as_slice())
+    let tokens = split_tokens(alloc, line)?;
+    mark_of(alloc, tokens.as_slice())
 }
 
-/// The words of a line, which are parted by exactly one space.
-fn split_words(alloc: Global, line: &[u8]) -> Result<Vec<&[u8]>, AllocError>
-    ensures { IfOk result (λ words. texts words.items ≡ tokens line.now) }
+/// The tokens of a line, which are parted by exactly one space.
+fn split_tokens(alloc: Global, line: &[u8]) -> Result<Vec<&[u8]>, AllocError>
+    ensures { IfOk result (λ tokens. texts tokens.items ≡ tokens_of line.now) }
 {
-    let mut words = Vec::new(alloc);
+    let mut tokens = Vec::new(alloc);
     // room for all of them at once, so that a refusal is told, where `collect` would do with less
-    words.reserve(line.len() + 1)?;
-    words.extend(line.split(|byte| *byte == SPACE))?;
-    Ok(words)
+    tokens.reserve(line.len() + 1)?;
+    tokens.extend(line.split(|byte| *byte == SPACE))?;
+    Ok(tokens)
 }
 
-/// The mark that some words are, if they have its form.
-fn mark_of(alloc: Global, words: &[&[u8]]) -> Result<Option<Mark>, AllocError>
-    ensures { IfOk result (Reads IsMarkForm (texts words.now)) }
+/// The mark that some tokens are, if they have its form.
+fn mark_of(alloc: Global, tokens: &[&[u8]]) -> Result<Option<Mark>, AllocError>
+    ensures { IfOk result (Reads IsMarkForm (texts tokens.now)) }
 {
-    let Some((first, rest)) = words.split_first() else {
+    let Some((first, rest)) = tokens.split_first() else {
         return Ok(None);
     };
-    if is_word(first, ALWAYS) {
+    if is_token(first, ALWAYS) {
         return read_always(alloc, rest);
     }
-    if is_word(first, EXPECT) {
+    if is_token(first, EXPECT) {
         return read_expect(alloc, rest);
     }
     Ok(plain_mark(first, rest))
 }
 
-/// The mark without facts that some words are, if they have its form.
+/// The mark without facts that some tokens are, if they have its form.
 fn plain_mark(first: &[u8], rest: &[&[u8]]) -> Option<Mark>
     ensures { Reads IsPlainForm (first.now ∷ texts rest.now) result }
 {
     match rest {
         [] => mark_alone(first),
-        [word] if is_word(first, ANYWHERE) => read_anywhere(word),
+        [token] if is_token(first, ANYWHERE) => read_anywhere(token),
         _ => None,
     }
 }
 
-/// The mark of one word.
-fn mark_alone(word: &[u8]) -> Option<Mark>
-    ensures { Reads IsPlainForm (word.now ∷ []) result }
+/// The mark of one token.
+fn mark_alone(token: &[u8]) -> Option<Mark>
+    ensures { Reads IsPlainForm (token.now ∷ []) result }
 {
-    if is_word(word, ANY) {
+    if is_token(token, ANY) {
         return Some(Mark::Any);
     }
-    if is_word(word, TRACK) {
+    if is_token(token, TRACK) {
         return Some(Mark::Track);
     }
-    if is_word(word, CLOSE) {
+    if is_token(token, CLOSE) {
         return Some(Mark::Close);
     }
     None
 }
 
 /// `anywhere`, by its name.
-fn read_anywhere(word: &[u8]) -> Option<Mark>
-    ensures { Reads IsPlainForm (codes "anywhere" ∷ word.now ∷ []) result }
+fn read_anywhere(token: &[u8]) -> Option<Mark>
+    ensures { Reads IsPlainForm (codes "anywhere" ∷ token.now ∷ []) result }
 {
-    let name = Name::parse(word)?;
+    let name = Name::parse(token)?;
     Some(Mark::Anywhere(name))
 }
 

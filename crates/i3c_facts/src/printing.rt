@@ -85,11 +85,11 @@ impl Fact {
     }
 }
 
-/// Appends some words, and claims with an `or` between each two.
-fn push_facts(text: &mut Text, words: &[u8], facts: &Facts) -> Result<(), AllocError>
-    ensures { OnOk result (text.new ≡ text.old ++ (words.now ++ claims_text facts.now)) }
+/// Appends some tokens, and claims with an `or` between each two.
+fn push_facts(text: &mut Text, tokens: &[u8], facts: &Facts) -> Result<(), AllocError>
+    ensures { OnOk result (text.new ≡ text.old ++ (tokens.now ++ claims_text facts.now)) }
 {
-    text.push(words)?;
+    text.push(tokens)?;
     facts.push(text)
 }
 
@@ -111,27 +111,27 @@ fn push_another(text: &mut Text, claim: &Claim) -> Result<(), AllocError>
     claim.push(text)
 }
 
-/// Appends some words and a name.
-pub(crate) fn push_named(text: &mut Text, words: &[u8], name: &Name) -> Result<(), AllocError>
-    ensures { OnOk result (text.new ≡ text.old ++ (words.now ++ letters name.now)) }
+/// Appends some tokens and a name.
+pub(crate) fn push_named(text: &mut Text, tokens: &[u8], name: &Name) -> Result<(), AllocError>
+    ensures { OnOk result (text.new ≡ text.old ++ (tokens.now ++ letters name.now)) }
 {
-    text.push(words)?;
+    text.push(tokens)?;
     text.push(name.as_bytes())
 }
 
-/// Appends a name and some words.
-pub(crate) fn push_name(text: &mut Text, name: &Name, words: &[u8]) -> Result<(), AllocError>
-    ensures { OnOk result (text.new ≡ text.old ++ (letters name.now ++ words.now)) }
+/// Appends a name and some tokens.
+pub(crate) fn push_name(text: &mut Text, name: &Name, tokens: &[u8]) -> Result<(), AllocError>
+    ensures { OnOk result (text.new ≡ text.old ++ (letters name.now ++ tokens.now)) }
 {
     text.push(name.as_bytes())?;
-    text.push(words)
+    text.push(tokens)
 }
 
-/// Appends some words and a number.
-pub(crate) fn push_number(text: &mut Text, words: &[u8], number: usize) -> Result<(), AllocError>
-    ensures { OnOk result (text.new ≡ text.old ++ (words.now ++ decimal number)) }
+/// Appends some tokens and a number.
+pub(crate) fn push_number(text: &mut Text, tokens: &[u8], number: usize) -> Result<(), AllocError>
+    ensures { OnOk result (text.new ≡ text.old ++ (tokens.now ++ decimal number)) }
 {
-    text.push(words)?;
+    text.push(tokens)?;
     text.push_decimal(number as u64)
 }
 

@@ -5,17 +5,17 @@ ghost use Rattle.i3c_lines.specs.Parsing.{Reads};
 
 use i3c_legacy::{DeclareFault, LegacyFault};
 use i3c_lines::Refusal;
-use i3c_lines::tokens::{self, is_word};
+use i3c_lines::tokens::{self, is_token};
 use i3c_step::Refusal as BusRefusal;
 
 const NO_ANSWER: &[u8] = b"NoAnswer";
 
 const BAD_ADDRESS: &[u8] = b"BadAddress";
 
-/// How many refusals are printed as one word.
+/// How many refusals are printed as one token.
 const REASONS: usize = 25;
 
-/// The refusals that are printed as one word: of two that are printed as the same, one.
+/// The refusals that are printed as one token: of two that are printed as the same, one.
 fn plain_reasons() -> [Refusal; REASONS]
     ensures { result ≡ plain_reasons }
 {
@@ -48,29 +48,29 @@ fn plain_reasons() -> [Refusal; REASONS]
     ]
 }
 
-/// The refusal that is printed as this word alone, if there is one.
-pub(crate) fn plain_reason(word: &[u8]) -> Option<Refusal>
-    ensures { Reads IsReason (word.now ∷ []) result }
+/// The refusal that is printed as this token alone, if there is one.
+pub(crate) fn plain_reason(token: &[u8]) -> Option<Refusal>
+    ensures { Reads IsReason (token.now ∷ []) result }
 {
     let reasons = plain_reasons();
     for index in 0..REASONS {
         let why = reasons[index];
-        if is_word(word, why.word().as_bytes()) {
+        if is_token(token, why.token().as_bytes()) {
             return Some(why);
         }
     }
     None
 }
 
-/// The refusal that is printed as this word and an address, if there is one.
-pub(crate) fn reason_at(word: &[u8], address: &[u8]) -> Option<Refusal>
-    ensures { Reads IsReason (word.now ∷ address.now ∷ []) result }
+/// The refusal that is printed as this token and an address, if there is one.
+pub(crate) fn reason_at(token: &[u8], address: &[u8]) -> Option<Refusal>
+    ensures { Reads IsReason (token.now ∷ address.now ∷ []) result }
 {
     let address = tokens::address(address)?;
-    if is_word(word, NO_ANSWER) {
+    if is_token(token, NO_ANSWER) {
         return Some(Refusal::Bus(BusRefusal::NoAnswer(address)));
     }
-    if is_word(word, BAD_ADDRESS) {
+    if is_token(token, BAD_ADDRESS) {
         return Some(Refusal::Bus(BusRefusal::BadAddress(address)));
     }
     None

@@ -1,3 +1,3 @@
 pub mod Wishes
 pub mod Offers
-pub mod Telling
+pub mod Wire

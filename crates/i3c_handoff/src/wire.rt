@@ -1,7 +1,7 @@
 ghost use Rattle.std.specs.Prelude.{◌≡◌, ◌∷◌, [], ℕ, Bool, true, false};
 ghost use Rattle.i3c_frame.specs.Taps.{Tells};
 ghost use Rattle.i3c_handoff.specs.declared.outcome.Offer.{Offer as OfferValue};
-ghost use Rattle.i3c_handoff.specs.Telling.{IsAnsweredWire, IsOfferWire};
+ghost use Rattle.i3c_handoff.specs.Wire.{IsAnsweredWire, IsOfferWire};
 
 use crate::outcome::Offer;
 use i3c_base::Addr7;

@@ -1,4 +1,4 @@
 pub mod Driving
 pub mod Policies
 pub mod Serving
-pub mod Telling
+pub mod Wire

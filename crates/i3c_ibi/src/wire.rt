@@ -1,7 +1,7 @@
 ghost use Rattle.std.specs.Prelude.{◌≡◌, true, false, [], ◌∷◌};
 ghost use Rattle.i3c_frame.specs.Taps.{NotesAll};
 ghost use Rattle.i3c_frame.specs.declared.symbols.Symbol.{Symbol as SymbolValue};
-ghost use Rattle.i3c_ibi.specs.Telling.{begun, request_header};
+ghost use Rattle.i3c_ibi.specs.Wire.{begun, request_header};
 
 use crate::serving::Reading;
 use i3c_base::Request;

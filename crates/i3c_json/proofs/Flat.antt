@@ -9,8 +9,8 @@ use Rattle.serde_json.specs.Written.{has_float, items_have_float, members_have_f
 use Rattle.i3c_base.specs.declared.datum.Datum.{Datum}
 use Rattle.i3c_base.specs.declared.requests.Record.{Record}
 use Rattle.i3c_lines.specs.declared.refusals.Refusal.{Refusal}
-use Rattle.i3c_lines.specs.Data.{told_word}
-use Rattle.i3c_lines.specs.Refusing.{refusal_word}
+use Rattle.i3c_lines.specs.Data.{told_token}
+use Rattle.i3c_lines.specs.Refusing.{refusal_token}
 use Rattle.i3c_text.specs.Hex.{byte_text}
 use Rattle.i3c_json.specs.declared.kinds.Kind.{Kind}
 use Rattle.i3c_json.specs.Kinds.{has_kind, told_datum}
@@ -92,7 +92,7 @@ first_put key (value ∷ more) members are flat = put_flat key value members ((o
 
 datum_put : (what : Option Datum) (line : List ℕ) (members : Members) → AreFlat members → AreFlat (put_datum what line members)
 datum_put None line members flat = flat
-datum_put (Some what) line members flat = put_flat (told_word what) (datum_data what line) members (refl, omega arith) flat
+datum_put (Some what) line members flat = put_flat (told_token what) (datum_data what line) members (refl, omega arith) flat
 
 data_put : (lines : List (List ℕ)) (members : Members) → AreFlat members → AreFlat (put_data lines members)
 data_put [] members flat = flat
@@ -114,7 +114,7 @@ address_put (Some a) members flat = put_flat (codes "about") (text_data (byte_te
 outcome_put : (refused : Option Refusal) (members : Members) → AreFlat members → AreFlat (put_outcome refused members)
 outcome_put None members flat = put_flat (codes "ok") (boolean true) members (refl, omega arith) flat
 outcome_put (Some why) members flat =
-    address_put (refusal_address why) (put (codes "refused") (text_data (refusal_word why)) members) (put_flat (codes "refused") (text_data (refusal_word why)) members (text_flat (refusal_word why)) flat)
+    address_put (refusal_address why) (put (codes "refused") (text_data (refusal_token why)) members) (put_flat (codes "refused") (text_data (refusal_token why)) members (text_flat (refusal_token why)) flat)
 
 byte_flat : (byte : Option ℕ) → (has_float (byte_data byte) ≡ false) × (depth (byte_data byte) ≤ 0)
 byte_flat None = (refl, omega arith)

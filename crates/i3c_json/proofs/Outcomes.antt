@@ -9,8 +9,8 @@ use Rattle.serde_json.proofs.Views.{get_member-put, get_member-put_other}
 use Rattle.i3c_base.specs.declared.datum.Datum.{Datum}
 use Rattle.i3c_base.specs.declared.requests.Record.{Record}
 use Rattle.i3c_lines.specs.declared.refusals.Refusal.{Refusal}
-use Rattle.i3c_lines.specs.Data.{told_word}
-use Rattle.i3c_lines.specs.Refusing.{refusal_word}
+use Rattle.i3c_lines.specs.Data.{told_token}
+use Rattle.i3c_lines.specs.Refusing.{refusal_token}
 use Rattle.i3c_text.specs.Hex.{byte_text}
 use Rattle.i3c_json.specs.declared.kinds.Kind.{Kind}
 use Rattle.i3c_json.specs.Kinds.{told_datum}
@@ -48,28 +48,28 @@ other_asking name (Some names) members far = other name (codes "asking") _ membe
 
 -- a name that no datum's field has
 abbrev IsNoDatum : List ℕ → Type 0
-IsNoDatum name = (what : Datum) → bytes_eq name (told_word what) ≡ false
+IsNoDatum name = (what : Datum) → bytes_eq name (told_token what) ≡ false
 
 other_datum : (name : List ℕ) (what : Option Datum) (line : List ℕ) (members : Members) → IsNoDatum name → get_member name (put_datum what line members) ≡ get_member name members
 other_datum name None line members far = refl
-other_datum name (Some what) line members far = other name (told_word what) (datum_data what line) members (far what)
+other_datum name (Some what) line members far = other name (told_token what) (datum_data what line) members (far what)
 
 other_data : (name : List ℕ) (lines : List (List ℕ)) (members : Members) → IsNoDatum name → get_member name (put_data lines members) ≡ get_member name members
 other_data name [] members far = refl
 other_data name (line ∷ lines) members far =
     other_data name lines (put_datum (told_datum line) line members) far ∙ other_datum name (told_datum line) line members far
 
--- it differs from each of the eight words
-apart_words : (name : List ℕ) → bytes_eq name (codes "pid") ≡ false → bytes_eq name (codes "bcr") ≡ false → bytes_eq name (codes "dcr") ≡ false → bytes_eq name (codes "status") ≡ false
+-- it differs from each of the eight tokens
+apart_tokens : (name : List ℕ) → bytes_eq name (codes "pid") ≡ false → bytes_eq name (codes "bcr") ≡ false → bytes_eq name (codes "dcr") ≡ false → bytes_eq name (codes "status") ≡ false
     → bytes_eq name (codes "mwl") ≡ false → bytes_eq name (codes "mrl") ≡ false → bytes_eq name (codes "mxds") ≡ false → bytes_eq name (codes "caps") ≡ false → IsNoDatum name
-apart_words name pid bcr dcr status mwl mrl mxds caps Datum.Pid = pid
-apart_words name pid bcr dcr status mwl mrl mxds caps Datum.Bcr = bcr
-apart_words name pid bcr dcr status mwl mrl mxds caps Datum.Dcr = dcr
-apart_words name pid bcr dcr status mwl mrl mxds caps Datum.Status = status
-apart_words name pid bcr dcr status mwl mrl mxds caps Datum.WriteLength = mwl
-apart_words name pid bcr dcr status mwl mrl mxds caps Datum.ReadLength = mrl
-apart_words name pid bcr dcr status mwl mrl mxds caps Datum.Speed = mxds
-apart_words name pid bcr dcr status mwl mrl mxds caps Datum.Capabilities = caps
+apart_tokens name pid bcr dcr status mwl mrl mxds caps Datum.Pid = pid
+apart_tokens name pid bcr dcr status mwl mrl mxds caps Datum.Bcr = bcr
+apart_tokens name pid bcr dcr status mwl mrl mxds caps Datum.Dcr = dcr
+apart_tokens name pid bcr dcr status mwl mrl mxds caps Datum.Status = status
+apart_tokens name pid bcr dcr status mwl mrl mxds caps Datum.WriteLength = mwl
+apart_tokens name pid bcr dcr status mwl mrl mxds caps Datum.ReadLength = mrl
+apart_tokens name pid bcr dcr status mwl mrl mxds caps Datum.Speed = mxds
+apart_tokens name pid bcr dcr status mwl mrl mxds caps Datum.Capabilities = caps
 
 -- a name that no field has but those of the outcome
 record IsApart (name : List ℕ) : Type 0 where
@@ -109,29 +109,29 @@ numbered count = put (codes "line") (number (unsigned count)) no_members
 line_found : (count : ℕ) (refused : Option Refusal) → get_member (codes "line") (put_outcome refused (numbered count)) ≡ Some (number (unsigned count))
 line_found count None = other (codes "line") (codes "ok") (boolean true) (numbered count) refl
 line_found count (Some why) =
-    other_address (codes "line") (refusal_address why) (put (codes "refused") (text_data (refusal_word why)) (numbered count)) refl
-    ∙ other (codes "line") (codes "refused") (text_data (refusal_word why)) (numbered count) refl
+    other_address (codes "line") (refusal_address why) (put (codes "refused") (text_data (refusal_token why)) (numbered count)) refl
+    ∙ other (codes "line") (codes "refused") (text_data (refusal_token why)) (numbered count) refl
 
 ok_found : (count : ℕ) (refused : Option Refusal) → get_member (codes "ok") (put_outcome refused (numbered count)) ≡ ok_of refused
 ok_found count None = get_member-put (codes "ok") (boolean true) (numbered count)
 ok_found count (Some why) =
-    other_address (codes "ok") (refusal_address why) (put (codes "refused") (text_data (refusal_word why)) (numbered count)) refl
-    ∙ other (codes "ok") (codes "refused") (text_data (refusal_word why)) (numbered count) refl
+    other_address (codes "ok") (refusal_address why) (put (codes "refused") (text_data (refusal_token why)) (numbered count)) refl
+    ∙ other (codes "ok") (codes "refused") (text_data (refusal_token why)) (numbered count) refl
 
-why_found : (count : ℕ) (refused : Option Refusal) → get_member (codes "refused") (put_outcome refused (numbered count)) ≡ option_map (λ why. text_data (refusal_word why)) refused
+why_found : (count : ℕ) (refused : Option Refusal) → get_member (codes "refused") (put_outcome refused (numbered count)) ≡ option_map (λ why. text_data (refusal_token why)) refused
 why_found count None = other (codes "refused") (codes "ok") (boolean true) (numbered count) refl
 why_found count (Some why) =
-    other_address (codes "refused") (refusal_address why) (put (codes "refused") (text_data (refusal_word why)) (numbered count)) refl
-    ∙ get_member-put (codes "refused") (text_data (refusal_word why)) (numbered count)
+    other_address (codes "refused") (refusal_address why) (put (codes "refused") (text_data (refusal_token why)) (numbered count)) refl
+    ∙ get_member-put (codes "refused") (text_data (refusal_token why)) (numbered count)
 
 apart_line : IsApart (codes "line")
-apart_line = record { told = refl; datum = apart_words (codes "line") refl refl refl refl refl refl refl refl; active = refl; read = refl; assigned = refl; served = refl; added = refl; asking = refl }
+apart_line = record { told = refl; datum = apart_tokens (codes "line") refl refl refl refl refl refl refl refl; active = refl; read = refl; assigned = refl; served = refl; added = refl; asking = refl }
 
 apart_ok : IsApart (codes "ok")
-apart_ok = record { told = refl; datum = apart_words (codes "ok") refl refl refl refl refl refl refl refl; active = refl; read = refl; assigned = refl; served = refl; added = refl; asking = refl }
+apart_ok = record { told = refl; datum = apart_tokens (codes "ok") refl refl refl refl refl refl refl refl; active = refl; read = refl; assigned = refl; served = refl; added = refl; asking = refl }
 
 apart_refused : IsApart (codes "refused")
-apart_refused = record { told = refl; datum = apart_words (codes "refused") refl refl refl refl refl refl refl refl; active = refl; read = refl; assigned = refl; served = refl; added = refl; asking = refl }
+apart_refused = record { told = refl; datum = apart_tokens (codes "refused") refl refl refl refl refl refl refl refl; active = refl; read = refl; assigned = refl; served = refl; added = refl; asking = refl }
 
 pub outcomes_told : ObjectsTellOutcomes
 outcomes_told count refused said added asking =

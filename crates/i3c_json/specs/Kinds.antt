@@ -2,14 +2,14 @@
 use Rattle.std.specs.Prelude.{ℕ, ◌==◌, nat_eq, Bool, ◌&&◌, ◌||◌, not, List, [], ◌∷◌, Option, codes, drop, is_some, length, bytes_eq}
 use Rattle.std.specs.List.{find, list_any, starts_with}
 use Rattle.i3c_base.specs.declared.datum.Datum.{Datum}
-use Rattle.i3c_lines.specs.Data.{told_word}
+use Rattle.i3c_lines.specs.Data.{told_token}
 use Rattle.i3c_json.specs.declared.kinds.Kind.{Kind}
 
--- the line begins with these words
+-- the line begins with these tokens
 abbrev pub begins : List ℕ → List ℕ → Bool
-begins line words = starts_with nat_eq line words
+begins line tokens = starts_with nat_eq line tokens
 
--- `recorded N`: the line of a device that is called `recorded` has more words
+-- `recorded N`: the line of a device that is called `recorded` has more tokens
 abbrev pub is_recorded : List ℕ → Bool
 is_recorded line = begins line (codes "recorded ") && not (list_any (λ byte. byte == 32) (drop 9 line))
 
@@ -22,13 +22,13 @@ is_served line =
 abbrev pub is_assigned : List ℕ → Bool
 is_assigned line = (length line == 30) && begins line (codes "assigned ")
 
--- a space, and one word behind it
-abbrev pub is_one_word : List ℕ → Bool
-is_one_word rest = begins rest (codes " ") && not (list_any (λ byte. byte == 32) (drop 1 rest))
+-- a space, and one token behind it
+abbrev pub is_one_token : List ℕ → Bool
+is_one_token rest = begins rest (codes " ") && not (list_any (λ byte. byte == 32) (drop 1 rest))
 
--- `bytes` and one word: the line of a device that is called `bytes` has more words
+-- `bytes` and one token: the line of a device that is called `bytes` has more tokens
 abbrev pub is_bytes : List ℕ → Bool
-is_bytes line = begins line (codes "bytes") && is_one_word (drop 5 line)
+is_bytes line = begins line (codes "bytes") && is_one_token (drop 5 line)
 
 -- `active ADDR`
 abbrev pub is_active : List ℕ → Bool
@@ -38,9 +38,9 @@ is_active line = (length line == 9) && begins line (codes "active ")
 abbrev pub all_data : List Datum
 all_data = Datum.Pid ∷ Datum.Bcr ∷ Datum.Dcr ∷ Datum.Status ∷ Datum.WriteLength ∷ Datum.ReadLength ∷ Datum.Speed ∷ Datum.Capabilities ∷ []
 
--- the line tells this datum, by its word and one more: the line of a device that is called so has more words
+-- the line tells this datum, by its token and one more: the line of a device that is called so has more tokens
 abbrev pub tells : List ℕ → Datum → Bool
-tells line what = is_one_word (drop (length (told_word what)) line) && begins line (told_word what)
+tells line what = is_one_token (drop (length (told_token what)) line) && begins line (told_token what)
 
 -- the datum that the line tells, if it tells one
 abbrev pub told_datum : List ℕ → Option Datum

@@ -4,7 +4,7 @@ use Rattle.serde_json.specs.Data.{Data, boolean, number, unsigned}
 use Rattle.serde_json.specs.Find.{get}
 use Rattle.i3c_base.specs.declared.requests.Record.{Record}
 use Rattle.i3c_lines.specs.declared.refusals.Refusal.{Refusal}
-use Rattle.i3c_lines.specs.Refusing.{refusal_word}
+use Rattle.i3c_lines.specs.Refusing.{refusal_token}
 use Rattle.i3c_json.specs.Objects.{answer_data}
 use Rattle.i3c_json.specs.Values.{text_data}
 
@@ -17,7 +17,7 @@ ok_of (Some why) = None
 pub record TellsOutcome (count : ℕ) (refused : Option Refusal) (answered : Data) : Type 0 where
   pub line : get (codes "line") answered ≡ Some (number (unsigned count))
   pub ok : get (codes "ok") answered ≡ ok_of refused
-  pub why : get (codes "refused") answered ≡ option_map (λ why. text_data (refusal_word why)) refused
+  pub why : get (codes "refused") answered ≡ option_map (λ why. text_data (refusal_token why)) refused
 
 -- whatever else an answer has
 abbrev pub ObjectsTellOutcomes : Type 0

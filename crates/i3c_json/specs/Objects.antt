@@ -8,8 +8,8 @@ use Rattle.i3c_base.specs.declared.datum.Datum.{Datum}
 use Rattle.i3c_base.specs.declared.requests.Record.{Record}
 use Rattle.i3c_step.specs.declared.replies.Refusal.{Refusal as BusRefusal}
 use Rattle.i3c_lines.specs.declared.refusals.Refusal.{Refusal}
-use Rattle.i3c_lines.specs.Data.{told_word}
-use Rattle.i3c_lines.specs.Refusing.{refusal_word}
+use Rattle.i3c_lines.specs.Data.{told_token}
+use Rattle.i3c_lines.specs.Refusing.{refusal_token}
 use Rattle.i3c_text.specs.Hex.{byte_text}
 use Rattle.i3c_json.specs.declared.answer.Answer.{Answer}
 use Rattle.i3c_json.specs.declared.kinds.Kind.{Kind}
@@ -65,7 +65,7 @@ put_address (Some a) members = put (codes "about") (text_data (byte_text a)) mem
 -- what the line came to
 abbrev pub put_outcome : Option Refusal → Members → Members
 put_outcome None members = put (codes "ok") (boolean true) members
-put_outcome (Some why) members = put_address (refusal_address why) (put (codes "refused") (text_data (refusal_word why)) members)
+put_outcome (Some why) members = put_address (refusal_address why) (put (codes "refused") (text_data (refusal_token why)) members)
 
 -- the record that the line added
 abbrev pub put_record : Option (ℕ × Record) → Members → Members
@@ -77,10 +77,10 @@ abbrev pub put_asking : Option (List ℕ) → Members → Members
 put_asking None members = members
 put_asking (Some names) members = put (codes "asking") (array (items_of (map text_data (drop 1 (pieces 32 names))))) members
 
--- what a line tells of a datum, under the datum's word
+-- what a line tells of a datum, under the datum's token
 abbrev pub put_datum : Option Datum → List ℕ → Members → Members
 put_datum None line members = members
-put_datum (Some what) line members = put (told_word what) (datum_data what line) members
+put_datum (Some what) line members = put (told_token what) (datum_data what line) members
 
 -- the data that lines tell
 abbrev pub put_data : List (List ℕ) → Members → Members

@@ -3,7 +3,7 @@ use Rattle.std.specs.Prelude.{ℕ, ◌+◌, nat_lt, List, [], ◌∷◌, codes, 
 use Rattle.serde_json.specs.Data.{Data, null, number, object, string, unsigned, no_members, put}
 use Rattle.i3c_base.specs.declared.datum.Datum.{Datum}
 use Rattle.i3c_base.specs.declared.requests.Record.{Record}
-use Rattle.i3c_lines.specs.Data.{told_word}
+use Rattle.i3c_lines.specs.Data.{told_token}
 use Rattle.i3c_text.specs.Hex.{byte_text}
 use Rattle.i3c_json.specs.Kinds.{has_kind}
 use Rattle.i3c_json.specs.declared.kinds.Kind.{Kind}
@@ -15,12 +15,12 @@ ascii byte = if nat_lt byte 128 then byte else 63
 abbrev pub text_data : List ℕ → Data
 text_data text = string (map ascii text)
 
--- the device of a line `assigned ADDR PID BCR DCR`, whose words have fixed places
+-- the device of a line `assigned ADDR PID BCR DCR`, whose tokens have fixed places
 abbrev pub assigned_data : List ℕ → Data
 assigned_data line =
     object (put (codes "dcr") (text_data (take 2 (drop 28 line))) (put (codes "bcr") (text_data (take 2 (drop 25 line))) (put (codes "pid") (text_data (take 12 (drop 12 line))) (put (codes "address") (text_data (take 2 (drop 9 line))) no_members))))
 
--- a printed line in the field of its kind: without its first word, where the field's name says the same
+-- a printed line in the field of its kind: without its first token, where the field's name says the same
 abbrev pub line_data : Kind → List ℕ → Data
 line_data Kind.Served line = text_data line
 line_data Kind.Assigned line = assigned_data line
@@ -33,9 +33,9 @@ abbrev pub values_of : Kind → List (List ℕ) → List Data
 values_of kind [] = []
 values_of kind (line ∷ rest) = if has_kind kind line then line_data kind line ∷ values_of kind rest else values_of kind rest
 
--- what a line tells of a datum, behind its word and a space
+-- what a line tells of a datum, behind its token and a space
 abbrev pub datum_data : Datum → List ℕ → Data
-datum_data what line = text_data (drop (length (told_word what) + 1) line)
+datum_data what line = text_data (drop (length (told_token what) + 1) line)
 
 -- the byte of a record, in hex digits
 abbrev pub byte_data : Option ℕ → Data

@@ -9,7 +9,7 @@ use crate::kinds::{Kind, told_datum};
 use crate::pieces::pieces;
 use crate::values::{datum_value, hex_value, record_value, text_value, values_of};
 use i3c_base::{Addr7, Record};
-use i3c_lines::{Refusal, told_word};
+use i3c_lines::{Refusal, told_token};
 use i3c_step::Refusal as BusRefusal;
 use i3c_text::Text;
 use serde_json::{Map, Value, push, put};
@@ -69,7 +69,7 @@ fn put_outcome(
                 fields,
                 alloc,
                 "refused",
-                text_value(alloc, why.word().as_bytes())?,
+                text_value(alloc, why.token().as_bytes())?,
             )?;
             put_address(alloc, refusal_address(why), fields)
         }
@@ -131,7 +131,7 @@ fn put_said(alloc: Global, said: &[u8], fields: &mut Fields) -> Result<(), Alloc
     put_array(alloc, "told", values_of(alloc, Kind::Told, &lines)?, fields)
 }
 
-/// Puts the data that lines tell, each under its word.
+/// Puts the data that lines tell, each under its token.
 fn put_data(alloc: Global, lines: &[Vec<u8>], fields: &mut Fields) -> Result<(), AllocError>
     ensures { OnOk result (members_view fields.new.entries ≡ put_data (map (λ line. line.items) lines.now) (members_view fields.old.entries)) }
 {
@@ -141,7 +141,7 @@ fn put_data(alloc: Global, lines: &[Vec<u8>], fields: &mut Fields) -> Result<(),
             put(
                 fields,
                 alloc,
-                told_word(what),
+                told_token(what),
                 datum_value(alloc, what, line)?,
             )?;
         }

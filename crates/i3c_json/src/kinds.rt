@@ -1,16 +1,16 @@
 ghost use Rattle.std.specs.Prelude.{◌≡◌, bytes_eq, drop};
-ghost use Rattle.i3c_json.specs.Kinds.{begins, has_kind, is_active, is_assigned, is_bytes, is_one_word, is_recorded, is_served, is_told, told_datum, tells};
+ghost use Rattle.i3c_json.specs.Kinds.{begins, has_kind, is_active, is_assigned, is_bytes, is_one_token, is_recorded, is_served, is_told, told_datum, tells};
 
 use i3c_base::Datum;
-use i3c_lines::told_word;
+use i3c_lines::told_token;
 
-/// How long the words in front of a record's number are.
+/// How long the tokens in front of a record's number are.
 const RECORDED_LENGTH: usize = 9;
 
 /// How long the line `assigned ADDR PID BCR DCR` is.
 const ASSIGNED_LENGTH: usize = 30;
 
-/// How long the word `bytes` is.
+/// How long the token `bytes` is.
 const BYTES_LENGTH: usize = 5;
 
 /// How long the line `active ADDR` is.
@@ -68,7 +68,7 @@ fn is_served(line: &[u8]) -> bool
         || is_recorded(line)
 }
 
-/// Whether it says that an interrupt was recorded. The line of a device that is called `recorded` has more words.
+/// Whether it says that an interrupt was recorded. The line of a device that is called `recorded` has more tokens.
 fn is_recorded(line: &[u8]) -> bool
     ensures { result ≡ is_recorded line.now }
 {
@@ -82,11 +82,11 @@ fn is_assigned(line: &[u8]) -> bool
     line.len() == ASSIGNED_LENGTH && begins(line, b"assigned ")
 }
 
-/// Whether it has the registers that were read. The line of a device that is called `bytes` has more words.
+/// Whether it has the registers that were read. The line of a device that is called `bytes` has more tokens.
 fn is_bytes(line: &[u8]) -> bool
     ensures { result ≡ is_bytes line.now }
 {
-    begins(line, b"bytes") && is_one_word(behind(line, BYTES_LENGTH))
+    begins(line, b"bytes") && is_one_token(behind(line, BYTES_LENGTH))
 }
 
 /// Whether it has the address of the active controller.
@@ -103,17 +103,17 @@ pub(crate) fn told_datum(line: &[u8]) -> Option<Datum>
     DATA.iter().copied().find(|what| tells(line, *what))
 }
 
-/// Whether it tells this datum. The line of a device that is called as the datum has more words.
+/// Whether it tells this datum. The line of a device that is called as the datum has more tokens.
 fn tells(line: &[u8], what: Datum) -> bool
     ensures { result ≡ tells line.now what }
 {
-    let word = told_word(what).as_bytes();
-    is_one_word(behind(line, word.len())) && begins(line, word)
+    let token = told_token(what).as_bytes();
+    is_one_token(behind(line, token.len())) && begins(line, token)
 }
 
-/// Whether it is a space, and one word behind it.
-fn is_one_word(rest: &[u8]) -> bool
-    ensures { result ≡ is_one_word rest.now }
+/// Whether it is a space, and one token behind it.
+fn is_one_token(rest: &[u8]) -> bool
+    ensures { result ≡ is_one_token rest.now }
 {
     begins(rest, b" ") && !rest[1..].contains(&b' ')
 }
@@ -129,11 +129,11 @@ fn is_told(line: &[u8]) -> bool
         || told_datum(line).is_some())
 }
 
-/// Whether a line is these words.
-fn is(line: &[u8], words: &[u8]) -> bool
-    ensures { result ≡ bytes_eq line.now words.now }
+/// Whether a line is these tokens.
+fn is(line: &[u8], tokens: &[u8]) -> bool
+    ensures { result ≡ bytes_eq line.now tokens.now }
 {
-    line == words
+    line == tokens
 }
 
 /// What stands behind the first bytes of a line.
@@ -146,9 +146,9 @@ pub(crate) fn behind(line: &[u8], count: usize) -> &[u8]
     }
 }
 
-/// Whether a line begins with these words.
-fn begins(line: &[u8], words: &[u8]) -> bool
-    ensures { result ≡ begins line.now words.now }
+/// Whether a line begins with these tokens.
+fn begins(line: &[u8], tokens: &[u8]) -> bool
+    ensures { result ≡ begins line.now tokens.now }
 {
-    line.starts_with(words)
+    line.starts_with(tokens)
 }

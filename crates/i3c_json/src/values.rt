@@ -5,7 +5,7 @@ ghost use Rattle.i3c_json.specs.Values.{ascii, assigned_data, byte_data, datum_d
 
 use crate::kinds::{Kind, behind, has_kind};
 use i3c_base::{Datum, Record};
-use i3c_lines::told_word;
+use i3c_lines::told_token;
 use i3c_text::Text;
 use serde_json::{Map, Value, push, put};
 use std::alloc::{AllocError, Global};
@@ -75,7 +75,7 @@ fn line_value(alloc: Global, kind: Kind, line: &[u8]) -> Result<Value, AllocErro
 pub(crate) fn datum_value(alloc: Global, what: Datum, line: &[u8]) -> Result<Value, AllocError>
     ensures { IfOk result (λ value. view value ≡ datum_data what line.now) }
 {
-    text_value(alloc, behind(line, told_word(what).len() + 1))
+    text_value(alloc, behind(line, told_token(what).len() + 1))
 }
 
 /// The first bytes of what stands behind others.

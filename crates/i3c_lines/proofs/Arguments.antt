@@ -1,4 +1,4 @@
--- The words behind a command's first.
+-- The tokens behind a command's first.
 use Rattle.std.proofs.Common.{◌≡◌, ◌∙◌, ◌⊎◌, ℕ, ◌<◌, true, false, inl, inr, List, [], ◌∷◌, Option, Some, None, length, map, take, codes, ap, refl, sym, subst}
 use Rattle.std.proofs.lemmas.Bool.{false≢true}
 use Rattle.std.specs.Option.{IfSome, IsSome}
@@ -11,12 +11,12 @@ use Rattle.i3c_base.specs.declared.kinds.Kinds.{Kinds}
 use Rattle.i3c_base.specs.declared.requests.Fixed.{Fixed}
 use Rattle.i3c_lines.specs.declared.command.Command.{Command}
 use Rattle.i3c_lines.specs.declared.names.Name.{Name}
-use Rattle.i3c_lines.specs.Data.{length_word}
-use Rattle.i3c_lines.specs.Forms.{AreAddress, AreAddresses, AreByte, AreCount, AreDeclared, AreDevice, AreKinds, AreLength, ArePlace, AreWritten, IsForm, IsNamed, IsPolicyBut, WritesAddress, tokens}
+use Rattle.i3c_lines.specs.Data.{length_token}
+use Rattle.i3c_lines.specs.Forms.{AreAddress, AreAddresses, AreByte, AreCount, AreDeclared, AreDevice, AreKinds, AreLength, ArePlace, AreWritten, IsForm, IsNamed, IsPolicyBut, WritesAddress, tokens_of}
 use Rattle.i3c_lines.specs.Policies.{IsPolicy}
 use Rattle.i3c_lines.specs.Parsing.{AreKept, AreNamed, Reads, joined}
-use Rattle.i3c_lines.specs.Words.{AreBytes, IsHex, pair_values}
-use Rattle.i3c_lines.proofs.LineLaws.{line_is, one_word, word_left}
+use Rattle.i3c_lines.specs.Tokens.{AreBytes, IsHex, pair_values}
+use Rattle.i3c_lines.proofs.LineLaws.{line_is, one_token, token_left}
 use Rattle.i3c_lines.proofs.Meanings.{as_meant, before_but, behind_but, either, first_of, has_but, hex, identity_of, kinds_of, lengths_meant, named, number_of, policy_of, rest_of, setup_of, written_of}
 use Rattle.i3c_lines.proofs.SplitLaws.{pairs_no_space, take_joined}
 
@@ -72,9 +72,9 @@ disec_args rest command form =
     let f = as_meant (codes "disec" ∷ rest) command form in
     (number_of (rest_of rest), kinds_of (first_of rest), subst (λ ws. AreKinds ws (number_of (rest_of rest)) (kinds_of (first_of rest))) (sym (ap rest_of f.1)) f.2)
 
-pub length_args : (way : Direction) (rest : List (List ℕ)) (command : Command) → IsForm (length_word way ∷ rest) command → (most : ℕ) × (to : Option ℕ) × AreLength rest most to
+pub length_args : (way : Direction) (rest : List (List ℕ)) (command : Command) → IsForm (length_token way ∷ rest) command → (most : ℕ) × (to : Option ℕ) × AreLength rest most to
 length_args way rest command form =
-    let f = subst (λ c. IsForm (length_word way ∷ rest) c) (lengths_meant way rest) (as_meant (length_word way ∷ rest) command form) in
+    let f = subst (λ c. IsForm (length_token way ∷ rest) c) (lengths_meant way rest) (as_meant (length_token way ∷ rest) command form) in
     (digits_value 10 (first_of rest), number_of (rest_of rest), subst (λ ws. AreLength ws (digits_value 10 (first_of rest)) (number_of (rest_of rest))) (sym (ap rest_of f.1)) f.2)
 
 pub frames_args : (rest : List (List ℕ)) (command : Command) → IsForm (codes "frames" ∷ rest) command → (count : ℕ) × AreCount rest count
@@ -86,46 +86,46 @@ forget_args rest command form =
     let f = as_meant (codes "forget" ∷ rest) command form in (digits_value 10 (first_of rest), subst (λ ws. ArePlace ws (digits_value 10 (first_of rest))) (sym (ap rest_of f.1)) f.2)
 
 pub raise_args : (rest : List (List ℕ)) (command : Command) → IsForm (codes "raise" ∷ rest) command
-    → (name : Name) × (byte : Option ℕ) × (word : List ℕ) × (more : List (List ℕ)) × (rest ≡ word ∷ more) × IsNamed word name × AreByte more byte
+    → (name : Name) × (byte : Option ℕ) × (token : List ℕ) × (more : List (List ℕ)) × (rest ≡ token ∷ more) × IsNamed token name × AreByte more byte
 raise_args rest command form = let f = as_meant (codes "raise" ∷ rest) command form in (named (first_of rest), number_of (rest_of rest), f.0, f.1, ap rest_of f.2, f.3, f.4)
 
-pub read_args : (rest : List (List ℕ)) (command : Command) → IsForm (codes "read" ∷ rest) command → (at : ℕ) × (word : List ℕ) × (rest ≡ word ∷ []) × WritesAddress word at
+pub read_args : (rest : List (List ℕ)) (command : Command) → IsForm (codes "read" ∷ rest) command → (at : ℕ) × (token : List ℕ) × (rest ≡ token ∷ []) × WritesAddress token at
 read_args rest command form = let f = as_meant (codes "read" ∷ rest) command form in (hex (first_of rest), f.0, ap rest_of f.1, f.2)
 
 pub write_args : (rest : List (List ℕ)) (command : Command) → IsForm (codes "write" ∷ rest) command
-    → (at : ℕ) × (bytes : List ℕ) × (word : List ℕ) × (more : List (List ℕ)) × (rest ≡ word ∷ more) × WritesAddress word at × AreWritten more bytes
+    → (at : ℕ) × (bytes : List ℕ) × (token : List ℕ) × (more : List (List ℕ)) × (rest ≡ token ∷ more) × WritesAddress token at × AreWritten more bytes
 write_args rest command form = let f = as_meant (codes "write" ∷ rest) command form in (hex (first_of rest), written_of (rest_of rest), f.0, f.1, ap rest_of f.2, f.3, f.4)
 
 -- an address that is read, and one that isn't
-pub address_written : (word : List ℕ) (at : ℕ) → IsHex 2 word × (hex word < 128) → at ≡ hex word → WritesAddress word at
-address_written word at is e = ((is.0, e), subst (λ n. n < 128) (sym e) is.1)
+pub address_written : (token : List ℕ) (at : ℕ) → IsHex 2 token × (hex token < 128) → at ≡ hex token → WritesAddress token at
+address_written token at is e = ((is.0, e), subst (λ n. n < 128) (sym e) is.1)
 
-pub no_address : (word : List ℕ) → (IsHex 2 word × (hex word < 128) → false ≡ true) → (at : ℕ) → WritesAddress word at → ⊥
-no_address word none at is = false≢true (none (is.0.0, subst (λ n. n < 128) is.0.1 is.1))
+pub no_address : (token : List ℕ) → (IsHex 2 token × (hex token < 128) → false ≡ true) → (at : ℕ) → WritesAddress token at → ⊥
+no_address token none at is = false≢true (none (is.0.0, subst (λ n. n < 128) is.0.1 is.1))
 
--- one word's line
-pub only_word : (line word : List ℕ) → tokens line ≡ word ∷ [] → line ≡ word
-only_word line word e = line_is line (word ∷ []) e
+-- one token's line
+pub only_token : (line token : List ℕ) → tokens_of line ≡ token ∷ [] → line ≡ token
+only_token line token e = line_is line (token ∷ []) e
 
--- what isn't one word with a form
-pub no_address_line : (word : List ℕ) → (IsHex 2 word × (hex word < 128) → false ≡ true) → (to : Option ℕ) → AreAddress (tokens word) to → ⊥
-no_address_line word none None e = word_left word e
-no_address_line word none (Some at) (one, e, is) = no_address word none at (subst (λ w. WritesAddress w at) (sym (only_word word one e)) is)
+-- what isn't one token with a form
+pub no_address_line : (token : List ℕ) → (IsHex 2 token × (hex token < 128) → false ≡ true) → (to : Option ℕ) → AreAddress (tokens_of token) to → ⊥
+no_address_line token none None e = token_left token e
+no_address_line token none (Some at) (one, e, is) = no_address token none at (subst (λ w. WritesAddress w at) (sym (only_token token one e)) is)
 
-pub no_byte_line : (word : List ℕ) → (IsHex 2 word → false ≡ true) → (byte : Option ℕ) → AreByte (tokens word) byte → ⊥
-no_byte_line word none None e = word_left word e
-no_byte_line word none (Some byte) (one, e, is) = false≢true (none (subst (λ w. IsHex 2 w) (sym (only_word word one e)) is.0))
+pub no_byte_line : (token : List ℕ) → (IsHex 2 token → false ≡ true) → (byte : Option ℕ) → AreByte (tokens_of token) byte → ⊥
+no_byte_line token none None e = token_left token e
+no_byte_line token none (Some byte) (one, e, is) = false≢true (none (subst (λ w. IsHex 2 w) (sym (only_token token one e)) is.0))
 
-pub no_written_line : (digits : List ℕ) → (0 < length digits → AreBytes digits → false ≡ true) → (bytes : List ℕ) → AreWritten (tokens digits) bytes → ⊥
-no_written_line digits none bytes (inl is) = word_left digits is.0
-no_written_line digits none bytes (inr (word, e, some, are, kept)) =
-    let same = sym (only_word digits word e) in
+pub no_written_line : (digits : List ℕ) → (0 < length digits → AreBytes digits → false ≡ true) → (bytes : List ℕ) → AreWritten (tokens_of digits) bytes → ⊥
+no_written_line digits none bytes (inl is) = token_left digits is.0
+no_written_line digits none bytes (inr (token, e, some, are, kept)) =
+    let same = sym (only_token digits token e) in
     false≢true (none (subst (λ w. 0 < length w) same some) (subst (λ w. AreBytes w) same are))
 
 pub written_line : (digits : List ℕ) (result : Option (ArrayVec ℕ)) → 0 < length digits → (IsSome result → AreBytes digits) → (AreBytes digits → IsSome result)
-    → IfSome result (λ bytes. bytes.items ≡ take 17 (pair_values digits)) → Reads AreKept (tokens digits) result
+    → IfSome result (λ bytes. bytes.items ≡ take 17 (pair_values digits)) → Reads AreKept (tokens_of digits) result
 written_line digits None some are none value = λ bytes is. no_written_line digits (λ _. none) bytes.items is
-written_line digits (Some bytes) some are none value = let pairs = are refl in inr (digits, one_word digits (pairs_no_space digits pairs), some, pairs, value)
+written_line digits (Some bytes) some are none value = let pairs = are refl in inr (digits, one_token digits (pairs_no_space digits pairs), some, pairs, value)
 
 -- a line that begins with as many bytes as another begins with them
 pub same_first : (one other : List ℕ) (rest more : Option (List ℕ)) → length one ≡ length other → joined one rest ≡ joined other more → one ≡ other

@@ -6,10 +6,10 @@ use Rattle.std.proofs.lemmas.List.Elements.{All-cons}
 use Rattle.std.specs.Char.{is_ascii_hexdigit, to_ascii_uppercase}
 use Rattle.std.specs.List.{list_all, slice_get}
 use Rattle.i3c_lines.specs.declared.command.Command.{Command}
-use Rattle.i3c_lines.specs.Capitals.{capital_args, capital_word, capital_words, has_name, in_capitals}
-use Rattle.i3c_lines.specs.Forms.{HasNoForm, IsCommand, IsForm, IsSkipped, tokens}
+use Rattle.i3c_lines.specs.Capitals.{capital_args, capital_token, capital_tokens, has_name, in_capitals}
+use Rattle.i3c_lines.specs.Forms.{HasNoForm, IsCommand, IsForm, IsSkipped, tokens_of}
 use Rattle.i3c_lines.specs.Printing.{behind, spaced}
-use Rattle.i3c_lines.proofs.LineLaws.{line_is, line_of, some_word}
+use Rattle.i3c_lines.proofs.LineLaws.{line_is, line_of, some_token}
 
 -- the same bytes, of which some are capitals
 abbrev pub Recased : List ℕ → List ℕ → Type 0
@@ -28,35 +28,35 @@ both [] (b ∷ other) more rest first then = absurd first
 both (a ∷ one) [] more rest first then = absurd first
 both (a ∷ one) (b ∷ other) more rest first then = (first.0, both one other more rest first.1 then)
 
-upper_recased : (word : List ℕ) → Recased word (map to_ascii_uppercase word)
+upper_recased : (token : List ℕ) → Recased token (map to_ascii_uppercase token)
 upper_recased [] = tt
-upper_recased (byte ∷ word) = (inr refl, upper_recased word)
+upper_recased (byte ∷ token) = (inr refl, upper_recased token)
 
-word_recased : (word : List ℕ) → Recased word (capital_word word)
-word_recased word = elim (list_all is_ascii_hexdigit word) as (λ b. Recased word (cond b (map to_ascii_uppercase word) word)) [ true ↦ upper_recased word | false ↦ same_case word ]
+token_recased : (token : List ℕ) → Recased token (capital_token token)
+token_recased token = elim (list_all is_ascii_hexdigit token) as (λ b. Recased token (cond b (map to_ascii_uppercase token) token)) [ true ↦ upper_recased token | false ↦ same_case token ]
 
-words_recased : (words : List (List ℕ)) → Recased (behind words) (behind (map capital_word words))
-words_recased [] = tt
-words_recased (word ∷ words) = (inl refl, both word (capital_word word) (behind words) (behind (map capital_word words)) (word_recased word) (words_recased words))
+tokens_recased : (tokens : List (List ℕ)) → Recased (behind tokens) (behind (map capital_token tokens))
+tokens_recased [] = tt
+tokens_recased (token ∷ tokens) = (inl refl, both token (capital_token token) (behind tokens) (behind (map capital_token tokens)) (token_recased token) (tokens_recased tokens))
 
-args_recased : (named : Bool) (words : List (List ℕ)) → Recased (behind words) (behind (capital_args named words))
-args_recased false words = words_recased words
+args_recased : (named : Bool) (tokens : List (List ℕ)) → Recased (behind tokens) (behind (capital_args named tokens))
+args_recased false tokens = tokens_recased tokens
 args_recased true [] = tt
-args_recased true (name ∷ words) = (inl refl, both name name (behind words) (behind (map capital_word words)) (same_case name) (words_recased words))
+args_recased true (name ∷ tokens) = (inl refl, both name name (behind tokens) (behind (map capital_token tokens)) (same_case name) (tokens_recased tokens))
 
-spaced_line : (word : List ℕ) (words : List (List ℕ)) → word ++ behind words ≡ line_of (word ∷ words)
-spaced_line word [] = append-nil word
-spaced_line word (next ∷ words) = ap (λ l. word ++ 32 ∷ l) (spaced_line next words)
+spaced_line : (token : List ℕ) (tokens : List (List ℕ)) → token ++ behind tokens ≡ line_of (token ∷ tokens)
+spaced_line token [] = append-nil token
+spaced_line token (next ∷ tokens) = ap (λ l. token ++ 32 ∷ l) (spaced_line next tokens)
 
 -- in capitals a line has the same bytes
 pub recased : (line : List ℕ) → Recased line (in_capitals line)
 recased line =
-    let (first, words, e) = some_word line in
-    let args = behind (capital_args (has_name first) words) in
-    let same : first ++ behind words ≡ line = spaced_line first words ∙ sym (line_is line (first ∷ words) e) in
-    let capitals : in_capitals line ≡ first ++ args = ap (λ ws. spaced (capital_words ws)) e in
-    let are : Recased (first ++ behind words) (first ++ args) = both first first (behind words) args (same_case first) (args_recased (has_name first) words) in
-    subst (λ l. Recased l (in_capitals line)) same (subst (λ c. Recased (first ++ behind words) c) (sym capitals) are)
+    let (first, tokens, e) = some_token line in
+    let args = behind (capital_args (has_name first) tokens) in
+    let same : first ++ behind tokens ≡ line = spaced_line first tokens ∙ sym (line_is line (first ∷ tokens) e) in
+    let capitals : in_capitals line ≡ first ++ args = ap (λ ws. spaced (capital_tokens ws)) e in
+    let are : Recased (first ++ behind tokens) (first ++ args) = both first first (behind tokens) args (same_case first) (args_recased (has_name first) tokens) in
+    subst (λ l. Recased l (in_capitals line)) same (subst (λ c. Recased (first ++ behind tokens) c) (sym capitals) are)
 
 same_length : (line other : List ℕ) → Recased line other → length other ≡ length line
 same_length [] [] are = refl
@@ -97,8 +97,8 @@ pub long_capitals : (line : List ℕ) → 256 < length line → HasNoForm (in_ca
 long_capitals line long = inl (omega (arith, capitals_length line, long))
 
 -- a line without a command in capitals
-pub no_capitals : (line : List ℕ) → length line ≤ 256 → (IsSkipped line → ⊥) → ((command : Command) → IsForm (tokens (in_capitals line)) command → ⊥) → HasNoForm (in_capitals line)
+pub no_capitals : (line : List ℕ) → length line ≤ 256 → (IsSkipped line → ⊥) → ((command : Command) → IsForm (tokens_of (in_capitals line)) command → ⊥) → HasNoForm (in_capitals line)
 no_capitals line short read none = inr (λ skipped. read (short, was_skipped line (in_capitals line) (recased line) skipped.1), λ command is. none command is.1)
 
-pub command_in_capitals : (line : List ℕ) (command : Command) → length line ≤ 256 → IsForm (tokens (in_capitals line)) command → IsCommand (in_capitals line) command
+pub command_in_capitals : (line : List ℕ) (command : Command) → length line ≤ 256 → IsForm (tokens_of (in_capitals line)) command → IsCommand (in_capitals line) command
 command_in_capitals line command short form = (omega (arith, capitals_length line, short), form)

@@ -7,7 +7,7 @@ use Rattle.std.specs.Prelude.{MatchOption}
 use Rattle.std.proofs.lemmas.Bool.{true≢false}
 use lib.Ieee.Fits.{and_l, and_r}
 use Rattle.i3c_lines.specs.Naming.{Empties, GivesAlone, GivesSlot, KeepsPlaces, Replaces, is_same, letters, place_named, slot_names}
-use Rattle.i3c_lines.specs.Words.{IsNameLetter}
+use Rattle.i3c_lines.specs.Tokens.{IsNameLetter}
 use Rattle.i3c_lines.specs.declared.names.Name.{Name}
 use Rattle.i3c_lines.specs.declared.names.Names.{Names}
 use Rattle.i3c_lines.specs.declared.names.Place.{Place}
@@ -53,7 +53,7 @@ given_again old new name slot test is = go (get_or (slot_names old) slot None)
     go None h alone = absurd (true≢false (sym is ∙ h))
     go (Some had) h alone =
         let same : letters had ≡ letters name = same_text (letters had) (letters name) (sym is ∙ h) in
-        let alike = λ (other : Name). ap (λ word. pointwise nat_eq word (letters other)) same in (
+        let alike = λ (other : Name). ap (λ token. pointwise nat_eq token (letters other)) same in (
           λ here other. alone other ∙ not_gone (is_same name other) (is_same had other) (Some (Place.Slot slot)) (Some Place.Gone) (place_named old other) (alike other),
           λ elsewhere. alone,
         )

@@ -3,7 +3,7 @@ use Rattle.std.proofs.Common.{◌≡◌, ◌∙◌, ℕ, zero, suc, ◌-◌, ◌
 use Rattle.std.proofs.lemmas.List.{append_assoc, append-nil, length-append, take_all}
 use Rattle.std.specs.Option.{IfSome}
 use Rattle.std.specs.Str.Parse.{digits_value}
-use Rattle.i3c_lines.specs.Words.{pair_values}
+use Rattle.i3c_lines.specs.Tokens.{pair_values}
 
 -- of no places none is taken
 pub none_taken : (n : ℕ) (xs : List ℕ) → n ≤ 0 → take n xs ≡ []

@@ -7,28 +7,28 @@ use Rattle.std.proofs.lemmas.Fmt.{decimal_is_IsNumeral, length-decimal-le}
 use lib.Ieee.Fits.{and_r}
 use Rattle.std.specs.Fmt.{decimal, digit_glyph}
 use Rattle.std.specs.Str.Parse.{AllDigits}
-use Rattle.i3c_lines.specs.Forms.{Writes, WritesBit, tokens, WritesPlace}
+use Rattle.i3c_lines.specs.Forms.{Writes, WritesBit, tokens_of, WritesPlace}
 use Rattle.i3c_text.specs.Hex.{byte_text, bytes_text, hex_text}
 use Rattle.i3c_text.proofs.DigitLaws.{hex_is, length-hex_text}
 use Rattle.i3c_lines.specs.Printing.{behind, spaced}
-use Rattle.i3c_lines.specs.Words.{AreBytes, IsDecimalDigit, pair_values}
-use Rattle.i3c_lines.proofs.LineLaws.{one_word}
+use Rattle.i3c_lines.specs.Tokens.{AreBytes, IsDecimalDigit, pair_values}
+use Rattle.i3c_lines.proofs.LineLaws.{one_token}
 use Rattle.i3c_lines.proofs.SplitLaws.{HasNoSpace, joined_tokens}
 
--- a word is put behind a space
-pub behind_space : (old mid new word : List ℕ) → mid ≡ old ++ 32 ∷ [] → new ≡ mid ++ word → new ≡ old ++ behind (word ∷ [])
-behind_space old mid new word first then =
-    then ∙ ap (λ t. t ++ word) first ∙ append_assoc old (32 ∷ []) word ∙ ap (λ w. old ++ 32 ∷ w) (sym (append-nil word))
+-- a token is put behind a space
+pub behind_space : (old mid new token : List ℕ) → mid ≡ old ++ 32 ∷ [] → new ≡ mid ++ token → new ≡ old ++ behind (token ∷ [])
+behind_space old mid new token first then =
+    then ∙ ap (λ t. t ++ token) first ∙ append_assoc old (32 ∷ []) token ∙ ap (λ w. old ++ 32 ∷ w) (sym (append-nil token))
 
-behind_more : (words more : List (List ℕ)) → behind words ++ behind more ≡ behind (words ++ more)
+behind_more : (tokens more : List (List ℕ)) → behind tokens ++ behind more ≡ behind (tokens ++ more)
 behind_more [] more = refl
-behind_more (word ∷ words) more = ap (λ t. 32 ∷ t) (append_assoc word (behind words) (behind more) ∙ ap (λ t. word ++ t) (behind_more words more))
+behind_more (token ∷ tokens) more = ap (λ t. 32 ∷ t) (append_assoc token (behind tokens) (behind more) ∙ ap (λ t. token ++ t) (behind_more tokens more))
 
--- words are put behind others
-pub spaced_behind : (old mid new word : List ℕ) (words more : List (List ℕ)) → mid ≡ old ++ spaced (word ∷ words) → new ≡ mid ++ behind more → new ≡ old ++ spaced (word ∷ (words ++ more))
-spaced_behind old mid new word words more first then =
-    then ∙ ap (λ t. t ++ behind more) first ∙ append_assoc old (word ++ behind words) (behind more)
-    ∙ ap (λ t. old ++ t) (append_assoc word (behind words) (behind more) ∙ ap (λ t. word ++ t) (behind_more words more))
+-- tokens are put behind others
+pub spaced_behind : (old mid new token : List ℕ) (tokens more : List (List ℕ)) → mid ≡ old ++ spaced (token ∷ tokens) → new ≡ mid ++ behind more → new ≡ old ++ spaced (token ∷ (tokens ++ more))
+spaced_behind old mid new token tokens more first then =
+    then ∙ ap (λ t. t ++ behind more) first ∙ append_assoc old (token ++ behind tokens) (behind more)
+    ∙ ap (λ t. old ++ t) (append_assoc token (behind tokens) (behind more) ∙ ap (λ t. token ++ t) (behind_more tokens more))
 
 -- a byte's two digits
 pub byte_writes : (byte : ℕ) → byte < 256 → Writes 2 (byte_text byte) byte
@@ -37,7 +37,7 @@ byte_writes byte h =
     let high : byte / 16 % 16 ≡ byte / 16 = omega arith in
     let same : hex_text 2 byte ≡ byte_text byte = λ i. digit_glyph true (high i) ∷ digit_glyph true (byte % 16) ∷ [] in
     let is = hex_is 2 byte (omega (arith, h)) in
-    subst (λ word. Writes 2 word byte) same ((length-hex_text 2 byte, is.0), sym is.1)
+    subst (λ token. Writes 2 token byte) same ((length-hex_text 2 byte, is.0), sym is.1)
 
 pub pid_writes : (pid : ℕ) → pid < 2 ^ 48 → Writes 12 (hex_text 12 pid) pid
 pid_writes pid h = let is = hex_is 12 pid (omega (arith, h)) in ((length-hex_text 12 pid, is.0), sym is.1)
@@ -55,9 +55,9 @@ pairs_length [] = refl
 pairs_length (byte ∷ bytes) = let before = pairs_length bytes in omega (arith, before)
 
 -- the digits of a number
-decimal_all : (word : List ℕ) → AllDigits 10 word → All IsDecimalDigit word
+decimal_all : (token : List ℕ) → AllDigits 10 token → All IsDecimalDigit token
 decimal_all [] all = All-nil IsDecimalDigit
-decimal_all (byte ∷ word) all = All-cons IsDecimalDigit byte word (digit_from_value byte all.0) (decimal_all word all.1)
+decimal_all (byte ∷ token) all = All-cons IsDecimalDigit byte token (digit_from_value byte all.0) (decimal_all token all.1)
 
 pub decimal_writes : (bit : ℕ) → bit < 65536 → WritesBit (decimal bit) bit × HasNoSpace (decimal bit) × (length (decimal bit) ≤ 5)
 decimal_writes bit h =
@@ -71,32 +71,32 @@ place_writes place some h =
     let digits = decimal_all (decimal place) is.0.1 in
     (((is.0.0, digits), sym is.1, h, some), (λ k within space. let digit : IsDecimalDigit 32 = subst IsDecimalDigit space (digits k 0 within) in omega (arith, digit.0)), length-decimal-le 20 place (omega arith) (omega (arith, h)) (omega (arith, h)))
 
--- words without spaces
+-- tokens without spaces
 abbrev pub Apart : List (List ℕ) → Type 0
 Apart [] = Unit {0}
-Apart (word ∷ words) = HasNoSpace word × Apart words
+Apart (token ∷ tokens) = HasNoSpace token × Apart tokens
 
-pub tokens_spaced : (word : List ℕ) (words : List (List ℕ)) → HasNoSpace word → Apart words → tokens (spaced (word ∷ words)) ≡ word ∷ words
-tokens_spaced word [] none apart = ap tokens (append-nil word) ∙ one_word word none
-tokens_spaced word (next ∷ words) none apart = joined_tokens word (Some (spaced (next ∷ words))) none ∙ ap (λ ws. word ∷ ws) (tokens_spaced next words apart.0 apart.1)
+pub tokens_spaced : (token : List ℕ) (tokens : List (List ℕ)) → HasNoSpace token → Apart tokens → tokens_of (spaced (token ∷ tokens)) ≡ token ∷ tokens
+tokens_spaced token [] none apart = ap tokens_of (append-nil token) ∙ one_token token none
+tokens_spaced token (next ∷ tokens) none apart = joined_tokens token (Some (spaced (next ∷ tokens))) none ∙ ap (λ ws. token ∷ ws) (tokens_spaced next tokens apart.0 apart.1)
 
--- how many bytes words take, each with a space
+-- how many bytes tokens take, each with a space
 abbrev pub total : List (List ℕ) → ℕ
 total [] = 0
-total (word ∷ words) = length word + 1 + total words
+total (token ∷ tokens) = length token + 1 + total tokens
 
-behind_length : (words : List (List ℕ)) → length (behind words) ≡ total words
+behind_length : (tokens : List (List ℕ)) → length (behind tokens) ≡ total tokens
 behind_length [] = refl
-behind_length (word ∷ words) = let before = behind_length words in omega (arith, before, length-append word (behind words))
+behind_length (token ∷ tokens) = let before = behind_length tokens in omega (arith, before, length-append token (behind tokens))
 
-pub spaced_length : (word : List ℕ) (words : List (List ℕ)) → total (word ∷ words) ≡ length (spaced (word ∷ words)) + 1
-spaced_length word words = let rest = behind_length words in omega (arith, rest, length-append word (behind words))
+pub spaced_length : (token : List ℕ) (tokens : List (List ℕ)) → total (token ∷ tokens) ≡ length (spaced (token ∷ tokens)) + 1
+spaced_length token tokens = let rest = behind_length tokens in omega (arith, rest, length-append token (behind tokens))
 
 abbrev pub is_plain : List ℕ → Bool
 is_plain [] = true
-is_plain (byte ∷ word) = not (eqb byte 32) && is_plain word
+is_plain (byte ∷ token) = not (eqb byte 32) && is_plain token
 
-pub plain : (word : List ℕ) → T (is_plain word) → HasNoSpace word
+pub plain : (token : List ℕ) → T (is_plain token) → HasNoSpace token
 plain [] t k within space = omega (arith, within)
-plain (byte ∷ word) t zero within space = subst (λ b. T (not (eqb b 32) && is_plain word)) space t
-plain (byte ∷ word) t (suc k) within space = plain word (and_r (not (eqb byte 32)) _ t) k (omega (arith, within)) space
+plain (byte ∷ token) t zero within space = subst (λ b. T (not (eqb b 32) && is_plain token)) space t
+plain (byte ∷ token) t (suc k) within space = plain token (and_r (not (eqb byte 32)) _ t) k (omega (arith, within)) space

@@ -1,4 +1,4 @@
-pub mod Words
+pub mod Tokens
 pub mod Naming
 pub mod Policies
 pub mod Data

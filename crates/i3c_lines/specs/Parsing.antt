@@ -1,4 +1,4 @@
--- What functions promise that read the words of a line.
+-- What functions promise that read the tokens of a line.
 use Rattle.std.specs.Prelude.{⊤, ◌≡◌, ℕ, Bool, List, [], ◌∷◌, ◌++◌, ◌≤◌, Option, Some, None, MatchOption, codes, length}
 use Rattle.std.specs.Option.{option_copied}
 use Rattle.arrayvec.specs.ArrayVec.{ArrayVec}
@@ -7,72 +7,72 @@ use Rattle.i3c_base.specs.declared.requests.Fixed.{Fixed}
 use Rattle.i3c_lines.specs.declared.command.Command.{Command}
 use Rattle.i3c_lines.specs.declared.names.Name.{Name}
 use Rattle.i3c_lines.specs.declared.tokens.Tokens.{Tokens}
-use Rattle.i3c_lines.specs.Forms.{AreWritten, IsForm, IsNamed, NameEach, WritesIdentity, tokens, willing_words}
+use Rattle.i3c_lines.specs.Forms.{AreWritten, IsForm, IsNamed, NameEach, WritesIdentity, tokens_of, willing_tokens}
 use Rattle.i3c_lines.specs.Policies.{AcceptEach, AcceptsSome, IsPolicy}
 
--- the words of some bytes, or no words
-abbrev pub words_of : Option (List ℕ) → List (List ℕ)
-words_of None = []
-words_of (Some bytes) = tokens bytes
+-- the tokens of some bytes, or no tokens
+abbrev pub tokens_in : Option (List ℕ) → List (List ℕ)
+tokens_in None = []
+tokens_in (Some bytes) = tokens_of bytes
 
--- a word, and behind a space the rest of its line, if there is one
+-- a token, and behind a space the rest of its line, if there is one
 abbrev pub joined : List ℕ → Option (List ℕ) → List ℕ
-joined word None = word
-joined word (Some rest) = word ++ 32 ∷ rest
+joined token None = token
+joined token (Some rest) = token ++ 32 ∷ rest
 
--- the words that were not read yet
-abbrev pub left_words : Tokens → List (List ℕ)
-left_words words = words_of (option_copied words.rest)
+-- the tokens that were not read yet
+abbrev pub left_tokens : Tokens → List (List ℕ)
+left_tokens tokens = tokens_in (option_copied tokens.rest)
 
--- a value is read from words exactly if they have a value's form
+-- a value is read from tokens exactly if they have a value's form
 abbrev pub Reads : {A : Type 0} → (List (List ℕ) → A → Type 0) → List (List ℕ) → Option A → Type 0
-Reads {A} Form words result = MatchOption result ((value : A) → Form words value → ⊥) (λ value. Form words value)
+Reads {A} Form tokens result = MatchOption result ((value : A) → Form tokens value → ⊥) (λ value. Form tokens value)
 
--- a value is read from the next word, if this has a value's form
-abbrev pub TakesWord : {A : Type 0} → (List ℕ → A → Type 0) → List (List ℕ) → List (List ℕ) → Option A → Type 0
-TakesWord {A} Form before after result = MatchOption result ((value : A) (word : List ℕ) (rest : List (List ℕ)) → before ≡ word ∷ rest → Form word value → ⊥)
-    (λ value. (word : List ℕ) × (before ≡ word ∷ after) × Form word value)
+-- a value is read from the next token, if this has a value's form
+abbrev pub TakesToken : {A : Type 0} → (List ℕ → A → Type 0) → List (List ℕ) → List (List ℕ) → Option A → Type 0
+TakesToken {A} Form before after result = MatchOption result ((value : A) (token : List ℕ) (rest : List (List ℕ)) → before ≡ token ∷ rest → Form token value → ⊥)
+    (λ value. (token : List ℕ) × (before ≡ token ∷ after) × Form token value)
 
--- an identity is read from the next three words, if they have its form
+-- an identity is read from the next three tokens, if they have its form
 abbrev pub TakesIdentity : List (List ℕ) → List (List ℕ) → Option Identity → Type 0
 TakesIdentity before after result =
     MatchOption result
     ((identity : Identity) (pid bcr dcr : List ℕ) (rest : List (List ℕ)) → before ≡ pid ∷ bcr ∷ dcr ∷ rest → WritesIdentity pid bcr dcr identity → ⊥)
     (λ identity. (pid bcr dcr : List ℕ) × (before ≡ pid ∷ bcr ∷ dcr ∷ after) × WritesIdentity pid bcr dcr identity)
 
--- one word, which is a name
+-- one token, which is a name
 abbrev pub AreNamed : List (List ℕ) → Name → Type 0
-AreNamed words name = (word : List ℕ) × (words ≡ word ∷ []) × IsNamed word name
+AreNamed tokens name = (token : List ℕ) × (tokens ≡ token ∷ []) × IsNamed token name
 
--- the words behind a device's identity
+-- the tokens behind a device's identity
 abbrev pub AreWilling : List (List ℕ) → Bool → Type 0
-AreWilling words willing = words ≡ willing_words willing
+AreWilling tokens willing = tokens ≡ willing_tokens willing
 
 -- the bytes of a write, as they are kept
 abbrev pub AreKept : List (List ℕ) → ArrayVec ℕ → Type 0
-AreKept words bytes = AreWritten words bytes.items
+AreKept tokens bytes = AreWritten tokens bytes.items
 
--- a policy is read from the words in front of the first `but`, if it accepts some kind
+-- a policy is read from the tokens in front of the first `but`, if it accepts some kind
 abbrev pub TakesPolicy : List (List ℕ) → List (List ℕ) → Option Fixed → Type 0
 TakesPolicy before after result =
     MatchOption result ((kinds : Fixed) (front rest : List (List ℕ)) → before ≡ front ++ codes "but" ∷ rest → IsPolicy front kinds → AcceptsSome kinds → ⊥)
     (λ kinds. (front : List (List ℕ)) × (before ≡ front ++ codes "but" ∷ after) × IsPolicy front kinds × AcceptsSome kinds)
 
--- a policy accepts the kinds of the words in front of the first `but` as well
+-- a policy accepts the kinds of the tokens in front of the first `but` as well
 abbrev pub AcceptsUntilBut : Fixed → List (List ℕ) → List (List ℕ) → Option Fixed → Type 0
 AcceptsUntilBut old before after result =
     MatchOption result ((new : Fixed) (front rest : List (List ℕ)) → before ≡ front ++ codes "but" ∷ rest → AcceptEach front old new → ⊥)
     (λ new. (front : List (List ℕ)) × (before ≡ front ++ codes "but" ∷ after) × AcceptEach front old new)
 
--- names go on by those of more words, if there are 8 at most and none stands twice
+-- names go on by those of more tokens, if there are 8 at most and none stands twice
 abbrev pub GoOn : List (List ℕ) → List Name → List Name → Option (Unit {0}) → Type 0
-GoOn words old new result = MatchOption result ((all : List Name) → NameEach words old all → length all ≤ 8 → ⊥) (λ _. NameEach words old new)
+GoOn tokens old new result = MatchOption result ((all : List Name) → NameEach tokens old all → length all ≤ 8 → ⊥) (λ _. NameEach tokens old new)
 
--- a command becomes that of some words if they have a command's form, and stays what it was otherwise
+-- a command becomes that of some tokens if they have a command's form, and stays what it was otherwise
 abbrev pub Becomes : List (List ℕ) → Option (Unit {0}) → Command → Command → Type 0
-Becomes words result old new = MatchOption result (((command : Command) → IsForm words command → ⊥) × (new ≡ old)) (λ _. IsForm words new)
+Becomes tokens result old new = MatchOption result (((command : Command) → IsForm tokens command → ⊥) × (new ≡ old)) (λ _. IsForm tokens new)
 
--- a command whose line is read word by word
+-- a command whose line is read token by token
 abbrev pub IsOther : Command → Type 0
 IsOther (Command.Legacy name address lvr) = ⊤
 IsOther (Command.Declare address identity) = ⊤
@@ -98,10 +98,10 @@ IsOther (Command.Forget last) = ⊤
 IsOther Command.Symbols = ⊥
 IsOther (Command.Frames count) = ⊤
 
--- these words are the line of a command that is read word by word
+-- these tokens are the line of a command that is read token by token
 abbrev pub IsOtherForm : List (List ℕ) → Command → Type 0
-IsOtherForm words command = IsForm words command × IsOther command
+IsOtherForm tokens command = IsForm tokens command × IsOther command
 
--- a command becomes one that is read word by word, or stays what it was
+-- a command becomes one that is read token by token, or stays what it was
 abbrev pub BecomesOther : List (List ℕ) → Option (Unit {0}) → Command → Command → Type 0
-BecomesOther words result old new = MatchOption result (((command : Command) → IsOtherForm words command → ⊥) × (new ≡ old)) (λ _. IsOtherForm words new)
+BecomesOther tokens result old new = MatchOption result (((command : Command) → IsOtherForm tokens command → ⊥) × (new ≡ old)) (λ _. IsOtherForm tokens new)

@@ -11,99 +11,99 @@ use Rattle.i3c_base.specs.declared.requests.Verdict.TheVariants.{Accept, Refuse}
 use Rattle.i3c_step.specs.declared.events.Command.{Command as Frame}
 use Rattle.i3c_lines.specs.declared.command.Command.{Command}
 use Rattle.i3c_lines.specs.declared.names.Name.{Name}
-use Rattle.i3c_lines.specs.Forms.{AreExcepted, willing_words}
+use Rattle.i3c_lines.specs.Forms.{AreExcepted, willing_tokens}
 use Rattle.i3c_lines.specs.Policies.{AcceptsSome}
 use Rattle.i3c_text.specs.Hex.{byte_text, bytes_text, hex_text}
-use Rattle.i3c_lines.specs.Data.{datum_word, length_word}
+use Rattle.i3c_lines.specs.Data.{datum_token, length_token}
 use Rattle.i3c_lines.specs.Naming.{letters}
-use Rattle.i3c_lines.specs.Words.{IsName}
+use Rattle.i3c_lines.specs.Tokens.{IsName}
 
--- words behind a first one, each behind a space
+-- tokens behind a first one, each behind a space
 abbrev pub behind : List (List ℕ) → List ℕ
 behind [] = []
-behind (word ∷ words) = 32 ∷ word ++ behind words
+behind (token ∷ tokens) = 32 ∷ token ++ behind tokens
 
--- words with a space between each two
+-- tokens with a space between each two
 abbrev pub spaced : List (List ℕ) → List ℕ
 spaced [] = []
-spaced (word ∷ words) = word ++ behind words
+spaced (token ∷ tokens) = token ++ behind tokens
 
 -- a byte or an address, if there is one
-abbrev pub byte_words : Option ℕ → List (List ℕ)
-byte_words None = []
-byte_words (Some byte) = byte_text byte ∷ []
+abbrev pub byte_tokens : Option ℕ → List (List ℕ)
+byte_tokens None = []
+byte_tokens (Some byte) = byte_text byte ∷ []
 
 -- the bytes of a write, if there are some
-abbrev pub written_words : List ℕ → List (List ℕ)
-written_words [] = []
-written_words (byte ∷ bytes) = bytes_text (byte ∷ bytes) ∷ []
+abbrev pub written_tokens : List ℕ → List (List ℕ)
+written_tokens [] = []
+written_tokens (byte ∷ bytes) = bytes_text (byte ∷ bytes) ∷ []
 
 -- an identity
-abbrev pub identity_words : Identity → List (List ℕ)
-identity_words identity = hex_text 12 identity.pid ∷ byte_text identity.bcr.0 ∷ byte_text identity.dcr.0 ∷ []
+abbrev pub identity_tokens : Identity → List (List ℕ)
+identity_tokens identity = hex_text 12 identity.pid ∷ byte_text identity.bcr.0 ∷ byte_text identity.dcr.0 ∷ []
 
 -- a device's name and identity, and whether it takes the controller role
-abbrev pub device_words : Name → Setup → List (List ℕ)
-device_words name setup = letters name ∷ hex_text 12 setup.identity.pid ∷ byte_text setup.identity.bcr.0 ∷ byte_text setup.identity.dcr.0 ∷ willing_words setup.willing
+abbrev pub device_tokens : Name → Setup → List (List ℕ)
+device_tokens name setup = letters name ∷ hex_text 12 setup.identity.pid ∷ byte_text setup.identity.bcr.0 ∷ byte_text setup.identity.dcr.0 ∷ willing_tokens setup.willing
 
--- the words of a policy, by its verdicts on joins, role requests and interrupts
-abbrev pub verdicts_words : Verdict → Verdict → Verdict → List (List ℕ)
-verdicts_words Accept Accept Accept = codes "all" ∷ []
-verdicts_words Accept Accept Refuse = codes "joins" ∷ codes "roles" ∷ []
-verdicts_words Accept Refuse Accept = codes "joins" ∷ codes "interrupts" ∷ []
-verdicts_words Accept Refuse Refuse = codes "joins" ∷ []
-verdicts_words Refuse Accept Accept = codes "roles" ∷ codes "interrupts" ∷ []
-verdicts_words Refuse Accept Refuse = codes "roles" ∷ []
-verdicts_words Refuse Refuse Accept = codes "interrupts" ∷ []
-verdicts_words Refuse Refuse Refuse = codes "none" ∷ []
+-- the tokens of a policy, by its verdicts on joins, role requests and interrupts
+abbrev pub verdicts_tokens : Verdict → Verdict → Verdict → List (List ℕ)
+verdicts_tokens Accept Accept Accept = codes "all" ∷ []
+verdicts_tokens Accept Accept Refuse = codes "joins" ∷ codes "roles" ∷ []
+verdicts_tokens Accept Refuse Accept = codes "joins" ∷ codes "interrupts" ∷ []
+verdicts_tokens Accept Refuse Refuse = codes "joins" ∷ []
+verdicts_tokens Refuse Accept Accept = codes "roles" ∷ codes "interrupts" ∷ []
+verdicts_tokens Refuse Accept Refuse = codes "roles" ∷ []
+verdicts_tokens Refuse Refuse Accept = codes "interrupts" ∷ []
+verdicts_tokens Refuse Refuse Refuse = codes "none" ∷ []
 
--- the words of a policy, and the names of the devices that it excepts
-abbrev pub but_words : Fixed → List Name → List (List ℕ)
-but_words kinds names = verdicts_words kinds.join kinds.role kinds.interrupt ++ codes "but" ∷ map letters names
+-- the tokens of a policy, and the names of the devices that it excepts
+abbrev pub but_tokens : Fixed → List Name → List (List ℕ)
+but_tokens kinds names = verdicts_tokens kinds.join kinds.role kinds.interrupt ++ codes "but" ∷ map letters names
 
--- the words of a frame's line
-abbrev pub frame_words : Frame → List (List ℕ)
-frame_words Frame.Serve = codes "serve" ∷ []
-frame_words (Frame.Enec to kinds) = codes "enec" ∷ byte_text kinds.0 ∷ byte_words to
-frame_words (Frame.Disec to kinds) = codes "disec" ∷ byte_text kinds.0 ∷ byte_words to
-frame_words Frame.Reset = codes "reset" ∷ []
-frame_words Frame.SendList = codes "list" ∷ []
-frame_words (Frame.ReadFrom at) = codes "read" ∷ byte_text at ∷ []
-frame_words (Frame.WriteTo at bytes) = codes "write" ∷ byte_text at ∷ written_words bytes.items
-frame_words (Frame.SetStatic at to) = codes "setdasa" ∷ byte_text at ∷ byte_text to ∷ []
-frame_words (Frame.SetNew at to) = codes "setnewda" ∷ byte_text at ∷ byte_text to ∷ []
-frame_words (Frame.Get what at) = datum_word what ∷ byte_text at ∷ []
-frame_words (Frame.SetLength way most to) = length_word way ∷ decimal most ∷ byte_words to
+-- the tokens of a frame's line
+abbrev pub frame_tokens : Frame → List (List ℕ)
+frame_tokens Frame.Serve = codes "serve" ∷ []
+frame_tokens (Frame.Enec to kinds) = codes "enec" ∷ byte_text kinds.0 ∷ byte_tokens to
+frame_tokens (Frame.Disec to kinds) = codes "disec" ∷ byte_text kinds.0 ∷ byte_tokens to
+frame_tokens Frame.Reset = codes "reset" ∷ []
+frame_tokens Frame.SendList = codes "list" ∷ []
+frame_tokens (Frame.ReadFrom at) = codes "read" ∷ byte_text at ∷ []
+frame_tokens (Frame.WriteTo at bytes) = codes "write" ∷ byte_text at ∷ written_tokens bytes.items
+frame_tokens (Frame.SetStatic at to) = codes "setdasa" ∷ byte_text at ∷ byte_text to ∷ []
+frame_tokens (Frame.SetNew at to) = codes "setnewda" ∷ byte_text at ∷ byte_text to ∷ []
+frame_tokens (Frame.Get what at) = datum_token what ∷ byte_text at ∷ []
+frame_tokens (Frame.SetLength way most to) = length_token way ∷ decimal most ∷ byte_tokens to
 
--- the words of a command's line
-abbrev pub command_words : Command → List (List ℕ)
-command_words (Command.Legacy name address lvr) = codes "legacy" ∷ letters name ∷ byte_text address ∷ byte_text lvr.0 ∷ []
-command_words (Command.Declare address identity) = codes "declare" ∷ byte_text address ∷ identity_words identity
-command_words (Command.Main name setup) = codes "main" ∷ device_words name setup
-command_words (Command.Attach name setup) = codes "attach" ∷ device_words name setup
-command_words (Command.DropOff name) = codes "drop" ∷ letters name ∷ []
-command_words (Command.Raise name byte) = codes "raise" ∷ letters name ∷ byte_words byte
-command_words (Command.AskJoin name) = codes "ask-join" ∷ letters name ∷ []
-command_words (Command.AskRole name) = codes "ask-role" ∷ letters name ∷ []
-command_words (Command.Frame frame) = frame_words frame
-command_words (Command.HandOver to) = codes "handover" ∷ byte_text to ∷ []
-command_words Command.Open = codes "open" ∷ []
-command_words Command.Round = codes "round" ∷ []
-command_words Command.End = codes "end" ∷ []
-command_words Command.Daa = codes "daa" ∷ []
-command_words (Command.Policy policy) = codes "policy" ∷ verdicts_words policy.join policy.role policy.interrupt
-command_words (Command.PolicyBut kinds but) = codes "policy" ∷ but_words kinds but.items
-command_words (Command.Cut name bit) = codes "cut" ∷ letters name ∷ decimal bit ∷ []
-command_words Command.Show = codes "show" ∷ []
-command_words Command.ShowAll = codes "show" ∷ codes "all" ∷ []
-command_words (Command.ShowFrom first) = codes "show" ∷ decimal first ∷ []
-command_words (Command.Forget last) = codes "forget" ∷ decimal last ∷ []
-command_words Command.Symbols = codes "symbols" ∷ []
-command_words (Command.Frames count) = codes "frames" ∷ decimal count ∷ []
+-- the tokens of a command's line
+abbrev pub command_tokens : Command → List (List ℕ)
+command_tokens (Command.Legacy name address lvr) = codes "legacy" ∷ letters name ∷ byte_text address ∷ byte_text lvr.0 ∷ []
+command_tokens (Command.Declare address identity) = codes "declare" ∷ byte_text address ∷ identity_tokens identity
+command_tokens (Command.Main name setup) = codes "main" ∷ device_tokens name setup
+command_tokens (Command.Attach name setup) = codes "attach" ∷ device_tokens name setup
+command_tokens (Command.DropOff name) = codes "drop" ∷ letters name ∷ []
+command_tokens (Command.Raise name byte) = codes "raise" ∷ letters name ∷ byte_tokens byte
+command_tokens (Command.AskJoin name) = codes "ask-join" ∷ letters name ∷ []
+command_tokens (Command.AskRole name) = codes "ask-role" ∷ letters name ∷ []
+command_tokens (Command.Frame frame) = frame_tokens frame
+command_tokens (Command.HandOver to) = codes "handover" ∷ byte_text to ∷ []
+command_tokens Command.Open = codes "open" ∷ []
+command_tokens Command.Round = codes "round" ∷ []
+command_tokens Command.End = codes "end" ∷ []
+command_tokens Command.Daa = codes "daa" ∷ []
+command_tokens (Command.Policy policy) = codes "policy" ∷ verdicts_tokens policy.join policy.role policy.interrupt
+command_tokens (Command.PolicyBut kinds but) = codes "policy" ∷ but_tokens kinds but.items
+command_tokens (Command.Cut name bit) = codes "cut" ∷ letters name ∷ decimal bit ∷ []
+command_tokens Command.Show = codes "show" ∷ []
+command_tokens Command.ShowAll = codes "show" ∷ codes "all" ∷ []
+command_tokens (Command.ShowFrom first) = codes "show" ∷ decimal first ∷ []
+command_tokens (Command.Forget last) = codes "forget" ∷ decimal last ∷ []
+command_tokens Command.Symbols = codes "symbols" ∷ []
+command_tokens (Command.Frames count) = codes "frames" ∷ decimal count ∷ []
 
 -- a command's line
 abbrev pub command_text : Command → List ℕ
-command_text command = spaced (command_words command)
+command_text command = spaced (command_tokens command)
 
 -- a name of 1 to 16 letters
 abbrev pub IsNamable : Name → Type 0
@@ -149,7 +149,7 @@ HasLine Command.Round = ⊤
 HasLine Command.End = ⊤
 HasLine Command.Daa = ⊤
 HasLine (Command.Policy policy) = ⊤
-HasLine (Command.PolicyBut kinds but) = AcceptsSome kinds × AreExcepted (map letters but.items) but.items × (length (spaced (codes "policy" ∷ but_words kinds but.items)) ≤ 256)
+HasLine (Command.PolicyBut kinds but) = AcceptsSome kinds × AreExcepted (map letters but.items) but.items × (length (spaced (codes "policy" ∷ but_tokens kinds but.items)) ≤ 256)
 HasLine (Command.Cut name bit) = IsNamable name × (bit < 2 ^ 16)
 HasLine Command.Show = ⊤
 HasLine Command.ShowAll = ⊤

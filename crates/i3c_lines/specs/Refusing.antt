@@ -7,48 +7,48 @@ use Rattle.i3c_lines.specs.declared.refusals.Refusal.{Refusal}
 use Rattle.i3c_text.specs.Hex.{byte_text}
 
 -- the name of a refused declaration of a legacy target
-abbrev pub legacy_word : LegacyFault → List ℕ
-legacy_word LegacyFault.LegacyAddress = codes "LegacyAddress"
-legacy_word LegacyFault.LegacyTwice = codes "LegacyTwice"
-legacy_word LegacyFault.TooManyLegacy = codes "TooManyLegacy"
+abbrev pub legacy_token : LegacyFault → List ℕ
+legacy_token LegacyFault.LegacyAddress = codes "LegacyAddress"
+legacy_token LegacyFault.LegacyTwice = codes "LegacyTwice"
+legacy_token LegacyFault.TooManyLegacy = codes "TooManyLegacy"
 
 -- the name of a refused declaration of an identity
-abbrev pub declare_word : DeclareFault → List ℕ
-declare_word DeclareFault.LegacyAddress = codes "LegacyAddress"
-declare_word DeclareFault.LegacyTwice = codes "LegacyTwice"
-declare_word DeclareFault.IdentityTwice = codes "IdentityTwice"
-declare_word DeclareFault.TooManyDeclared = codes "TooManyDeclared"
+abbrev pub declare_token : DeclareFault → List ℕ
+declare_token DeclareFault.LegacyAddress = codes "LegacyAddress"
+declare_token DeclareFault.LegacyTwice = codes "LegacyTwice"
+declare_token DeclareFault.IdentityTwice = codes "IdentityTwice"
+declare_token DeclareFault.TooManyDeclared = codes "TooManyDeclared"
 
 -- the name of a refusal of the bus
-abbrev pub bus_word : BusRefusal → List ℕ
-bus_word BusRefusal.SessionOpen = codes "SessionOpen"
-bus_word BusRefusal.NoSession = codes "NoSession"
-bus_word BusRefusal.ActiveStays = codes "ActiveStays"
-bus_word BusRefusal.SlotTaken = codes "SlotTaken"
-bus_word BusRefusal.NoDevice = codes "NoDevice"
-bus_word BusRefusal.IsActive = codes "IsActive"
-bus_word BusRefusal.NoAddress = codes "NoAddress"
-bus_word BusRefusal.HasAddress = codes "HasAddress"
-bus_word BusRefusal.NotCapable = codes "NotCapable"
-bus_word BusRefusal.ByteMismatch = codes "ByteMismatch"
-bus_word BusRefusal.Masked = codes "Masked"
-bus_word BusRefusal.Full = codes "Full"
-bus_word BusRefusal.ListStale = codes "ListStale"
-bus_word (BusRefusal.NoAnswer a) = codes "NoAnswer"
-bus_word BusRefusal.TooLong = codes "TooLong"
-bus_word (BusRefusal.BadAddress a) = codes "BadAddress"
+abbrev pub bus_token : BusRefusal → List ℕ
+bus_token BusRefusal.SessionOpen = codes "SessionOpen"
+bus_token BusRefusal.NoSession = codes "NoSession"
+bus_token BusRefusal.ActiveStays = codes "ActiveStays"
+bus_token BusRefusal.SlotTaken = codes "SlotTaken"
+bus_token BusRefusal.NoDevice = codes "NoDevice"
+bus_token BusRefusal.IsActive = codes "IsActive"
+bus_token BusRefusal.NoAddress = codes "NoAddress"
+bus_token BusRefusal.HasAddress = codes "HasAddress"
+bus_token BusRefusal.NotCapable = codes "NotCapable"
+bus_token BusRefusal.ByteMismatch = codes "ByteMismatch"
+bus_token BusRefusal.Masked = codes "Masked"
+bus_token BusRefusal.Full = codes "Full"
+bus_token BusRefusal.ListStale = codes "ListStale"
+bus_token (BusRefusal.NoAnswer a) = codes "NoAnswer"
+bus_token BusRefusal.TooLong = codes "TooLong"
+bus_token (BusRefusal.BadAddress a) = codes "BadAddress"
 
 -- the name of a refusal
-abbrev pub refusal_word : Refusal → List ℕ
-refusal_word Refusal.BadLine = codes "BadLine"
-refusal_word Refusal.NoBus = codes "NoBus"
-refusal_word Refusal.BusMade = codes "BusMade"
-refusal_word Refusal.NameTaken = codes "NameTaken"
-refusal_word Refusal.NoName = codes "NoName"
-refusal_word (Refusal.Legacy fault) = legacy_word fault
-refusal_word (Refusal.Declare fault) = declare_word fault
-refusal_word (Refusal.Bus why) = bus_word why
-refusal_word Refusal.NoEnd = codes "NoEnd"
+abbrev pub refusal_token : Refusal → List ℕ
+refusal_token Refusal.BadLine = codes "BadLine"
+refusal_token Refusal.NoBus = codes "NoBus"
+refusal_token Refusal.BusMade = codes "BusMade"
+refusal_token Refusal.NameTaken = codes "NameTaken"
+refusal_token Refusal.NoName = codes "NoName"
+refusal_token (Refusal.Legacy fault) = legacy_token fault
+refusal_token (Refusal.Declare fault) = declare_token fault
+refusal_token (Refusal.Bus why) = bus_token why
+refusal_token Refusal.NoEnd = codes "NoEnd"
 
 -- the address that a refusal of the bus is about
 abbrev pub bus_tail : BusRefusal → List ℕ
@@ -83,4 +83,4 @@ refusal_tail Refusal.NoEnd = []
 
 -- a refusal as it is printed
 abbrev pub refusal_text : Refusal → List ℕ
-refusal_text why = refusal_word why ++ refusal_tail why
+refusal_text why = refusal_token why ++ refusal_tail why

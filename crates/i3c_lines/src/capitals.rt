@@ -1,99 +1,99 @@
 ghost use Rattle.std.specs.Prelude.{◌≡◌, ◌++◌, OnOk, bytes_eq, map};
 ghost use Rattle.std.specs.Char.{is_ascii_hexdigit, to_ascii_uppercase};
 ghost use Rattle.std.specs.List.{list_all};
-ghost use Rattle.i3c_lines.specs.Capitals.{capital_args, capital_word, has_name, in_capitals};
-ghost use Rattle.i3c_lines.specs.Parsing.{left_words};
+ghost use Rattle.i3c_lines.specs.Capitals.{capital_args, capital_token, has_name, in_capitals};
+ghost use Rattle.i3c_lines.specs.Parsing.{left_tokens};
 ghost use Rattle.i3c_lines.specs.Printing.{behind};
 
 use crate::tokens::Tokens;
 use i3c_text::Text;
 use std::alloc::AllocError;
 
-/// Appends a line with its hexadecimal digits in capitals: each word of such digits alone, but for the first one and a name.
+/// Appends a line with its hexadecimal digits in capitals: each token of such digits alone, but for the first one and a name.
 pub fn push_capitals(line: &[u8], text: &mut Text) -> Result<(), AllocError>
     ensures { OnOk result (text.new ≡ text.old ++ in_capitals line.now) }
 {
-    let mut words = Tokens::of(line);
-    let Some(first) = words.next() else {
+    let mut tokens = Tokens::of(line);
+    let Some(first) = tokens.next() else {
         unreachable!()
     };
     text.push(first)?;
-    push_args(has_name(first), &mut words, text)
+    push_args(has_name(first), &mut tokens, text)
 }
 
-/// Appends the words behind a first one in capitals, but for a name, each behind a space.
-fn push_args(named: bool, words: &mut Tokens<'_>, text: &mut Text) -> Result<(), AllocError>
-    ensures { OnOk result (text.new ≡ text.old ++ behind (capital_args named (left_words words.old))) }
+/// Appends the tokens behind a first one in capitals, but for a name, each behind a space.
+fn push_args(named: bool, tokens: &mut Tokens<'_>, text: &mut Text) -> Result<(), AllocError>
+    ensures { OnOk result (text.new ≡ text.old ++ behind (capital_args named (left_tokens tokens.old))) }
 {
     if !named {
-        return push_words(words, text);
+        return push_tokens(tokens, text);
     }
-    let Some(name) = words.next() else {
+    let Some(name) = tokens.next() else {
         return Ok(());
     };
     text.push(b" ")?;
     text.push(name)?;
-    push_words(words, text)
+    push_tokens(tokens, text)
 }
 
-/// Appends words in capitals, each behind a space.
-fn push_words(words: &mut Tokens<'_>, text: &mut Text) -> Result<(), AllocError>
-    ensures { OnOk result (text.new ≡ text.old ++ behind (map capital_word (left_words words.old))) }
+/// Appends tokens in capitals, each behind a space.
+fn push_tokens(tokens: &mut Tokens<'_>, text: &mut Text) -> Result<(), AllocError>
+    ensures { OnOk result (text.new ≡ text.old ++ behind (map capital_token (left_tokens tokens.old))) }
 {
-    let Some(word) = words.next() else {
+    let Some(token) = tokens.next() else {
         return Ok(());
     };
     text.push(b" ")?;
-    push_capital(word, text)?;
-    push_words(words, text)
+    push_capital(token, text)?;
+    push_tokens(tokens, text)
 }
 
-/// Appends a word, in capitals if it is of hexadecimal digits alone.
-fn push_capital(word: &[u8], text: &mut Text) -> Result<(), AllocError>
-    ensures { OnOk result (text.new ≡ text.old ++ capital_word word.now) }
+/// Appends a token, in capitals if it is of hexadecimal digits alone.
+fn push_capital(token: &[u8], text: &mut Text) -> Result<(), AllocError>
+    ensures { OnOk result (text.new ≡ text.old ++ capital_token token.now) }
 {
-    if is_hexadecimal(word) {
-        push_uppercase(word, text)
+    if is_hexadecimal(token) {
+        push_uppercase(token, text)
     } else {
-        text.push(word)
+        text.push(token)
     }
 }
 
-/// Whether a word is of hexadecimal digits alone, with small letters or capitals.
-fn is_hexadecimal(word: &[u8]) -> bool
-    ensures { result ≡ list_all is_ascii_hexdigit word.now }
+/// Whether a token is of hexadecimal digits alone, with small letters or capitals.
+fn is_hexadecimal(token: &[u8]) -> bool
+    ensures { result ≡ list_all is_ascii_hexdigit token.now }
 {
-    word.iter().all(|byte| byte.is_ascii_hexdigit())
+    token.iter().all(|byte| byte.is_ascii_hexdigit())
 }
 
 /// Appends letters as capitals, and other bytes as they are.
-fn push_uppercase(word: &[u8], text: &mut Text) -> Result<(), AllocError>
-    ensures { OnOk result (text.new ≡ text.old ++ map to_ascii_uppercase word.now) }
+fn push_uppercase(token: &[u8], text: &mut Text) -> Result<(), AllocError>
+    ensures { OnOk result (text.new ≡ text.old ++ map to_ascii_uppercase token.now) }
 {
-    let Some((byte, rest)) = word.split_first() else {
+    let Some((byte, rest)) = token.split_first() else {
         return Ok(());
     };
     text.push(&[byte.to_ascii_uppercase()])?;
     push_uppercase(rest, text)
 }
 
-/// Whether a name stands behind this first word.
-fn has_name(word: &[u8]) -> bool
-    ensures { result ≡ has_name word.now }
+/// Whether a name stands behind this first token.
+fn has_name(token: &[u8]) -> bool
+    ensures { result ≡ has_name token.now }
 {
-    is(word, b"legacy")
-        || is(word, b"main")
-        || is(word, b"attach")
-        || is(word, b"drop")
-        || is(word, b"raise")
-        || is(word, b"ask-join")
-        || is(word, b"ask-role")
-        || is(word, b"cut")
+    is(token, b"legacy")
+        || is(token, b"main")
+        || is(token, b"attach")
+        || is(token, b"drop")
+        || is(token, b"raise")
+        || is(token, b"ask-join")
+        || is(token, b"ask-role")
+        || is(token, b"cut")
 }
 
-/// Whether a word is this one.
-fn is(word: &[u8], other: &[u8]) -> bool
-    ensures { result ≡ bytes_eq word.now other.now }
+/// Whether a token is this one.
+fn is(token: &[u8], other: &[u8]) -> bool
+    ensures { result ≡ bytes_eq token.now other.now }
 {
-    word == other
+    token == other
 }

@@ -1,17 +1,17 @@
 ghost use Rattle.std.specs.Prelude.{◌≡◌, ◌++◌, ◌∷◌, ℕ, List, Some, codes, option_copied};
-ghost use Rattle.i3c_lines.specs.Forms.{AreAddress, AreAddresses, AreAsked, AreByte, AreCount, AreDeclared, AreDevice, AreKinds, AreLength, ArePlace, IsForm, IsNamed, Writes, tokens};
-ghost use Rattle.i3c_lines.specs.Data.{length_word};
-ghost use Rattle.i3c_lines.specs.Parsing.{AreKept, AreNamed, AreWilling, Becomes, BecomesOther, IsOtherForm, Reads, TakesIdentity, TakesWord, left_words, words_of};
+ghost use Rattle.i3c_lines.specs.Forms.{AreAddress, AreAddresses, AreAsked, AreByte, AreCount, AreDeclared, AreDevice, AreKinds, AreLength, ArePlace, IsForm, IsNamed, Writes, tokens_of};
+ghost use Rattle.i3c_lines.specs.Data.{length_token};
+ghost use Rattle.i3c_lines.specs.Parsing.{AreKept, AreNamed, AreWilling, Becomes, BecomesOther, IsOtherForm, Reads, TakesIdentity, TakesToken, left_tokens, tokens_in};
 
 use crate::data::datum;
 use crate::names::Name;
 use crate::policies::{EXCEPTED, policy, policy_but};
-use crate::tokens::{self, Tokens, after, is_word};
+use crate::tokens::{self, Tokens, after, is_token};
 use arrayvec::ArrayVec;
 use i3c_base::{Addr7, Bcr, Datum, Dcr, Direction, Fixed, Identity, Kinds, Length, Lvr, Setup};
 use i3c_step::{Command as Frame, WRITE_KEPT};
 
-// Words behind their first letters. Letters that are compared at once take fewer steps than one by one.
+// Tokens behind their first letters. Letters that are compared at once take fewer steps than one by one.
 const RAISE: &[u8] = b"aise ";
 
 const READ: &[u8] = b"ead ";
@@ -54,7 +54,7 @@ const WRITE: &[u8] = b"rite ";
 
 const GET: &[u8] = b"et";
 
-// Whole words.
+// Whole tokens.
 const DROP: &[u8] = b"drop";
 
 const ATTACH: &[u8] = b"attach";
@@ -168,9 +168,9 @@ pub enum Command {
 struct Parsing;
 
 impl Command {
-    /// The command of a line, if the line has a form. Its words are parted by exactly one space.
+    /// The command of a line, if the line has a form. Its tokens are parted by exactly one space.
     pub fn parse(line: &[u8]) -> Option<Command>
-        ensures { Reads IsForm (tokens line.now) result }
+        ensures { Reads IsForm (tokens_of line.now) result }
     {
         let mut command = Command::Show;
         command.read::<Parsing>(line)?;
@@ -180,7 +180,7 @@ impl Command {
     /// Becomes the command of a line, if the line has a form. Otherwise it is unchanged. So nothing of a command's size is
     /// moved for each line. Whoever calls it is named by `K`, so that each caller has it in line.
     pub fn read<K>(&mut self, line: &[u8]) -> Option<()>
-        ensures { Becomes (tokens line.now) result self.old self.new }
+        ensures { Becomes (tokens_of line.now) result self.old self.new }
     {
         let (first, tail) = line.split_first()?;
         match *first {
@@ -192,7 +192,7 @@ impl Command {
             b'o' => self.read_o::<K>(tail),
             b'w' => self.read_w::<K>(tail),
             b'g' => self.read_g(tail),
-            _ => self.read_words(line),
+            _ => self.read_tokens_of(line),
         }
     }
 
@@ -206,18 +206,18 @@ impl Command {
 
     /// Becomes a command whose first letter is an `r`, by the line behind that.
     fn read_r<K>(&mut self, tail: &[u8]) -> Option<()>
-        ensures { Becomes (tokens (114 ∷ tail.now)) result self.old self.new }
+        ensures { Becomes (tokens_of (114 ∷ tail.now)) result self.old self.new }
     {
         if let Some(line) = after(tail, RAISE) {
             return self.read_raise::<K>(line);
         }
-        if let Some(word) = after(tail, READ) {
-            return self.read_read::<K>(word);
+        if let Some(token) = after(tail, READ) {
+            return self.read_read::<K>(token);
         }
-        if is_word(tail, RESET) {
+        if is_token(tail, RESET) {
             return self.set(Command::Frame(Frame::Reset));
         }
-        if is_word(tail, ROUND) {
+        if is_token(tail, ROUND) {
             return self.set(Command::Round);
         }
         None
@@ -225,9 +225,9 @@ impl Command {
 
     /// Becomes a command whose first letter is an `s`, by the line behind that.
     fn read_s<K>(&mut self, tail: &[u8]) -> Option<()>
-        ensures { Becomes (tokens (115 ∷ tail.now)) result self.old self.new }
+        ensures { Becomes (tokens_of (115 ∷ tail.now)) result self.old self.new }
     {
-        if is_word(tail, SERVE) {
+        if is_token(tail, SERVE) {
             return self.set(Command::Frame(Frame::Serve));
         }
         if let Some(line) = after(tail, SETDASA) {
@@ -242,15 +242,15 @@ impl Command {
     fn read_other_s(&mut self, tail: &[u8]) -> Option<()>
         requires serve { tail.now ≡ codes "erve" → ⊥ }
         requires fixed { (rest : List ℕ) → tail.now ≡ codes "etdasa " ++ rest → ⊥ }
-        ensures { Becomes (tokens (115 ∷ tail.now)) result self.old self.new }
+        ensures { Becomes (tokens_of (115 ∷ tail.now)) result self.old self.new }
     {
-        if is_word(tail, SHOW) {
+        if is_token(tail, SHOW) {
             return self.set(Command::Show);
         }
-        if is_word(tail, SYMBOLS) {
+        if is_token(tail, SYMBOLS) {
             return self.set(Command::Symbols);
         }
-        if is_word(tail, SHOW_ALL) {
+        if is_token(tail, SHOW_ALL) {
             return self.set(Command::ShowAll);
         }
         if let Some(line) = after(tail, SETNEWDA) {
@@ -270,12 +270,12 @@ impl Command {
 
     /// Becomes a command whose first letter is an `e`, by the line behind that.
     fn read_e<K>(&mut self, tail: &[u8]) -> Option<()>
-        ensures { Becomes (tokens (101 ∷ tail.now)) result self.old self.new }
+        ensures { Becomes (tokens_of (101 ∷ tail.now)) result self.old self.new }
     {
         if let Some(line) = after(tail, ENEC) {
             return self.read_enec::<K>(line);
         }
-        if is_word(tail, END) {
+        if is_token(tail, END) {
             return self.set(Command::End);
         }
         None
@@ -284,33 +284,33 @@ impl Command {
     /// Becomes a command whose first letter is a `d`, by the line behind that, or by the line.
     fn read_d<K>(&mut self, tail: &[u8], line: &[u8]) -> Option<()>
         requires { line.now ≡ 100 ∷ tail.now }
-        ensures { Becomes (tokens line.now) result self.old self.new }
+        ensures { Becomes (tokens_of line.now) result self.old self.new }
     {
         if let Some(line) = after(tail, DISEC) {
             return self.read_disec::<K>(line);
         }
-        if is_word(tail, DAA) {
+        if is_token(tail, DAA) {
             return self.set(Command::Daa);
         }
-        self.read_words(line)
+        self.read_tokens_of(line)
     }
 
     /// Becomes a command whose first letter is an `l`, by the line behind that, or by the line.
     fn read_l<K>(&mut self, tail: &[u8], line: &[u8]) -> Option<()>
         requires { line.now ≡ 108 ∷ tail.now }
-        ensures { Becomes (tokens line.now) result self.old self.new }
+        ensures { Becomes (tokens_of line.now) result self.old self.new }
     {
-        if is_word(tail, LIST) {
+        if is_token(tail, LIST) {
             return self.set(Command::Frame(Frame::SendList));
         }
-        self.read_words(line)
+        self.read_tokens_of(line)
     }
 
     /// Becomes the command whose first letter is an `o`, by the line behind that.
     fn read_o<K>(&mut self, tail: &[u8]) -> Option<()>
-        ensures { Becomes (tokens (111 ∷ tail.now)) result self.old self.new }
+        ensures { Becomes (tokens_of (111 ∷ tail.now)) result self.old self.new }
     {
-        if is_word(tail, OPEN) {
+        if is_token(tail, OPEN) {
             return self.set(Command::Open);
         }
         None
@@ -318,7 +318,7 @@ impl Command {
 
     /// Becomes the command whose first letter is a `w`, by the line behind that.
     fn read_w<K>(&mut self, tail: &[u8]) -> Option<()>
-        ensures { Becomes (tokens (119 ∷ tail.now)) result self.old self.new }
+        ensures { Becomes (tokens_of (119 ∷ tail.now)) result self.old self.new }
     {
         if let Some(line) = after(tail, WRITE) {
             return self.read_write(line);
@@ -327,10 +327,10 @@ impl Command {
     }
 
     /// Becomes a question for a datum, by the line behind its first letter, which is a `g`.
-    // kept apart, so that no other line pays for the words of data
+    // kept apart, so that no other line pays for the tokens of data
     #[inline(never)]
     fn read_g(&mut self, tail: &[u8]) -> Option<()>
-        ensures { Becomes (tokens (103 ∷ tail.now)) result self.old self.new }
+        ensures { Becomes (tokens_of (103 ∷ tail.now)) result self.old self.new }
     {
         let line = after(tail, GET)?;
         let (what, at) = parse_asked(&mut Tokens::of(line))?;
@@ -338,9 +338,9 @@ impl Command {
         Some(())
     }
 
-    /// Becomes a raise by the words behind its first: a name, and a byte if one is given.
+    /// Becomes a raise by the tokens behind its first: a name, and a byte if one is given.
     fn read_raise<K>(&mut self, line: &[u8]) -> Option<()>
-        ensures { Becomes (codes "raise" ∷ tokens line.now) result self.old self.new }
+        ensures { Becomes (codes "raise" ∷ tokens_of line.now) result self.old self.new }
     {
         let (name, rest) = Name::split_from(line)?;
         let byte = parse_mandatory(rest)?;
@@ -348,20 +348,20 @@ impl Command {
         Some(())
     }
 
-    /// Becomes a private read by the word behind its first: an address.
-    fn read_read<K>(&mut self, word: &[u8]) -> Option<()>
-        ensures { Becomes (codes "read" ∷ tokens word.now) result self.old self.new }
+    /// Becomes a private read by the token behind its first: an address.
+    fn read_read<K>(&mut self, token: &[u8]) -> Option<()>
+        ensures { Becomes (codes "read" ∷ tokens_of token.now) result self.old self.new }
     {
-        let at = tokens::address(word)?;
+        let at = tokens::address(token)?;
         *self = Command::Frame(Frame::ReadFrom(at));
         Some(())
     }
 
-    /// Becomes a private write by the words behind its first: an address, and bytes if there are some.
+    /// Becomes a private write by the tokens behind its first: an address, and bytes if there are some.
     // kept apart, so that no other line pays for the room that the bytes take on the stack
     #[inline(never)]
     fn read_write(&mut self, line: &[u8]) -> Option<()>
-        ensures { Becomes (codes "write" ∷ tokens line.now) result self.old self.new }
+        ensures { Becomes (codes "write" ∷ tokens_of line.now) result self.old self.new }
     {
         let (address, rest) = tokens::split_two(line)?;
         let at = tokens::address(address)?;
@@ -370,340 +370,340 @@ impl Command {
         Some(())
     }
 
-    /// Becomes the command that enables kinds of events, by the words behind its first.
+    /// Becomes the command that enables kinds of events, by the tokens behind its first.
     fn read_enec<K>(&mut self, line: &[u8]) -> Option<()>
-        ensures { Becomes (codes "enec" ∷ tokens line.now) result self.old self.new }
+        ensures { Becomes (codes "enec" ∷ tokens_of line.now) result self.old self.new }
     {
         let (to, kinds) = parse_kinds(line)?;
         *self = Command::Frame(Frame::Enec(to, kinds));
         Some(())
     }
 
-    /// Becomes the command that disables kinds of events, by the words behind its first.
+    /// Becomes the command that disables kinds of events, by the tokens behind its first.
     fn read_disec<K>(&mut self, line: &[u8]) -> Option<()>
-        ensures { Becomes (codes "disec" ∷ tokens line.now) result self.old self.new }
+        ensures { Becomes (codes "disec" ∷ tokens_of line.now) result self.old self.new }
     {
         let (to, kinds) = parse_kinds(line)?;
         *self = Command::Frame(Frame::Disec(to, kinds));
         Some(())
     }
 
-    /// Becomes SETDASA, by the words behind its first: a static address and a dynamic one.
+    /// Becomes SETDASA, by the tokens behind its first: a static address and a dynamic one.
     fn read_setdasa<K>(&mut self, line: &[u8]) -> Option<()>
-        ensures { Becomes (codes "setdasa" ∷ tokens line.now) result self.old self.new }
+        ensures { Becomes (codes "setdasa" ∷ tokens_of line.now) result self.old self.new }
     {
         let (at, to) = parse_addresses(line)?;
         *self = Command::Frame(Frame::SetStatic(at, to));
         Some(())
     }
 
-    /// Becomes SETNEWDA, by the words behind its first: a dynamic address and another one.
+    /// Becomes SETNEWDA, by the tokens behind its first: a dynamic address and another one.
     fn read_setnewda(&mut self, line: &[u8]) -> Option<()>
-        ensures { Becomes (codes "setnewda" ∷ tokens line.now) result self.old self.new }
+        ensures { Becomes (codes "setnewda" ∷ tokens_of line.now) result self.old self.new }
     {
         let (at, to) = parse_addresses(line)?;
         *self = Command::Frame(Frame::SetNew(at, to));
         Some(())
     }
 
-    /// Becomes SETMWL or SETMRL, by the words behind its first: a length, and an address if one is given.
+    /// Becomes SETMWL or SETMRL, by the tokens behind its first: a length, and an address if one is given.
     // kept apart, so that no other line pays for it
     #[inline(never)]
     fn read_length(&mut self, way: Direction, line: &[u8]) -> Option<()>
-        ensures { Becomes (length_word way ∷ tokens line.now) result self.old self.new }
+        ensures { Becomes (length_token way ∷ tokens_of line.now) result self.old self.new }
     {
         let (most, to) = parse_length(&mut Tokens::of(line))?;
         *self = Command::Frame(Frame::SetLength(way, most, to));
         Some(())
     }
 
-    /// Becomes `show N`, by the word behind its first, which isn't `all`: a number.
+    /// Becomes `show N`, by the token behind its first, which isn't `all`: a number.
     // kept apart, so that no other line pays for it
     #[inline(never)]
     fn read_shown(&mut self, line: &[u8]) -> Option<()>
         requires { line.now ≡ codes "all" → ⊥ }
-        ensures { Becomes (codes "show" ∷ tokens line.now) result self.old self.new }
+        ensures { Becomes (codes "show" ∷ tokens_of line.now) result self.old self.new }
     {
         let first = parse_place(&mut Tokens::of(line))?;
         *self = Command::ShowFrom(first);
         Some(())
     }
 
-    /// Becomes any other command of several words, if the line has its form.
+    /// Becomes any other command of several tokens, if the line has its form.
     // kept apart, so that no other line pays for the room that these take on the stack
     #[inline(never)]
-    fn read_words(&mut self, line: &[u8]) -> Option<()>
-        ensures { BecomesOther (tokens line.now) result self.old self.new }
+    fn read_tokens_of(&mut self, line: &[u8]) -> Option<()>
+        ensures { BecomesOther (tokens_of line.now) result self.old self.new }
     {
         self.read_tokens(&mut Tokens::of(line))
     }
 
-    /// Becomes the command of several words that has this first word, if the others have its form.
-    fn read_tokens(&mut self, words: &mut Tokens<'_>) -> Option<()>
-        ensures { BecomesOther (left_words words.old) result self.old self.new }
+    /// Becomes the command of several tokens that has this first token, if the others have its form.
+    fn read_tokens(&mut self, tokens: &mut Tokens<'_>) -> Option<()>
+        ensures { BecomesOther (left_tokens tokens.old) result self.old self.new }
     {
-        let word = words.next()?;
-        if is_word(word, DROP) {
-            return self.read_drop(words);
+        let token = tokens.next()?;
+        if is_token(token, DROP) {
+            return self.read_drop(tokens);
         }
-        if is_word(word, ATTACH) {
-            return self.read_attach(words);
+        if is_token(token, ATTACH) {
+            return self.read_attach(tokens);
         }
-        if is_word(word, ASK_JOIN) {
-            return self.read_ask_join(words);
+        if is_token(token, ASK_JOIN) {
+            return self.read_ask_join(tokens);
         }
-        if is_word(word, ASK_ROLE) {
-            return self.read_ask_role(words);
+        if is_token(token, ASK_ROLE) {
+            return self.read_ask_role(tokens);
         }
-        if is_word(word, HANDOVER) {
-            return self.read_handover(words);
+        if is_token(token, HANDOVER) {
+            return self.read_handover(tokens);
         }
-        if is_word(word, CUT) {
-            return self.read_cut(words);
+        if is_token(token, CUT) {
+            return self.read_cut(tokens);
         }
-        self.read_rare(word, words)
+        self.read_rare(token, tokens)
     }
 
-    /// Becomes the command that has this first word, which is none of those above, if the others have its form.
-    fn read_rare(&mut self, word: &[u8], words: &mut Tokens<'_>) -> Option<()>
-        requires drops { word.now ≡ codes "drop" → ⊥ }
-        requires attaches { word.now ≡ codes "attach" → ⊥ }
-        requires joins { word.now ≡ codes "ask-join" → ⊥ }
-        requires roles { word.now ≡ codes "ask-role" → ⊥ }
-        requires offers { word.now ≡ codes "handover" → ⊥ }
-        requires cuts { word.now ≡ codes "cut" → ⊥ }
-        ensures { BecomesOther (word.now ∷ left_words words.old) result self.old self.new }
+    /// Becomes the command that has this first token, which is none of those above, if the others have its form.
+    fn read_rare(&mut self, token: &[u8], tokens: &mut Tokens<'_>) -> Option<()>
+        requires drops { token.now ≡ codes "drop" → ⊥ }
+        requires attaches { token.now ≡ codes "attach" → ⊥ }
+        requires joins { token.now ≡ codes "ask-join" → ⊥ }
+        requires roles { token.now ≡ codes "ask-role" → ⊥ }
+        requires offers { token.now ≡ codes "handover" → ⊥ }
+        requires cuts { token.now ≡ codes "cut" → ⊥ }
+        ensures { BecomesOther (token.now ∷ left_tokens tokens.old) result self.old self.new }
     {
-        if is_word(word, POLICY) {
-            return self.read_policy(words);
+        if is_token(token, POLICY) {
+            return self.read_policy(tokens);
         }
-        if is_word(word, LEGACY) {
-            return self.read_legacy(words);
+        if is_token(token, LEGACY) {
+            return self.read_legacy(tokens);
         }
-        if is_word(word, DECLARE) {
-            return self.read_declare(words);
+        if is_token(token, DECLARE) {
+            return self.read_declare(tokens);
         }
-        if is_word(word, MAIN) {
-            return self.read_main(words);
+        if is_token(token, MAIN) {
+            return self.read_main(tokens);
         }
-        if is_word(word, FRAMES) {
-            return self.read_frames(words);
+        if is_token(token, FRAMES) {
+            return self.read_frames(tokens);
         }
-        if is_word(word, FORGET) {
-            return self.read_forget(words);
+        if is_token(token, FORGET) {
+            return self.read_forget(tokens);
         }
         None
     }
 
-    /// Becomes `legacy`, by the words behind it.
-    fn read_legacy(&mut self, words: &mut Tokens<'_>) -> Option<()>
-        ensures { Becomes (codes "legacy" ∷ left_words words.old) result self.old self.new }
+    /// Becomes `legacy`, by the tokens behind it.
+    fn read_legacy(&mut self, tokens: &mut Tokens<'_>) -> Option<()>
+        ensures { Becomes (codes "legacy" ∷ left_tokens tokens.old) result self.old self.new }
     {
-        let name = parse_name(words)?;
-        let address = tokens::address(words.next()?)?;
-        let lvr = Lvr(parse_byte(words)?);
-        words.end()?;
+        let name = parse_name(tokens)?;
+        let address = tokens::address(tokens.next()?)?;
+        let lvr = Lvr(parse_byte(tokens)?);
+        tokens.end()?;
         *self = Command::Legacy { name, address, lvr };
         Some(())
     }
 
-    /// Becomes `declare`, by the words behind it.
-    fn read_declare(&mut self, words: &mut Tokens<'_>) -> Option<()>
-        ensures { Becomes (codes "declare" ∷ left_words words.old) result self.old self.new }
+    /// Becomes `declare`, by the tokens behind it.
+    fn read_declare(&mut self, tokens: &mut Tokens<'_>) -> Option<()>
+        ensures { Becomes (codes "declare" ∷ left_tokens tokens.old) result self.old self.new }
     {
-        let (address, identity) = parse_declared(words)?;
+        let (address, identity) = parse_declared(tokens)?;
         *self = Command::Declare { address, identity };
         Some(())
     }
 
-    /// Becomes `main`, by the words behind it.
-    fn read_main(&mut self, words: &mut Tokens<'_>) -> Option<()>
-        ensures { Becomes (codes "main" ∷ left_words words.old) result self.old self.new }
+    /// Becomes `main`, by the tokens behind it.
+    fn read_main(&mut self, tokens: &mut Tokens<'_>) -> Option<()>
+        ensures { Becomes (codes "main" ∷ left_tokens tokens.old) result self.old self.new }
     {
-        let (name, setup) = parse_device(words)?;
+        let (name, setup) = parse_device(tokens)?;
         *self = Command::Main { name, setup };
         Some(())
     }
 
-    /// Becomes `attach`, by the words behind it.
-    fn read_attach(&mut self, words: &mut Tokens<'_>) -> Option<()>
-        ensures { Becomes (codes "attach" ∷ left_words words.old) result self.old self.new }
+    /// Becomes `attach`, by the tokens behind it.
+    fn read_attach(&mut self, tokens: &mut Tokens<'_>) -> Option<()>
+        ensures { Becomes (codes "attach" ∷ left_tokens tokens.old) result self.old self.new }
     {
-        let (name, setup) = parse_device(words)?;
+        let (name, setup) = parse_device(tokens)?;
         *self = Command::Attach { name, setup };
         Some(())
     }
 
-    /// Becomes `drop`, by the word behind it: a name.
-    fn read_drop(&mut self, words: &mut Tokens<'_>) -> Option<()>
-        ensures { Becomes (codes "drop" ∷ left_words words.old) result self.old self.new }
+    /// Becomes `drop`, by the token behind it: a name.
+    fn read_drop(&mut self, tokens: &mut Tokens<'_>) -> Option<()>
+        ensures { Becomes (codes "drop" ∷ left_tokens tokens.old) result self.old self.new }
     {
-        let name = parse_last_name(words)?;
+        let name = parse_last_name(tokens)?;
         *self = Command::DropOff { name };
         Some(())
     }
 
-    /// Becomes `ask-join`, by the word behind it: a name.
-    fn read_ask_join(&mut self, words: &mut Tokens<'_>) -> Option<()>
-        ensures { Becomes (codes "ask-join" ∷ left_words words.old) result self.old self.new }
+    /// Becomes `ask-join`, by the token behind it: a name.
+    fn read_ask_join(&mut self, tokens: &mut Tokens<'_>) -> Option<()>
+        ensures { Becomes (codes "ask-join" ∷ left_tokens tokens.old) result self.old self.new }
     {
-        let name = parse_last_name(words)?;
+        let name = parse_last_name(tokens)?;
         *self = Command::AskJoin { name };
         Some(())
     }
 
-    /// Becomes `ask-role`, by the word behind it: a name.
-    fn read_ask_role(&mut self, words: &mut Tokens<'_>) -> Option<()>
-        ensures { Becomes (codes "ask-role" ∷ left_words words.old) result self.old self.new }
+    /// Becomes `ask-role`, by the token behind it: a name.
+    fn read_ask_role(&mut self, tokens: &mut Tokens<'_>) -> Option<()>
+        ensures { Becomes (codes "ask-role" ∷ left_tokens tokens.old) result self.old self.new }
     {
-        let name = parse_last_name(words)?;
+        let name = parse_last_name(tokens)?;
         *self = Command::AskRole { name };
         Some(())
     }
 
-    /// Becomes `handover`, by the word behind it: an address.
-    fn read_handover(&mut self, words: &mut Tokens<'_>) -> Option<()>
-        ensures { Becomes (codes "handover" ∷ left_words words.old) result self.old self.new }
+    /// Becomes `handover`, by the token behind it: an address.
+    fn read_handover(&mut self, tokens: &mut Tokens<'_>) -> Option<()>
+        ensures { Becomes (codes "handover" ∷ left_tokens tokens.old) result self.old self.new }
     {
-        let to = tokens::address(words.next()?)?;
-        words.end()?;
+        let to = tokens::address(tokens.next()?)?;
+        tokens.end()?;
         *self = Command::HandOver { to };
         Some(())
     }
 
-    /// Becomes a policy, by the words behind its first: with exceptions if there is a `but` among them.
+    /// Becomes a policy, by the tokens behind its first: with exceptions if there is a `but` among them.
     // kept apart, so that no other line pays for the room that names take on the stack
     #[inline(never)]
-    fn read_policy(&mut self, words: &mut Tokens<'_>) -> Option<()>
-        ensures { Becomes (codes "policy" ∷ left_words words.old) result self.old self.new }
+    fn read_policy(&mut self, tokens: &mut Tokens<'_>) -> Option<()>
+        ensures { Becomes (codes "policy" ∷ left_tokens tokens.old) result self.old self.new }
     {
-        let mut all = *words;
+        let mut all = *tokens;
         if let Some(policy) = policy(&mut all) {
             return self.set(Command::Policy(policy));
         }
-        let (kinds, but) = policy_but(words)?;
+        let (kinds, but) = policy_but(tokens)?;
         *self = Command::PolicyBut { kinds, but };
         Some(())
     }
 
-    /// Becomes `cut`, by the words behind it: a name and a bit.
-    fn read_cut(&mut self, words: &mut Tokens<'_>) -> Option<()>
-        ensures { Becomes (codes "cut" ∷ left_words words.old) result self.old self.new }
+    /// Becomes `cut`, by the tokens behind it: a name and a bit.
+    fn read_cut(&mut self, tokens: &mut Tokens<'_>) -> Option<()>
+        ensures { Becomes (codes "cut" ∷ left_tokens tokens.old) result self.old self.new }
     {
-        let name = parse_name(words)?;
-        let bit = tokens::bit(words.next()?)?;
-        words.end()?;
+        let name = parse_name(tokens)?;
+        let bit = tokens::bit(tokens.next()?)?;
+        tokens.end()?;
         *self = Command::Cut { name, bit };
         Some(())
     }
 
-    /// Becomes `frames`, by the word behind it: a count.
-    fn read_frames(&mut self, words: &mut Tokens<'_>) -> Option<()>
-        ensures { Becomes (codes "frames" ∷ left_words words.old) result self.old self.new }
+    /// Becomes `frames`, by the token behind it: a count.
+    fn read_frames(&mut self, tokens: &mut Tokens<'_>) -> Option<()>
+        ensures { Becomes (codes "frames" ∷ left_tokens tokens.old) result self.old self.new }
     {
-        let count = parse_count(words)?;
+        let count = parse_count(tokens)?;
         *self = Command::Frames(count);
         Some(())
     }
 
-    /// Becomes `forget`, by the word behind it: the number of a record.
-    fn read_forget(&mut self, words: &mut Tokens<'_>) -> Option<()>
-        ensures { Becomes (codes "forget" ∷ left_words words.old) result self.old self.new }
+    /// Becomes `forget`, by the token behind it: the number of a record.
+    fn read_forget(&mut self, tokens: &mut Tokens<'_>) -> Option<()>
+        ensures { Becomes (codes "forget" ∷ left_tokens tokens.old) result self.old self.new }
     {
-        let last = parse_place(words)?;
+        let last = parse_place(tokens)?;
         *self = Command::Forget(last);
         Some(())
     }
 }
 
 /// A static address and the identity that is declared at it.
-fn parse_declared(words: &mut Tokens<'_>) -> Option<(Addr7, Identity)>
-    ensures { Reads (λ words parts. AreDeclared words parts.0 parts.1) (left_words words.old) result }
+fn parse_declared(tokens: &mut Tokens<'_>) -> Option<(Addr7, Identity)>
+    ensures { Reads (λ tokens parts. AreDeclared tokens parts.0 parts.1) (left_tokens tokens.old) result }
 {
-    let address = tokens::address(words.next()?)?;
-    let identity = parse_identity(words)?;
-    words.end()?;
+    let address = tokens::address(tokens.next()?)?;
+    let identity = parse_identity(tokens)?;
+    tokens.end()?;
     Some((address, identity))
 }
 
-/// The words of a device: its name and its identity, and `decline` if it doesn't take the controller role.
-fn parse_device(words: &mut Tokens<'_>) -> Option<(Name, Setup)>
-    ensures { Reads (λ words parts. AreDevice words parts.0 parts.1) (left_words words.old) result }
+/// The tokens of a device: its name and its identity, and `decline` if it doesn't take the controller role.
+fn parse_device(tokens: &mut Tokens<'_>) -> Option<(Name, Setup)>
+    ensures { Reads (λ tokens parts. AreDevice tokens parts.0 parts.1) (left_tokens tokens.old) result }
 {
-    let name = parse_name(words)?;
-    let identity = parse_identity(words)?;
-    let willing = parse_willing(words)?;
+    let name = parse_name(tokens)?;
+    let identity = parse_identity(tokens)?;
+    let willing = parse_willing(tokens)?;
     Some((name, Setup { identity, willing }))
 }
 
-/// Three words, which are an identity.
-fn parse_identity(words: &mut Tokens<'_>) -> Option<Identity>
-    ensures { TakesIdentity (left_words words.old) (left_words words.new) result }
+/// Three tokens, which are an identity.
+fn parse_identity(tokens: &mut Tokens<'_>) -> Option<Identity>
+    ensures { TakesIdentity (left_tokens tokens.old) (left_tokens tokens.new) result }
 {
-    let pid = tokens::pid(words.next()?)?;
-    let bcr = Bcr(parse_byte(words)?);
-    let dcr = Dcr(parse_byte(words)?);
+    let pid = tokens::pid(tokens.next()?)?;
+    let bcr = Bcr(parse_byte(tokens)?);
+    let dcr = Dcr(parse_byte(tokens)?);
     Some(Identity { pid, bcr, dcr })
 }
 
-/// Whether a device takes the controller role: the last word of its line, if there is one.
-fn parse_willing(words: &mut Tokens<'_>) -> Option<bool>
-    ensures { Reads AreWilling (left_words words.old) result }
+/// Whether a device takes the controller role: the last token of its line, if there is one.
+fn parse_willing(tokens: &mut Tokens<'_>) -> Option<bool>
+    ensures { Reads AreWilling (left_tokens tokens.old) result }
 {
-    match words.next() {
+    match tokens.next() {
         None => Some(true),
         Some(b"decline") => {
-            words.end()?;
+            tokens.end()?;
             Some(false)
         }
         Some(_) => None,
     }
 }
 
-/// The next word, which is a name.
-fn parse_name(words: &mut Tokens<'_>) -> Option<Name>
-    ensures { TakesWord IsNamed (left_words words.old) (left_words words.new) result }
+/// The next token, which is a name.
+fn parse_name(tokens: &mut Tokens<'_>) -> Option<Name>
+    ensures { TakesToken IsNamed (left_tokens tokens.old) (left_tokens tokens.new) result }
 {
-    Name::parse(words.next()?)
+    Name::parse(tokens.next()?)
 }
 
-/// The last word, which is a name.
-fn parse_last_name(words: &mut Tokens<'_>) -> Option<Name>
-    ensures { Reads AreNamed (left_words words.old) result }
+/// The last token, which is a name.
+fn parse_last_name(tokens: &mut Tokens<'_>) -> Option<Name>
+    ensures { Reads AreNamed (left_tokens tokens.old) result }
 {
-    let name = parse_name(words)?;
-    words.end()?;
+    let name = parse_name(tokens)?;
+    tokens.end()?;
     Some(name)
 }
 
-/// The next word, which is a byte.
-fn parse_byte(words: &mut Tokens<'_>) -> Option<u8>
-    ensures { TakesWord (Writes 2) (left_words words.old) (left_words words.new) result }
+/// The next token, which is a byte.
+fn parse_byte(tokens: &mut Tokens<'_>) -> Option<u8>
+    ensures { TakesToken (Writes 2) (left_tokens tokens.old) (left_tokens tokens.new) result }
 {
-    tokens::byte(words.next()?)
+    tokens::byte(tokens.next()?)
 }
 
-/// The last word, which is a count.
-fn parse_count(words: &mut Tokens<'_>) -> Option<u16>
-    ensures { Reads AreCount (left_words words.old) result }
+/// The last token, which is a count.
+fn parse_count(tokens: &mut Tokens<'_>) -> Option<u16>
+    ensures { Reads AreCount (left_tokens tokens.old) result }
 {
-    let count = tokens::count(words.next()?)?;
-    words.end()?;
+    let count = tokens::count(tokens.next()?)?;
+    tokens.end()?;
     Some(count)
 }
 
-/// The last word, which is the number of a record.
-fn parse_place(words: &mut Tokens<'_>) -> Option<u64>
-    ensures { Reads ArePlace (left_words words.old) result }
+/// The last token, which is the number of a record.
+fn parse_place(tokens: &mut Tokens<'_>) -> Option<u64>
+    ensures { Reads ArePlace (left_tokens tokens.old) result }
 {
-    let place = tokens::place(words.next()?)?;
-    words.end()?;
+    let place = tokens::place(tokens.next()?)?;
+    tokens.end()?;
     Some(place)
 }
 
-/// The words of `enec` and of `disec`: a byte, and an address if one is given.
+/// The tokens of `enec` and of `disec`: a byte, and an address if one is given.
 fn parse_kinds(line: &[u8]) -> Option<(Option<Addr7>, Kinds)>
-    ensures { Reads (λ words parts. AreKinds words parts.0 parts.1) (tokens line.now) result }
+    ensures { Reads (λ tokens parts. AreKinds tokens parts.0 parts.1) (tokens_of line.now) result }
 {
     let (byte, rest) = tokens::split_two(line)?;
     let kinds = tokens::kinds(byte)?;
@@ -711,9 +711,9 @@ fn parse_kinds(line: &[u8]) -> Option<(Option<Addr7>, Kinds)>
     Some((to, kinds))
 }
 
-/// The words of `setdasa` and of `setnewda`: two addresses.
+/// The tokens of `setdasa` and of `setnewda`: two addresses.
 fn parse_addresses(line: &[u8]) -> Option<(Addr7, Addr7)>
-    ensures { Reads (λ words parts. AreAddresses words parts.0 parts.1) (tokens line.now) result }
+    ensures { Reads (λ tokens parts. AreAddresses tokens parts.0 parts.1) (tokens_of line.now) result }
 {
     let (first, rest) = tokens::split_two(line)?;
     let at = tokens::address(first)?;
@@ -722,65 +722,65 @@ fn parse_addresses(line: &[u8]) -> Option<(Addr7, Addr7)>
     Some((at, to))
 }
 
-/// The words of a question behind its letters `get`: a datum's, and an address.
-fn parse_asked(words: &mut Tokens<'_>) -> Option<(Datum, Addr7)>
-    ensures { Reads (λ words parts. AreAsked words parts.0 parts.1) (left_words words.old) result }
+/// The tokens of a question behind its letters `get`: a datum's, and an address.
+fn parse_asked(tokens: &mut Tokens<'_>) -> Option<(Datum, Addr7)>
+    ensures { Reads (λ tokens parts. AreAsked tokens parts.0 parts.1) (left_tokens tokens.old) result }
 {
-    let what = datum(words.next()?)?;
-    let at = tokens::address(words.next()?)?;
-    words.end()?;
+    let what = datum(tokens.next()?)?;
+    let at = tokens::address(tokens.next()?)?;
+    tokens.end()?;
     Some((what, at))
 }
 
-/// The words of `setmwl` and of `setmrl`: a length, and an address if one is given.
-fn parse_length(words: &mut Tokens<'_>) -> Option<(Length, Option<Addr7>)>
-    ensures { Reads (λ words parts. AreLength words parts.0 parts.1) (left_words words.old) result }
+/// The tokens of `setmwl` and of `setmrl`: a length, and an address if one is given.
+fn parse_length(tokens: &mut Tokens<'_>) -> Option<(Length, Option<Addr7>)>
+    ensures { Reads (λ tokens parts. AreLength tokens parts.0 parts.1) (left_tokens tokens.old) result }
 {
-    let most = tokens::length(words.next()?)?;
-    let to = parse_last_address(words)?;
+    let most = tokens::length(tokens.next()?)?;
+    let to = parse_last_address(tokens)?;
     Some((most, to))
 }
 
-/// The last word, which is an address, if there is one.
-fn parse_last_address(words: &mut Tokens<'_>) -> Option<Option<Addr7>>
-    ensures { Reads AreAddress (left_words words.old) result }
+/// The last token, which is an address, if there is one.
+fn parse_last_address(tokens: &mut Tokens<'_>) -> Option<Option<Addr7>>
+    ensures { Reads AreAddress (left_tokens tokens.old) result }
 {
-    let Some(word) = words.next() else {
+    let Some(token) = tokens.next() else {
         return Some(None);
     };
-    let at = tokens::address(word)?;
-    words.end()?;
+    let at = tokens::address(token)?;
+    tokens.end()?;
     Some(Some(at))
 }
 
-/// The last words of `raise`: a byte, if one is given.
+/// The last tokens of `raise`: a byte, if one is given.
 #[inline(always)]
 fn parse_mandatory(rest: Option<&[u8]>) -> Option<Option<u8>>
-    ensures { Reads AreByte (words_of (option_copied rest.entry)) result }
+    ensures { Reads AreByte (tokens_in (option_copied rest.entry)) result }
 {
-    let Some(word) = rest else {
+    let Some(token) = rest else {
         return Some(None);
     };
-    let byte = tokens::byte(word)?;
+    let byte = tokens::byte(token)?;
     Some(Some(byte))
 }
 
-/// The last words of `enec` and of `disec`: an address, if one is given.
+/// The last tokens of `enec` and of `disec`: an address, if one is given.
 #[inline(always)]
 fn parse_to(rest: Option<&[u8]>) -> Option<Option<Addr7>>
-    ensures { Reads AreAddress (words_of (option_copied rest.entry)) result }
+    ensures { Reads AreAddress (tokens_in (option_copied rest.entry)) result }
 {
-    let Some(word) = rest else {
+    let Some(token) = rest else {
         return Some(None);
     };
-    let at = tokens::address(word)?;
+    let at = tokens::address(token)?;
     Some(Some(at))
 }
 
-/// The last words of `write`: its bytes, if some are given. A word of no bytes has no form.
+/// The last tokens of `write`: its bytes, if some are given. A token of no bytes has no form.
 #[inline(always)]
 fn parse_written(rest: Option<&[u8]>) -> Option<ArrayVec<u8, WRITE_KEPT>>
-    ensures { Reads AreKept (words_of (option_copied rest.entry)) result }
+    ensures { Reads AreKept (tokens_in (option_copied rest.entry)) result }
 {
     let Some(digits) = rest else {
         return Some(ArrayVec::new());

@@ -1,13 +1,13 @@
 ghost use Rattle.std.specs.Prelude.{◌≡◌, MatchOption};
-ghost use Rattle.i3c_lines.specs.Data.{length_word, told_word};
+ghost use Rattle.i3c_lines.specs.Data.{length_token, told_token};
 ghost use Rattle.i3c_base.specs.declared.datum.Datum.{Datum};
 
 use i3c_base::{Datum, Direction};
 
-/// The first word of the line that tells a datum (I3C Basic 5.1.9.3). Behind `get` it is the first word of the line that
+/// The first token of the line that tells a datum (I3C Basic 5.1.9.3). Behind `get` it is the first token of the line that
 /// asks for it.
-pub fn told_word(datum: Datum) -> &'static str
-    ensures { result.now ≡ told_word datum }
+pub fn told_token(datum: Datum) -> &'static str
+    ensures { result.now ≡ told_token datum }
 {
     match datum {
         Datum::Pid => "pid",
@@ -21,11 +21,11 @@ pub fn told_word(datum: Datum) -> &'static str
     }
 }
 
-/// The datum that has this word, if one has.
-pub fn datum(word: &[u8]) -> Option<Datum>
-    ensures { MatchOption result ((datum : Datum) → word.now ≡ told_word datum → ⊥) (λ datum. word.now ≡ told_word datum) }
+/// The datum that has this token, if one has.
+pub fn datum(token: &[u8]) -> Option<Datum>
+    ensures { MatchOption result ((datum : Datum) → token.now ≡ told_token datum → ⊥) (λ datum. token.now ≡ told_token datum) }
 {
-    match word {
+    match token {
         b"pid" => Some(Datum::Pid),
         b"bcr" => Some(Datum::Bcr),
         b"dcr" => Some(Datum::Dcr),
@@ -38,9 +38,9 @@ pub fn datum(word: &[u8]) -> Option<Datum>
     }
 }
 
-/// The first word of the line that sets the maximum length of writes or of reads (I3C Basic 5.1.9.3.5, 5.1.9.3.6).
-pub fn length_word(way: Direction) -> &'static str
-    ensures { result.now ≡ length_word way }
+/// The first token of the line that sets the maximum length of writes or of reads (I3C Basic 5.1.9.3.5, 5.1.9.3.6).
+pub fn length_token(way: Direction) -> &'static str
+    ensures { result.now ≡ length_token way }
 {
     match way {
         Direction::Write => "setmwl",

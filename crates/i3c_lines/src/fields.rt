@@ -2,12 +2,12 @@ ghost use Rattle.std.specs.Prelude.{◌≡◌, ◌↔◌, IsTrue};
 
 use crate::names::Name;
 use crate::policies::{is_first, is_kind};
-use crate::tokens::{self, is_word};
+use crate::tokens::{self, is_token};
 
-/// The last word of a device that doesn't take the controller role.
+/// The last token of a device that doesn't take the controller role.
 const DECLINE: &[u8] = b"decline";
 
-/// The last word of a line that shows all of the bus.
+/// The last token of a line that shows all of the bus.
 const ALL: &[u8] = b"all";
 
 /// A place of a line behind its command, by what stands there.
@@ -43,39 +43,39 @@ pub enum Field {
     Shown,
     /// The number of a record.
     Place,
-    /// The first word of a policy.
+    /// The first token of a policy.
     Policy,
     /// A kind of request, which a policy accepts.
     Kind,
-    /// The word of a device that doesn't take the controller role.
+    /// The token of a device that doesn't take the controller role.
     Decline,
 }
 
 impl Field {
     ghost use Rattle.i3c_lines.specs.Faults.{IsField};
 
-    /// Whether a word has this field's form.
-    pub(crate) fn fits(self, word: &[u8]) -> bool
-        ensures { IsTrue result ↔ IsField self word.now }
+    /// Whether a token has this field's form.
+    pub(crate) fn fits(self, token: &[u8]) -> bool
+        ensures { IsTrue result ↔ IsField self token.now }
     {
         match self {
-            Field::Name => Name::parse(word).is_some(),
-            Field::Pid => tokens::pid(word).is_some(),
-            Field::Bcr | Field::Dcr | Field::Lvr | Field::Byte => tokens::byte(word).is_some(),
-            Field::Addr | Field::Old | Field::New => tokens::address(word).is_some(),
-            Field::Bytes => !word.is_empty() && tokens::bytes(word).is_some(),
-            Field::Bit => tokens::bit(word).is_some(),
-            Field::Count => tokens::count(word).is_some(),
-            Field::Length => tokens::length(word).is_some(),
-            Field::Place => tokens::place(word).is_some(),
-            Field::Policy => is_first(word),
-            Field::Kind => is_kind(word),
-            Field::Decline => is_word(word, DECLINE),
-            Field::Shown => is_word(word, ALL) || tokens::place(word).is_some(),
+            Field::Name => Name::parse(token).is_some(),
+            Field::Pid => tokens::pid(token).is_some(),
+            Field::Bcr | Field::Dcr | Field::Lvr | Field::Byte => tokens::byte(token).is_some(),
+            Field::Addr | Field::Old | Field::New => tokens::address(token).is_some(),
+            Field::Bytes => !token.is_empty() && tokens::bytes(token).is_some(),
+            Field::Bit => tokens::bit(token).is_some(),
+            Field::Count => tokens::count(token).is_some(),
+            Field::Length => tokens::length(token).is_some(),
+            Field::Place => tokens::place(token).is_some(),
+            Field::Policy => is_first(token),
+            Field::Kind => is_kind(token),
+            Field::Decline => is_token(token, DECLINE),
+            Field::Shown => is_token(token, ALL) || tokens::place(token).is_some(),
         }
     }
 
-    /// What the documents call it. A word that can only be one or be left out is called nothing.
+    /// What the documents call it. A token that can only be one or be left out is called nothing.
     pub(crate) fn label(self) -> &'static str {
         match self {
             Field::Name => "NAME",

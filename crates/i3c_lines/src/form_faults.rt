@@ -7,7 +7,7 @@ use crate::line::{LINE_LENGTH, read_line};
 use crate::names::Name;
 use crate::policies::{ALL, BUT, EXCEPTED, REFUSE_ALL, accept};
 use crate::shapes::{Shape, nearest, shape_of};
-use crate::tokens::{SPACE, Tokens, after, is_word};
+use crate::tokens::{SPACE, Tokens, after, is_token};
 use arrayvec::ArrayVec;
 use i3c_text::Text;
 use std::alloc::{AllocError, Global};
@@ -18,7 +18,7 @@ const MARK: &[u8] = b"\xEF\xBB\xBF";
 /// What some editors put before a line feed.
 const RETURN: u8 = b'\r';
 
-/// A tab, which parts no words.
+/// A tab, which parts no tokens.
 const TAB: u8 = b'\t';
 
 /// What stands for a byte that doesn't print.
@@ -41,15 +41,15 @@ pub enum FormFault<'a> {
     TwoSpaces,
     /// It ends in a space.
     LastSpace,
-    /// No command begins with this word.
+    /// No command begins with this token.
     Unknown(&'a [u8]),
-    /// No word is left for this field.
+    /// No token is left for this field.
     Missing(Field),
-    /// This word hasn't its field's form.
+    /// This token hasn't its field's form.
     Misfit(Field, &'a [u8]),
-    /// This word is one too many.
+    /// This token is one too many.
     Surplus(&'a [u8]),
-    /// This word names a kind of request, or a device, that a word before it names.
+    /// This token names a kind of request, or a device, that a token before it names.
     Repeated(&'a [u8]),
 }
 
@@ -74,12 +74,12 @@ fn diagnose(line: &[u8]) -> FormFault<'_>
     if let Some(fault) = stray_byte(line) {
         return fault;
     }
-    let mut words = Tokens::of(line);
-    let Some(first) = words.next() else {
+    let mut tokens = Tokens::of(line);
+    let Some(first) = tokens.next() else {
         unreachable!()
     };
     match shape_of(first) {
-        Some(shape) => misfit(first, shape, &mut words),
+        Some(shape) => misfit(first, shape, &mut tokens),
         None => FormFault::Unknown(first),
     }
 }
@@ -105,74 +105,74 @@ fn stray_byte(line: &[u8]) -> Option<FormFault<'_>>
     }
 }
 
-/// The first of the words behind a command's first that isn't as its shape has it.
-fn misfit<'a>(first: &'a [u8], shape: &Shape, words: &mut Tokens<'a>) -> FormFault<'a>
+/// The first of the tokens behind a command's first that isn't as its shape has it.
+fn misfit<'a>(first: &'a [u8], shape: &Shape, tokens: &mut Tokens<'a>) -> FormFault<'a>
     ensures { (line : List ℕ) → IsSo line result }
 {
-    let mut kinds = *words;
+    let mut kinds = *tokens;
     for field in shape.needed {
-        let Some(word) = words.next() else {
+        let Some(token) = tokens.next() else {
             return FormFault::Missing(*field);
         };
-        if let Some(fault) = misfit_at(*field, word) {
+        if let Some(fault) = misfit_at(*field, token) {
             return fault;
         }
     }
     match shape.further {
         Some(Field::Kind) => kind_misfit(first, &mut kinds),
-        further => last_misfit(first, further, words),
+        further => last_misfit(first, further, tokens),
     }
 }
 
-/// The first of a policy's words that may not follow those before it.
-fn kind_misfit<'a>(first: &'a [u8], words: &mut Tokens<'a>) -> FormFault<'a>
+/// The first of a policy's tokens that may not follow those before it.
+fn kind_misfit<'a>(first: &'a [u8], tokens: &mut Tokens<'a>) -> FormFault<'a>
     ensures { (line : List ℕ) → IsSo line result }
 {
-    let Some(word) = words.next() else {
+    let Some(token) = tokens.next() else {
         return FormFault::Unknown(first);
     };
-    if is_word(word, ALL) {
-        return behind_all(first, words);
+    if is_token(token, ALL) {
+        return behind_all(first, tokens);
     }
-    let Some(mut policy) = accept(REFUSE_ALL, word) else {
+    let Some(mut policy) = accept(REFUSE_ALL, token) else {
         // `none`, behind which nothing follows
-        return last_misfit(first, None, words);
+        return last_misfit(first, None, tokens);
     };
-    while let Some(word) = words.next() {
-        if is_word(word, BUT) {
-            return names_misfit(first, words);
+    while let Some(token) = tokens.next() {
+        if is_token(token, BUT) {
+            return names_misfit(first, tokens);
         }
-        if let Some(fault) = misfit_at(Field::Kind, word) {
+        if let Some(fault) = misfit_at(Field::Kind, token) {
             return fault;
         }
-        match accept(policy, word) {
+        match accept(policy, token) {
             Some(next) => policy = next,
-            None => return FormFault::Repeated(word),
+            None => return FormFault::Repeated(token),
         }
     }
     FormFault::Unknown(first)
 }
 
-/// The first of the words behind a policy's `all` that may not stand there.
-fn behind_all<'a>(first: &'a [u8], words: &mut Tokens<'a>) -> FormFault<'a>
+/// The first of the tokens behind a policy's `all` that may not stand there.
+fn behind_all<'a>(first: &'a [u8], tokens: &mut Tokens<'a>) -> FormFault<'a>
     ensures { (line : List ℕ) → IsSo line result }
 {
-    let Some(word) = words.next() else {
+    let Some(token) = tokens.next() else {
         return FormFault::Unknown(first);
     };
-    if is_word(word, BUT) {
-        return names_misfit(first, words);
+    if is_token(token, BUT) {
+        return names_misfit(first, tokens);
     }
-    surplus(word)
+    surplus(token)
 }
 
-/// The first of the words behind a policy's `but` that may not follow those before it.
-fn names_misfit<'a>(first: &'a [u8], words: &mut Tokens<'a>) -> FormFault<'a>
+/// The first of the tokens behind a policy's `but` that may not follow those before it.
+fn names_misfit<'a>(first: &'a [u8], tokens: &mut Tokens<'a>) -> FormFault<'a>
     ensures { (line : List ℕ) → IsSo line result }
 {
     let mut names = ArrayVec::new();
-    while let Some(word) = words.next() {
-        if let Some(fault) = misfit_among(&mut names, word) {
+    while let Some(token) = tokens.next() {
+        if let Some(fault) = misfit_among(&mut names, token) {
             return fault;
         }
     }
@@ -183,68 +183,72 @@ fn names_misfit<'a>(first: &'a [u8], words: &mut Tokens<'a>) -> FormFault<'a>
 }
 
 /// What is wrong with a name behind others, if anything is. Otherwise it joins them.
-fn misfit_among<'a>(names: &mut ArrayVec<Name, EXCEPTED>, word: &'a [u8]) -> Option<FormFault<'a>>
+fn misfit_among<'a>(names: &mut ArrayVec<Name, EXCEPTED>, token: &'a [u8]) -> Option<FormFault<'a>>
     ensures { IfSome result (λ fault. (line : List ℕ) → IsSo line fault) }
 {
-    let Some(name) = Name::parse(word) else {
-        return misfit_at(Field::Name, word);
+    let Some(name) = Name::parse(token) else {
+        return misfit_at(Field::Name, token);
     };
     if names.contains(&name) {
-        return Some(FormFault::Repeated(word));
+        return Some(FormFault::Repeated(token));
     }
     if names.is_full() {
-        return Some(FormFault::Surplus(word));
+        return Some(FormFault::Surplus(token));
     }
     names.push(name);
     None
 }
 
-/// The first of the words behind those that a command needs that isn't as its shape has it.
-fn last_misfit<'a>(first: &'a [u8], further: Option<Field>, words: &mut Tokens<'a>) -> FormFault<'a>
+/// The first of the tokens behind those that a command needs that isn't as its shape has it.
+fn last_misfit<'a>(
+    first: &'a [u8],
+    further: Option<Field>,
+    tokens: &mut Tokens<'a>,
+) -> FormFault<'a>
     ensures { (line : List ℕ) → IsSo line result }
 {
-    // where each word is as its shape has it, the line has a form, and nobody asks
-    let Some(word) = words.next() else {
+    // where each token is as its shape has it, the line has a form, and nobody asks
+    let Some(token) = tokens.next() else {
         return FormFault::Unknown(first);
     };
     let Some(field) = further else {
-        return surplus(word);
+        return surplus(token);
     };
-    if let Some(fault) = misfit_at(field, word) {
+    if let Some(fault) = misfit_at(field, token) {
         return fault;
     }
-    match words.next() {
-        Some(word) => surplus(word),
+    match tokens.next() {
+        Some(token) => surplus(token),
         None => FormFault::Unknown(first),
     }
 }
 
-/// What is wrong with a field's word, if anything is.
-fn misfit_at(field: Field, word: &[u8]) -> Option<FormFault<'_>>
+/// What is wrong with a field's token, if anything is.
+fn misfit_at(field: Field, token: &[u8]) -> Option<FormFault<'_>>
     ensures { IfSome result (λ fault. (line : List ℕ) → IsSo line fault) }
 {
-    if word.is_empty() {
+    if token.is_empty() {
         return Some(FormFault::TwoSpaces);
     }
-    if field.fits(word) {
+    if field.fits(token) {
         return None;
     }
-    Some(FormFault::Misfit(field, word))
+    Some(FormFault::Misfit(field, token))
 }
 
-/// A word that is one too many.
-fn surplus(word: &[u8]) -> FormFault<'_>
+/// A token that is one too many.
+fn surplus(token: &[u8]) -> FormFault<'_>
     ensures { (line : List ℕ) → IsSo line result }
 {
-    if word.is_empty() {
+    if token.is_empty() {
         FormFault::TwoSpaces
     } else {
-        FormFault::Surplus(word)
+        FormFault::Surplus(token)
     }
 }
 
 impl FormFault<'_> {
-    /// Appends it to a text: the word, and what was expected there.
+    /// Appends it to a text: the token, and what was expected there.
     pub fn push(&self, alloc: Global, text: &mut Text) -> Result<(), AllocError> {
         match self {
             FormFault::TooLong => text.push(b"longer than 256 bytes"),
@@ -254,26 +258,26 @@ impl FormFault<'_> {
             FormFault::FirstSpace => text.push(b"begins with a space"),
             FormFault::TwoSpaces => text.push(b"has two spaces in a row, where one parts words"),
             FormFault::LastSpace => text.push(b"ends in a space"),
-            FormFault::Unknown(word) => push_unknown(alloc, word, text),
+            FormFault::Unknown(token) => push_unknown(alloc, token, text),
             FormFault::Missing(field) => push_missing(*field, text),
-            FormFault::Misfit(field, word) => push_misfit(*field, word, text),
-            FormFault::Surplus(word) => {
-                push_quoted(word, text)?;
+            FormFault::Misfit(field, token) => push_misfit(*field, token, text),
+            FormFault::Surplus(token) => {
+                push_quoted(token, text)?;
                 text.push(b": a word too many")
             }
-            FormFault::Repeated(word) => {
-                push_quoted(word, text)?;
+            FormFault::Repeated(token) => {
+                push_quoted(token, text)?;
                 text.push(b": named twice")
             }
         }
     }
 }
 
-/// Appends that no command has this word, and the nearest that one has.
-fn push_unknown(alloc: Global, word: &[u8], text: &mut Text) -> Result<(), AllocError> {
-    push_quoted(word, text)?;
+/// Appends that no command has this token, and the nearest that one has.
+fn push_unknown(alloc: Global, token: &[u8], text: &mut Text) -> Result<(), AllocError> {
+    push_quoted(token, text)?;
     text.push(b": no command")?;
-    match nearest(alloc, word)? {
+    match nearest(alloc, token)? {
         Some(near) => {
             text.push(b"; the nearest is ")?;
             push_quoted(near.as_bytes(), text)
@@ -282,42 +286,42 @@ fn push_unknown(alloc: Global, word: &[u8], text: &mut Text) -> Result<(), Alloc
     }
 }
 
-/// Appends that a field's word is missing.
+/// Appends that a field's token is missing.
 fn push_missing(field: Field, text: &mut Text) -> Result<(), AllocError> {
     text.push(field.label().as_bytes())?;
     text.push(b" is missing: ")?;
     text.push(field.expected().as_bytes())
 }
 
-/// Appends a field's word, and what was expected in its place.
-fn push_misfit(field: Field, word: &[u8], text: &mut Text) -> Result<(), AllocError> {
+/// Appends a field's token, and what was expected in its place.
+fn push_misfit(field: Field, token: &[u8], text: &mut Text) -> Result<(), AllocError> {
     let label = field.label();
     if !label.is_empty() {
         text.push(label.as_bytes())?;
         text.push(b" ")?;
     }
-    push_quoted(word, text)?;
+    push_quoted(token, text)?;
     text.push(b": ")?;
-    text.push(lesson(field, word).as_bytes())
+    text.push(lesson(field, token).as_bytes())
 }
 
-/// What is to be learned of a word that hasn't its field's form.
-fn lesson(field: Field, word: &[u8]) -> &'static str {
-    if field.is_hexadecimal() && word.starts_with(b"0x") {
+/// What is to be learned of a token that hasn't its field's form.
+fn lesson(field: Field, token: &[u8]) -> &'static str {
+    if field.is_hexadecimal() && token.starts_with(b"0x") {
         return "hexadecimal digits in capitals, without 0x";
     }
     match field {
-        Field::Name if word.len() > 16 => "longer than 16 letters",
-        Field::Addr | Field::Old | Field::New if Field::Byte.fits(word) => "above 7F",
-        Field::Bit if word.iter().all(u8::is_ascii_digit) => "above 65535",
+        Field::Name if token.len() > 16 => "longer than 16 letters",
+        Field::Addr | Field::Old | Field::New if Field::Byte.fits(token) => "above 7F",
+        Field::Bit if token.iter().all(u8::is_ascii_digit) => "above 65535",
         _ => field.expected(),
     }
 }
 
-/// Appends a word between quotes. What doesn't print is a question mark.
-pub fn push_quoted(word: &[u8], text: &mut Text) -> Result<(), AllocError> {
+/// Appends a token between quotes. What doesn't print is a question mark.
+pub fn push_quoted(token: &[u8], text: &mut Text) -> Result<(), AllocError> {
     text.push(b"'")?;
-    for byte in word {
+    for byte in token {
         text.push(&[printed(*byte)])?;
     }
     text.push(b"'")

@@ -1,7 +1,7 @@
-//! What a script's line says by itself: its words, its command, the names that it gives, and why it is refused.
+//! What a script's line says by itself: its tokens, its command, the names that it gives, and why it is refused.
 //!
-//! `tokens` reads one word, `command` a line of text, `line` a line of bytes, which may come in pieces. `names` keeps what the names of a script
-//! stand for, and `namings` which names a command gives and means. `policies` are the words that name a policy,
+//! `tokens` reads one token, `command` a line of text, `line` a line of bytes, which may come in pieces. `names` keeps what the names of a script
+//! stand for, and `namings` which names a command gives and means. `policies` are the tokens that name a policy,
 //! and `data` those of what a controller asks for, and of the lengths that it sets. `capitals` writes a line's hexadecimal
 //! digits in capitals.
 //! `form_faults` says why a line has no form, by the `fields` and the `shapes` of the commands. `laws` are theorems over all
@@ -25,7 +25,7 @@ pub mod tokens;
 
 pub use capitals::push_capitals;
 pub use command::Command;
-pub use data::{datum, length_word, told_word};
+pub use data::{datum, length_token, told_token};
 pub use fields::Field;
 pub use form_faults::{FormFault, form_fault, push_quoted};
 pub use laws::{

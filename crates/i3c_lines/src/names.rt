@@ -1,6 +1,6 @@
 ghost use Rattle.std.specs.Prelude.{◌≡◌, ◌<◌, ◌≤◌, ◌-◌, ◌↔◌, ◌++◌, All, IsTrue, IsSome, IfSome, drop, length, replicate, slice_index_or, take};
 ghost use Rattle.std.specs.Prelude.{length as place_count};
-ghost use Rattle.i3c_lines.specs.Words.{IsNameLetter};
+ghost use Rattle.i3c_lines.specs.Tokens.{IsNameLetter};
 ghost use Rattle.i3c_lines.specs.declared.names.TheConstants.{NAME_LENGTH};
 
 use crate::refusals::Refusal;
@@ -51,24 +51,24 @@ impl Name {
     ghost use Rattle.std.specs.Prelude.{ℕ, List, Option, IsNone, option_copied};
     ghost use Rattle.i3c_lines.specs.Naming.{letters};
     ghost use Rattle.i3c_lines.specs.Parsing.{joined};
-    ghost use Rattle.i3c_lines.specs.Words.{IsName};
+    ghost use Rattle.i3c_lines.specs.Tokens.{IsName};
 
-    /// The name that a word is, if it has a name's form.
-    pub fn parse(word: &[u8]) -> Option<Name>
-        ensures form { IsSome result ↔ IsName NAME_LENGTH word.now }
-        ensures same { IfSome result (λ name. letters name ≡ word.now) }
+    /// The name that a token is, if it has a name's form.
+    pub fn parse(token: &[u8]) -> Option<Name>
+        ensures form { IsSome result ↔ IsName NAME_LENGTH token.now }
+        ensures same { IfSome result (λ name. letters name ≡ token.now) }
     {
-        let name = Name::leading(word);
-        if word.is_empty() || usize::from(name.length) != word.len() {
+        let name = Name::leading(token);
+        if token.is_empty() || usize::from(name.length) != token.len() {
             return None;
         }
         Some(name)
     }
 
-    /// The name that is a line's first word, and the line behind its space if there is one.
+    /// The name that is a line's first token, and the line behind its space if there is one.
     #[inline(always)]
     pub(crate) fn split_from(line: &[u8]) -> Option<(Name, Option<&[u8]>)>
-        ensures none { IsNone result → (word : List ℕ) (rest : Option (List ℕ)) → IsName NAME_LENGTH word → line.now ≡ joined word rest → ⊥ }
+        ensures none { IsNone result → (token : List ℕ) (rest : Option (List ℕ)) → IsName NAME_LENGTH token → line.now ≡ joined token rest → ⊥ }
         ensures name { IfSome result (λ parts. IsName NAME_LENGTH (letters parts.0)) }
         ensures split { IfSome result (λ parts. line.now ≡ joined (letters parts.0) (option_copied parts.1)) }
     {

@@ -1,12 +1,12 @@
 ghost use Rattle.std.specs.Prelude.{◌≡◌, ◌↔◌, ◌⊎◌, IsTrue, MatchOption};
 ghost use Rattle.i3c_lines.specs.Forms.{AreExcepted, IsPolicyBut};
-ghost use Rattle.i3c_lines.specs.Parsing.{AcceptsUntilBut, GoOn, Reads, TakesPolicy, left_words};
+ghost use Rattle.i3c_lines.specs.Parsing.{AcceptsUntilBut, GoOn, Reads, TakesPolicy, left_tokens};
 ghost use Rattle.i3c_lines.specs.Policies.{AcceptEach, Accepts, IsAlone, IsPolicy, each_kind};
 ghost use Rattle.i3c_base.specs.declared.requests.Fixed.{Fixed};
 ghost use Rattle.i3c_base.specs.declared.requests.Verdict.TheVariants.{Accept, Refuse};
 
 use crate::names::Name;
-use crate::tokens::{Tokens, is_word};
+use crate::tokens::{Tokens, is_token};
 use arrayvec::ArrayVec;
 use i3c_base::{Fixed, Verdict};
 
@@ -37,120 +37,120 @@ const ROLES: &[u8] = b"roles";
 
 const INTERRUPTS: &[u8] = b"interrupts";
 
-/// The word in front of the names that a policy excepts.
+/// The token in front of the names that a policy excepts.
 pub(crate) const BUT: &[u8] = b"but";
 
-/// The policy that words name: `all` or `none` alone, or the kinds of requests that alone are accepted, each once.
-pub(crate) fn policy(words: &mut Tokens<'_>) -> Option<Fixed>
-    ensures { Reads IsPolicy (left_words words.old) result }
+/// The policy that tokens name: `all` or `none` alone, or the kinds of requests that alone are accepted, each once.
+pub(crate) fn policy(tokens: &mut Tokens<'_>) -> Option<Fixed>
+    ensures { Reads IsPolicy (left_tokens tokens.old) result }
 {
-    let first = words.next()?;
+    let first = tokens.next()?;
     match alone(first) {
         Some(policy) => {
-            words.end()?;
+            tokens.end()?;
             Some(policy)
         }
-        None => accept_each(accept(REFUSE_ALL, first)?, words),
+        None => accept_each(accept(REFUSE_ALL, first)?, tokens),
     }
 }
 
-/// The policy that words name in front of the first `but`, and the names behind it.
-pub(crate) fn policy_but(words: &mut Tokens<'_>) -> Option<(Fixed, ArrayVec<Name, EXCEPTED>)>
-    ensures { Reads (λ words parts. IsPolicyBut words parts.0 parts.1.items) (left_words words.old) result }
+/// The policy that tokens name in front of the first `but`, and the names behind it.
+pub(crate) fn policy_but(tokens: &mut Tokens<'_>) -> Option<(Fixed, ArrayVec<Name, EXCEPTED>)>
+    ensures { Reads (λ tokens parts. IsPolicyBut tokens parts.0 parts.1.items) (left_tokens tokens.old) result }
 {
-    let kinds = policy_before_but(words)?;
-    let names = excepted(words)?;
+    let kinds = policy_before_but(tokens)?;
+    let names = excepted(tokens)?;
     Some((kinds, names))
 }
 
-/// The policy that words name in front of the first `but`, which accepts some kind.
-fn policy_before_but(words: &mut Tokens<'_>) -> Option<Fixed>
-    ensures { TakesPolicy (left_words words.old) (left_words words.new) result }
+/// The policy that tokens name in front of the first `but`, which accepts some kind.
+fn policy_before_but(tokens: &mut Tokens<'_>) -> Option<Fixed>
+    ensures { TakesPolicy (left_tokens tokens.old) (left_tokens tokens.new) result }
 {
-    let first = words.next()?;
-    if is_word(first, ALL) {
-        return accept_until_but(ACCEPT_ALL, words);
+    let first = tokens.next()?;
+    if is_token(first, ALL) {
+        return accept_until_but(ACCEPT_ALL, tokens);
     }
     let policy = accept(REFUSE_ALL, first)?;
-    accept_until_but(policy, words)
+    accept_until_but(policy, tokens)
 }
 
-/// A policy that accepts the kinds of more words as well, up to the first `but`.
-fn accept_until_but(policy: Fixed, words: &mut Tokens<'_>) -> Option<Fixed>
-    ensures { AcceptsUntilBut policy (left_words words.old) (left_words words.new) result }
+/// A policy that accepts the kinds of more tokens as well, up to the first `but`.
+fn accept_until_but(policy: Fixed, tokens: &mut Tokens<'_>) -> Option<Fixed>
+    ensures { AcceptsUntilBut policy (left_tokens tokens.old) (left_tokens tokens.new) result }
 {
-    let word = words.next()?;
-    if is_word(word, BUT) {
+    let token = tokens.next()?;
+    if is_token(token, BUT) {
         return Some(policy);
     }
-    let next = accept(policy, word)?;
-    accept_until_but(next, words)
+    let next = accept(policy, token)?;
+    accept_until_but(next, tokens)
 }
 
 /// The names of the devices that a policy excepts, each once.
-fn excepted(words: &mut Tokens<'_>) -> Option<ArrayVec<Name, EXCEPTED>>
-    ensures { Reads (λ words names. AreExcepted words names.items) (left_words words.old) result }
+fn excepted(tokens: &mut Tokens<'_>) -> Option<ArrayVec<Name, EXCEPTED>>
+    ensures { Reads (λ tokens names. AreExcepted tokens names.items) (left_tokens tokens.old) result }
 {
     let mut names = ArrayVec::new();
-    push_names(words, &mut names)?;
+    push_names(tokens, &mut names)?;
     match names.len() {
         0 => None,
         _ => Some(names),
     }
 }
 
-/// Appends the names of more words, as long as there is a place and none stands twice.
-fn push_names(words: &mut Tokens<'_>, names: &mut ArrayVec<Name, EXCEPTED>) -> Option<()>
-    ensures { GoOn (left_words words.old) names.old.items names.new.items result }
+/// Appends the names of more tokens, as long as there is a place and none stands twice.
+fn push_names(tokens: &mut Tokens<'_>, names: &mut ArrayVec<Name, EXCEPTED>) -> Option<()>
+    ensures { GoOn (left_tokens tokens.old) names.old.items names.new.items result }
 {
-    let Some(word) = words.next() else {
+    let Some(token) = tokens.next() else {
         return Some(());
     };
-    let name = Name::parse(word)?;
+    let name = Name::parse(token)?;
     if names.is_full() || names.contains(&name) {
         return None;
     }
     names.push(name);
-    push_names(words, names)
+    push_names(tokens, names)
 }
 
-/// The policy of a word that stands alone.
-pub(crate) fn alone(word: &[u8]) -> Option<Fixed>
-    ensures { MatchOption result ((policy : Fixed) → IsAlone word.now policy → ⊥) (λ policy. IsAlone word.now policy) }
+/// The policy of a token that stands alone.
+pub(crate) fn alone(token: &[u8]) -> Option<Fixed>
+    ensures { MatchOption result ((policy : Fixed) → IsAlone token.now policy → ⊥) (λ policy. IsAlone token.now policy) }
 {
-    if is_word(word, ALL) {
+    if is_token(token, ALL) {
         return Some(ACCEPT_ALL);
     }
-    if is_word(word, NONE) {
+    if is_token(token, NONE) {
         return Some(REFUSE_ALL);
     }
     None
 }
 
-/// A policy that accepts the kinds of more words as well.
-fn accept_each(policy: Fixed, words: &mut Tokens<'_>) -> Option<Fixed>
-    ensures { Reads (λ words new. AcceptEach words policy new) (left_words words.old) result }
+/// A policy that accepts the kinds of more tokens as well.
+fn accept_each(policy: Fixed, tokens: &mut Tokens<'_>) -> Option<Fixed>
+    ensures { Reads (λ tokens new. AcceptEach tokens policy new) (left_tokens tokens.old) result }
 {
-    let Some(word) = words.next() else {
+    let Some(token) = tokens.next() else {
         return Some(policy);
     };
-    let next = accept(policy, word)?;
-    accept_each(next, words)
+    let next = accept(policy, token)?;
+    accept_each(next, tokens)
 }
 
-/// A policy that accepts a word's kind as well, which it turned down.
-pub(crate) fn accept(policy: Fixed, word: &[u8]) -> Option<Fixed>
-    ensures { MatchOption result ((next : Fixed) → Accepts word.now policy next → ⊥) (λ next. Accepts word.now policy next) }
+/// A policy that accepts a token's kind as well, which it turned down.
+pub(crate) fn accept(policy: Fixed, token: &[u8]) -> Option<Fixed>
+    ensures { MatchOption result ((next : Fixed) → Accepts token.now policy next → ⊥) (λ next. Accepts token.now policy next) }
 {
-    if is_word(word, JOINS) {
+    if is_token(token, JOINS) {
         let join = accept_once(policy.join)?;
         return Some(Fixed { join, ..policy });
     }
-    if is_word(word, ROLES) {
+    if is_token(token, ROLES) {
         let role = accept_once(policy.role)?;
         return Some(Fixed { role, ..policy });
     }
-    if is_word(word, INTERRUPTS) {
+    if is_token(token, INTERRUPTS) {
         let interrupt = accept_once(policy.interrupt)?;
         return Some(Fixed {
             interrupt,
@@ -170,22 +170,22 @@ fn accept_once(verdict: Verdict) -> Option<Verdict>
     }
 }
 
-/// Whether a word names a kind of request.
-pub(crate) fn is_kind(word: &[u8]) -> bool
-    ensures { IsTrue result ↔ ((policy : Fixed) × Accepts word.now (each_kind Refuse) policy) }
+/// Whether a token names a kind of request.
+pub(crate) fn is_kind(token: &[u8]) -> bool
+    ensures { IsTrue result ↔ ((policy : Fixed) × Accepts token.now (each_kind Refuse) policy) }
 {
-    match accept(REFUSE_ALL, word) {
+    match accept(REFUSE_ALL, token) {
         Some(_) => true,
         None => false,
     }
 }
 
-/// Whether a word can be the first of a policy's.
-pub(crate) fn is_first(word: &[u8]) -> bool
-    ensures { IsTrue result ↔ ((policy : Fixed) × (IsAlone word.now policy ⊎ Accepts word.now (each_kind Refuse) policy)) }
+/// Whether a token can be the first of a policy's.
+pub(crate) fn is_first(token: &[u8]) -> bool
+    ensures { IsTrue result ↔ ((policy : Fixed) × (IsAlone token.now policy ⊎ Accepts token.now (each_kind Refuse) policy)) }
 {
-    match alone(word) {
+    match alone(token) {
         Some(_) => true,
-        None => is_kind(word),
+        None => is_kind(token),
     }
 }

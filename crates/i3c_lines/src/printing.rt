@@ -1,13 +1,13 @@
 ghost use Rattle.std.specs.Prelude.{◌≡◌, [], ◌∷◌, ◌++◌, OnOk, codes, map};
 ghost use Rattle.std.specs.Fmt.{decimal};
-ghost use Rattle.i3c_lines.specs.Forms.{willing_words};
+ghost use Rattle.i3c_lines.specs.Forms.{willing_tokens};
 ghost use Rattle.i3c_text.specs.Hex.{byte_text, hex_text};
-ghost use Rattle.i3c_lines.specs.Data.{datum_word, length_word};
+ghost use Rattle.i3c_lines.specs.Data.{datum_token, length_token};
 ghost use Rattle.i3c_lines.specs.Naming.{letters};
-ghost use Rattle.i3c_lines.specs.Printing.{behind, but_words, byte_words, command_text, device_words, frame_words, identity_words, spaced, verdicts_words, written_words};
+ghost use Rattle.i3c_lines.specs.Printing.{behind, but_tokens, byte_tokens, command_text, device_tokens, frame_tokens, identity_tokens, spaced, verdicts_tokens, written_tokens};
 
 use crate::command::Command;
-use crate::data::{length_word, told_word};
+use crate::data::{length_token, told_token};
 use crate::names::Name;
 use bitflags::Flags;
 use i3c_base::{Addr7, Datum, Direction, Fixed, Identity, Kinds, Length, Lvr, Pid, Setup, Verdict};
@@ -48,12 +48,12 @@ impl Command {
     }
 }
 
-/// Appends a word behind a space.
-fn push_word(text: &mut Text, word: &[u8]) -> Result<(), AllocError>
-    ensures { OnOk result (text.new ≡ text.old ++ behind (word.now ∷ [])) }
+/// Appends a token behind a space.
+fn push_token(text: &mut Text, token: &[u8]) -> Result<(), AllocError>
+    ensures { OnOk result (text.new ≡ text.old ++ behind (token.now ∷ [])) }
 {
     text.push(b" ")?;
-    text.push(word)
+    text.push(token)
 }
 
 /// Appends a byte behind a space.
@@ -72,15 +72,15 @@ fn push_pid(text: &mut Text, pid: Pid) -> Result<(), AllocError>
     text.push_pid(pid)
 }
 
-/// Appends a first word, and a name.
+/// Appends a first token, and a name.
 fn push_named(text: &mut Text, first: &[u8], name: &Name) -> Result<(), AllocError>
     ensures { OnOk result (text.new ≡ text.old ++ spaced (first.now ∷ letters name.now ∷ [])) }
 {
     text.push(first)?;
-    push_word(text, name.as_bytes())
+    push_token(text, name.as_bytes())
 }
 
-/// Appends a first word, and an address.
+/// Appends a first token, and an address.
 fn push_addressed(text: &mut Text, first: &[u8], address: Addr7) -> Result<(), AllocError>
     ensures { OnOk result (text.new ≡ text.old ++ spaced (first.now ∷ byte_text address ∷ [])) }
 {
@@ -97,9 +97,9 @@ fn push_legacy(text: &mut Text, name: &Name, address: Addr7, lvr: Lvr) -> Result
     push_byte(text, lvr.0)
 }
 
-/// Appends an identity's three words, each behind a space.
+/// Appends an identity's three tokens, each behind a space.
 fn push_identity(text: &mut Text, identity: &Identity) -> Result<(), AllocError>
-    ensures { OnOk result (text.new ≡ text.old ++ behind (identity_words identity.now)) }
+    ensures { OnOk result (text.new ≡ text.old ++ behind (identity_tokens identity.now)) }
 {
     push_pid(text, identity.pid)?;
     push_byte(text, identity.bcr.0)?;
@@ -108,15 +108,15 @@ fn push_identity(text: &mut Text, identity: &Identity) -> Result<(), AllocError>
 
 /// Appends a declaration of an identity.
 fn push_declare(text: &mut Text, address: Addr7, identity: &Identity) -> Result<(), AllocError>
-    ensures { OnOk result (text.new ≡ text.old ++ spaced (codes "declare" ∷ byte_text address ∷ identity_words identity.now)) }
+    ensures { OnOk result (text.new ≡ text.old ++ spaced (codes "declare" ∷ byte_text address ∷ identity_tokens identity.now)) }
 {
     push_addressed(text, b"declare", address)?;
     push_identity(text, identity)
 }
 
-/// Appends a first word, and a device's words.
+/// Appends a first token, and a device's tokens.
 fn push_device(text: &mut Text, first: &[u8], name: &Name, setup: &Setup) -> Result<(), AllocError>
-    ensures { OnOk result (text.new ≡ text.old ++ spaced (first.now ∷ device_words name.now setup.now)) }
+    ensures { OnOk result (text.new ≡ text.old ++ spaced (first.now ∷ device_tokens name.now setup.now)) }
 {
     push_named(text, first, name)?;
     push_identity(text, &setup.identity)?;
@@ -125,18 +125,18 @@ fn push_device(text: &mut Text, first: &[u8], name: &Name, setup: &Setup) -> Res
 
 /// Appends `decline` for a device that doesn't take the controller role.
 fn push_willing(text: &mut Text, willing: bool) -> Result<(), AllocError>
-    ensures { OnOk result (text.new ≡ text.old ++ behind (willing_words willing)) }
+    ensures { OnOk result (text.new ≡ text.old ++ behind (willing_tokens willing)) }
 {
     if willing {
         Ok(())
     } else {
-        push_word(text, b"decline")
+        push_token(text, b"decline")
     }
 }
 
 /// Appends a raise.
 fn push_raise(text: &mut Text, name: &Name, byte: Option<u8>) -> Result<(), AllocError>
-    ensures { OnOk result (text.new ≡ text.old ++ spaced (codes "raise" ∷ letters name.now ∷ byte_words byte)) }
+    ensures { OnOk result (text.new ≡ text.old ++ spaced (codes "raise" ∷ letters name.now ∷ byte_tokens byte)) }
 {
     push_named(text, b"raise", name)?;
     match byte {
@@ -147,7 +147,7 @@ fn push_raise(text: &mut Text, name: &Name, byte: Option<u8>) -> Result<(), Allo
 
 /// Appends a frame's line.
 fn push_frame(text: &mut Text, frame: &Frame) -> Result<(), AllocError>
-    ensures { OnOk result (text.new ≡ text.old ++ spaced (frame_words frame.now)) }
+    ensures { OnOk result (text.new ≡ text.old ++ spaced (frame_tokens frame.now)) }
 {
     match frame {
         Frame::Serve => text.push(b"serve"),
@@ -164,14 +164,14 @@ fn push_frame(text: &mut Text, frame: &Frame) -> Result<(), AllocError>
     }
 }
 
-/// Appends a first word, kinds of events, and an address if there is one.
+/// Appends a first token, kinds of events, and an address if there is one.
 fn push_kinds(
     text: &mut Text,
     first: &[u8],
     to: Option<Addr7>,
     kinds: &Kinds,
 ) -> Result<(), AllocError>
-    ensures { OnOk result (text.new ≡ text.old ++ spaced (first.now ∷ byte_text kinds.now.0 ∷ byte_words to)) }
+    ensures { OnOk result (text.new ≡ text.old ++ spaced (first.now ∷ byte_text kinds.now.0 ∷ byte_tokens to)) }
 {
     text.push(first)?;
     push_byte(text, kinds.bits())?;
@@ -183,7 +183,7 @@ fn push_kinds(
 
 /// Appends a private write.
 fn push_write(text: &mut Text, at: Addr7, bytes: &[u8]) -> Result<(), AllocError>
-    ensures { OnOk result (text.new ≡ text.old ++ spaced (codes "write" ∷ byte_text at ∷ written_words bytes.now)) }
+    ensures { OnOk result (text.new ≡ text.old ++ spaced (codes "write" ∷ byte_text at ∷ written_tokens bytes.now)) }
 {
     push_addressed(text, b"write", at)?;
     if bytes.is_empty() {
@@ -193,7 +193,7 @@ fn push_write(text: &mut Text, at: Addr7, bytes: &[u8]) -> Result<(), AllocError
     text.push_bytes(bytes)
 }
 
-/// Appends a first word, and two addresses.
+/// Appends a first token, and two addresses.
 fn push_setting(text: &mut Text, first: &[u8], at: Addr7, to: Addr7) -> Result<(), AllocError>
     ensures { OnOk result (text.new ≡ text.old ++ spaced (first.now ∷ byte_text at ∷ byte_text to ∷ [])) }
 {
@@ -203,10 +203,10 @@ fn push_setting(text: &mut Text, first: &[u8], at: Addr7, to: Addr7) -> Result<(
 
 /// Appends a question for a datum.
 fn push_get(text: &mut Text, what: Datum, at: Addr7) -> Result<(), AllocError>
-    ensures { OnOk result (text.new ≡ text.old ++ spaced (datum_word what ∷ byte_text at ∷ [])) }
+    ensures { OnOk result (text.new ≡ text.old ++ spaced (datum_token what ∷ byte_text at ∷ [])) }
 {
     text.push(b"get")?;
-    push_addressed(text, told_word(what).as_bytes(), at)
+    push_addressed(text, told_token(what).as_bytes(), at)
 }
 
 /// Appends a maximum length, and an address if there is one.
@@ -216,9 +216,9 @@ fn push_length(
     most: Length,
     to: Option<Addr7>,
 ) -> Result<(), AllocError>
-    ensures { OnOk result (text.new ≡ text.old ++ spaced (length_word way ∷ decimal most ∷ byte_words to)) }
+    ensures { OnOk result (text.new ≡ text.old ++ spaced (length_token way ∷ decimal most ∷ byte_tokens to)) }
 {
-    text.push(length_word(way).as_bytes())?;
+    text.push(length_token(way).as_bytes())?;
     text.push(b" ")?;
     text.push_decimal(u64::from(most.get()))?;
     match to {
@@ -229,21 +229,21 @@ fn push_length(
 
 /// Appends a policy's line.
 fn push_policy(text: &mut Text, policy: &Fixed) -> Result<(), AllocError>
-    ensures { OnOk result (text.new ≡ text.old ++ spaced (codes "policy" ∷ verdicts_words policy.now.join policy.now.role policy.now.interrupt)) }
+    ensures { OnOk result (text.new ≡ text.old ++ spaced (codes "policy" ∷ verdicts_tokens policy.now.join policy.now.role policy.now.interrupt)) }
 {
     text.push(b"policy")?;
-    push_word(
+    push_token(
         text,
-        verdicts_words(policy.join, policy.role, policy.interrupt).as_bytes(),
+        verdicts_tokens(policy.join, policy.role, policy.interrupt).as_bytes(),
     )
 }
 
 /// Appends the line of a policy with the devices that it excepts.
 fn push_policy_but(text: &mut Text, kinds: &Fixed, but: &[Name]) -> Result<(), AllocError>
-    ensures { OnOk result (text.new ≡ text.old ++ spaced (codes "policy" ∷ but_words kinds.now but.now)) }
+    ensures { OnOk result (text.new ≡ text.old ++ spaced (codes "policy" ∷ but_tokens kinds.now but.now)) }
 {
     push_policy(text, kinds)?;
-    push_word(text, b"but")?;
+    push_token(text, b"but")?;
     push_names(text, but)
 }
 
@@ -254,13 +254,13 @@ fn push_names(text: &mut Text, names: &[Name]) -> Result<(), AllocError>
     let Some((name, rest)) = names.split_first() else {
         return Ok(());
     };
-    push_word(text, name.as_bytes())?;
+    push_token(text, name.as_bytes())?;
     push_names(text, rest)
 }
 
-/// The words of a policy, with spaces between.
-fn verdicts_words(join: Verdict, role: Verdict, interrupt: Verdict) -> &'static str
-    ensures { result.now ≡ spaced (verdicts_words join role interrupt) }
+/// The tokens of a policy, with spaces between.
+fn verdicts_tokens(join: Verdict, role: Verdict, interrupt: Verdict) -> &'static str
+    ensures { result.now ≡ spaced (verdicts_tokens join role interrupt) }
 {
     match (join, role, interrupt) {
         (Verdict::Accept, Verdict::Accept, Verdict::Accept) => "all",
@@ -283,7 +283,7 @@ fn push_cut(text: &mut Text, name: &Name, bit: u16) -> Result<(), AllocError>
     text.push_decimal(u64::from(bit))
 }
 
-/// Appends a first word, and a count.
+/// Appends a first token, and a count.
 fn push_counted(text: &mut Text, first: &[u8], count: u64) -> Result<(), AllocError>
     ensures { OnOk result (text.new ≡ text.old ++ spaced (first.now ∷ decimal count ∷ [])) }
 {

@@ -1,9 +1,10 @@
 ghost use Rattle.std.specs.Prelude.{◌≡◌, ◌++◌, OnOk};
-ghost use Rattle.i3c_lines.specs.Refusing.{bus_word, declare_word, legacy_word};
+ghost use Rattle.i3c_text.specs.declared.stop.Stop.TheVariants.{Refused};
+ghost use Rattle.i3c_lines.specs.Refusing.{bus_token, declare_token, legacy_token};
 
 use i3c_legacy::{DeclareFault, LegacyFault};
 use i3c_step::Refusal as BusRefusal;
-use i3c_text::Text;
+use i3c_text::{Stop, Text};
 use std::alloc::AllocError;
 
 /// Why a line was refused. A refused line changes nothing but the cuts that wait, which a frame's line takes. It is
@@ -31,12 +32,20 @@ pub enum Refusal {
     NoEnd,
 }
 
+impl From<Refusal> for Stop<Refusal> {
+    ghost from_gives = { λ refusal stop. stop ≡ Refused refusal };
+
+    fn from(refusal: Refusal) -> Stop<Refusal> {
+        Stop::Refused(refusal)
+    }
+}
+
 impl Refusal {
-    ghost use Rattle.i3c_lines.specs.Refusing.{refusal_text, refusal_word};
+    ghost use Rattle.i3c_lines.specs.Refusing.{refusal_text, refusal_token};
 
     /// Its name, as it is printed.
-    pub fn word(&self) -> &'static str
-        ensures { result.now ≡ refusal_word self.now }
+    pub fn token(&self) -> &'static str
+        ensures { result.now ≡ refusal_token self.now }
     {
         match self {
             Refusal::BadLine => "BadLine",
@@ -44,9 +53,9 @@ impl Refusal {
             Refusal::BusMade => "BusMade",
             Refusal::NameTaken => "NameTaken",
             Refusal::NoName => "NoName",
-            Refusal::Legacy(fault) => legacy_word(fault),
-            Refusal::Declare(fault) => declare_word(fault),
-            Refusal::Bus(why) => bus_word(why),
+            Refusal::Legacy(fault) => legacy_token(fault),
+            Refusal::Declare(fault) => declare_token(fault),
+            Refusal::Bus(why) => bus_token(why),
             Refusal::NoEnd => "NoEnd",
         }
     }
@@ -55,7 +64,7 @@ impl Refusal {
     pub fn push(&self, text: &mut Text) -> Result<(), AllocError>
         ensures { OnOk result (text.new ≡ text.old ++ refusal_text self.now) }
     {
-        text.push(self.word().as_bytes())?;
+        text.push(self.token().as_bytes())?;
         match self {
             Refusal::Bus(BusRefusal::NoAnswer(address) | BusRefusal::BadAddress(address)) => {
                 text.push(b" ")?;
@@ -67,8 +76,8 @@ impl Refusal {
 }
 
 /// The name of a refused declaration of a legacy target.
-fn legacy_word(fault: &LegacyFault) -> &'static str
-    ensures { result.now ≡ legacy_word fault.now }
+fn legacy_token(fault: &LegacyFault) -> &'static str
+    ensures { result.now ≡ legacy_token fault.now }
 {
     match fault {
         LegacyFault::LegacyAddress => "LegacyAddress",
@@ -78,8 +87,8 @@ fn legacy_word(fault: &LegacyFault) -> &'static str
 }
 
 /// The name of a refused declaration of an identity.
-fn declare_word(fault: &DeclareFault) -> &'static str
-    ensures { result.now ≡ declare_word fault.now }
+fn declare_token(fault: &DeclareFault) -> &'static str
+    ensures { result.now ≡ declare_token fault.now }
 {
     match fault {
         DeclareFault::LegacyAddress => "LegacyAddress",
@@ -90,8 +99,8 @@ fn declare_word(fault: &DeclareFault) -> &'static str
 }
 
 /// The name of a refusal of the bus.
-fn bus_word(why: &BusRefusal) -> &'static str
-    ensures { result.now ≡ bus_word why.now }
+fn bus_token(why: &BusRefusal) -> &'static str
+    ensures { result.now ≡ bus_token why.now }
 {
     match why {
         BusRefusal::SessionOpen => "SessionOpen",

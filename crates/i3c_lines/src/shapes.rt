@@ -3,10 +3,10 @@ use std::alloc::{AllocError, Global};
 use std::str;
 use strsim::osa_distance;
 
-/// A command's first word, the fields that must follow it, and one that may follow these. A kind may be followed by
+/// A command's first token, the fields that must follow it, and one that may follow these. A kind may be followed by
 /// others, and by `but` with names.
 pub(crate) struct Shape {
-    word: &'static str,
+    token: &'static str,
     pub(crate) needed: &'static [Field],
     pub(crate) further: Option<Field>,
 }
@@ -14,220 +14,220 @@ pub(crate) struct Shape {
 /// The commands, in the order of docs/FORMATS.md.
 static SHAPES: [Shape; 38] = [
     Shape {
-        word: "legacy",
+        token: "legacy",
         needed: &[Field::Name, Field::Addr, Field::Lvr],
         further: None,
     },
     Shape {
-        word: "declare",
+        token: "declare",
         needed: &[Field::Addr, Field::Pid, Field::Bcr, Field::Dcr],
         further: None,
     },
     Shape {
-        word: "main",
+        token: "main",
         needed: &[Field::Name, Field::Pid, Field::Bcr, Field::Dcr],
         further: Some(Field::Decline),
     },
     Shape {
-        word: "attach",
+        token: "attach",
         needed: &[Field::Name, Field::Pid, Field::Bcr, Field::Dcr],
         further: Some(Field::Decline),
     },
     Shape {
-        word: "drop",
+        token: "drop",
         needed: &[Field::Name],
         further: None,
     },
     Shape {
-        word: "raise",
+        token: "raise",
         needed: &[Field::Name],
         further: Some(Field::Byte),
     },
     Shape {
-        word: "ask-join",
+        token: "ask-join",
         needed: &[Field::Name],
         further: None,
     },
     Shape {
-        word: "ask-role",
+        token: "ask-role",
         needed: &[Field::Name],
         further: None,
     },
     Shape {
-        word: "policy",
+        token: "policy",
         needed: &[Field::Policy],
         further: Some(Field::Kind),
     },
     Shape {
-        word: "cut",
+        token: "cut",
         needed: &[Field::Name, Field::Bit],
         further: None,
     },
     Shape {
-        word: "serve",
+        token: "serve",
         needed: &[],
         further: None,
     },
     Shape {
-        word: "enec",
+        token: "enec",
         needed: &[Field::Byte],
         further: Some(Field::Addr),
     },
     Shape {
-        word: "disec",
+        token: "disec",
         needed: &[Field::Byte],
         further: Some(Field::Addr),
     },
     Shape {
-        word: "reset",
+        token: "reset",
         needed: &[],
         further: None,
     },
     Shape {
-        word: "list",
+        token: "list",
         needed: &[],
         further: None,
     },
     Shape {
-        word: "read",
+        token: "read",
         needed: &[Field::Addr],
         further: None,
     },
     Shape {
-        word: "write",
+        token: "write",
         needed: &[Field::Addr],
         further: Some(Field::Bytes),
     },
     Shape {
-        word: "setdasa",
+        token: "setdasa",
         needed: &[Field::Addr, Field::New],
         further: None,
     },
     Shape {
-        word: "setnewda",
+        token: "setnewda",
         needed: &[Field::Old, Field::New],
         further: None,
     },
     Shape {
-        word: "getpid",
+        token: "getpid",
         needed: &[Field::Addr],
         further: None,
     },
     Shape {
-        word: "getbcr",
+        token: "getbcr",
         needed: &[Field::Addr],
         further: None,
     },
     Shape {
-        word: "getdcr",
+        token: "getdcr",
         needed: &[Field::Addr],
         further: None,
     },
     Shape {
-        word: "getstatus",
+        token: "getstatus",
         needed: &[Field::Addr],
         further: None,
     },
     Shape {
-        word: "getmwl",
+        token: "getmwl",
         needed: &[Field::Addr],
         further: None,
     },
     Shape {
-        word: "getmrl",
+        token: "getmrl",
         needed: &[Field::Addr],
         further: None,
     },
     Shape {
-        word: "getmxds",
+        token: "getmxds",
         needed: &[Field::Addr],
         further: None,
     },
     Shape {
-        word: "getcaps",
+        token: "getcaps",
         needed: &[Field::Addr],
         further: None,
     },
     Shape {
-        word: "setmwl",
+        token: "setmwl",
         needed: &[Field::Length],
         further: Some(Field::Addr),
     },
     Shape {
-        word: "setmrl",
+        token: "setmrl",
         needed: &[Field::Length],
         further: Some(Field::Addr),
     },
     Shape {
-        word: "handover",
+        token: "handover",
         needed: &[Field::Addr],
         further: None,
     },
     Shape {
-        word: "open",
+        token: "open",
         needed: &[],
         further: None,
     },
     Shape {
-        word: "round",
+        token: "round",
         needed: &[],
         further: None,
     },
     Shape {
-        word: "end",
+        token: "end",
         needed: &[],
         further: None,
     },
     Shape {
-        word: "daa",
+        token: "daa",
         needed: &[],
         further: None,
     },
     Shape {
-        word: "show",
+        token: "show",
         needed: &[],
         further: Some(Field::Shown),
     },
     Shape {
-        word: "forget",
+        token: "forget",
         needed: &[Field::Place],
         further: None,
     },
     Shape {
-        word: "symbols",
+        token: "symbols",
         needed: &[],
         further: None,
     },
     Shape {
-        word: "frames",
+        token: "frames",
         needed: &[Field::Count],
         further: None,
     },
 ];
 
-/// The shape of the command that has this first word, if one has.
-pub(crate) fn shape_of(word: &[u8]) -> Option<&'static Shape> {
+/// The shape of the command that has this first token, if one has.
+pub(crate) fn shape_of(token: &[u8]) -> Option<&'static Shape> {
     for shape in &SHAPES {
-        if shape.word.as_bytes() == word {
+        if shape.token.as_bytes() == token {
             return Some(shape);
         }
     }
     None
 }
 
-/// The first word of a command that is nearest to this word, if one is near: no more letters are wrong, missing, surplus
+/// The first token of a command that is nearest to this token, if one is near: no more letters are wrong, missing, surplus
 /// or swapped than a quarter of them.
-pub(crate) fn nearest(alloc: Global, word: &[u8]) -> Result<Option<&'static str>, AllocError> {
-    let Ok(word) = str::from_utf8(word) else {
+pub(crate) fn nearest(alloc: Global, token: &[u8]) -> Result<Option<&'static str>, AllocError> {
+    let Ok(token) = str::from_utf8(token) else {
         return Ok(None);
     };
-    let mut bound = (word.len() + 1) / 4 + 1;
+    let mut bound = (token.len() + 1) / 4 + 1;
     let mut nearest = None;
     for shape in &SHAPES {
-        let distance = osa_distance(alloc, shape.word, word)?;
+        let distance = osa_distance(alloc, shape.token, token)?;
         if distance < bound {
             bound = distance;
-            nearest = Some(shape.word);
+            nearest = Some(shape.token);
         }
     }
     Ok(nearest)

@@ -1,6 +1,6 @@
 ghost use Rattle.std.specs.Prelude.{ℕ, List, MatchOption, Option, IsNone, option_copied, ◌≡◌, ◌<◌, ◌^◌, ◌≤◌, ◌↔◌, ◌++◌, ◌∷◌, [], ◌-◌, All, IsTrue, IsSome, IfSome, ◌==◌, bit_and, drop, false, length, position, take};
 ghost use Rattle.std.specs.Str.Parse.{digits_value};
-ghost use Rattle.i3c_lines.specs.Words.{AreBytes, IsDecimal, IsDecimalDigit, IsHex, pair_values};
+ghost use Rattle.i3c_lines.specs.Tokens.{AreBytes, IsDecimal, IsDecimalDigit, IsHex, pair_values};
 ghost use Rattle.i3c_lines.specs.Parsing.{joined};
 
 use arrayvec::ArrayVec;
@@ -10,7 +10,7 @@ use i3c_step::WRITE_KEPT;
 use i3c_text::{PID_DIGITS, digit, read_byte, read_digits};
 use std::str;
 
-/// What parts the words of a line.
+/// What parts the tokens of a line.
 pub(crate) const SPACE: u8 = b' ';
 
 /// Numbers are written in hex.
@@ -25,7 +25,7 @@ const KNOWN_KINDS: u8 = 0x0B;
 /// How many digits a byte has: an address, a BCR, a DCR or an LVR.
 const BYTE_DIGITS: usize = 2;
 
-/// The words of a line, which are parted by exactly one space: those that weren't read yet.
+/// The tokens of a line, which are parted by exactly one space: those that weren't read yet.
 #[derive(Clone, Copy)]
 pub(crate) struct Tokens<'a> {
     rest: Option<&'a [u8]>,
@@ -33,19 +33,19 @@ pub(crate) struct Tokens<'a> {
 
 impl<'a> Tokens<'a> {
     ghost use Rattle.std.specs.Prelude.{◌≡◌, ◌∷◌, ◌↔◌, [], IsSome, MatchOption};
-    ghost use Rattle.i3c_lines.specs.Forms.{tokens};
-    ghost use Rattle.i3c_lines.specs.Parsing.{left_words};
+    ghost use Rattle.i3c_lines.specs.Forms.{tokens_of};
+    ghost use Rattle.i3c_lines.specs.Parsing.{left_tokens};
 
-    /// All words of a line. Without a space it is one word, and so is a line of no bytes.
+    /// All tokens of a line. Without a space it is one token, and so is a line of no bytes.
     pub fn of(line: &'a [u8]) -> Tokens<'a>
-        ensures { left_words result ≡ tokens line.now }
+        ensures { left_tokens result ≡ tokens_of line.now }
     {
         Tokens { rest: Some(line) }
     }
 
-    /// The next word, if there is one.
+    /// The next token, if there is one.
     pub fn next(&mut self) -> Option<&'a [u8]>
-        ensures { MatchOption result (left_words self.old ≡ []) (λ word. left_words self.old ≡ word.now ∷ left_words self.new) }
+        ensures { MatchOption result (left_tokens self.old ≡ []) (λ token. left_tokens self.old ≡ token.now ∷ left_tokens self.new) }
     {
         let rest = self.rest?;
         match first_space(rest) {
@@ -60,9 +60,9 @@ impl<'a> Tokens<'a> {
         }
     }
 
-    /// Nothing, if each word was read.
+    /// Nothing, if each token was read.
     pub fn end(&self) -> Option<()>
-        ensures { IsSome result ↔ (left_words self.now ≡ []) }
+        ensures { IsSome result ↔ (left_tokens self.now ≡ []) }
     {
         match self.rest {
             None => Some(()),
@@ -72,7 +72,7 @@ impl<'a> Tokens<'a> {
 }
 
 /// Whether a text begins with these letters.
-// in line, where the loop over a known word is unrolled
+// in line, where the loop over a known token is unrolled
 #[inline(always)]
 fn begins(text: &[u8], start: &[u8]) -> bool
     ensures begins { IsTrue result → text.now ≡ start.now ++ drop (length start.now) text.now }
@@ -103,21 +103,21 @@ pub(crate) fn after<'a>(text: &'a [u8], start: &[u8]) -> Option<&'a [u8]>
 
 /// Whether a text is these letters.
 #[inline(always)]
-pub fn is_word(text: &[u8], word: &[u8]) -> bool
-    ensures { IsTrue result ↔ (text.now ≡ word.now) }
+pub fn is_token(text: &[u8], token: &[u8]) -> bool
+    ensures { IsTrue result ↔ (text.now ≡ token.now) }
 {
-    text.len() == word.len() && begins(text, word)
+    text.len() == token.len() && begins(text, token)
 }
 
-/// A first word of two bytes, and the line behind its space if there is one.
+/// A first token of two bytes, and the line behind its space if there is one.
 #[inline(always)]
 pub(crate) fn split_two(line: &[u8]) -> Option<(&[u8], Option<&[u8]>)>
-    ensures none { IsNone result → (word : List ℕ) (rest : Option (List ℕ)) → length word ≡ 2 → line.now ≡ joined word rest → ⊥ }
+    ensures none { IsNone result → (token : List ℕ) (rest : Option (List ℕ)) → length token ≡ 2 → line.now ≡ joined token rest → ⊥ }
     ensures split { IfSome result (λ parts. (length parts.0.now ≡ 2) × (line.now ≡ joined parts.0.now (option_copied parts.1))) }
 {
-    let (word, rest) = line.split_at_checked(2)?;
+    let (token, rest) = line.split_at_checked(2)?;
     let rest = behind_space(rest)?;
-    Some((word, rest))
+    Some((token, rest))
 }
 
 /// The line behind a space, or nothing at a line's end.
@@ -139,66 +139,66 @@ fn first_space(bytes: &[u8]) -> Option<usize>
     bytes.iter().position(|byte| *byte == SPACE)
 }
 
-/// The number that a word writes, if it has so many hex digits.
-fn number(word: &[u8], digits: usize) -> Option<u64>
+/// The number that a token writes, if it has so many hex digits.
+fn number(token: &[u8], digits: usize) -> Option<u64>
     requires { digits ≤ 16 }
-    ensures form { IsSome result ↔ IsHex digits word.now }
-    ensures value { IfSome result (λ n. n ≡ digits_value RADIX word.now) }
+    ensures form { IsSome result ↔ IsHex digits token.now }
+    ensures value { IfSome result (λ n. n ≡ digits_value RADIX token.now) }
     ensures bound { IfSome result (λ n. n < 16 ^ digits) }
 {
-    if word.len() != digits {
+    if token.len() != digits {
         return None;
     }
-    read_digits(word)
+    read_digits(token)
 }
 
 /// A byte: two hex digits.
-pub fn byte(word: &[u8]) -> Option<u8>
-    ensures form { IsSome result ↔ IsHex BYTE_DIGITS word.now }
-    ensures value { IfSome result (λ b. b ≡ digits_value RADIX word.now) }
+pub fn byte(token: &[u8]) -> Option<u8>
+    ensures form { IsSome result ↔ IsHex BYTE_DIGITS token.now }
+    ensures value { IfSome result (λ b. b ≡ digits_value RADIX token.now) }
 {
-    match word {
+    match token {
         [high, low] => read_byte(*high, *low),
         _ => None,
     }
 }
 
 /// A 7-bit address: two hex digits. One above `7F` has no form.
-pub fn address(word: &[u8]) -> Option<Addr7>
-    ensures form { IsSome result ↔ (IsHex BYTE_DIGITS word.now × (digits_value RADIX word.now < 128)) }
-    ensures value { IfSome result (λ a. a ≡ digits_value RADIX word.now) }
+pub fn address(token: &[u8]) -> Option<Addr7>
+    ensures form { IsSome result ↔ (IsHex BYTE_DIGITS token.now × (digits_value RADIX token.now < 128)) }
+    ensures value { IfSome result (λ a. a ≡ digits_value RADIX token.now) }
 {
-    let number = byte(word)?;
+    let number = byte(token)?;
     Addr7::new(number).ok()
 }
 
-/// Whether a word is of decimal digits alone.
-fn is_decimal(word: &[u8]) -> bool
-    ensures { IsTrue result ↔ All IsDecimalDigit word.now }
+/// Whether a token is of decimal digits alone.
+fn is_decimal(token: &[u8]) -> bool
+    ensures { IsTrue result ↔ All IsDecimalDigit token.now }
 {
-    word.iter().all(|byte| matches!(*byte, b'0'..=b'9'))
+    token.iter().all(|byte| matches!(*byte, b'0'..=b'9'))
 }
 
 /// A number of 64 bits in decimal digits. Zeros may lead them, and a sign may not.
-fn decimal(word: &[u8]) -> Option<u64>
-    ensures form { IsSome result ↔ (IsDecimal word.now × (digits_value DECIMAL_RADIX word.now < 2 ^ 64)) }
-    ensures value { IfSome result (λ n. n ≡ digits_value DECIMAL_RADIX word.now) }
+fn decimal(token: &[u8]) -> Option<u64>
+    ensures form { IsSome result ↔ (IsDecimal token.now × (digits_value DECIMAL_RADIX token.now < 2 ^ 64)) }
+    ensures value { IfSome result (λ n. n ≡ digits_value DECIMAL_RADIX token.now) }
 {
-    if word.is_empty() || !is_decimal(word) {
+    if token.is_empty() || !is_decimal(token) {
         return None;
     }
-    let Ok(text) = str::from_utf8(word) else {
+    let Ok(text) = str::from_utf8(token) else {
         unreachable!();
     };
     u64::from_str_radix(text, DECIMAL_RADIX).ok()
 }
 
 /// A bit of a frame: decimal digits, up to 65535.
-pub fn bit(word: &[u8]) -> Option<u16>
-    ensures form { IsSome result ↔ (IsDecimal word.now × (digits_value DECIMAL_RADIX word.now < 2 ^ 16)) }
-    ensures value { IfSome result (λ b. b ≡ digits_value DECIMAL_RADIX word.now) }
+pub fn bit(token: &[u8]) -> Option<u16>
+    ensures form { IsSome result ↔ (IsDecimal token.now × (digits_value DECIMAL_RADIX token.now < 2 ^ 16)) }
+    ensures value { IfSome result (λ b. b ≡ digits_value DECIMAL_RADIX token.now) }
 {
-    let number = decimal(word)?;
+    let number = decimal(token)?;
     if number > u64::from(u16::MAX) {
         return None;
     }
@@ -206,33 +206,33 @@ pub fn bit(word: &[u8]) -> Option<u16>
 }
 
 /// The number of a record, from 1 on.
-pub(crate) fn place(word: &[u8]) -> Option<u64>
-    ensures form { IsSome result ↔ (IsDecimal word.now × (digits_value DECIMAL_RADIX word.now < 2 ^ 64) × (0 < digits_value DECIMAL_RADIX word.now)) }
-    ensures value { IfSome result (λ n. n ≡ digits_value DECIMAL_RADIX word.now) }
+pub(crate) fn place(token: &[u8]) -> Option<u64>
+    ensures form { IsSome result ↔ (IsDecimal token.now × (digits_value DECIMAL_RADIX token.now < 2 ^ 64) × (0 < digits_value DECIMAL_RADIX token.now)) }
+    ensures value { IfSome result (λ n. n ≡ digits_value DECIMAL_RADIX token.now) }
 {
-    match decimal(word)? {
+    match decimal(token)? {
         0 => None,
         place => Some(place),
     }
 }
 
 /// A count: decimal digits, 1 to 65535, read as a bit is.
-pub(crate) fn count(word: &[u8]) -> Option<u16>
-    ensures form { IsSome result ↔ (IsDecimal word.now × (digits_value DECIMAL_RADIX word.now < 2 ^ 16) × (0 < digits_value DECIMAL_RADIX word.now)) }
-    ensures value { IfSome result (λ n. n ≡ digits_value DECIMAL_RADIX word.now) }
+pub(crate) fn count(token: &[u8]) -> Option<u16>
+    ensures form { IsSome result ↔ (IsDecimal token.now × (digits_value DECIMAL_RADIX token.now < 2 ^ 16) × (0 < digits_value DECIMAL_RADIX token.now)) }
+    ensures value { IfSome result (λ n. n ≡ digits_value DECIMAL_RADIX token.now) }
 {
-    match bit(word)? {
+    match bit(token)? {
         0 => None,
         count => Some(count),
     }
 }
 
 /// A maximum length: decimal digits, 1 to 16, read as a bit is.
-pub(crate) fn length(word: &[u8]) -> Option<Length>
-    ensures form { IsSome result ↔ (IsDecimal word.now × (digits_value DECIMAL_RADIX word.now < 2 ^ 16) × (0 < digits_value DECIMAL_RADIX word.now) × (digits_value DECIMAL_RADIX word.now ≤ 16)) }
-    ensures value { IfSome result (λ n. n ≡ digits_value DECIMAL_RADIX word.now) }
+pub(crate) fn length(token: &[u8]) -> Option<Length>
+    ensures form { IsSome result ↔ (IsDecimal token.now × (digits_value DECIMAL_RADIX token.now < 2 ^ 16) × (0 < digits_value DECIMAL_RADIX token.now) × (digits_value DECIMAL_RADIX token.now ≤ 16)) }
+    ensures value { IfSome result (λ n. n ≡ digits_value DECIMAL_RADIX token.now) }
 {
-    let number = bit(word)?;
+    let number = bit(token)?;
     if number > 16 {
         return None;
     }
@@ -241,30 +241,30 @@ pub(crate) fn length(word: &[u8]) -> Option<Length>
 
 /// Kinds of events: two hex digits, of which bit 0 names interrupts, bit 1 role requests and bit 3 Hot-Join. Other bits
 /// are dropped.
-pub(crate) fn kinds(word: &[u8]) -> Option<Kinds>
-    ensures form { IsSome result ↔ IsHex BYTE_DIGITS word.now }
-    ensures value { IfSome result (λ kinds. kinds.0 ≡ bit_and (digits_value RADIX word.now) KNOWN_KINDS) }
+pub(crate) fn kinds(token: &[u8]) -> Option<Kinds>
+    ensures form { IsSome result ↔ IsHex BYTE_DIGITS token.now }
+    ensures value { IfSome result (λ kinds. kinds.0 ≡ bit_and (digits_value RADIX token.now) KNOWN_KINDS) }
 {
-    let byte = byte(word)?;
+    let byte = byte(token)?;
     Some(Kinds::from_bits_retain(byte & KNOWN_KINDS))
 }
 
 /// A provisioned ID: twelve hex digits.
-pub(crate) fn pid(word: &[u8]) -> Option<Pid>
-    ensures form { IsSome result ↔ IsHex PID_DIGITS word.now }
-    ensures value { IfSome result (λ p. p ≡ digits_value RADIX word.now) }
+pub(crate) fn pid(token: &[u8]) -> Option<Pid>
+    ensures form { IsSome result ↔ IsHex PID_DIGITS token.now }
+    ensures value { IfSome result (λ p. p ≡ digits_value RADIX token.now) }
 {
-    let number = number(word, PID_DIGITS)?;
+    let number = number(token, PID_DIGITS)?;
     Pid::new(number).ok()
 }
 
 /// The bytes of a write: two hex digits for each. Of more than are kept the first ones are given.
-pub(crate) fn bytes(word: &[u8]) -> Option<ArrayVec<u8, WRITE_KEPT>>
-    ensures form { IsSome result ↔ AreBytes word.now }
-    ensures value { IfSome result (λ bytes. bytes.items ≡ take WRITE_KEPT (pair_values word.now)) }
+pub(crate) fn bytes(token: &[u8]) -> Option<ArrayVec<u8, WRITE_KEPT>>
+    ensures form { IsSome result ↔ AreBytes token.now }
+    ensures value { IfSome result (λ bytes. bytes.items ≡ take WRITE_KEPT (pair_values token.now)) }
 {
     let mut bytes = ArrayVec::new();
-    push_pairs(word, &mut bytes)?;
+    push_pairs(token, &mut bytes)?;
     Some(bytes)
 }
 
@@ -285,7 +285,7 @@ fn push_pairs(digits: &[u8], bytes: &mut ArrayVec<u8, WRITE_KEPT>) -> Option<()>
     push_pairs(rest, bytes)
 }
 
-/// Nothing, if a word is of pairs of hex digits.
+/// Nothing, if a token is of pairs of hex digits.
 #[cold]
 #[inline(never)]
 fn check_pairs(digits: &[u8]) -> Option<()>

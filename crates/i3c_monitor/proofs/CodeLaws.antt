@@ -6,7 +6,8 @@ use Rattle.i3c_base.specs.declared.datum.Datum.{Datum}
 use Rattle.i3c_base.specs.declared.datum.Direction.{Direction}
 use Rattle.i3c_frame.specs.declared.symbols.Symbol.{Symbol}
 use Rattle.i3c_monitor.specs.declared.header.Told.{Told}
-use Rattle.i3c_monitor.specs.declared.decoded.Stop.{Stop}
+use Rattle.i3c_monitor.specs.declared.decoded.Fault.{Fault}
+use Rattle.i3c_text.specs.declared.stop.Stop.{Stop}
 use Rattle.i3c_monitor.specs.Due.{Comes, go_on, written_byte}
 use Rattle.i3c_ccc.specs.declared.codes.Code.{Code}
 use Rattle.i3c_ccc.specs.Codes.{IsCodeOf, IsUnnamed, byte_of_datum}
@@ -60,7 +61,7 @@ named byte (Code.Get what) h = ap code_at (sym h.0) ∙ asking what
 named byte (Code.Other b) h = ap code_at (sym h.0) ∙ other_at b h.1
 
 -- a command whose code was read
-pub code_comes : (symbols : List Symbol) (before byte : ℕ) (code : Code) (result : Result Told Stop) → 1 ≤ length symbols
+pub code_comes : (symbols : List Symbol) (before byte : ℕ) (code : Code) (result : Result Told (Stop Fault)) → 1 ≤ length symbols
     → written_byte symbols before ≡ Ok byte → IsCodeOf byte code → Comes (command_of code (take (length symbols - 1) (drop 1 symbols)) (before + 1)) result
     → Comes (code_of symbols before) result
 code_comes [] before byte code result some read is comes = absurd (omega (arith, some))

@@ -7,7 +7,7 @@ use Rattle.i3c_deftgts.specs.declared.faults.ListFault.{ListFault}
 use Rattle.i3c_deftgts.specs.Layout.{bytes}
 use Rattle.i3c_deftgts.specs.Reading.{entries_in, first_fault}
 use Rattle.i3c_monitor.specs.declared.decoded.Fault.{Fault}
-use Rattle.i3c_monitor.specs.declared.decoded.Stop.{Stop}
+use Rattle.i3c_text.specs.declared.stop.Stop.{Stop}
 
 -- what comes of a part, and then of what needs it
 abbrev pub go_on : {A B : Type 0} → Result A Fault → (A → Result B Fault) → Result B Fault
@@ -15,7 +15,7 @@ go_on (Ok part) more = more part
 go_on (Err fault) more = Err fault
 
 -- a call comes to this, unless it lacks memory
-abbrev pub Comes : {A : Type 0} → Result A Fault → Result A Stop → Type 0
+abbrev pub Comes : {A : Type 0} → Result A Fault → Result A (Stop Fault) → Type 0
 Comes wanted (Ok part) = wanted ≡ Ok part
 Comes wanted (Err (Stop.Refused fault)) = wanted ≡ Err fault
 Comes wanted (Err Stop.Memory) = Unit {0}

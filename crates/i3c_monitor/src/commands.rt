@@ -2,17 +2,22 @@ ghost use Rattle.std.specs.Prelude.{◌+◌, ◌<◌, length};
 ghost use Rattle.i3c_monitor.specs.Due.{Comes};
 ghost use Rattle.i3c_monitor.specs.Told.{code_of as code_told, command_of};
 
-use crate::decoded::{Decoded, Direct, Stop};
+use crate::decoded::{Decoded, Direct, Fault};
 use crate::header::{Mode, Told};
 use crate::words::{read_entries, written_byte, written_length};
 use i3c_ccc::{Code, code_of};
 use i3c_frame::Symbol;
+use i3c_text::Stop;
 use std::alloc::Global;
 
 /// What follows `7E`/W: the code of a command, and what is read with it (I3C Basic 5.1.9.1). No symbol is no command.
 /// So many symbols of the trace come before.
 #[inline(always)]
-pub(crate) fn read_code(alloc: Global, symbols: &[Symbol], before: usize) -> Result<Told, Stop>
+pub(crate) fn read_code(
+    alloc: Global,
+    symbols: &[Symbol],
+    before: usize,
+) -> Result<Told, Stop<Fault>>
     requires { before + length symbols.now < usize.MAX }
     ensures { Comes (code_told symbols.now before) result }
 {
@@ -25,7 +30,12 @@ pub(crate) fn read_code(alloc: Global, symbols: &[Symbol], before: usize) -> Res
 
 /// A command, of whose code this is what follows.
 #[inline(always)]
-fn read_command(alloc: Global, code: Code, symbols: &[Symbol], before: usize) -> Result<Told, Stop>
+fn read_command(
+    alloc: Global,
+    code: Code,
+    symbols: &[Symbol],
+    before: usize,
+) -> Result<Told, Stop<Fault>>
     requires { before + length symbols.now < usize.MAX }
     ensures { Comes (command_of code symbols.now before) result }
 {

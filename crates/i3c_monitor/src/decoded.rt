@@ -1,11 +1,11 @@
 ghost use Rattle.std.specs.Prelude.{◌≡◌};
 ghost use Rattle.i3c_monitor.specs.Known.{dynamic_in};
-ghost use Rattle.i3c_monitor.specs.declared.decoded.Stop.TheVariants.{Refused as StopRefused, Memory};
+ghost use Rattle.i3c_text.specs.declared.stop.Stop.TheVariants.{Refused as StopRefused};
 
 use i3c_base::{Addr7, Datum, Direction, Request};
 use i3c_deftgts::ListFault;
 use i3c_frame::Symbol;
-use std::alloc::AllocError;
+use i3c_text::Stop;
 use thiserror::Error;
 
 /// A command to single targets, each of which has a header of its own (I3C Basic 5.1.9.1).
@@ -197,27 +197,10 @@ pub enum Fault {
     List(ListFault),
 }
 
-/// Why a part of a trace isn't told.
-#[derive(Clone, Copy, Drop)]
-pub(crate) enum Stop {
-    /// It breaks a rule.
-    Refused(Fault),
-    /// There was no memory for the words of a list.
-    Memory,
-}
-
-impl From<Fault> for Stop {
+impl From<Fault> for Stop<Fault> {
     ghost from_gives = { λ fault stop. stop ≡ StopRefused fault };
 
-    fn from(fault: Fault) -> Stop {
+    fn from(fault: Fault) -> Stop<Fault> {
         Stop::Refused(fault)
-    }
-}
-
-impl From<AllocError> for Stop {
-    ghost from_gives = { λ _ stop. stop ≡ Memory };
-
-    fn from(_error: AllocError) -> Stop {
-        Stop::Memory
     }
 }

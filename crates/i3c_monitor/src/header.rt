@@ -4,10 +4,11 @@ ghost use Rattle.i3c_monitor.specs.Lint.{settled};
 ghost use Rattle.i3c_monitor.specs.Told.{get_of, length_of, request_of, round_of, single_byte, single_of, span_of, told, transfer_of};
 
 use crate::commands::read_code;
-use crate::decoded::{Decoded, Direct, Fault, Span, Stop};
+use crate::decoded::{Decoded, Direct, Fault, Span};
 use crate::words::{due_word, written_byte, written_length};
 use i3c_base::{Addr7, Datum, Direction, Request};
 use i3c_frame::Symbol;
+use i3c_text::Stop;
 use std::alloc::{AllocError, Global};
 
 /// The address that every I3C device hears (I3C Basic 5.1.2.2.1).
@@ -104,7 +105,7 @@ pub(crate) fn read_header(
     header: &Header,
     symbols: &[Symbol],
     before: usize,
-) -> Result<Told, Stop>
+) -> Result<Told, Stop<Fault>>
     requires { before + length symbols.now < usize.MAX }
     ensures { Comes (told mode.now header.now symbols.now before) result }
 {

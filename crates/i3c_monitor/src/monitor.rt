@@ -1,9 +1,10 @@
 ghost use Rattle.std.specs.Prelude.{◌+◌, ◌^◌, ◌<◌, ◌≤◌, length};
 
 use crate::behind::count_behind;
-use crate::decoded::{Decoded, Stop};
+use crate::decoded::Decoded;
 use crate::header::{Header, Mode, read_header};
 use i3c_frame::Symbol;
+use i3c_text::Stop;
 use std::alloc::{AllocError, Global};
 
 /// One who goes through the symbols of a trace and tells what they are.

@@ -2,9 +2,10 @@ ghost use Rattle.std.specs.Prelude.{◌≡◌, ◌+◌, ◌<◌, IfOk, length};
 ghost use Rattle.i3c_deftgts.specs.Reading.{first_fault};
 ghost use Rattle.i3c_monitor.specs.Due.{Comes, broken, due_word, entries_told, words_in, written_byte, written_length};
 
-use crate::decoded::{Fault, Stop};
+use crate::decoded::Fault;
 use i3c_deftgts::{ListFault, read_list};
 use i3c_frame::Symbol;
+use i3c_text::Stop;
 use i3c_word::{Word, read_word};
 use std::alloc::{AllocError, Global};
 
@@ -50,7 +51,11 @@ pub(crate) fn due_word(symbols: &[Symbol], before: usize) -> Result<Word, Fault>
 
 /// How many entries the list has that these symbols are (I3C Basic 5.1.9.3.7).
 #[inline(always)]
-pub(crate) fn read_entries(alloc: Global, symbols: &[Symbol], before: usize) -> Result<usize, Stop>
+pub(crate) fn read_entries(
+    alloc: Global,
+    symbols: &[Symbol],
+    before: usize,
+) -> Result<usize, Stop<Fault>>
     requires { before + length symbols.now < usize.MAX }
     ensures { Comes (entries_told symbols.now before) result }
 {

@@ -2,7 +2,7 @@
 use Rattle.std.proofs.Common.{◌≡◌, ◌∙◌, ◌++◌, [], ℕ, List, Option, Some, None, Result, Ok, Err, ap, append_assoc, append-nil, inr, refl, subst, sym}
 use Rattle.i3c_lines.specs.declared.command.Command.{Command}
 use Rattle.i3c_lines.specs.declared.refusals.Refusal.{Refusal}
-use Rattle.i3c_script.specs.declared.stop.Stop.{Stop}
+use Rattle.i3c_text.specs.declared.stop.Stop.{Stop}
 use Rattle.i3c_lines.specs.Forms.{IsCommand}
 use Rattle.i3c_script.specs.declared.stage.Stage.{Stage}
 use Rattle.i3c_script.specs.Obeying.{IsObeyed, ScriptState}
@@ -12,7 +12,7 @@ use Rattle.i3c_scenario.specs.Expecting.{LastsAt, Standing, lasting_text, still_
 use Rattle.i3c_scenario.specs.ScriptSteps.{Outlasts, ReadsCounted, noted}
 
 -- what is printed of a line that did one thing, it is of a line that did another, which follows of it
-pub prints_so : (P Q : List ℕ → Option Refusal → Type 0) (before after : List ℕ) (result : Result (Unit {0}) Stop) → ((said : List ℕ) (refused : Option Refusal) → P said refused → Q said refused)
+pub prints_so : (P Q : List ℕ → Option Refusal → Type 0) (before after : List ℕ) (result : Result (Unit {0}) (Stop Refusal)) → ((said : List ℕ) (refused : Option Refusal) → P said refused → Q said refused)
     → Prints P before after result → Prints Q before after result
 prints_so P Q before after (Ok done) follows (said, told, is) = (said, told, follows said None is)
 prints_so P Q before after (Err (Stop.Refused why)) follows (said, told, is) = (said, told, follows said (Some why) is)
@@ -28,7 +28,7 @@ none_lasts now (Stage.Running ran) none =
     (ap (lasting_text st names before) (sym none), λ i. record now { lasting = still i; unmet = unmet i })
 
 -- a command that was obeyed, where no expectation lasts
-pub command_runs : (now : Standing) (line : List ℕ) (command : Command) (before after : List ℕ) (result : Result (Unit {0}) Stop) (state : ScriptState) → IsCommand line command → IsObeyed now.script command before after result state
+pub command_runs : (now : Standing) (line : List ℕ) (command : Command) (before after : List ℕ) (result : Result (Unit {0}) (Stop Refusal)) (state : ScriptState) → IsCommand line command → IsObeyed now.script command before after result state
     → now.lasting ≡ [] → ReadsCounted now line before after result (noted (went now state None) result)
 command_runs now line command before after (Ok done) state asks (said, told, is) none =
     (said, told, inr (inr (inr (command, state, said, [], asks, is, sym (append-nil said), none_lasts (went now state None) state.stage none))))
@@ -43,7 +43,7 @@ noted_on now (Stage.Before board) why told new (none, same) = (none, λ i. recor
 noted_on now (Stage.Running ran) why told new (text, same) = (text, λ i. record (same i) { before = Before.Refused why })
 
 -- a command that was obeyed, and expectations that were tested behind it
-pub command_outlasts : (now : Standing) (line : List ℕ) (command : Command) (before mid after : List ℕ) (outcome result : Result (Unit {0}) Stop) (state : ScriptState) (new : Standing)
+pub command_outlasts : (now : Standing) (line : List ℕ) (command : Command) (before mid after : List ℕ) (outcome result : Result (Unit {0}) (Stop Refusal)) (state : ScriptState) (new : Standing)
     → IsCommand line command → IsObeyed now.script command before mid outcome state → Outlasts (went now state None) mid after outcome result new → ReadsCounted now line before after result (noted new result)
 command_outlasts now line command before mid after (Ok done) (Ok same) state new asks (said, text, is) (told, more, lasts) =
     (said ++ told, more ∙ ap (λ t. t ++ told) text ∙ append_assoc before said told, inr (inr (inr (command, state, said, told, asks, is, refl, lasts))))

@@ -2,7 +2,8 @@
 use Rattle.std.proofs.Common.{◌≡◌, ◌∙◌, ℕ, ◌+◌, true, false, cond, codes, List, [], ◌∷◌, ◌++◌, length, min, arith, Option, IfSome, Result, ap, append_assoc, append-nil, inl, inr, refl, subst, sym}
 use Rattle.std.specs.Fmt.{decimal}
 use Rattle.std.specs.Io.KnownBytes.{Appends}
-use Rattle.i3c_script.specs.declared.stop.Stop.{Stop}
+use Rattle.i3c_lines.specs.declared.refusals.Refusal.{Refusal}
+use Rattle.i3c_text.specs.declared.stop.Stop.{Stop}
 use Rattle.i3c_script.specs.Printed.{end_text}
 use Rattle.i3c_script.specs.Stops.{refusals}
 use Rattle.i3c_scenario.specs.declared.script_lines.ScriptLines.{ScriptLines}
@@ -148,7 +149,7 @@ none_ran watching known old from = record {
 }
 
 -- a line that was run, as it is shown
-pub line_ran : (watching : Watching) (number : ℕ) (line said text : List ℕ) (outcome : Result (Unit {0}) Stop) (from to : Progress) → LineRuns from.state line said (refusal_in outcome) to.state
+pub line_ran : (watching : Watching) (number : ℕ) (line said text : List ℕ) (outcome : Result (Unit {0}) (Stop Refusal)) (from to : Progress) → LineRuns from.state line said (refusal_in outcome) to.state
     → text ≡ numbered_by watching number (echoed watching line ++ (said ++ end_text outcome)) → to.refused ≡ min (from.refused + refusals outcome) 18446744073709551615 → LineRan watching number line text from to
 line_ran watching number line said text outcome from to does shows count = record {
   said = said;

@@ -3,7 +3,7 @@ use Rattle.std.specs.Prelude.{◌≡◌, ⊤, ℕ, ◌+◌, List, [], ◌∷◌,
 use Rattle.std.specs.Io.KnownBytes.{Consumes}
 use Rattle.i3c_lines.specs.declared.refusals.Refusal.{Refusal}
 use Rattle.i3c_scenario.specs.declared.faults.ScriptFault.{ScriptFault}
-use Rattle.i3c_script.specs.declared.stop.Stop.{Stop}
+use Rattle.i3c_text.specs.declared.stop.Stop.{Stop}
 use Rattle.i3c_scenario.specs.declared.script.Script.{Script}
 use Rattle.i3c_script.specs.Obeying.{script}
 use Rattle.i3c_script.specs.Telling.{Prints}
@@ -24,17 +24,17 @@ abbrev pub progress : Script → Progress
 progress running = record { state = state running; refused = running.refused }
 
 -- what a line comes to, with what is printed before and after it; nothing is said of a line that memory is short for
-abbrev pub Reads : Standing → List ℕ → List ℕ → List ℕ → Result (Unit {0}) Stop → Standing → Type 0
+abbrev pub Reads : Standing → List ℕ → List ℕ → List ℕ → Result (Unit {0}) (Stop Refusal) → Standing → Type 0
 Reads old line before after result new = Prints (λ said refused. LineRuns old line said refused new) before after result
 
 -- a refusal is noted for the facts behind it
-abbrev pub noted : Standing → Result (Unit {0}) Stop → Standing
+abbrev pub noted : Standing → Result (Unit {0}) (Stop Refusal) → Standing
 noted now (Ok done) = now
 noted now (Err (Stop.Refused why)) = record now { before = Before.Refused why }
 noted now (Err Stop.Memory) = now
 
 -- what a line comes to that was counted
-abbrev pub ReadsCounted : Standing → List ℕ → List ℕ → List ℕ → Result (Unit {0}) Stop → Standing → Type 0
+abbrev pub ReadsCounted : Standing → List ℕ → List ℕ → List ℕ → Result (Unit {0}) (Stop Refusal) → Standing → Type 0
 ReadsCounted now line before after result new = Prints (λ said refused. CountedRuns now line said refused new) before after result
 
 -- the expectations that last were tested, and told behind a text
@@ -42,7 +42,7 @@ abbrev pub HaveLasted : Standing → List ℕ → List ℕ → Standing → Type
 HaveLasted now before after new = (told : List ℕ) × (after ≡ before ++ told) × LastsAt now now.script.stage told new
 
 -- the same behind a command that came to this, which its line comes to as well. Nothing is said where memory is short
-abbrev pub Outlasts : Standing → List ℕ → List ℕ → Result (Unit {0}) Stop → Result (Unit {0}) Stop → Standing → Type 0
+abbrev pub Outlasts : Standing → List ℕ → List ℕ → Result (Unit {0}) (Stop Refusal) → Result (Unit {0}) (Stop Refusal) → Standing → Type 0
 Outlasts now before after (Ok done) (Ok same) new = HaveLasted now before after new
 Outlasts now before after (Ok done) (Err (Stop.Refused why)) new = ⊥
 Outlasts now before after (Ok done) (Err Stop.Memory) new = ⊤

@@ -15,7 +15,7 @@ use Rattle.i3c_scenario.specs.ScriptSteps.{Progress}
 abbrev pub is_plain : Watching → Bool
 is_plain watching = not (watching.numbers || (watching.echo || (watching.explain || watching.strict)))
 
--- a text, each of whose lines begins with these words; the second argument says whether a line begins here
+-- a text with this start in front of each of its lines; the second argument says whether a line begins here
 abbrev pub numbered : List ℕ → Bool → List ℕ → List ℕ
 numbered start begins [] = []
 numbered start true (byte ∷ text) = start ++ (byte ∷ numbered start (byte == 10) text)

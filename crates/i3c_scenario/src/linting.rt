@@ -139,11 +139,11 @@ fn push_break(broken: &Break<'_>, text: &mut Text) -> Result<(), AllocError>
     push_cause(broken, text)
 }
 
-/// Appends some words and a number.
-fn push_number(words: &[u8], number: usize, text: &mut Text) -> Result<(), AllocError>
-    ensures { OnOk result (text.new ≡ text.old ++ number_text words.now number) }
+/// Appends a label and a number.
+fn push_number(label: &[u8], number: usize, text: &mut Text) -> Result<(), AllocError>
+    ensures { OnOk result (text.new ≡ text.old ++ number_text label.now number) }
 {
-    text.push(words)?;
+    text.push(label)?;
     text.push_decimal(number as u64)
 }
 
@@ -152,7 +152,7 @@ fn push_cause(broken: &Break<'_>, text: &mut Text) -> Result<(), AllocError>
     ensures { OnOk result (text.new ≡ text.old ++ cause_text broken.now) }
 {
     push_standing(broken, text)?;
-    text.push(due_words(broken.due))?;
+    text.push(due_text(broken.due))?;
     text.end()
 }
 
@@ -172,7 +172,7 @@ fn push_part(part: &[u8], text: &mut Text) -> Result<(), AllocError>
 {
     text.push(b" '")?;
     push_printable(front_of(part), text)?;
-    text.push(more_words(part.len()))?;
+    text.push(more_text(part.len()))?;
     text.push(b"'")
 }
 
@@ -188,7 +188,7 @@ fn front_of(part: &[u8]) -> &[u8]
 }
 
 /// What follows them, where the text has so many bytes.
-fn more_words(count: usize) -> &'static [u8]
+fn more_text(count: usize) -> &'static [u8]
     ensures { result.now ≡ more_text count }
 {
     if count > TOLD_BYTES { b".." } else { b"" }
@@ -213,8 +213,8 @@ fn printable(byte: u8) -> u8
     if byte < 32 || byte > 126 { b'?' } else { byte }
 }
 
-/// The words for what is due.
-fn due_words(due: Due) -> &'static [u8]
+/// The text of what is due.
+fn due_text(due: Due) -> &'static [u8]
     ensures { result.now ≡ due_text due }
 {
     match due {

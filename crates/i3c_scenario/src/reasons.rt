@@ -3,8 +3,8 @@ use i3c_base::{Cuts, Identity, SLOTS, Slot};
 use i3c_bus::{Command as Frame, Refusal as BusRefusal};
 use i3c_legacy::{DeclareFault, LegacyFault};
 use i3c_lines::{Command, Name, Refusal, form_fault, is_skipped};
-use i3c_script::{Running, Stage, Stop};
-use i3c_text::Text;
+use i3c_script::{Running, Stage};
+use i3c_text::{Stop, Text};
 use std::alloc::AllocError;
 
 /// Where a refusal is explained.
@@ -40,7 +40,7 @@ impl Known {
         script: &Script,
         number: u64,
         line: &[u8],
-        outcome: &Result<(), Stop>,
+        outcome: &Result<(), Stop<Refusal>>,
         text: &mut Text,
     ) -> Result<(), AllocError> {
         match outcome {

@@ -4,7 +4,7 @@ ghost use Rattle.i3c_lines.specs.Gathering.{gathered};
 ghost use Rattle.i3c_scenario.specs.Outcomes.{HasNoFeed, output, written};
 ghost use Rattle.i3c_script.specs.Printed.{end_text};
 ghost use Rattle.i3c_facts.specs.declared.holding.Before.{Before as BeforeValue};
-ghost use Rattle.i3c_script.specs.declared.stop.Stop.{Stop as StopValue};
+ghost use Rattle.i3c_text.specs.declared.stop.Stop.{Stop as StopValue};
 ghost use Rattle.i3c_scenario.specs.Scripts.{LinesGoOut, refused_text};
 ghost use Rattle.i3c_lines.specs.Forms.{HasNoForm};
 ghost use Rattle.i3c_scenario.specs.Expecting.{AlwaysAt, HasBegun, MarkDoes, TestsAt};
@@ -20,8 +20,8 @@ use crate::output::{gather, position_of_feed, show_refusal, write_last};
 use crate::reading::{CHUNK, MOST_BYTES, Piece, read_piece};
 use i3c_facts::{Before, Facts, Mark, read_mark};
 use i3c_lines::{Command, Line, Names, Refusal, is_skipped};
-use i3c_script::{Stage, Stop};
-use i3c_text::Text;
+use i3c_script::Stage;
+use i3c_text::{Stop, Text};
 use std::alloc::{AllocError, Global};
 use std::io::{Read, Write};
 use std::mem;
@@ -237,7 +237,7 @@ impl Script {
 
     /// Obeys a line, if it has a command or is a mark. `settle` notes a refusal. Whoever calls it is named by `K`, so that each
     /// caller has it in line.
-    pub(crate) fn obey<K>(&mut self, line: &[u8]) -> Result<(), Stop>
+    pub(crate) fn obey<K>(&mut self, line: &[u8]) -> Result<(), Stop<Refusal>>
         ensures held { self.new.line ≡ self.old.line }
         ensures gathered { self.new.gathered ≡ self.old.gathered }
         ensures refused { self.new.refused ≡ self.old.refused }
@@ -269,7 +269,7 @@ impl Script {
     /// Obeys a line without a command, which may be a mark.
     #[cold]
     #[inline(never)]
-    fn obey_mark(&mut self, line: &[u8]) -> Result<(), Stop>
+    fn obey_mark(&mut self, line: &[u8]) -> Result<(), Stop<Refusal>>
         requires { HasNoForm line.now }
         ensures held { self.new.line ≡ self.old.line }
         ensures gathered { self.new.gathered ≡ self.old.gathered }
@@ -284,7 +284,7 @@ impl Script {
     }
 
     /// Obeys a mark that was read.
-    fn obey_read(&mut self, mark: Mark) -> Result<(), Stop>
+    fn obey_read(&mut self, mark: Mark) -> Result<(), Stop<Refusal>>
         ensures held { self.new.line ≡ self.old.line }
         ensures gathered { self.new.gathered ≡ self.old.gathered }
         ensures refused { self.new.refused ≡ self.old.refused }
@@ -302,7 +302,7 @@ impl Script {
     }
 
     /// Tests an expectation that is to last. It lasts if it holds.
-    fn last(&mut self, facts: Facts) -> Result<(), Stop>
+    fn last(&mut self, facts: Facts) -> Result<(), Stop<Refusal>>
         ensures held { self.new.line ≡ self.old.line }
         ensures gathered { self.new.gathered ≡ self.old.gathered }
         ensures refused { self.new.refused ≡ self.old.refused }
@@ -329,7 +329,7 @@ impl Script {
     /// Tests the expectations that last, behind a command that came to this.
     #[cold]
     #[inline(never)]
-    fn outlast(&mut self, outcome: Result<(), Stop>) -> Result<(), Stop>
+    fn outlast(&mut self, outcome: Result<(), Stop<Refusal>>) -> Result<(), Stop<Refusal>>
         ensures held { self.new.line ≡ self.old.line }
         ensures gathered { self.new.gathered ≡ self.old.gathered }
         ensures refused { self.new.refused ≡ self.old.refused }
@@ -346,7 +346,7 @@ impl Script {
     }
 
     /// Tests the expectations that last, behind a command that was refused, and passes the refusal on.
-    fn outlast_refused(&mut self, why: &Refusal) -> Result<(), Stop>
+    fn outlast_refused(&mut self, why: &Refusal) -> Result<(), Stop<Refusal>>
         ensures held { self.new.line ≡ self.old.line }
         ensures gathered { self.new.gathered ≡ self.old.gathered }
         ensures refused { self.new.refused ≡ self.old.refused }
@@ -381,7 +381,7 @@ impl Script {
     }
 
     /// Tests what is expected, and prints whether it is met.
-    fn test(&mut self, facts: &Facts) -> Result<(), Stop>
+    fn test(&mut self, facts: &Facts) -> Result<(), Stop<Refusal>>
         ensures held { self.new.line ≡ self.old.line }
         ensures gathered { self.new.gathered ≡ self.old.gathered }
         ensures refused { self.new.refused ≡ self.old.refused }
@@ -409,7 +409,10 @@ impl Script {
     }
 
     /// What a line comes to: a refusal is printed, counted and noted, and want of memory ends the run.
-    pub(crate) fn settle<K>(&mut self, outcome: Result<(), Stop>) -> Result<(), ScriptFault>
+    pub(crate) fn settle<K>(
+        &mut self,
+        outcome: Result<(), Stop<Refusal>>,
+    ) -> Result<(), ScriptFault>
         ensures fault { IfErr result (λ fault. fault ≡ ScriptFault.Memory) }
         ensures memory { outcome ≡ Err Stop.Memory → result ≡ Err ScriptFault.Memory }
         ensures told { OnOk result (self.new.text ≡ self.old.text ++ end_text outcome) }

@@ -10,9 +10,8 @@ use crate::reading::{CHUNK, MOST_BYTES};
 use crate::reasons::Known;
 use crate::script::{Script, Tally};
 use crate::script_lines::ScriptLines;
-use i3c_lines::FormFault;
-use i3c_script::Stop;
-use i3c_text::Text;
+use i3c_lines::{FormFault, Refusal};
+use i3c_text::{Stop, Text};
 use std::alloc::{AllocError, Global};
 use std::io::{Read, Write};
 
@@ -223,7 +222,7 @@ impl WatchedRun {
         &mut self,
         number: u64,
         line: &[u8],
-        outcome: &Result<(), Stop>,
+        outcome: &Result<(), Stop<Refusal>>,
     ) -> Result<(), AllocError>
         ensures script { self.new.script ≡ self.old.script }
         ensures watching { self.new.watching ≡ self.old.watching }
@@ -309,7 +308,7 @@ fn push_formless(
     fault.push(alloc, text)
 }
 
-/// Appends a text, each of whose lines begins with these words.
+/// Appends a text, with this start in front of each of its lines.
 fn push_numbered(text: &mut Text, start: &[u8], plain: &[u8]) -> Result<(), AllocError>
     ensures { OnOk result (text.new ≡ text.old ++ numbered start.now true plain.now) }
 {

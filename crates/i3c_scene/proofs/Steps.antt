@@ -18,7 +18,7 @@ use Rattle.i3c_step.specs.Step.{Step, cuts_in}
 use Rattle.i3c_bus.specs.declared.assignment.Assignment.{Assignment}
 use Rattle.i3c_bus.specs.Assigning.{AreRounds, IsAssignment}
 use Rattle.i3c_lines.specs.declared.refusals.Refusal.{Refusal}
-use Rattle.i3c_script.specs.declared.stop.Stop.{Stop}
+use Rattle.i3c_text.specs.declared.stop.Stop.{Stop}
 use Rattle.i3c_script.specs.declared.settings.Settings.{Settings}
 use Rattle.i3c_script.specs.Assigning.{cuts_left}
 use Rattle.i3c_script.specs.Stops.{Ends, reply_refusal}
@@ -28,13 +28,13 @@ use Rattle.i3c_scene.specs.Going.{Answers, Assigns, Rounds, session_refusal}
 use Rattle.i3c_scene.specs.Scenes.{Seen, seen}
 
 -- what holds of a line's refusal holds, if it follows from what is known
-pub ends_by : (P Q : Option Refusal → Type 0) (result : Result (Unit {0}) Stop) → ((refused : Option Refusal) → P refused → Q refused) → Ends P result → Ends Q result
+pub ends_by : (P Q : Option Refusal → Type 0) (result : Result (Unit {0}) (Stop Refusal)) → ((refused : Option Refusal) → P refused → Q refused) → Ends P result → Ends Q result
 ends_by P Q (Ok done) follows h = follows None h
 ends_by P Q (Err (Stop.Refused why)) follows h = follows (Some why) h
 ends_by P Q (Err Stop.Memory) follows h = tt
 
 -- a step of the bus, for whose reply there was memory
-pub answered : (old new : State) (settings : Settings) (cuts : CutList) (names : List Named) (event : Event) (reply : Reply) (result : Result (Unit {0}) Stop) → Step old event reply new → cuts_left event cuts ≡ cuts
+pub answered : (old new : State) (settings : Settings) (cuts : CutList) (names : List Named) (event : Event) (reply : Reply) (result : Result (Unit {0}) (Stop Refusal)) → Step old event reply new → cuts_left event cuts ≡ cuts
     → Ends (λ refused. (reply ≢ Reply.OutOfMemory) × (refused ≡ reply_refusal reply)) result → Ends (λ refused. Answers (seen old settings cuts names) event refused (seen new settings cuts names)) result
 answered old new settings cuts names event reply result step kept ends =
     ends_by (λ refused. (reply ≢ Reply.OutOfMemory) × (refused ≡ reply_refusal reply)) (λ refused. Answers (seen old settings cuts names) event refused (seen new settings cuts names)) result
@@ -74,7 +74,7 @@ carries_cuts (Frame.Get what a) policy cuts = refl
 carries_cuts (Frame.SetLength way most to) policy cuts = refl
 
 -- a whole session, or a refusal of its opening, as a line
-pub session_told : {T C : Type 0} (note : T → Symbol → T → Type 0) (before after : T) (st new : State) (settings : Settings) (cuts : CutList) (names : List Named) (assigned : Result Assignment ActiveStays) (result : Result (Unit {0}) Stop)
+pub session_told : {T C : Type 0} (note : T → Symbol → T → Type 0) (before after : T) (st new : State) (settings : Settings) (cuts : CutList) (names : List Named) (assigned : Result Assignment ActiveStays) (result : Result (Unit {0}) (Stop Refusal))
     → (C → Step st (Event.OpenDaa cuts) (Reply.Refused BusRefusal.ActiveStays) new)
     → IfOk assigned (λ all. Tells note before after (IsAssignment st cuts all.served all.given.items all.complete new)) → IfErr assigned (λ why. C)
     → Ends (λ refused. MatchResult assigned (λ all. refused ≡ session_refusal all.complete) (λ why. refused ≡ Some (Refusal.Bus BusRefusal.ActiveStays))) result
@@ -102,7 +102,7 @@ session_told note before after st new settings cuts names (Err why) result stepp
     (λ told is. (refl, inr (BusRefusal.ActiveStays, stepped refused, is))) told
 
 -- the cuts that wait are taken before a session
-pub taken_before : (old : Seen) (st new : State) (settings : Settings) (taken left : CutList) (names : List Named) (result : Result (Unit {0}) Stop) → taken ≡ old.cuts → seen st settings left names ≡ record old { cuts = no_cuts }
+pub taken_before : (old : Seen) (st new : State) (settings : Settings) (taken left : CutList) (names : List Named) (result : Result (Unit {0}) (Stop Refusal)) → taken ≡ old.cuts → seen st settings left names ≡ record old { cuts = no_cuts }
     → Ends (λ refused. Assigns (seen st settings taken names) refused (seen new settings no_cuts names)) result → Ends (λ refused. Assigns old refused (seen new settings left names)) result
 taken_before old st new settings taken left names result same rest h =
     subst (λ (s : Seen). Ends (λ refused. Assigns s refused (seen new settings left names)) result) (ap (λ (s : Seen). record s { cuts = old.cuts }) rest)

@@ -9,7 +9,7 @@ ghost use Rattle.i3c_step.specs.declared.replies.Refusal.{Refusal as BusRefusalV
 ghost use Rattle.i3c_lines.specs.Naming.{slot_named};
 ghost use Rattle.i3c_lines.specs.declared.refusals.Refusal.{Refusal as RefusalValue};
 ghost use Rattle.i3c_script.specs.Stops.{Ends};
-ghost use Rattle.i3c_script.specs.declared.stop.Stop.{Stop as StopValue};
+ghost use Rattle.i3c_text.specs.declared.stop.Stop.{Stop as StopValue};
 ghost use Rattle.i3c_scene.specs.Going.{Assigns, sends, session_refusal};
 ghost use Rattle.i3c_scene.specs.Scenes.{seen};
 ghost use Rattle.i3c_scene.specs.declared.named.Named.{Named as NamedValue};
@@ -25,8 +25,9 @@ use i3c_bus::{
 use i3c_facts::{Before, Naming};
 use i3c_frame::Silent;
 use i3c_lines::{Command, EXCEPTED, Name, Place, Refusal};
-use i3c_script::{Settings, Stop, entrance_at, outcome_of};
+use i3c_script::{Settings, entrance_at, outcome_of};
 use i3c_step::copy_of;
+use i3c_text::Stop;
 use std::alloc::{AllocError, Global};
 use std::marker::Model;
 use std::mem;
@@ -304,7 +305,7 @@ impl Live {
     }
 
     /// Obeys a line's command.
-    pub(crate) fn obey(&mut self, command: &Command) -> Result<(), Stop>
+    pub(crate) fn obey(&mut self, command: &Command) -> Result<(), Stop<Refusal>>
         ensures { Ends (λ refused. Does self.old command.now refused self.new) result }
     {
         match command {
@@ -341,7 +342,7 @@ impl Live {
     }
 
     /// A line that sends a frame under the role.
-    fn send(&mut self, frame: &Frame) -> Result<(), Stop>
+    fn send(&mut self, frame: &Frame) -> Result<(), Stop<Refusal>>
         ensures { Ends (λ refused. Sends self.old frame.now refused self.new) result }
     {
         let cuts = self.take_cuts();
@@ -351,7 +352,7 @@ impl Live {
     }
 
     /// `handover`: the role is offered to the device at an address.
-    fn hand_over(&mut self, to: Addr7) -> Result<(), Stop>
+    fn hand_over(&mut self, to: Addr7) -> Result<(), Stop<Refusal>>
         ensures { Ends (λ refused. Answers self.old (EventValue.HandOver to self.old.cuts) refused self.new) result }
     {
         let cuts = self.take_cuts();
@@ -359,7 +360,7 @@ impl Live {
     }
 
     /// `open`: a session is opened, and stays open.
-    fn open(&mut self) -> Result<(), Stop>
+    fn open(&mut self) -> Result<(), Stop<Refusal>>
         ensures { Ends (λ refused. Answers self.old (EventValue.OpenDaa self.old.cuts) refused self.new) result }
     {
         let cuts = self.take_cuts();
@@ -367,7 +368,7 @@ impl Live {
     }
 
     /// `round`: one round of the open session.
-    fn round(&mut self) -> Result<(), Stop>
+    fn round(&mut self) -> Result<(), Stop<Refusal>>
         ensures { Ends (λ refused. Answers self.old (EventValue.Round self.old.cuts) refused self.new) result }
     {
         let cuts = self.take_cuts();
@@ -390,7 +391,7 @@ impl Live {
     }
 
     /// `cut`: whatever device is in the slot by then loses power at a bit of the next frame.
-    fn cut(&mut self, name: &Name, bit: u16) -> Result<(), Stop>
+    fn cut(&mut self, name: &Name, bit: u16) -> Result<(), Stop<Refusal>>
         ensures { Ends (λ refused. Does self.old (CommandValue.Cut name.now bit) refused self.new) result }
     {
         match self.slot_present(name) {
@@ -447,7 +448,7 @@ impl Live {
     }
 
     /// `policy` with names: whatever devices are in their slots by then are excepted.
-    fn except(&mut self, kinds: Fixed, but: &[Name]) -> Result<(), Stop>
+    fn except(&mut self, kinds: Fixed, but: &[Name]) -> Result<(), Stop<Refusal>>
         requires { length but.now ≤ EXCEPTED }
         ensures { Ends (λ refused. Excepts self.old kinds but.now refused self.new) result }
     {
@@ -469,7 +470,7 @@ impl Live {
     }
 
     /// `daa`: a whole session. The cuts that wait are its opening's.
-    fn assign(&mut self) -> Result<(), Stop>
+    fn assign(&mut self) -> Result<(), Stop<Refusal>>
         ensures { Ends (λ refused. Assigns self.old refused self.new) result }
     {
         let cuts = self.take_cuts();
@@ -480,7 +481,7 @@ impl Live {
     }
 
     /// `attach`: a device enters the lowest free slot, and gets its name.
-    fn attach(&mut self, name: &Name, setup: Setup) -> Result<(), Stop>
+    fn attach(&mut self, name: &Name, setup: Setup) -> Result<(), Stop<Refusal>>
         ensures { Ends (λ refused. Enters self.old name.now setup refused self.new) result }
     {
         match entrance_at(&self.bus, self.known.place_of(name)) {
@@ -493,7 +494,7 @@ impl Live {
     }
 
     /// `drop`: a device loses power.
-    fn drop_off(&mut self, name: &Name) -> Result<(), Stop>
+    fn drop_off(&mut self, name: &Name) -> Result<(), Stop<Refusal>>
         ensures { Ends (λ refused. AnswersIn self.old name.now EventValue.DropOff refused self.new) result }
     {
         match self.slot_meant(name) {
@@ -503,7 +504,7 @@ impl Live {
     }
 
     /// `raise`: a device raises an interrupt.
-    fn raise(&mut self, name: &Name, byte: Option<u8>) -> Result<(), Stop>
+    fn raise(&mut self, name: &Name, byte: Option<u8>) -> Result<(), Stop<Refusal>>
         ensures { Ends (λ refused. AnswersIn self.old name.now (λ slot. EventValue.Raise slot byte) refused self.new) result }
     {
         match self.slot_meant(name) {
@@ -513,7 +514,7 @@ impl Live {
     }
 
     /// `ask-join`: a device wishes to join.
-    fn ask_join(&mut self, name: &Name) -> Result<(), Stop>
+    fn ask_join(&mut self, name: &Name) -> Result<(), Stop<Refusal>>
         ensures { Ends (λ refused. AnswersIn self.old name.now EventValue.AskJoin refused self.new) result }
     {
         match self.slot_meant(name) {
@@ -523,7 +524,7 @@ impl Live {
     }
 
     /// `ask-role`: a device wishes for the controller role.
-    fn ask_role(&mut self, name: &Name) -> Result<(), Stop>
+    fn ask_role(&mut self, name: &Name) -> Result<(), Stop<Refusal>>
         ensures { Ends (λ refused. AnswersIn self.old name.now EventValue.AskRole refused self.new) result }
     {
         match self.slot_meant(name) {
@@ -533,7 +534,7 @@ impl Live {
     }
 
     /// The bus answers an event.
-    fn answer(&mut self, event: &Event) -> Result<(), Stop>
+    fn answer(&mut self, event: &Event) -> Result<(), Stop<Refusal>>
         // a frame's cuts are taken before
         requires { cuts_left event.now self.old.cuts ≡ self.old.cuts }
         ensures { Ends (λ refused. Answers self.old event.now refused self.new) result }
@@ -547,7 +548,7 @@ impl Live {
 
 /// A whole session, on the bus whose role this is: what it is refused for, if it is. It answers the role or session in hand
 /// afterwards.
-fn assign(bus: &mut Bus, hand: Hand, cuts: &Cuts) -> (Hand, Result<(), Stop>)
+fn assign(bus: &mut Bus, hand: Hand, cuts: &Cuts) -> (Hand, Result<(), Stop<Refusal>>)
     requires fits { HandFits hand bus.old.state }
     ensures assigns { (settings : SettingsValue) (names : List NamedValue) → Ends (λ refused. Assigns (seen bus.old.state settings cuts.now names) refused (seen bus.new.state settings no_cuts names)) result.1 }
     ensures fits { HandFits result.0 bus.new.state }
@@ -566,7 +567,7 @@ fn assign(bus: &mut Bus, hand: Hand, cuts: &Cuts) -> (Hand, Result<(), Stop>)
 }
 
 /// Why a whole session is refused, if it is.
-fn outcome_of_session(assigned: &Result<Assignment, ActiveStays>) -> Result<(), Stop>
+fn outcome_of_session(assigned: &Result<Assignment, ActiveStays>) -> Result<(), Stop<Refusal>>
     ensures told { Ends (λ refused. MatchResult assigned.now (λ all. refused ≡ session_refusal all.complete) (λ _. refused ≡ Some (RefusalValue.Bus BusRefusalValue.ActiveStays))) result }
     ensures fed { result ≢ Err StopValue.Memory }
 {

@@ -16,7 +16,7 @@ use Rattle.i3c_step.specs.Step.{Acts, IsShort, Step, cuts_active, first_refusal}
 use Rattle.i3c_bus.specs.declared.hand.Hand.{Hand}
 use Rattle.i3c_bus.specs.Hands.{HandFits, is_session}
 use Rattle.i3c_lines.specs.declared.refusals.Refusal.{Refusal}
-use Rattle.i3c_script.specs.declared.stop.Stop.{Stop}
+use Rattle.i3c_text.specs.declared.stop.Stop.{Stop}
 use Rattle.i3c_script.specs.declared.settings.Settings.{Settings}
 use Rattle.i3c_script.specs.declared.tenures.Tenure.{Tenure}
 use Rattle.i3c_script.specs.Assigning.{Assigns, GoOn, HasRounds, HasSession, Moves, Rounds, goes_on, rounds_text}
@@ -75,7 +75,7 @@ one_more old now new before text next count answer s uncut move printed more = r
 }
 
 -- the last round
-pub last : (old now new : Ran) (before text next : List ℕ) (count : ℕ) (answer : RoundReply) (result : Result (Unit {0}) Stop) → SoFar old now before text count → now.cuts ≡ no_cuts → Moves now (Event.Round no_cuts) (Reply.Round answer) new
+pub last : (old now new : Ran) (before text next : List ℕ) (count : ℕ) (answer : RoundReply) (result : Result (Unit {0}) (Stop Refusal)) → SoFar old now before text count → now.cuts ≡ no_cuts → Moves now (Event.Round no_cuts) (Reply.Round answer) new
     → next ≡ text ++ round_text answer → goes_on answer ≡ false → Ends (λ refused. refused ≡ round_refusal answer) result → Prints (λ said refused. HasRounds old said refused new) before next result
 last old now new before text next count answer (Ok done) s uncut move printed over ends = (
   rounds_text s.answers ++ round_text answer,
@@ -106,7 +106,7 @@ pub all_rounds : (old now : Ran) (before text : List ℕ) (count : ℕ) → SoFa
 all_rounds old now before text count s all = all_of old now before text s.answers s.rounds s.on (s.many ∙ all) s.text
 
 -- an opening that is told, and then its session
-pub opened_on : (old opened new : Ran) (served : Served) (before text next : List ℕ) (result : Result (Unit {0}) Stop) → Moves old (Event.OpenDaa old.cuts) (Reply.Opened served) opened → text ≡ before ++ request_text served
+pub opened_on : (old opened new : Ran) (served : Served) (before text next : List ℕ) (result : Result (Unit {0}) (Stop Refusal)) → Moves old (Event.OpenDaa old.cuts) (Reply.Opened served) opened → text ≡ before ++ request_text served
     → Prints (λ said refused. HasSession opened said refused new) text next result → Prints (λ said refused. Assigns old said refused new) before next result
 opened_on old opened new served before text next (Ok done) move told (said, printed, session) =
     (request_text served ++ said, longer before text next (request_text served) said told printed, (opened, Reply.Opened served, move, (said, session, refl)))
@@ -115,7 +115,7 @@ opened_on old opened new served before text next (Err (Stop.Refused why)) move t
 opened_on old opened new served before text next (Err Stop.Memory) move told h = tt
 
 -- a session uses up the cuts that waited
-pub used_up : (old : Ran) (st new : State) (settings : Settings) (cuts left : CutList) (symbols later : List Symbol) (ended : List Tenure) (before after : List ℕ) (result : Result (Unit {0}) Stop) → ran_of st settings cuts symbols ended ≡ old
+pub used_up : (old : Ran) (st new : State) (settings : Settings) (cuts left : CutList) (symbols later : List Symbol) (ended : List Tenure) (before after : List ℕ) (result : Result (Unit {0}) (Stop Refusal)) → ran_of st settings cuts symbols ended ≡ old
     → left ≡ no_cuts → Prints (λ said refused. Assigns (ran_of st settings cuts symbols ended) said refused (ran_of new settings no_cuts later ended)) before after result
     → Prints (λ said refused. Assigns old said refused (ran_of new settings left later ended)) before after result
 used_up old st new settings cuts left symbols later ended before after result is none assigns =

@@ -28,7 +28,7 @@ use Rattle.i3c_bus.specs.Wire.{IsWire}
 use Rattle.i3c_lines.specs.declared.names.Name.{Name}
 use Rattle.i3c_lines.specs.declared.names.Names.{Names}
 use Rattle.i3c_lines.specs.declared.refusals.Refusal.{Refusal}
-use Rattle.i3c_script.specs.declared.stop.Stop.{Stop}
+use Rattle.i3c_text.specs.declared.stop.Stop.{Stop}
 use Rattle.i3c_script.specs.declared.telling.Subject.{Subject}
 use Rattle.i3c_script.specs.declared.settings.Settings.{Settings}
 use Rattle.i3c_script.specs.declared.tenures.Tenure.{Tenure}
@@ -100,26 +100,26 @@ framed old new event reply frame m = record { wire = m.wire; step = m.step; sent
 
 -- what is printed is such, where it is something more exact
 pub prints_by : (Is Of : List ℕ → Option Refusal → Type 0) → ((said : List ℕ) (refused : Option Refusal) → Is said refused → Of said refused)
-    → (before after : List ℕ) (result : Result (Unit {0}) Stop) → Prints Is before after result → Prints Of before after result
+    → (before after : List ℕ) (result : Result (Unit {0}) (Stop Refusal)) → Prints Is before after result → Prints Of before after result
 prints_by Is Of of before after (Ok done) (said, text, is) = (said, text, of said None is)
 prints_by Is Of of before after (Err (Stop.Refused why)) (said, text, is) = (said, text, of said (Some why) is)
 prints_by Is Of of before after (Err Stop.Memory) h = h
 
 -- a frame whose cuts are taken before
-pub answers_framed : (old mid new : Ran) (names : Names) (event : Event) (before after : List ℕ) (result : Result (Unit {0}) Stop) → is_some (cuts_in event) ≡ true → mid ≡ record old { cuts = no_cuts }
+pub answers_framed : (old mid new : Ran) (names : Names) (event : Event) (before after : List ℕ) (result : Result (Unit {0}) (Stop Refusal)) → is_some (cuts_in event) ≡ true → mid ≡ record old { cuts = no_cuts }
     → Prints (λ said refused. Answers mid names event said refused new) before after result → Prints (λ said refused. Answers old names event said refused new) before after result
 answers_framed old mid new names event before after result frame same h =
     prints_by (λ said refused. Answers mid names event said refused new) (λ said refused. Answers old names event said refused new)
     (λ said refused a. (a.0, framed old new event a.0 frame (subst (λ r. Moves r event a.0 new) same a.1), subst (λ (r : Ran). IsTold names (subject_of event) (reply_from r.settings.forgotten a.0) said refused) same a.2)) before after result h
 
 -- a step whose reply is told
-pub answered : (old new : Ran) (names : Names) (event : Event) (reply : Reply) (before after : List ℕ) (result : Result (Unit {0}) Stop) → Moves old event reply new
+pub answered : (old new : Ran) (names : Names) (event : Event) (reply : Reply) (before after : List ℕ) (result : Result (Unit {0}) (Stop Refusal)) → Moves old event reply new
     → Prints (IsTold names (subject_of event) (reply_from old.settings.forgotten reply)) before after result → Prints (λ said refused. Answers old names event said refused new) before after result
 answered old new names event reply before after result move told =
     prints_by (IsTold names (subject_of event) (reply_from old.settings.forgotten reply)) (λ said refused. Answers old names event said refused new) (λ said refused one. (reply, move, one)) before after result told
 
 -- a line whose name means this slot
-pub in_slot : (old new : Ran) (names : Names) (name : Name) (event : ℕ → Event) (slot : ℕ) (before after : List ℕ) (result : Result (Unit {0}) Stop) → Ok slot ≡ slot_meant names name
+pub in_slot : (old new : Ran) (names : Names) (name : Name) (event : ℕ → Event) (slot : ℕ) (before after : List ℕ) (result : Result (Unit {0}) (Stop Refusal)) → Ok slot ≡ slot_meant names name
     → Prints (λ said refused. Answers old names (event slot) said refused new) before after result → Prints (λ said refused. AnswersIn old names name event said refused new) before after result
 in_slot old new names name event slot before after result is told =
     subst (λ r. Prints (λ said refused. MatchResult r (λ s. Answers old names (event s) said refused new) (λ why. (new ≡ old) × IsRefused why said refused)) before after result) is told
@@ -179,7 +179,7 @@ unhanded old new frame policy cuts reply step = go (is_handed reply) refl
         absurd (false≢true (sym (no_handover frame policy cuts) ∙ ap is_handover is))
 
 -- a frame under the role
-pub sent : (old new : State) (settings : Settings) (fixed : Fixed) (cuts left : CutList) (symbols later : List Symbol) (ended : List Tenure) (names : Names) (frame : Frame) (reply : Reply) (before after : List ℕ) (result : Result (Unit {0}) Stop)
+pub sent : (old new : State) (settings : Settings) (fixed : Fixed) (cuts left : CutList) (symbols later : List Symbol) (ended : List Tenure) (names : Names) (frame : Frame) (reply : Reply) (before after : List ℕ) (result : Result (Unit {0}) (Stop Refusal))
     → Accepts settings old fixed → left ≡ no_cuts → Step old (event_of frame fixed cuts) reply new → Tells note symbols later (IsWire old (event_of frame fixed cuts) reply new)
     → Prints (IsTold names (frame_subject frame) (reply_from settings.forgotten reply)) before after result
     → Prints (λ said refused. Sends (ran_of old settings cuts symbols ended) names frame said refused (ran_of new settings left later ended)) before after result
@@ -196,7 +196,7 @@ sent old new settings fixed cuts left symbols later ended names frame reply befo
     (subst (λ subject. Prints (IsTold names subject (reply_from settings.forgotten reply)) before after result) (one_subject frame fixed cuts) told))
 
 -- a line that sends nothing and takes no cuts, in the slot that its name means
-pub quietly : (old new : State) (settings : Settings) (cuts : CutList) (symbols : List Symbol) (ended : List Tenure) (names : Names) (name : Name) (event : ℕ → Event) (slot : ℕ) (reply : Reply) (before after : List ℕ) (result : Result (Unit {0}) Stop)
+pub quietly : (old new : State) (settings : Settings) (cuts : CutList) (symbols : List Symbol) (ended : List Tenure) (names : Names) (name : Name) (event : ℕ → Event) (slot : ℕ) (reply : Reply) (before after : List ℕ) (result : Result (Unit {0}) (Stop Refusal))
     → Ok slot ≡ slot_meant names name → is_some (cuts_in (event slot)) ≡ false → is_handed reply ≡ false → reply_from settings.forgotten reply ≡ reply → Step old (event slot) reply new → IsWire old (event slot) reply new []
     → Prints (IsTold names (subject_of (event slot)) reply) before after result
     → Prints (λ said refused. AnswersIn (ran_of old settings cuts symbols ended) names name event said refused (ran_of new settings cuts symbols ended)) before after result

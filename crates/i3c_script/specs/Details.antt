@@ -19,22 +19,22 @@ abbrev pub registers_text : Identity → List ℕ
 registers_text identity = codes " pid " ++ (hex_text 12 identity.pid ++ (codes " bcr " ++ (byte_text identity.bcr.0 ++ (codes " dcr " ++ byte_text identity.dcr.0))))
 
 -- the enabled ones of interrupts, role requests and joins
-abbrev pub kinds_words : Bool → Bool → Bool → List ℕ
-kinds_words false false false = codes "none"
-kinds_words true false false = codes "interrupt"
-kinds_words false true false = codes "role"
-kinds_words false false true = codes "join"
-kinds_words true true false = codes "interrupt role"
-kinds_words true false true = codes "interrupt join"
-kinds_words false true true = codes "role join"
-kinds_words true true true = codes "interrupt role join"
+abbrev pub kinds_tokens : Bool → Bool → Bool → List ℕ
+kinds_tokens false false false = codes "none"
+kinds_tokens true false false = codes "interrupt"
+kinds_tokens false true false = codes "role"
+kinds_tokens false false true = codes "join"
+kinds_tokens true true false = codes "interrupt role"
+kinds_tokens true false true = codes "interrupt join"
+kinds_tokens false true true = codes "role join"
+kinds_tokens true true true = codes "interrupt role join"
 
--- the word of a wish for the role or to join; `show` counts the interrupts that wait
-abbrev pub wish_word : Option Request → List ℕ
-wish_word None = codes "none"
-wish_word (Some Join) = codes "join"
-wish_word (Some (Role a)) = codes "role"
-wish_word (Some (Interrupt a)) = codes "none"
+-- the token of a wish for the role or to join; `show` counts the interrupts that wait
+abbrev pub wish_token : Option Request → List ℕ
+wish_token None = codes "none"
+wish_token (Some Join) = codes "join"
+wish_token (Some (Role a)) = codes "role"
+wish_token (Some (Interrupt a)) = codes "none"
 
 -- a device by these parts
 abbrev pub described_text : Name → Identity → List ℕ → List ℕ → List ℕ
@@ -42,7 +42,7 @@ described_text name identity kinds wish = codes "device " ++ (letters name ++ (r
 
 -- a present device: its name, its PID, BCR and DCR, the enabled kinds of its events, and its wish
 abbrev pub details_text : Option Name → Option Device → List ℕ
-details_text (Some name) (Some d) = described_text name d.identity (kinds_words d.kinds.interrupt d.kinds.role d.kinds.join) (wish_word (choice_of d.address d))
+details_text (Some name) (Some d) = described_text name d.identity (kinds_tokens d.kinds.interrupt d.kinds.role d.kinds.join) (wish_token (choice_of d.address d))
 details_text None device = []
 details_text (Some name) None = []
 

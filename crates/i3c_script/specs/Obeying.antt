@@ -23,7 +23,7 @@ use Rattle.i3c_lines.specs.declared.names.Names.{Names}
 use Rattle.i3c_lines.specs.declared.names.Place.{Place}
 use Rattle.i3c_lines.specs.declared.refusals.Refusal.{Refusal}
 use Rattle.i3c_lines.specs.Naming.{GivesAlone, GivesSlot, legacy_names, place_named, slot_names}
-use Rattle.i3c_script.specs.declared.stop.Stop.{Stop}
+use Rattle.i3c_text.specs.declared.stop.Stop.{Stop}
 use Rattle.i3c_script.specs.declared.settings.Settings.{Settings}
 use Rattle.i3c_script.specs.declared.stage.Stage.{Stage}
 use Rattle.i3c_script.specs.Accepting.{Accepts, Forgets, IsSet, at_first}
@@ -198,5 +198,5 @@ abbrev pub Obeys : ScriptState → Command → List ℕ → Option Refusal → S
 Obeys old command said refused new = ObeysAt old.stage old.names command said refused new
 
 -- a command is obeyed, unless memory is short
-abbrev pub IsObeyed : ScriptState → Command → List ℕ → List ℕ → Result (Unit {0}) Stop → ScriptState → Type 0
+abbrev pub IsObeyed : ScriptState → Command → List ℕ → List ℕ → Result (Unit {0}) (Stop Refusal) → ScriptState → Type 0
 IsObeyed old command before after result new = Prints (λ said refused. Obeys old command said refused new) before after result

@@ -22,22 +22,23 @@ use Rattle.i3c_bus.specs.Readings.{address_of}
 use Rattle.i3c_lines.specs.declared.names.Name.{Name}
 use Rattle.i3c_lines.specs.declared.names.Names.{Names}
 use Rattle.i3c_text.specs.Hex.{byte_text, bytes_text, hex_text}
-use Rattle.i3c_lines.specs.Data.{told_word}
+use Rattle.i3c_lines.specs.Data.{told_token}
 use Rattle.i3c_lines.specs.Naming.{legacy_names, letters, slot_names}
 use Rattle.i3c_lines.specs.Refusing.{refusal_text}
-use Rattle.i3c_script.specs.declared.stop.Stop.{Stop}
+use Rattle.i3c_lines.specs.declared.refusals.Refusal.{Refusal}
+use Rattle.i3c_text.specs.declared.stop.Stop.{Stop}
 use Rattle.i3c_script.specs.declared.telling.Subject.{Subject}
 use Rattle.i3c_script.specs.Framing.{whole_frames}
 
 -- what a line's end prints: its refusal, if it is refused
-abbrev pub end_text : Result (Unit {0}) Stop → List ℕ
+abbrev pub end_text : Result (Unit {0}) (Stop Refusal) → List ℕ
 end_text (Ok done) = []
 end_text (Err Stop.Memory) = []
 end_text (Err (Stop.Refused why)) = codes "refused " ++ (refusal_text why ++ 10 ∷ [])
 
--- some words and a number
+-- some tokens and a number
 abbrev pub number_text : List ℕ → ℕ → List ℕ
-number_text words number = words ++ (decimal number ++ 10 ∷ [])
+number_text tokens number = tokens ++ (decimal number ++ 10 ∷ [])
 
 -- what became of a request
 abbrev pub served_text : Served → List ℕ
@@ -57,17 +58,17 @@ request_text Served.Torn = served_text Served.Torn
 request_text Served.Joining = served_text Served.Joining
 request_text (Served.WantsRole a) = served_text (Served.WantsRole a)
 
--- the word before bytes that were read: that of the datum that was asked for, or of a private read
-abbrev pub read_word : Subject → List ℕ
-read_word (Subject.Told what) = told_word what
-read_word (Subject.Attached slot) = codes "bytes"
-read_word (Subject.HandedTo to) = codes "bytes"
-read_word Subject.Nothing = codes "bytes"
+-- the token before bytes that were read: that of the datum that was asked for, or of a private read
+abbrev pub read_token : Subject → List ℕ
+read_token (Subject.Told what) = told_token what
+read_token (Subject.Attached slot) = codes "bytes"
+read_token (Subject.HandedTo to) = codes "bytes"
+read_token Subject.Nothing = codes "bytes"
 
 -- the answer to a frame's own part
 abbrev pub answer_text : Subject → Answer → List ℕ
 answer_text subject Answer.Done = codes "done" ++ 10 ∷ []
-answer_text subject (Answer.Bytes bytes) = read_word subject ++ (codes " " ++ (bytes_text bytes ++ 10 ∷ []))
+answer_text subject (Answer.Bytes bytes) = read_token subject ++ (codes " " ++ (bytes_text bytes ++ 10 ∷ []))
 answer_text subject (Answer.NoAnswer a) = []
 answer_text subject Answer.NoEnd = []
 

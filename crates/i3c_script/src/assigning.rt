@@ -11,13 +11,13 @@ ghost use Rattle.i3c_script.specs.Printed.{round_text};
 ghost use Rattle.i3c_script.specs.Ran.{ran_of};
 ghost use Rattle.i3c_script.specs.Telling.{Prints};
 
-use crate::stop::{Stop, outcome_of_round};
+use crate::stop::outcome_of_round;
 use crate::telling::{show_request, show_round};
 use crate::wires::Wires;
 use i3c_base::{Cuts, RoundReply, SLOTS};
 use i3c_bus::{ActiveStays, Bus, Hand, Refusal as BusRefusal, Session};
 use i3c_lines::Refusal;
-use i3c_text::Text;
+use i3c_text::{Stop, Text};
 use std::alloc::AllocError;
 
 /// `daa`: opens a session, in which these are cut, runs its rounds and ends it. Whoever asks while it is opened is turned
@@ -28,7 +28,7 @@ pub(crate) fn assign(
     wires: &mut Wires,
     cuts: &Cuts,
     text: &mut Text,
-) -> (Hand, Result<(), Stop>)
+) -> (Hand, Result<(), Stop<Refusal>>)
     requires fits { HandFits hand bus.old.state }
     ensures assigns { (settings : SettingsValue) (ended : List TenureValue) → Prints (λ said refused. Assigns (ran_of bus.old.state settings cuts.now wires.old ended) said refused (ran_of bus.new.state settings no_cuts wires.new ended)) text.old text.new result.1 }
     ensures fits { HandFits result.0 bus.new.state }
@@ -60,7 +60,7 @@ fn finish(
     bus: &mut Bus,
     wires: &mut Wires,
     text: &mut Text,
-) -> (Hand, Result<(), Stop>)
+) -> (Hand, Result<(), Stop<Refusal>>)
     requires fits { HandFits (HandValue.Session session) bus.old.state }
     ensures session { (settings : SettingsValue) (ended : List TenureValue) → Prints (λ said refused. HasSession (ran_of bus.old.state settings no_cuts wires.old ended) said refused (ran_of bus.new.state settings no_cuts wires.new ended)) text.old text.new result.1 }
     ensures fits { HandFits result.0 bus.new.state }
@@ -77,7 +77,7 @@ fn run_rounds(
     bus: &mut Bus,
     wires: &mut Wires,
     text: &mut Text,
-) -> Result<(), Stop>
+) -> Result<(), Stop<Refusal>>
     requires fits { HandFits (HandValue.Session session.now) bus.old.state }
     ensures rounds { (settings : SettingsValue) (ended : List TenureValue) → Prints (λ said refused. HasRounds (ran_of bus.old.state settings no_cuts wires.old ended) said refused (ran_of bus.new.state settings no_cuts wires.new ended)) text.old text.new result }
     ensures fits { HandFits (HandValue.Session session.now) bus.new.state }

@@ -4,7 +4,7 @@ ghost use Rattle.i3c_base.specs.State.{IsPresent, device_at};
 ghost use Rattle.i3c_lines.specs.Naming.{slot_names};
 ghost use Rattle.i3c_text.specs.Hex.{byte_text};
 ghost use Rattle.i3c_script.specs.Tenures.{tenures_text};
-ghost use Rattle.i3c_script.specs.Details.{all_details_text, described_text, details_text, kinds_words, list_text, registers_text, session_text, show_all_text, wish_word};
+ghost use Rattle.i3c_script.specs.Details.{all_details_text, described_text, details_text, kinds_tokens, list_text, registers_text, session_text, show_all_text, wish_token};
 
 use crate::settings::Settings;
 use crate::show::show_bus;
@@ -72,12 +72,12 @@ fn show_device(bus: &Bus, name: &Name, slot: Slot, text: &mut Text) -> Result<()
     requires { IsPresent bus.now.state slot }
     ensures { OnOk result (text.new ≡ text.old ++ details_text (Some name.now) (device_at bus.now.state slot)) }
 {
-    let kinds = kinds_words(
+    let kinds = kinds_tokens(
         bus.may_interrupt(slot),
         bus.may_ask_role(slot),
         bus.may_join(slot),
     );
-    let wish = wish_word(bus.wish(slot));
+    let wish = wish_token(bus.wish(slot));
     match bus.identity(slot) {
         Some(identity) => describe(name, &identity, kinds, wish, text),
         None => unreachable!(),
@@ -97,16 +97,16 @@ fn describe(
     text.push(b"device ")?;
     text.push(name.as_bytes())?;
     show_registers(identity, text)?;
-    show_words(b" enabled ", kinds, text)?;
-    show_words(b" wishes ", wish, text)?;
+    show_tokens(b" enabled ", kinds, text)?;
+    show_tokens(b" wishes ", wish, text)?;
     text.end()
 }
 
-/// Prints some words, and others behind them.
-fn show_words(words: &[u8], others: &str, text: &mut Text) -> Result<(), AllocError>
-    ensures { OnOk result (text.new ≡ text.old ++ (words.now ++ others.now)) }
+/// Prints some tokens, and others behind them.
+fn show_tokens(tokens: &[u8], others: &str, text: &mut Text) -> Result<(), AllocError>
+    ensures { OnOk result (text.new ≡ text.old ++ (tokens.now ++ others.now)) }
 {
-    text.push(words)?;
+    text.push(tokens)?;
     text.push(others.as_bytes())
 }
 
@@ -120,17 +120,17 @@ fn show_registers(identity: &Identity, text: &mut Text) -> Result<(), AllocError
     show_register(b" dcr ", identity.dcr.0, text)
 }
 
-/// Prints some words and a register.
-fn show_register(words: &[u8], byte: u8, text: &mut Text) -> Result<(), AllocError>
-    ensures { OnOk result (text.new ≡ text.old ++ (words.now ++ byte_text byte)) }
+/// Prints some tokens and a register.
+fn show_register(tokens: &[u8], byte: u8, text: &mut Text) -> Result<(), AllocError>
+    ensures { OnOk result (text.new ≡ text.old ++ (tokens.now ++ byte_text byte)) }
 {
-    text.push(words)?;
+    text.push(tokens)?;
     text.push_byte(byte)
 }
 
-/// The words of the enabled kinds of events.
-fn kinds_words(interrupt: bool, role: bool, join: bool) -> &'static str
-    ensures { result.now ≡ kinds_words interrupt role join }
+/// The tokens of the enabled kinds of events.
+fn kinds_tokens(interrupt: bool, role: bool, join: bool) -> &'static str
+    ensures { result.now ≡ kinds_tokens interrupt role join }
 {
     match (interrupt, role, join) {
         (false, false, false) => "none",
@@ -144,9 +144,9 @@ fn kinds_words(interrupt: bool, role: bool, join: bool) -> &'static str
     }
 }
 
-/// The word of a wish for the role or to join.
-fn wish_word(wish: Option<Request>) -> &'static str
-    ensures { result.now ≡ wish_word wish }
+/// The token of a wish for the role or to join.
+fn wish_token(wish: Option<Request>) -> &'static str
+    ensures { result.now ≡ wish_token wish }
 {
     match wish {
         Some(Request::Join) => "join",

@@ -14,7 +14,7 @@
 //! * `tenures` tells who was active when interrupts were recorded.
 //! * `wires` keeps the last symbols.
 //! * `symbols` and `frames` print them.
-//! * `stop` says why a line did not come to its end.
+//! * `stop` says what a line comes to by the bus's reply.
 //! * `laws` says that lines make legal runs.
 #![tactic(auto)]
 
@@ -39,4 +39,4 @@ pub use running::Running;
 pub use settings::{Settings, sum_of};
 pub use show::{show_askers, show_bus, show_records_behind};
 pub use stage::Stage;
-pub use stop::{Stop, outcome_of};
+pub use stop::outcome_of;

@@ -7,7 +7,6 @@ use crate::assigning;
 use crate::details::show_all;
 use crate::settings::Settings;
 use crate::show::{show_bus, show_bus_behind};
-use crate::stop::Stop;
 use crate::telling::{
     count_from, subject_of, tell, tell_attached, tell_dropped, tell_frame, tell_join, tell_raised,
     tell_role,
@@ -20,7 +19,7 @@ use i3c_bus::{Bus, Command as Frame, Event, Hand, Reply};
 use i3c_frame::Symbol;
 use i3c_legacy::Legacies;
 use i3c_lines::{Command, EXCEPTED, Name, Names, Refusal};
-use i3c_text::Text;
+use i3c_text::{Stop, Text};
 use std::alloc::{AllocError, Global};
 use std::marker::Model;
 use std::mem;
@@ -118,7 +117,7 @@ impl Running {
         names: &mut Names,
         command: &Command,
         text: &mut Text,
-    ) -> Result<(), Stop>
+    ) -> Result<(), Stop<Refusal>>
         ensures { Prints (λ said refused. ObeysOn self.old names.old command.now said refused self.new names.new) text.old text.new result }
     {
         match command {
@@ -161,7 +160,7 @@ impl Running {
         name: &Name,
         byte: Option<u8>,
         text: &mut Text,
-    ) -> Result<(), Stop>
+    ) -> Result<(), Stop<Refusal>>
         ensures { Prints (λ said refused. AnswersIn self.old names.now name.now (λ slot. EventValue.Raise slot byte) said refused self.new) text.old text.new result }
     {
         match names.slot_of(name) {
@@ -174,7 +173,12 @@ impl Running {
     }
 
     /// A line that sends a frame under the role. The frame takes the cuts that wait.
-    fn send<K>(&mut self, names: &Names, frame: &Frame, text: &mut Text) -> Result<(), Stop>
+    fn send<K>(
+        &mut self,
+        names: &Names,
+        frame: &Frame,
+        text: &mut Text,
+    ) -> Result<(), Stop<Refusal>>
         ensures { Prints (λ said refused. Sends self.old names.now frame.now said refused self.new) text.old text.new result }
     {
         let Some(hand) = &self.hand else {
@@ -201,7 +205,7 @@ impl Running {
         name: &Name,
         setup: Setup,
         text: &mut Text,
-    ) -> Result<(), Stop>
+    ) -> Result<(), Stop<Refusal>>
         ensures { Prints (λ said refused. Enters self.old names.old name.now setup said refused self.new names.new) text.old text.new result }
     {
         match entrance(&self.bus, names, name) {
@@ -218,7 +222,7 @@ impl Running {
 
     /// `drop`: a device loses power.
     #[inline(never)]
-    fn drop_off(&mut self, names: &Names, name: &Name, text: &mut Text) -> Result<(), Stop>
+    fn drop_off(&mut self, names: &Names, name: &Name, text: &mut Text) -> Result<(), Stop<Refusal>>
         ensures { Prints (λ said refused. AnswersIn self.old names.now name.now EventValue.DropOff said refused self.new) text.old text.new result }
     {
         match names.slot_of(name) {
@@ -232,7 +236,7 @@ impl Running {
 
     /// `ask-join`: a device wishes to join.
     #[inline(never)]
-    fn ask_join(&mut self, names: &Names, name: &Name, text: &mut Text) -> Result<(), Stop>
+    fn ask_join(&mut self, names: &Names, name: &Name, text: &mut Text) -> Result<(), Stop<Refusal>>
         ensures { Prints (λ said refused. AnswersIn self.old names.now name.now EventValue.AskJoin said refused self.new) text.old text.new result }
     {
         match names.slot_of(name) {
@@ -246,7 +250,7 @@ impl Running {
 
     /// `ask-role`: a device wishes for the controller role.
     #[inline(never)]
-    fn ask_role(&mut self, names: &Names, name: &Name, text: &mut Text) -> Result<(), Stop>
+    fn ask_role(&mut self, names: &Names, name: &Name, text: &mut Text) -> Result<(), Stop<Refusal>>
         ensures { Prints (λ said refused. AnswersIn self.old names.now name.now EventValue.AskRole said refused self.new) text.old text.new result }
     {
         match names.slot_of(name) {
@@ -260,7 +264,7 @@ impl Running {
 
     /// `handover`: the role is offered to the device at an address.
     #[inline(never)]
-    fn hand_over(&mut self, names: &Names, to: Addr7, text: &mut Text) -> Result<(), Stop>
+    fn hand_over(&mut self, names: &Names, to: Addr7, text: &mut Text) -> Result<(), Stop<Refusal>>
         ensures { Prints (λ said refused. Answers self.old names.now (EventValue.HandOver to self.old.cuts) said refused self.new) text.old text.new result }
     {
         let cuts = self.take_cuts();
@@ -269,7 +273,7 @@ impl Running {
 
     /// `open`: a session is opened, and stays open.
     #[inline(never)]
-    fn open(&mut self, names: &Names, text: &mut Text) -> Result<(), Stop>
+    fn open(&mut self, names: &Names, text: &mut Text) -> Result<(), Stop<Refusal>>
         ensures { Prints (λ said refused. Answers self.old names.now (EventValue.OpenDaa self.old.cuts) said refused self.new) text.old text.new result }
     {
         let cuts = self.take_cuts();
@@ -278,7 +282,7 @@ impl Running {
 
     /// `round`: one round of the open session.
     #[inline(never)]
-    fn round(&mut self, names: &Names, text: &mut Text) -> Result<(), Stop>
+    fn round(&mut self, names: &Names, text: &mut Text) -> Result<(), Stop<Refusal>>
         ensures { Prints (λ said refused. Answers self.old names.now (EventValue.Round self.old.cuts) said refused self.new) text.old text.new result }
     {
         let cuts = self.take_cuts();
@@ -287,14 +291,14 @@ impl Running {
 
     /// `end`: the open session ends.
     #[inline(never)]
-    fn end(&mut self, names: &Names, text: &mut Text) -> Result<(), Stop>
+    fn end(&mut self, names: &Names, text: &mut Text) -> Result<(), Stop<Refusal>>
         ensures { Prints (λ said refused. Answers self.old names.now EventValue.EndDaa said refused self.new) text.old text.new result }
     {
         self.answer(names, &Event::EndDaa, text)
     }
 
     /// The bus answers an event, and its reply is printed.
-    fn answer(&mut self, names: &Names, event: &Event, text: &mut Text) -> Result<(), Stop>
+    fn answer(&mut self, names: &Names, event: &Event, text: &mut Text) -> Result<(), Stop<Refusal>>
         // a frame's cuts are taken before
         requires { cuts_left event.now self.old.cuts ≡ self.old.cuts }
         ensures { Prints (λ said refused. Answers self.old names.now event.now said refused self.new) text.old text.new result }
@@ -332,7 +336,7 @@ impl Running {
 
     /// `policy` with names: whatever devices are in their slots by then are excepted.
     #[inline(never)]
-    fn except(&mut self, names: &Names, kinds: Fixed, but: &[Name]) -> Result<(), Stop>
+    fn except(&mut self, names: &Names, kinds: Fixed, but: &[Name]) -> Result<(), Stop<Refusal>>
         requires { length but.now ≤ EXCEPTED }
         ensures { MatchResult (slots_named (slot_of_device self.old.state names.now) but.now)
             (λ slots. (result ≡ Ok tt) × Sets self.old kinds slots self.new)
@@ -366,7 +370,7 @@ impl Running {
 
     /// `daa`: a whole session. The cuts that wait are its opening's.
     #[inline(never)]
-    fn assign(&mut self, text: &mut Text) -> Result<(), Stop>
+    fn assign(&mut self, text: &mut Text) -> Result<(), Stop<Refusal>>
         ensures { Prints (λ said refused. Assigns self.old said refused self.new) text.old text.new result }
     {
         let hand = take(&mut self.hand);
@@ -384,7 +388,7 @@ impl Running {
 
     /// `cut`: whatever device is in the slot by then loses power at a bit of the next frame.
     #[inline(never)]
-    fn cut(&mut self, names: &Names, name: &Name, bit: u16) -> Result<(), Stop>
+    fn cut(&mut self, names: &Names, name: &Name, bit: u16) -> Result<(), Stop<Refusal>>
         ensures { MatchResult (slot_of_device self.old.state names.now name.now)
             (λ slot. (result ≡ Ok tt) × (self.new ≡ record self.old { cuts = cut_at self.old.cuts slot bit }))
             (λ why. (result ≡ Err (Stop.Refused why)) × (self.new ≡ self.old)) }
@@ -400,7 +404,7 @@ impl Running {
 
     /// `show`: the bus as it is.
     #[inline(never)]
-    fn show(&self, names: &Names, text: &mut Text) -> Result<(), Stop>
+    fn show(&self, names: &Names, text: &mut Text) -> Result<(), Stop<Refusal>>
         ensures { Prints (IsDone (show_text self.now.settings.forgotten self.now.state names.now)) text.old text.new result }
     {
         match show_bus(&self.bus, names, self.settings.forgotten, text) {
@@ -411,7 +415,7 @@ impl Running {
 
     /// `show N`: the bus with its records from this number on.
     #[inline(never)]
-    fn show_from(&self, names: &Names, first: u64, text: &mut Text) -> Result<(), Stop>
+    fn show_from(&self, names: &Names, first: u64, text: &mut Text) -> Result<(), Stop<Refusal>>
         ensures { Prints (IsDone (show_behind_text (first - 1 - self.now.settings.forgotten) self.now.settings.forgotten self.now.state names.now)) text.old text.new result }
     {
         let forgotten = self.settings.forgotten;
@@ -424,7 +428,7 @@ impl Running {
 
     /// `show all`: the bus with all of its devices.
     #[inline(never)]
-    fn show_all(&self, names: &Names, text: &mut Text) -> Result<(), Stop>
+    fn show_all(&self, names: &Names, text: &mut Text) -> Result<(), Stop<Refusal>>
         ensures { Prints (IsDone (show_all_text self.now.settings.forgotten self.now.state names.now self.now.ended)) text.old text.new result }
     {
         match show_all(
@@ -441,7 +445,7 @@ impl Running {
 
     /// `symbols`: the last symbols of the wire.
     #[inline(never)]
-    fn show_symbols(&mut self, text: &mut Text) -> Result<(), Stop>
+    fn show_symbols(&mut self, text: &mut Text) -> Result<(), Stop<Refusal>>
         ensures same { self.new ≡ self.old }
         ensures told { Prints (IsDone (symbols_text self.old.wire)) text.old text.new result }
     {
@@ -453,7 +457,7 @@ impl Running {
 
     /// `frames`: the last so many whole frames of these symbols.
     #[inline(never)]
-    fn show_frames(&mut self, count: u16, text: &mut Text) -> Result<(), Stop>
+    fn show_frames(&mut self, count: u16, text: &mut Text) -> Result<(), Stop<Refusal>>
         ensures same { self.new ≡ self.old }
         ensures told { Prints (IsDone (frames_text count self.old.wire)) text.old text.new result }
     {

@@ -37,11 +37,11 @@ fn show_byte(byte: Option<u8>, text: &mut Text) -> Result<(), AllocError>
     }
 }
 
-/// Prints some words and an address, and ends the line.
-fn show_place(words: &[u8], address: Option<Addr7>, text: &mut Text) -> Result<(), AllocError>
-    ensures { OnOk result (text.new ≡ text.old ++ (words.now ++ (byte_or_none address ++ 10 ∷ []))) }
+/// Prints some tokens and an address, and ends the line.
+fn show_place(tokens: &[u8], address: Option<Addr7>, text: &mut Text) -> Result<(), AllocError>
+    ensures { OnOk result (text.new ≡ text.old ++ (tokens.now ++ (byte_or_none address ++ 10 ∷ []))) }
 {
-    text.push(words)?;
+    text.push(tokens)?;
     show_address(address, text)?;
     text.end()
 }
@@ -246,11 +246,11 @@ fn show_asker(names: &Names, slot: Slot, text: &mut Text) -> Result<(), AllocErr
     }
 }
 
-/// Prints some words and a number.
-pub(crate) fn show_number(words: &[u8], number: u64, text: &mut Text) -> Result<(), AllocError>
-    ensures { OnOk result (text.new ≡ text.old ++ (words.now ++ decimal number)) }
+/// Prints some tokens and a number.
+pub(crate) fn show_number(tokens: &[u8], number: u64, text: &mut Text) -> Result<(), AllocError>
+    ensures { OnOk result (text.new ≡ text.old ++ (tokens.now ++ decimal number)) }
 {
-    text.push(words)?;
+    text.push(tokens)?;
     text.push_decimal(number)
 }
 
@@ -272,11 +272,11 @@ fn show_recorded(at: Addr7, byte: Option<u8>, text: &mut Text) -> Result<(), All
     show_last_byte(b" byte ", byte, text)
 }
 
-/// Prints some words and a byte, and ends the line.
-fn show_last_byte(words: &[u8], byte: Option<u8>, text: &mut Text) -> Result<(), AllocError>
-    ensures { OnOk result (text.new ≡ text.old ++ (words.now ++ (byte_or_none byte ++ 10 ∷ []))) }
+/// Prints some tokens and a byte, and ends the line.
+fn show_last_byte(tokens: &[u8], byte: Option<u8>, text: &mut Text) -> Result<(), AllocError>
+    ensures { OnOk result (text.new ≡ text.old ++ (tokens.now ++ (byte_or_none byte ++ 10 ∷ []))) }
 {
-    text.push(words)?;
+    text.push(tokens)?;
     show_byte(byte, text)?;
     text.end()
 }

@@ -6,14 +6,13 @@ ghost use Rattle.i3c_script.specs.Telling.{Prints};
 
 use crate::running::Running;
 use crate::show::{show_added, show_declared, show_main};
-use crate::stop::Stop;
 use crate::wires::Wires;
 use i3c_base::{Addr7, Bcr, Identity, Lvr, Setup, Slot};
 use i3c_bus::Refusal as BusRefusal;
 use i3c_frame::Symbol;
 use i3c_legacy::Legacies;
 use i3c_lines::{Command, Name, Names, Refusal};
-use i3c_text::Text;
+use i3c_text::{Stop, Text};
 use std::alloc::{AllocError, Global};
 use std::mem;
 
@@ -46,7 +45,7 @@ impl Stage {
         names: &mut Names,
         command: &Command,
         text: &mut Text,
-    ) -> Result<(), Stop>
+    ) -> Result<(), Stop<Refusal>>
         ensures obeys { IsObeyed (script self.old names.old) command.now text.old text.new result (script self.new names.new) }
     {
         match self {
@@ -75,7 +74,7 @@ impl Stage {
         name: &Name,
         setup: Setup,
         text: &mut Text,
-    ) -> Result<(), Stop>
+    ) -> Result<(), Stop<Refusal>>
         ensures { IsObeyed (script self.old names.old) (CommandValue.Main name.now setup) text.old text.new result (script self.new names.new) }
     {
         let Stage::Before(legacies) = self else {
@@ -140,7 +139,7 @@ fn add_legacy(
     address: Addr7,
     lvr: Lvr,
     text: &mut Text,
-) -> Result<(), Stop>
+) -> Result<(), Stop<Refusal>>
     ensures { Prints (λ said refused. ObeysBefore legacies.old names.old (CommandValue.Legacy name.now address lvr) said refused (script (Stage.Before legacies.new) names.new)) text.old text.new result }
 {
     if names.place_of(name).is_some() {
@@ -160,7 +159,7 @@ fn declare(
     address: Addr7,
     identity: Identity,
     text: &mut Text,
-) -> Result<(), Stop>
+) -> Result<(), Stop<Refusal>>
     ensures { (names : NamesValue) → Prints (λ said refused. ObeysBefore legacies.old names (CommandValue.Declare address identity) said refused (script (Stage.Before legacies.new) names)) text.old text.new result }
 {
     if let Err(fault) = legacies.declare(address, identity) {

@@ -1,50 +1,14 @@
 ghost use Rattle.std.specs.Prelude.{◌≡◌, ◌≢◌};
 ghost use Rattle.i3c_step.specs.declared.replies.Reply.{Reply as ReplyValue};
 ghost use Rattle.i3c_script.specs.Stops.{Ends, answer_refusal, reply_refusal, round_refusal};
-ghost use Rattle.i3c_script.specs.declared.stop.Stop.TheVariants.{Refused, Memory};
 
 use i3c_base::{Answer, RoundReply};
 use i3c_bus::{Refusal as BusRefusal, Reply};
 use i3c_lines::Refusal;
-use std::alloc::AllocError;
-use std::fmt;
-
-/// Why a line did not come to its end.
-#[derive(Clone, Copy, Drop)]
-pub enum Stop {
-    /// It was refused, and the next line is run.
-    Refused(Refusal),
-    /// There was no memory for it, and the run ends.
-    Memory,
-}
-
-impl From<Refusal> for Stop {
-    ghost from_gives = { λ refusal stop. stop ≡ Refused refusal };
-
-    fn from(refusal: Refusal) -> Stop {
-        Stop::Refused(refusal)
-    }
-}
-
-impl From<AllocError> for Stop {
-    ghost from_gives = { λ _ stop. stop ≡ Memory };
-
-    fn from(_error: AllocError) -> Stop {
-        Stop::Memory
-    }
-}
-
-// The errors of formatting are those of a line's text.
-impl From<fmt::Error> for Stop {
-    ghost from_gives = { λ _ stop. stop ≡ Memory };
-
-    fn from(_error: fmt::Error) -> Stop {
-        Stop::Memory
-    }
-}
+use i3c_text::Stop;
 
 /// What a line comes to by the bus's reply: the one place for refusals and for want of memory.
-pub fn outcome_of(reply: &Reply) -> Result<(), Stop>
+pub fn outcome_of(reply: &Reply) -> Result<(), Stop<Refusal>>
     ensures { Ends (λ refused. (reply.now ≢ ReplyValue.OutOfMemory) × (refused ≡ reply_refusal reply.now)) result }
 {
     match reply {
@@ -64,7 +28,7 @@ pub fn outcome_of(reply: &Reply) -> Result<(), Stop>
 }
 
 /// What a line comes to by the answer to a frame's own part.
-fn outcome_of_answer(answer: &Answer) -> Result<(), Stop>
+fn outcome_of_answer(answer: &Answer) -> Result<(), Stop<Refusal>>
     ensures refused { Ends (λ refused. refused ≡ answer_refusal answer.now) result }
     ensures fed { result ≢ Err Stop.Memory }
 {
@@ -78,7 +42,7 @@ fn outcome_of_answer(answer: &Answer) -> Result<(), Stop>
 }
 
 /// What a line comes to by a round's answer.
-pub(crate) fn outcome_of_round(answer: &RoundReply) -> Result<(), Stop>
+pub(crate) fn outcome_of_round(answer: &RoundReply) -> Result<(), Stop<Refusal>>
     ensures refused { Ends (λ refused. refused ≡ round_refusal answer.now) result }
     ensures fed { result ≢ Err Stop.Memory }
 {

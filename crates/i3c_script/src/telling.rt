@@ -1,13 +1,13 @@
 ghost use Rattle.std.specs.Prelude.{◌≡◌, [], ◌∷◌, ◌++◌, OnOk, codes};
 ghost use Rattle.std.specs.Fmt.{decimal};
-ghost use Rattle.i3c_script.specs.Printed.{assigned_text, attached_text, field_text, frame_subject, framed_text, handed_text, identity_text, opened_text, raised_text, read_word, reply_text, request_text, round_text, served_text, subject_of};
+ghost use Rattle.i3c_script.specs.Printed.{assigned_text, attached_text, field_text, frame_subject, framed_text, handed_text, identity_text, opened_text, raised_text, read_token, reply_text, request_text, round_text, served_text, subject_of};
 ghost use Rattle.i3c_step.specs.Replies.{attached_reply, dropped_reply, joins_reply, raised_reply, role_reply};
 ghost use Rattle.i3c_lines.specs.declared.names.Names.{Names as NamesValue};
 ghost use Rattle.i3c_script.specs.declared.telling.Subject.{Subject as SubjectValue};
 ghost use Rattle.i3c_script.specs.Telling.{Counts, IsTold, Prints};
 ghost use Rattle.i3c_log_laws.specs.Behind.{counted_from, reply_from};
 
-use crate::stop::{Stop, outcome_of};
+use crate::stop::outcome_of;
 use i3c_base::{
     Addr7, Answer, Datum, Identity, JoinRefusal, RaiseRefusal, RoleRefusal, RoundReply, Served,
     Slot,
@@ -15,8 +15,8 @@ use i3c_base::{
 use i3c_bus::{
     Command as Frame, DropRefusal, Event, Framed, Refusal as BusRefusal, Reply, SlotTaken,
 };
-use i3c_lines::{Names, Refusal, told_word};
-use i3c_text::Text;
+use i3c_lines::{Names, Refusal, told_token};
+use i3c_text::{Stop, Text};
 use std::alloc::AllocError;
 
 /// What a drop-off prints.
@@ -68,7 +68,7 @@ pub(crate) fn tell_frame(
     frame: &Frame,
     reply: &Reply,
     text: &mut Text,
-) -> Result<(), Stop>
+) -> Result<(), Stop<Refusal>>
     ensures { Prints (IsTold names.now (frame_subject frame.now) reply.now) text.old text.new result }
 {
     match reply {
@@ -91,7 +91,7 @@ pub(crate) fn tell(
     subject: Subject,
     reply: &Reply,
     text: &mut Text,
-) -> Result<(), Stop>
+) -> Result<(), Stop<Refusal>>
     ensures { Prints (IsTold names.now subject reply.now) text.old text.new result }
 {
     match show_reply(names, subject, reply, text) {
@@ -106,7 +106,7 @@ pub(crate) fn tell(
 ///
 /// The number is more than a `usize` holds.
 #[inline(always)]
-pub(crate) fn count_from(forgotten: usize, reply: &mut Reply) -> Result<(), Stop>
+pub(crate) fn count_from(forgotten: usize, reply: &mut Reply) -> Result<(), Stop<Refusal>>
     ensures { Counts forgotten reply.old reply.new result }
 {
     if forgotten == 0 {
@@ -148,7 +148,10 @@ fn number_served(forgotten: usize, served: &mut Served) -> Result<(), AllocError
 
 /// Prints what a raise came to, as `tell` does for a reply.
 #[inline(always)]
-pub(crate) fn tell_raised(raised: Result<u64, RaiseRefusal>, text: &mut Text) -> Result<(), Stop>
+pub(crate) fn tell_raised(
+    raised: Result<u64, RaiseRefusal>,
+    text: &mut Text,
+) -> Result<(), Stop<Refusal>>
     ensures { (names : NamesValue) → Prints (IsTold names SubjectValue.Nothing (raised_reply raised)) text.old text.new result }
 {
     match raised {
@@ -166,7 +169,7 @@ pub(crate) fn tell_attached(
     slot: Slot,
     attached: Result<(), SlotTaken>,
     text: &mut Text,
-) -> Result<(), Stop>
+) -> Result<(), Stop<Refusal>>
     ensures { Prints (IsTold names.now (SubjectValue.Attached slot) (attached_reply attached)) text.old text.new result }
 {
     match attached {
@@ -179,7 +182,10 @@ pub(crate) fn tell_attached(
 }
 
 /// Prints what a drop-off came to, as `tell` does for a reply.
-pub(crate) fn tell_dropped(dropped: Result<(), DropRefusal>, text: &mut Text) -> Result<(), Stop>
+pub(crate) fn tell_dropped(
+    dropped: Result<(), DropRefusal>,
+    text: &mut Text,
+) -> Result<(), Stop<Refusal>>
     ensures { (names : NamesValue) → Prints (IsTold names SubjectValue.Nothing (dropped_reply dropped)) text.old text.new result }
 {
     match dropped {
@@ -192,7 +198,10 @@ pub(crate) fn tell_dropped(dropped: Result<(), DropRefusal>, text: &mut Text) ->
 }
 
 /// Prints what a wish to join came to, as `tell` does for a reply.
-pub(crate) fn tell_join(asked: Result<(), JoinRefusal>, text: &mut Text) -> Result<(), Stop>
+pub(crate) fn tell_join(
+    asked: Result<(), JoinRefusal>,
+    text: &mut Text,
+) -> Result<(), Stop<Refusal>>
     ensures { (names : NamesValue) → Prints (IsTold names SubjectValue.Nothing (joins_reply asked)) text.old text.new result }
 {
     match asked {
@@ -205,7 +214,10 @@ pub(crate) fn tell_join(asked: Result<(), JoinRefusal>, text: &mut Text) -> Resu
 }
 
 /// Prints what a wish for the role came to, as `tell` does for a reply.
-pub(crate) fn tell_role(asked: Result<(), RoleRefusal>, text: &mut Text) -> Result<(), Stop>
+pub(crate) fn tell_role(
+    asked: Result<(), RoleRefusal>,
+    text: &mut Text,
+) -> Result<(), Stop<Refusal>>
     ensures { (names : NamesValue) → Prints (IsTold names SubjectValue.Nothing (role_reply asked)) text.old text.new result }
 {
     match asked {
@@ -248,12 +260,12 @@ fn show_raised(number: u64, text: &mut Text) -> Result<(), AllocError>
     show_number(b"raised ", number, text)
 }
 
-/// Prints a line of some words and a number.
+/// Prints a line of some tokens and a number.
 #[inline(always)]
-fn show_number(words: &[u8], number: u64, text: &mut Text) -> Result<(), AllocError>
-    ensures { OnOk result (text.new ≡ text.old ++ (words.now ++ (decimal number ++ 10 ∷ []))) }
+fn show_number(tokens: &[u8], number: u64, text: &mut Text) -> Result<(), AllocError>
+    ensures { OnOk result (text.new ≡ text.old ++ (tokens.now ++ (decimal number ++ 10 ∷ []))) }
 {
-    text.push_numbered(words, number)
+    text.push_numbered(tokens, number)
 }
 
 /// Prints the name and the slot of a device that was attached.
@@ -308,7 +320,7 @@ fn show_framed(subject: Subject, framed: &Framed, text: &mut Text) -> Result<(),
     match &framed.answer {
         Answer::Done => text.push(b"done\n"),
         Answer::Bytes(bytes) => {
-            show_read_word(subject, text)?;
+            show_read_token(subject, text)?;
             text.push_bytes(bytes.as_slice())?;
             text.end()
         }
@@ -316,13 +328,13 @@ fn show_framed(subject: Subject, framed: &Framed, text: &mut Text) -> Result<(),
     }
 }
 
-/// Prints the word before bytes that were read, and a space.
-fn show_read_word(subject: Subject, text: &mut Text) -> Result<(), AllocError>
-    ensures { OnOk result (text.new ≡ text.old ++ (read_word subject ++ codes " ")) }
+/// Prints the token before bytes that were read, and a space.
+fn show_read_token(subject: Subject, text: &mut Text) -> Result<(), AllocError>
+    ensures { OnOk result (text.new ≡ text.old ++ (read_token subject ++ codes " ")) }
 {
     match subject {
         Subject::Told(what) => {
-            text.push(told_word(what).as_bytes())?;
+            text.push(told_token(what).as_bytes())?;
             text.push(b" ")
         }
         Subject::Attached(_) | Subject::HandedTo(_) | Subject::Nothing => text.push(b"bytes "),

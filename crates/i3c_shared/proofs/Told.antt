@@ -1,4 +1,4 @@
--- What a consumer and a producer own: the memory and the tokens of their end. Assumes `Logic`.
+-- What a consumer and a producer own: the memory of their end, and the right to free it. Assumes `Logic`.
 use Rattle.std.proofs.Common.{◌≡◌, ℕ, List, [], ◌∷◌, ◌++◌, length, sym, refl, ap, subst, length-append, arith}
 use native.Mathlib.Decide.{ℕ_discrete}
 use mathlib.Core.Logic.{dite}

@@ -7,7 +7,7 @@ use Rattle.i3c_base.specs.State.{Board, IsPick, IsStart, State, addressed, no_bo
 use Rattle.i3c_facts.proofs.MarkLaws.{marks_apart}
 use Rattle.i3c_facts.proofs.Meaning.{one_mark}
 use Rattle.i3c_lines.specs.declared.command.Command.{Command}
-use Rattle.i3c_lines.specs.Forms.{IsCommand, tokens}
+use Rattle.i3c_lines.specs.Forms.{IsCommand, tokens_of}
 use Rattle.i3c_lines.proofs.Beginnings.{skipped_is_none}
 use Rattle.i3c_lines.proofs.Meanings.{meant_is}
 use Rattle.i3c_scene.specs.Scenes.{Seen, seen}
@@ -17,7 +17,7 @@ use Rattle.i3c_tracks.specs.Planning.{AreSaid, IsStartOf, Outline, outline}
 use Rattle.i3c_tracks.specs.Saying.{IsSaid}
 
 one_command : (line : List ℕ) (one other : Command) → IsCommand line one → IsCommand line other → one ≡ other
-one_command line one other first second = sym (meant_is (tokens line) one first.1) ∙ meant_is (tokens line) other second.1
+one_command line one other first second = sym (meant_is (tokens_of line) one first.1) ∙ meant_is (tokens_of line) other second.1
 
 -- a line with a form says one thing
 one_said : (line : List ℕ) (one other : Said) → IsSaid line one → IsSaid line other → (one ≡ Said.Formless → ⊥) → (other ≡ Said.Formless → ⊥) → one ≡ other

@@ -25,9 +25,9 @@ AreEndTexts lines blocks opened counted ends (suc k) text =
     (earlier : List ℕ) × (own : List ℕ) × (end : Node Seen) × AreEndTexts lines blocks opened counted ends k earlier × (slice_get ends k ≡ Some end)
     × IsEndText lines blocks opened counted (suc k) end own × (text ≡ earlier ++ own)
 
--- a line of some words and a number
+-- a line of some tokens and a number
 abbrev pub count_text : List ℕ → ℕ → List ℕ
-count_text words count = words ++ (decimal count ++ 10 ∷ [])
+count_text tokens count = tokens ++ (decimal count ++ 10 ∷ [])
 
 -- the number of orders, of lines that were run, and of ends
 abbrev pub numbers_text : Option ℕ → ℕ → ℕ → List ℕ

@@ -9,15 +9,15 @@ use Rattle.i3c_tracks.specs.declared.refusal.Reason.{Reason}
 use Rattle.i3c_tracks.specs.declared.refusal.Refusal.{Refusal}
 
 -- why a file isn't explored
-abbrev pub reason_word : Reason → List ℕ
-reason_word Reason.BadLine = codes "BadLine"
-reason_word Reason.NoBus = codes "NoBus"
-reason_word Reason.NoBlock = codes "NoBlock"
-reason_word Reason.BlockOpen = codes "BlockOpen"
-reason_word Reason.NoTrack = codes "NoTrack"
-reason_word Reason.NoLine = codes "NoLine"
-reason_word Reason.Most = codes "Most"
-reason_word Reason.NoClose = codes "NoClose"
+abbrev pub reason_token : Reason → List ℕ
+reason_token Reason.BadLine = codes "BadLine"
+reason_token Reason.NoBus = codes "NoBus"
+reason_token Reason.NoBlock = codes "NoBlock"
+reason_token Reason.BlockOpen = codes "BlockOpen"
+reason_token Reason.NoTrack = codes "NoTrack"
+reason_token Reason.NoLine = codes "NoLine"
+reason_token Reason.Most = codes "Most"
+reason_token Reason.NoClose = codes "NoClose"
 
 -- the number of the line, if the refusal is of one
 abbrev pub number_text : Option ℕ → List ℕ
@@ -25,7 +25,7 @@ number_text None = []
 number_text (Some number) = codes " " ++ decimal number
 
 abbrev pub refusal_line : Refusal → List ℕ
-refusal_line refusal = codes "refused " ++ (reason_word refusal.reason ++ (number_text refusal.line ++ 10 ∷ []))
+refusal_line refusal = codes "refused " ++ (reason_token refusal.reason ++ (number_text refusal.line ++ 10 ∷ []))
 
 -- the line of a number, from 1 on, as it stands in the file
 abbrev pub bytes_of : Option (Vec ℕ) → List ℕ
@@ -81,7 +81,7 @@ breaks_text number line = codes "# line " ++ (decimal number ++ (codes " breaks:
 
 -- a comment
 abbrev pub comment_text : List ℕ → List ℕ
-comment_text words = codes "# " ++ (words ++ 10 ∷ [])
+comment_text line = codes "# " ++ (line ++ 10 ∷ [])
 
 -- the comments before an order that breaks an expectation
 abbrev pub heading_text : ℕ → List ℕ → List ℕ → List ℕ

@@ -14,7 +14,7 @@ use std::alloc::{AllocError, Global};
 const LINE_LENGTH: usize = 256;
 
 /// How many letters `always` has, and `expect` too.
-const WORD_LENGTH: usize = 6;
+const TOKEN_LENGTH: usize = 6;
 
 /// Appends an order that breaks an expectation, as a script.
 pub(crate) fn push_broken(
@@ -123,11 +123,11 @@ fn push_found(found: &[u8], text: &mut Text) -> Result<(), AllocError>
 }
 
 /// Appends a comment.
-fn push_comment(words: &[u8], text: &mut Text) -> Result<(), AllocError>
-    ensures { OnOk result (text.new ≡ text.old ++ comment_text words.now) }
+fn push_comment(line: &[u8], text: &mut Text) -> Result<(), AllocError>
+    ensures { OnOk result (text.new ≡ text.old ++ comment_text line.now) }
 {
     text.push(b"# ")?;
-    text.push(words)?;
+    text.push(line)?;
     text.end()
 }
 
@@ -197,6 +197,6 @@ fn push_expectation(broken: &[u8], text: &mut Text) -> Result<(), AllocError>
     ensures { OnOk result (text.new ≡ text.old ++ expectation_text broken.now) }
 {
     text.push(b"expect")?;
-    text.push(&broken[WORD_LENGTH.min(broken.len())..])?;
+    text.push(&broken[TOKEN_LENGTH.min(broken.len())..])?;
     text.end()
 }

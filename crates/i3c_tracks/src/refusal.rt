@@ -24,11 +24,11 @@ pub enum Reason {
 
 impl Reason {
     ghost use Rattle.std.specs.Prelude.{◌≡◌};
-    ghost use Rattle.i3c_tracks.specs.Telling.{reason_word};
+    ghost use Rattle.i3c_tracks.specs.Telling.{reason_token};
 
     /// Its name, as it is printed.
-    fn word(self) -> &'static str
-        ensures { result.now ≡ reason_word self }
+    fn token(self) -> &'static str
+        ensures { result.now ≡ reason_token self }
     {
         match self {
             Reason::BadLine => "BadLine",
@@ -61,7 +61,7 @@ impl Refusal {
         ensures { OnOk result (text.new ≡ text.old ++ refusal_line self.now) }
     {
         text.push(b"refused ")?;
-        text.push(self.reason.word().as_bytes())?;
+        text.push(self.reason.token().as_bytes())?;
         match self.line {
             Some(number) => text.push_numbered(b" ", number),
             None => text.end(),

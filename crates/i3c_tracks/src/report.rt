@@ -175,7 +175,7 @@ pub(crate) fn cut_of(run: &Run<'_>) -> Option<(Name, u64)>
     }
 }
 
-/// Appends the words of a cut.
+/// Appends the tokens of a cut.
 pub(crate) fn push_cut(name: &Name, bit: u64, text: &mut Text) -> Result<(), AllocError>
     ensures { OnOk result (text.new ≡ text.old ++ cut_text name.now bit) }
 {

@@ -13,15 +13,15 @@ use Rattle.i3c_base.specs.State.{State}
 use Rattle.i3c_word.specs.declared.Word.{Word}
 use Rattle.i3c_frame.specs.declared.symbols.Symbol.{Symbol}
 use Rattle.i3c_frame.specs.declared.symbols.Symbol.TheVariants.{Repeated, Header}
-use Rattle.i3c_events.specs.Telling.{IsKindsWire, IsLengthWire, IsSettingWire}
+use Rattle.i3c_events.specs.Wire.{IsKindsWire, IsLengthWire, IsSettingWire}
 use Rattle.i3c_handoff.specs.declared.outcome.Offer.{Offer}
 use Rattle.i3c_handoff.specs.Offers.{SomeTakes, is_acknowledged}
-use Rattle.i3c_handoff.specs.Telling.{IsOfferWire}
+use Rattle.i3c_handoff.specs.Wire.{IsOfferWire}
 use Rattle.i3c_xfer.specs.declared.answers.Get.{Get as Told}
 use Rattle.i3c_xfer.specs.declared.answers.Read.{Read}
 use Rattle.i3c_xfer.specs.declared.answers.Write.{Write}
 use Rattle.i3c_xfer.specs.Getting.{is_get_acknowledged}
-use Rattle.i3c_xfer.specs.Telling.{IsGetWire, IsReadWire, IsWriteWire}
+use Rattle.i3c_xfer.specs.Wire.{IsGetWire, IsReadWire, IsWriteWire}
 use Rattle.i3c_xfer.specs.Transfers.{AnyAnswers, is_read_acknowledged, is_write_acknowledged}
 use Rattle.i3c_bus.specs.Wire.{IsDeclinedPart, IsGetPart, IsReadPart, IsUntaken, IsWritePart}
 use Rattle.i3c_wave.specs.Clocks.{at_bit}

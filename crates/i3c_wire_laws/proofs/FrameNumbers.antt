@@ -16,7 +16,7 @@ use Rattle.i3c_word.specs.declared.Word.{Word}
 use Rattle.i3c_frame.specs.declared.symbols.Symbol.{Symbol}
 use Rattle.i3c_frame.specs.declared.symbols.Symbol.TheVariants.{Start, Header}
 use Rattle.i3c_header.specs.Keys.{address_of, is_read}
-use Rattle.i3c_ibi.specs.Telling.{byte_word, request_header}
+use Rattle.i3c_ibi.specs.Wire.{byte_word, request_header}
 use Rattle.i3c_step.proofs.Uniqueness.{first_unique}
 use Rattle.i3c_bus.specs.Wire.{IsBegun, IsFrameWire, IsOn}
 use Rattle.i3c_wave.specs.Clocks.{AreOfFrames, at_bit}

@@ -14,7 +14,7 @@ use Rattle.i3c_base.specs.State.{State}
 use Rattle.i3c_frame.specs.declared.symbols.Symbol.{Symbol}
 use Rattle.i3c_frame.specs.declared.symbols.Symbol.TheVariants.{Start, Stop}
 use Rattle.i3c_ibi.specs.Driving.{IsByteRead}
-use Rattle.i3c_ibi.specs.Telling.{byte_word, request_header}
+use Rattle.i3c_ibi.specs.Wire.{byte_word, request_header}
 use Rattle.i3c_step.specs.Sound.{Addresses}
 use Rattle.i3c_bus.specs.Wire.{IsBegun, IsFrameWire, IsOn, IsServeWire}
 use Rattle.i3c_wire_laws.proofs.Addressing.{driver_low}

@@ -12,7 +12,7 @@ use Rattle.i3c_base.specs.State.{Entry, State, entry_at}
 use Rattle.i3c_frame.specs.declared.symbols.Symbol.{Symbol}
 use Rattle.i3c_frame.specs.declared.symbols.Symbol.TheVariants.{Start, Repeated, Stop, Header}
 use Rattle.i3c_header.specs.Keys.{address_of, is_read}
-use Rattle.i3c_ibi.specs.Telling.{byte_word, request_header}
+use Rattle.i3c_ibi.specs.Wire.{byte_word, request_header}
 use Rattle.i3c_step.specs.Sound.{Addresses}
 use Rattle.i3c_step.proofs.Drivers.{Drives-from}
 use Rattle.i3c_bus.specs.Wire.{IsBegun, IsFrameWire, IsOn, IsServeWire}

@@ -14,15 +14,15 @@ use Rattle.i3c_frame.specs.declared.symbols.Symbol.{Symbol}
 use Rattle.i3c_frame.specs.declared.symbols.Symbol.TheVariants.{Repeated, Stop, Header, LegacyWord}
 use Rattle.i3c_frame.specs.Texts.{IsInRange}
 use Rattle.i3c_events.specs.Words.{code_byte, kinds_byte, length_code_byte}
-use Rattle.i3c_events.specs.Telling.{IsKindsWire, IsLengthWire, IsSettingWire}
+use Rattle.i3c_events.specs.Wire.{IsKindsWire, IsLengthWire, IsSettingWire}
 use Rattle.i3c_handoff.specs.declared.outcome.Offer.{Offer}
-use Rattle.i3c_handoff.specs.Telling.{IsOfferWire}
+use Rattle.i3c_handoff.specs.Wire.{IsOfferWire}
 use Rattle.i3c_entdaa.specs.declared.outcome.Round.{Round}
-use Rattle.i3c_entdaa.specs.Telling.{IsRoundWire}
+use Rattle.i3c_entdaa.specs.Wire.{IsRoundWire}
 use Rattle.i3c_xfer.specs.declared.answers.Get.{Get as Told}
 use Rattle.i3c_xfer.specs.declared.answers.Read.{Read}
 use Rattle.i3c_xfer.specs.declared.answers.Write.{Write}
-use Rattle.i3c_xfer.specs.Telling.{AreWritten, IsAskingWord, IsGetWire, IsReadWire, IsToldWire, IsWriteWire, IsWrittenWire, IsWrittenWord, answered_wire, read_words, word_of}
+use Rattle.i3c_xfer.specs.Wire.{AreWritten, IsAskingWord, IsGetWire, IsReadWire, IsToldWire, IsWriteWire, IsWrittenWire, IsWrittenWord, answered_wire, read_words, word_of}
 use Rattle.i3c_wire_laws.specs.Fitting.{IsByte}
 
 -- the numbers of each symbol fit, one by one

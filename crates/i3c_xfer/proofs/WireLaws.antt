@@ -2,7 +2,7 @@
 use Rattle.std.proofs.Common.{◌≡◌, ℕ, Bool, true, List, [], ◌∷◌, ◌++◌, arith, length, map, refl, ap}
 use Rattle.i3c_frame.specs.declared.symbols.Symbol.{Symbol}
 use Rattle.i3c_xfer.specs.declared.wire.Side.{Side}
-use Rattle.i3c_xfer.specs.Telling.{AreWritten, IsWrittenWord, read_words, word_of}
+use Rattle.i3c_xfer.specs.Wire.{AreWritten, IsWrittenWord, read_words, word_of}
 
 -- the words of a read are those of all bytes but the last, and that
 pub read_all : (side : Side) (last : Bool) (bytes : List ℕ) (end : ℕ) → read_words side last (bytes ++ end ∷ []) ≡ map (word_of side true) bytes ++ word_of side last end ∷ []

@@ -1,3 +1,3 @@
 pub mod Transfers
-pub mod Telling
+pub mod Wire
 pub mod Getting

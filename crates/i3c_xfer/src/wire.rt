@@ -1,6 +1,6 @@
 ghost use Rattle.std.specs.Prelude.{◌≡◌, true};
 ghost use Rattle.i3c_frame.specs.Taps.{Tells};
-ghost use Rattle.i3c_xfer.specs.Telling.{IsGetWire, IsReadWire, IsUnansweredWire, IsWriteWire, IsWrittenWire, IsWrittenWord, answered_wire, read_words, word_of};
+ghost use Rattle.i3c_xfer.specs.Wire.{IsGetWire, IsReadWire, IsUnansweredWire, IsWriteWire, IsWrittenWire, IsWrittenWord, answered_wire, read_words, word_of};
 
 use crate::answers::{Get, Read, Write};
 use i3c_base::{Addr7, Datum};

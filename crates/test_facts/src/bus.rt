@@ -59,8 +59,8 @@ fn names(rt: &impl Abort, alloc: Global) -> Names {
 }
 
 // Gives a name to a slot.
-fn give(rt: &impl Abort, names: &mut Names, word: &[u8], number: u8) {
-    let name = Name::parse(word).expect(rt, "a name");
+fn give(rt: &impl Abort, names: &mut Names, token: &[u8], number: u8) {
+    let name = Name::parse(token).expect(rt, "a name");
     names
         .give_slot(&name, slot(rt, number))
         .expect(rt, "memory");

@@ -25,8 +25,8 @@ fn give(rt: &impl Abort, names: &mut Names, name: &Name, slot: Slot) {
 }
 
 /// A name.
-fn name(rt: &impl Abort, word: &[u8]) -> Name {
-    Name::parse(word).expect(rt, "a name")
+fn name(rt: &impl Abort, token: &[u8]) -> Name {
+    Name::parse(token).expect(rt, "a name")
 }
 
 /// A slot.
@@ -101,7 +101,7 @@ impl Two {
 
 // Refusals that no line comes to today, or at another address.
 #[test]
-fn words_of_refusals(rt: HostRuntime) {
+fn tokens_of_refusals(rt: HostRuntime) {
     let broadcast = Addr7::new(0x7E).expect(&rt, "an address");
     let cases = [
         (Refusal::NoEnd, "NoEnd"),

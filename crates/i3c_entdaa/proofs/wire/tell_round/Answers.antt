@@ -2,7 +2,7 @@
 use Rattle.std.proofs.Common.{List, [], ◌∷◌, true, false, refl, subst, sym}
 use Rattle.i3c_entdaa.specs.declared.outcome.Round.{Round}
 use Rattle.i3c_frame.specs.declared.symbols.Symbol.{Symbol}
-use Rattle.i3c_entdaa.specs.Telling.{IsRoundWire}
+use Rattle.i3c_entdaa.specs.Wire.{IsRoundWire}
 use Rattle.i3c_entdaa.proofs.wire.tell_round.Goals as goal
 
 pub returns-in-Done : goal.returns-in-Done

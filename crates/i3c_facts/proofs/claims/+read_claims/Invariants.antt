@@ -2,4 +2,4 @@ use Rattle.std.proofs.Common.{length}
 use Rattle.i3c_facts.proofs.claims.+read_claims.Given as goal
 
 abbrev pub decreases-read_claims : goal.decreases-read_claims
-decreases-read_claims l = length l.words.now
+decreases-read_claims l = length l.tokens.now

@@ -6,4 +6,4 @@ use Rattle.i3c_facts.proofs.facts.all_waiting.Goals as goal
 pub returns-in_err-count : goal.returns-in_err-count
 returns-in_err-count c =
     rw c.from_residual.ensures
-    (λ fact form. let f = waiting_args c.args.word.now fact c.requires form in false≢true (c.in_err-count.ensures.form.1 (f.1.0, subst (λ n. n < 2 ^ 16) f.1.1 f.1.2)))
+    (λ fact form. let f = waiting_args c.args.token.now fact c.requires form in false≢true (c.in_err-count.ensures.form.1 (f.1.0, subst (λ n. n < 2 ^ 16) f.1.1 f.1.2)))

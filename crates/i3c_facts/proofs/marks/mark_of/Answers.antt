@@ -9,6 +9,6 @@ pub returns : goal.returns
 returns c =
     let first = c.in-Some.first.now.now in
     let rest = texts c.in-Some.rest.now in
-    let e : texts c.args.words.now ≡ first ∷ rest = search rules in
+    let e : texts c.args.tokens.now ≡ first ∷ rest = search rules in
     subst (λ ws. Reads IsMarkForm ws c.plain_mark.result) (sym e)
-    (plain_of first rest c.plain_mark.result (λ always. false≢true (c.if-is_word.ensures.1 always)) (λ expect. false≢true (c.if-is_word-2.ensures.1 expect)) c.plain_mark.ensures)
+    (plain_of first rest c.plain_mark.result (λ always. false≢true (c.if-is_token.ensures.1 always)) (λ expect. false≢true (c.if-is_token-2.ensures.1 expect)) c.plain_mark.ensures)

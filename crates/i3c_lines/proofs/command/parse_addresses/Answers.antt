@@ -1,9 +1,9 @@
 use Rattle.std.proofs.Common.{◌≡◌, ◌∙◌, ◌∷◌, ap, arith, length, refl, subst, sym}
 use Rattle.std.specs.Option.{option_copied}
-use Rattle.i3c_lines.specs.Forms.{WritesAddress, tokens}
-use Rattle.i3c_lines.specs.Parsing.{words_of}
-use Rattle.i3c_lines.proofs.Arguments.{address_written, no_address, only_word, same_first}
-use Rattle.i3c_lines.proofs.LineLaws.{one_word}
+use Rattle.i3c_lines.specs.Forms.{WritesAddress, tokens_of}
+use Rattle.i3c_lines.specs.Parsing.{tokens_in}
+use Rattle.i3c_lines.proofs.Arguments.{address_written, no_address, only_token, same_first}
+use Rattle.i3c_lines.proofs.LineLaws.{one_token}
 use Rattle.i3c_lines.proofs.Meanings.{rest_of}
 use Rattle.i3c_lines.proofs.SplitLaws.{hex_no_space, joined_tokens, split_tokens}
 use Rattle.i3c_lines.proofs.command.parse_addresses.Goals as goal
@@ -25,8 +25,8 @@ returns-in_err-second c =
     (λ parts is.
     let first = c.in_ok-first.first.now in
     let digits = c.in_ok-at.ensures.form.0 refl in
-    let words = ap tokens c.in_ok-first.ensures.split.1 ∙ joined_tokens first (option_copied c.in_ok-first.rest) (hex_no_space _ digits.0.1) in
-    let alone = words ∙ ap (λ rest. first ∷ words_of (option_copied rest)) c.in_err-second.was in omega (arith, ap length (sym is.2 ∙ alone)))
+    let tokens = ap tokens_of c.in_ok-first.ensures.split.1 ∙ joined_tokens first (option_copied c.in_ok-first.rest) (hex_no_space _ digits.0.1) in
+    let alone = tokens ∙ ap (λ rest. first ∷ tokens_in (option_copied rest)) c.in_err-second.was in omega (arith, ap length (sym is.2 ∙ alone)))
 
 pub returns-in_err-to : goal.returns-in_err-to
 returns-in_err-to c =
@@ -35,9 +35,9 @@ returns-in_err-to c =
     let first = c.in_ok-first.first.now in
     let second = c.in_ok-second.second.now in
     let digits = c.in_ok-at.ensures.form.0 refl in
-    let words = ap tokens c.in_ok-first.ensures.split.1 ∙ joined_tokens first (option_copied c.in_ok-first.rest) (hex_no_space _ digits.0.1) in
-    let both = words ∙ ap (λ rest. first ∷ words_of (option_copied rest)) c.in_ok-second.was in
-    let same : second ≡ is.1 = only_word second is.1 (ap rest_of (sym both ∙ is.2)) in no_address second c.in_err-to.ensures.form.1 parts.1 (subst (λ w. WritesAddress w parts.1) (sym same) is.4))
+    let tokens = ap tokens_of c.in_ok-first.ensures.split.1 ∙ joined_tokens first (option_copied c.in_ok-first.rest) (hex_no_space _ digits.0.1) in
+    let both = tokens ∙ ap (λ rest. first ∷ tokens_in (option_copied rest)) c.in_ok-second.was in
+    let same : second ≡ is.1 = only_token second is.1 (ap rest_of (sym both ∙ is.2)) in no_address second c.in_err-to.ensures.form.1 parts.1 (subst (λ w. WritesAddress w parts.1) (sym same) is.4))
 
 pub returns : goal.returns
 returns c =
@@ -45,6 +45,6 @@ returns c =
     let second = c.in_ok-second.second.now in
     let digits = c.in_ok-at.ensures.form.0 refl in
     let more = c.in_ok-to.ensures.form.0 refl in
-    let words = ap tokens c.in_ok-first.ensures.split.1 ∙ joined_tokens first (option_copied c.in_ok-first.rest) (hex_no_space _ digits.0.1) in
-    let both = words ∙ ap (λ rest. first ∷ words_of (option_copied rest)) c.in_ok-second.was ∙ ap (λ ws. first ∷ ws) (one_word second (hex_no_space _ more.0.1)) in
+    let tokens = ap tokens_of c.in_ok-first.ensures.split.1 ∙ joined_tokens first (option_copied c.in_ok-first.rest) (hex_no_space _ digits.0.1) in
+    let both = tokens ∙ ap (λ rest. first ∷ tokens_in (option_copied rest)) c.in_ok-second.was ∙ ap (λ ws. first ∷ ws) (one_token second (hex_no_space _ more.0.1)) in
     (first, second, both, address_written first _ digits c.in_ok-at.ensures.value, address_written second _ more c.in_ok-to.ensures.value)

@@ -1,9 +1,9 @@
 use Rattle.std.proofs.Common.{◌∙◌, ap, refl, subst, sym}
 use Rattle.std.proofs.lemmas.Bool.{false≢true}
 use Rattle.std.specs.Option.{option_copied}
-use Rattle.i3c_lines.specs.Forms.{AreAddress, tokens}
-use Rattle.i3c_lines.specs.Parsing.{words_of}
-use Rattle.i3c_lines.specs.Words.{IsHex}
+use Rattle.i3c_lines.specs.Forms.{AreAddress, tokens_of}
+use Rattle.i3c_lines.specs.Parsing.{tokens_in}
+use Rattle.i3c_lines.specs.Tokens.{IsHex}
 use Rattle.i3c_lines.proofs.Arguments.{same_first}
 use Rattle.i3c_lines.proofs.Meanings.{rest_of}
 use Rattle.i3c_lines.proofs.SplitLaws.{hex_no_space, joined_tokens, split_tokens}
@@ -25,11 +25,11 @@ returns-in_err-to c =
     rw c.from_residual-in_err-to.ensures
     (λ parts is.
     let digits = c.in_ok-kinds.ensures.form.0 refl in
-    let words = ap tokens c.in_ok-byte.ensures.split.1 ∙ joined_tokens c.in_ok-byte.byte.now (option_copied c.in_ok-byte.rest) (hex_no_space _ digits.1) in
-    c.in_err-to.ensures parts.0 (subst (λ ws. AreAddress ws parts.0) (ap rest_of (sym is.2 ∙ words)) is.4))
+    let tokens = ap tokens_of c.in_ok-byte.ensures.split.1 ∙ joined_tokens c.in_ok-byte.byte.now (option_copied c.in_ok-byte.rest) (hex_no_space _ digits.1) in
+    c.in_err-to.ensures parts.0 (subst (λ ws. AreAddress ws parts.0) (ap rest_of (sym is.2 ∙ tokens)) is.4))
 
 pub returns : goal.returns
 returns c =
     let digits = c.in_ok-kinds.ensures.form.0 refl in
-    let words = ap tokens c.in_ok-byte.ensures.split.1 ∙ joined_tokens c.in_ok-byte.byte.now (option_copied c.in_ok-byte.rest) (hex_no_space _ digits.1) in
-    (c.in_ok-byte.byte.now, words_of (option_copied c.in_ok-byte.rest), words, (digits, c.in_ok-kinds.ensures.value), c.in_ok-to.ensures)
+    let tokens = ap tokens_of c.in_ok-byte.ensures.split.1 ∙ joined_tokens c.in_ok-byte.byte.now (option_copied c.in_ok-byte.rest) (hex_no_space _ digits.1) in
+    (c.in_ok-byte.byte.now, tokens_in (option_copied c.in_ok-byte.rest), tokens, (digits, c.in_ok-kinds.ensures.value), c.in_ok-to.ensures)

@@ -10,7 +10,7 @@ returns-in_err-accept-in-None c =
     (λ policy form.
     elim form [
       | inl one ↦
-          let first : one.0 ≡ c.in_ok-first.first.now = ap first_of (sym one.1 ∙ c.in_ok-first.ensures) in c.in-None.ensures policy (subst (λ word. IsAlone word policy) first one.2)
+          let first : one.0 ≡ c.in_ok-first.first.now = ap first_of (sym one.1 ∙ c.in_ok-first.ensures) in c.in-None.ensures policy (subst (λ token. IsAlone token policy) first one.2)
       | inr kinds ↦
-          let each = subst (λ words. AcceptEach words (each_kind Refuse) policy) c.in_ok-first.ensures kinds.1 in c.in_err-accept-in-None.ensures each.0 each.1
+          let each = subst (λ tokens. AcceptEach tokens (each_kind Refuse) policy) c.in_ok-first.ensures kinds.1 in c.in_err-accept-in-None.ensures each.0 each.1
     ])

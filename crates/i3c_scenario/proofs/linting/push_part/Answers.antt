@@ -9,5 +9,5 @@ returns c =
     four c.push-3.result c.args.text.now (codes " '") (map printable (take 16 part)) (more_text (length part)) (codes "'")
     c.push.new.self c.push_printable.new.text c.push-2.new.self c.push-3.new.self c.in_ok-push.ensures.appended
     (c.in_ok-push_printable.ensures ∙ ap (λ bytes. c.push.new.self ++ map printable bytes) c.front_of.ensures)
-    (c.in_ok-push-2.ensures.appended ∙ ap (λ words. c.push_printable.new.text ++ words) c.more_words.ensures)
+    (c.in_ok-push-2.ensures.appended ∙ ap (λ more. c.push_printable.new.text ++ more) c.more_text.ensures)
     c.push-3.ensures.appended

@@ -10,8 +10,8 @@ returns c =
     let new = c.end.new.self in
     let kinds = c.args.kinds.now in
     let wish = c.args.wish.now in
-    let told_wish = told_both r c.show_words.new.text c.show_words-2.new.text new (codes " wishes ") wish (10 ∷ []) c.in_ok-show_words-2.ensures c.end.ensures in
-    let told_kinds = told_both r c.show_registers.new.text c.show_words.new.text new (codes " enabled ") kinds (codes " wishes " ++ (wish ++ 10 ∷ [])) c.in_ok-show_words.ensures told_wish in
+    let told_wish = told_both r c.show_tokens.new.text c.show_tokens-2.new.text new (codes " wishes ") wish (10 ∷ []) c.in_ok-show_tokens-2.ensures c.end.ensures in
+    let told_kinds = told_both r c.show_registers.new.text c.show_tokens.new.text new (codes " enabled ") kinds (codes " wishes " ++ (wish ++ 10 ∷ [])) c.in_ok-show_tokens.ensures told_wish in
     let rest = codes " enabled " ++ (kinds ++ (codes " wishes " ++ (wish ++ 10 ∷ []))) in
     let told_registers = told_on r c.push-2.new.self c.show_registers.new.text new (registers_text c.args.identity.now) rest c.in_ok-show_registers.ensures told_kinds in
     told_behind r c.args.text.now c.push.new.self c.push-2.new.self new (codes "device ") (letters c.args.name.now) (registers_text c.args.identity.now ++ rest) c.in_ok-push.ensures.appended (c.in_ok-push-2.ensures.appended ∙ ap (λ n. c.push.new.self ++ n) c.as_bytes.ensures) told_registers

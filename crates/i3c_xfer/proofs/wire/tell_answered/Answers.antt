@@ -2,7 +2,7 @@
 use Rattle.std.proofs.Common.{ap, true}
 use Rattle.i3c_frame.proofs.TapLaws.{NotesAll-push}
 use Rattle.i3c_frame.specs.declared.symbols.Symbol.TheVariants.{Stop}
-use Rattle.i3c_xfer.specs.Telling.{answered_wire}
+use Rattle.i3c_xfer.specs.Wire.{answered_wire}
 use Rattle.i3c_xfer.proofs.wire.tell_answered.Goals as goal
 
 pub returns : goal.returns

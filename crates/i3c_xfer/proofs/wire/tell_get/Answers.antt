@@ -2,7 +2,7 @@
 use Rattle.std.proofs.Common.{◌∷◌, ◌∙◌, ap, false, refl, subst, sym, true}
 use Rattle.i3c_frame.specs.declared.symbols.Symbol.{Symbol}
 use Rattle.i3c_xfer.specs.declared.wire.Side.{Side}
-use Rattle.i3c_xfer.specs.Telling.{IsToldWire, answered_wire, read_words}
+use Rattle.i3c_xfer.specs.Wire.{IsToldWire, answered_wire, read_words}
 use Rattle.i3c_xfer.proofs.wire.tell_get.Goals as goal
 
 pub returns-in-Nobody : goal.returns-in-Nobody

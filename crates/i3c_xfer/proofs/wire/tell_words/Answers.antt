@@ -4,7 +4,7 @@ use Rattle.std.proofs.lemmas.List.{map_more, take_all}
 use Rattle.i3c_frame.proofs.TapLaws.{NotesAll-push}
 use Rattle.i3c_frame.specs.Taps.{NotesAll}
 use Rattle.i3c_frame.specs.declared.symbols.Symbol.{Symbol}
-use Rattle.i3c_xfer.specs.Telling.{read_words, word_of}
+use Rattle.i3c_xfer.specs.Wire.{read_words, word_of}
 use Rattle.i3c_xfer.proofs.WireLaws.{read_all, read_none}
 use Rattle.i3c_xfer.proofs.wire.tell_words.Goals as goal
 

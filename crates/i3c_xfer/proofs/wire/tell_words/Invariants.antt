@@ -1,6 +1,6 @@
 use Rattle.std.proofs.Common.{map, take, true}
 use Rattle.i3c_frame.specs.Taps.{NotesAll}
-use Rattle.i3c_xfer.specs.Telling.{word_of}
+use Rattle.i3c_xfer.specs.Wire.{word_of}
 use Rattle.i3c_xfer.proofs.wire.tell_words.Given as goal
 
 -- the words so far were told

@@ -3,7 +3,7 @@ use Rattle.std.proofs.Common.{[], ◌∷◌, ◌++◌, refl, take, subst, sym, f
 use Rattle.std.proofs.lemmas.List.{take_all, take_more}
 use Rattle.i3c_frame.proofs.TapLaws.{NotesAll-push}
 use Rattle.i3c_frame.specs.declared.symbols.Symbol.TheVariants.{Stop}
-use Rattle.i3c_xfer.specs.Telling.{AreWritten, answered_wire}
+use Rattle.i3c_xfer.specs.Wire.{AreWritten, answered_wire}
 use Rattle.i3c_xfer.proofs.WireLaws.{written_more}
 use Rattle.i3c_xfer.proofs.wire.tell_written.Goals as goal
 

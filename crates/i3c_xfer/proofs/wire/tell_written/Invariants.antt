@@ -1,7 +1,7 @@
 use Rattle.std.proofs.Common.{List, take}
 use Rattle.i3c_frame.specs.declared.symbols.Symbol.{Symbol}
 use Rattle.i3c_frame.specs.Taps.{NotesAll}
-use Rattle.i3c_xfer.specs.Telling.{AreWritten}
+use Rattle.i3c_xfer.specs.Wire.{AreWritten}
 use Rattle.i3c_xfer.proofs.wire.tell_written.Given as goal
 
 -- the words so far were told

@@ -8,7 +8,7 @@ use Rattle.i3c_ibi.specs.Serving.{IsServing, served_as}
 use Rattle.i3c_base.specs.Serve.{given_for}
 use Rattle.i3c_base.specs.Frames.{AnyLeftIn}
 use Rattle.i3c_bus.specs.Beginning.{Begins}
-use Rattle.i3c_ibi.specs.Telling.{begun}
+use Rattle.i3c_ibi.specs.Wire.{begun}
 use Rattle.i3c_bus.specs.Wire.{IsBegun}
 use Rattle.i3c_bus.proofs.Beginning.{begins_by, begun_by, fits_table}
 use Rattle.i3c_bus.proofs.Listing.{serves_current}

@@ -7,7 +7,7 @@ use Rattle.i3c_base.specs.declared.requests.Served.{Served}
 use Rattle.i3c_base.specs.Frames.{AnyLeftIn}
 use Rattle.i3c_frame.specs.Taps.{NotesAll}
 use Rattle.i3c_frame.specs.declared.symbols.Symbol.TheVariants.{Header, Start}
-use Rattle.i3c_ibi.specs.Telling.{request_header}
+use Rattle.i3c_ibi.specs.Wire.{request_header}
 use Rattle.i3c_bus.specs.Wire.{IsAck, IsBegun}
 use Rattle.i3c_base.proofs.Verdicts.{refuses}
 use Rattle.i3c_bus.proofs.Seen.{has_devices}

@@ -11,7 +11,7 @@ use Rattle.i3c_bus.specs.declared.hand.Hand.{Hand}
 use Rattle.i3c_bus.specs.Beginning.{LeavesBy}
 use Rattle.i3c_step.specs.Step.{is_no_target}
 use Rattle.i3c_frame.specs.Taps.{Tells}
-use Rattle.i3c_events.specs.Telling.{IsKindsWire}
+use Rattle.i3c_events.specs.Wire.{IsKindsWire}
 use Rattle.i3c_bus.proofs.Framing.{fits_left, frame_by, kinds_step, kinds_told, target_free, tells_frame}
 use Rattle.i3c_bus.specs.Wire.{IsAnswered, IsKindsPart}
 use Rattle.i3c_bus.proofs.Heard.{answered_before}

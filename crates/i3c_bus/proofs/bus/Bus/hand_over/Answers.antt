@@ -8,7 +8,7 @@ use Rattle.i3c_base.specs.State.{HasDevices, State}
 use Rattle.i3c_frame.specs.Taps.{Tells}
 use Rattle.i3c_handoff.specs.declared.outcome.Offer.TheVariants.{Taken}
 use Rattle.i3c_handoff.specs.Offers.{IsOffered, offer_bits}
-use Rattle.i3c_handoff.specs.Telling.{IsOfferWire}
+use Rattle.i3c_handoff.specs.Wire.{IsOfferWire}
 use Rattle.i3c_step.specs.declared.events.Event.{Event}
 use Rattle.i3c_step.specs.declared.replies.Reply.{Reply}
 use Rattle.i3c_bus.specs.declared.hand.Hand.{Hand}

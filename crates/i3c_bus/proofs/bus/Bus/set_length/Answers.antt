@@ -6,7 +6,7 @@ use Rattle.i3c_base.specs.declared.requests.Served.{Served}
 use Rattle.i3c_base.specs.Frames.{SetsLength, length_bits}
 use Rattle.i3c_base.specs.Serve.{given_for}
 use Rattle.i3c_base.specs.State.{State}
-use Rattle.i3c_events.specs.Telling.{IsLengthWire}
+use Rattle.i3c_events.specs.Wire.{IsLengthWire}
 use Rattle.i3c_frame.specs.Taps.{Tells}
 use Rattle.i3c_step.specs.declared.events.Event.{Event}
 use Rattle.i3c_step.specs.Step.{is_no_target}

@@ -1,7 +1,7 @@
 use Rattle.std.proofs.Common.{Err, refl, subst, sym}
 use Rattle.i3c_drive.specs.Steps.{Reads, state}
 use Rattle.i3c_drive.proofs.Driving.{command_reads, long_reads}
-use Rattle.i3c_script.specs.declared.stop.Stop.{Stop}
+use Rattle.i3c_text.specs.declared.stop.Stop.{Stop}
 use Rattle.i3c_script.specs.Obeying.{script}
 use Rattle.i3c_drive.proofs.driver.Driver.obey.Goals as goal
 

@@ -8,7 +8,7 @@ returns g c = (
   λ command form.
       elim (only_e c.args.tail.now command form) [
         | inl enec ↦ c.in_default.ensures enec.0 enec.1
-        | inr end ↦ false≢true (c.if-is_word.ensures.1 end)
+        | inr end ↦ false≢true (c.if-is_token.ensures.1 end)
       ],
   refl,
 )

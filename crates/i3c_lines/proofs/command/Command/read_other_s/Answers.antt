@@ -8,9 +8,9 @@ returns c = (
   λ command form.
       elim (only_s c.args.tail.now command form) [
         | inl serve ↦ absurd (c.requires.serve serve)
-        | inr (inl show) ↦ false≢true (c.if-is_word.ensures.1 show)
-        | inr (inr (inl symbols)) ↦ false≢true (c.if-is_word-2.ensures.1 symbols)
-        | inr (inr (inr (inl all))) ↦ false≢true (c.if-is_word-3.ensures.1 all)
+        | inr (inl show) ↦ false≢true (c.if-is_token.ensures.1 show)
+        | inr (inr (inl symbols)) ↦ false≢true (c.if-is_token-2.ensures.1 symbols)
+        | inr (inr (inr (inl all))) ↦ false≢true (c.if-is_token-3.ensures.1 all)
         | inr (inr (inr (inr (inl from)))) ↦ c.in_default-after-3.ensures from.0 from.1
         | inr (inr (inr (inr (inr (inl static))))) ↦ absurd (c.requires.fixed static.0 static.1)
         | inr (inr (inr (inr (inr (inr (inl new)))))) ↦ c.in_default.ensures new.0 new.1

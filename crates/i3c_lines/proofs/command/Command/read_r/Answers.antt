@@ -9,8 +9,8 @@ returns g c = (
       elim (only_r c.args.tail.now command form) [
         | inl raise ↦ c.in_default.ensures raise.0 raise.1
         | inr (inl read) ↦ c.in_default-after.ensures read.0 read.1
-        | inr (inr (inl reset)) ↦ false≢true (c.if-is_word.ensures.1 reset)
-        | inr (inr (inr round)) ↦ false≢true (c.if-is_word-2.ensures.1 round)
+        | inr (inr (inl reset)) ↦ false≢true (c.if-is_token.ensures.1 reset)
+        | inr (inr (inr round)) ↦ false≢true (c.if-is_token-2.ensures.1 round)
       ],
   refl,
 )

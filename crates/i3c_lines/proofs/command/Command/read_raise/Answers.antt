@@ -1,8 +1,8 @@
 use Rattle.std.proofs.Common.{◌∙◌, ◌∷◌, ap, codes, refl, subst, sym}
 use Rattle.std.specs.Option.{option_copied}
-use Rattle.i3c_lines.specs.Forms.{AreByte, tokens}
+use Rattle.i3c_lines.specs.Forms.{AreByte, tokens_of}
 use Rattle.i3c_lines.specs.Naming.{letters}
-use Rattle.i3c_lines.specs.Parsing.{words_of}
+use Rattle.i3c_lines.specs.Parsing.{tokens_in}
 use Rattle.i3c_lines.proofs.Arguments.{raise_args}
 use Rattle.i3c_lines.proofs.Meanings.{rest_of}
 use Rattle.i3c_lines.proofs.SplitLaws.{joined_tokens, name_no_space, split_tokens}
@@ -19,13 +19,13 @@ returns-in_err-byte g c =
       λ command form.
           let f = raise_args _ command form in
           let name = letters c.in_ok-name.name in
-          let words = ap tokens c.in_ok-name.ensures.split ∙ joined_tokens name (option_copied c.in_ok-name.rest) (name_no_space name c.in_ok-name.ensures.name) in
-          c.in_err-byte.ensures f.1 (subst (λ ws. AreByte ws f.1) (ap rest_of (sym f.4 ∙ words)) f.6),
+          let tokens = ap tokens_of c.in_ok-name.ensures.split ∙ joined_tokens name (option_copied c.in_ok-name.rest) (name_no_space name c.in_ok-name.ensures.name) in
+          c.in_err-byte.ensures f.1 (subst (λ ws. AreByte ws f.1) (ap rest_of (sym f.4 ∙ tokens)) f.6),
       refl,
     )
 
 pub returns : goal.returns
 returns g c =
     let name = letters c.in_ok-name.name in
-    let words = ap tokens c.in_ok-name.ensures.split ∙ joined_tokens name (option_copied c.in_ok-name.rest) (name_no_space name c.in_ok-name.ensures.name) in
-    (name, words_of (option_copied c.in_ok-name.rest), ap (λ ws. codes "raise" ∷ ws) words, (c.in_ok-name.ensures.name, refl), c.in_ok-byte.ensures)
+    let tokens = ap tokens_of c.in_ok-name.ensures.split ∙ joined_tokens name (option_copied c.in_ok-name.rest) (name_no_space name c.in_ok-name.ensures.name) in
+    (name, tokens_in (option_copied c.in_ok-name.rest), ap (λ ws. codes "raise" ∷ ws) tokens, (c.in_ok-name.ensures.name, refl), c.in_ok-byte.ensures)

@@ -1,7 +1,7 @@
 use Rattle.std.proofs.Common.{◌∙◌, ◌∷◌, ap, codes, refl, subst, sym}
 use Rattle.std.specs.Option.{option_copied}
-use Rattle.i3c_lines.specs.Forms.{AreWritten, WritesAddress, tokens}
-use Rattle.i3c_lines.specs.Parsing.{words_of}
+use Rattle.i3c_lines.specs.Forms.{AreWritten, WritesAddress, tokens_of}
+use Rattle.i3c_lines.specs.Parsing.{tokens_in}
 use Rattle.i3c_lines.proofs.Arguments.{address_written, no_address, same_first, write_args}
 use Rattle.i3c_lines.proofs.Meanings.{rest_of}
 use Rattle.i3c_lines.proofs.SplitLaws.{hex_no_space, joined_tokens, split_tokens}
@@ -29,13 +29,13 @@ returns-in_err-bytes c =
       λ command form.
           let f = write_args _ command form in
           let is = c.in_ok-at.ensures.form.0 refl in
-          let words = ap tokens c.in_ok-address.ensures.split.1 ∙ joined_tokens c.in_ok-address.address.now (option_copied c.in_ok-address.rest) (hex_no_space _ is.0.1) in
-          c.in_err-bytes.ensures (record { items = f.1 }) (subst (λ ws. AreWritten ws f.1) (ap rest_of (sym f.4 ∙ words)) f.6),
+          let tokens = ap tokens_of c.in_ok-address.ensures.split.1 ∙ joined_tokens c.in_ok-address.address.now (option_copied c.in_ok-address.rest) (hex_no_space _ is.0.1) in
+          c.in_err-bytes.ensures (record { items = f.1 }) (subst (λ ws. AreWritten ws f.1) (ap rest_of (sym f.4 ∙ tokens)) f.6),
       refl,
     )
 
 pub returns : goal.returns
 returns c =
     let is = c.in_ok-at.ensures.form.0 refl in
-    let words = ap tokens c.in_ok-address.ensures.split.1 ∙ joined_tokens c.in_ok-address.address.now (option_copied c.in_ok-address.rest) (hex_no_space _ is.0.1) in
-    (c.in_ok-address.address.now, words_of (option_copied c.in_ok-address.rest), ap (λ ws. codes "write" ∷ ws) words, address_written c.in_ok-address.address.now _ is c.in_ok-at.ensures.value, c.in_ok-bytes.ensures)
+    let tokens = ap tokens_of c.in_ok-address.ensures.split.1 ∙ joined_tokens c.in_ok-address.address.now (option_copied c.in_ok-address.rest) (hex_no_space _ is.0.1) in
+    (c.in_ok-address.address.now, tokens_in (option_copied c.in_ok-address.rest), ap (λ ws. codes "write" ∷ ws) tokens, address_written c.in_ok-address.address.now _ is c.in_ok-at.ensures.value, c.in_ok-bytes.ensures)

@@ -1,6 +1,6 @@
 use Rattle.std.proofs.Common.{◌∙◌, arith, below_more, get_or, length-set, refl, rules}
 use Rattle.std.proofs.lemmas.Grind.{common_steps}
-use Rattle.i3c_lines.specs.Words.{IsNameLetter}
+use Rattle.i3c_lines.specs.Tokens.{IsNameLetter}
 use Rattle.i3c_lines.proofs.NameLaws.{letter_put, letters_put}
 use Rattle.i3c_lines.proofs.names.Name.leading.Goals as goal
 

@@ -1,5 +1,5 @@
 use Rattle.std.proofs.Common.{◌≡◌, ℕ, ◌-◌, ◌<◌, drop, get_or, length, replicate, take}
-use Rattle.i3c_lines.specs.Words.{IsNameLetter}
+use Rattle.i3c_lines.specs.Tokens.{IsNameLetter}
 use Rattle.i3c_lines.proofs.names.Name.leading.Given as goal
 
 -- the letters so far are in their places, and zeros in the others

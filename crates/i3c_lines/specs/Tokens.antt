@@ -1,4 +1,4 @@
--- The forms of words.
+-- The forms of tokens.
 use Rattle.std.specs.Prelude.{◌≡◌, ℕ, ◌<◌, ◌≤◌, ◌⊎◌, ⊤, List, [], ◌∷◌, length, All}
 use Rattle.std.specs.Int.{IsInRange}
 use Rattle.std.specs.Str.Parse.{digits_value}
@@ -10,11 +10,11 @@ IsDecimalDigit byte = IsInRange 48 57 byte
 
 -- decimal digits, of which there is one at least
 abbrev pub IsDecimal : List ℕ → Type 0
-IsDecimal word = (0 < length word) × All IsDecimalDigit word
+IsDecimal token = (0 < length token) × All IsDecimalDigit token
 
 -- so many hex digits
 abbrev pub IsHex : ℕ → List ℕ → Type 0
-IsHex digits word = (length word ≡ digits) × All IsHexDigit word
+IsHex digits token = (length token ≡ digits) × All IsHexDigit token
 
 -- `a` to `z` or `0` to `9`
 abbrev pub IsNameLetter : ℕ → Type 0
@@ -22,7 +22,7 @@ IsNameLetter byte = IsInRange 97 122 byte ⊎ IsInRange 48 57 byte
 
 -- at least one letter, and no more than so many
 abbrev pub IsName : ℕ → List ℕ → Type 0
-IsName most word = (0 < length word) × (length word ≤ most) × All IsNameLetter word
+IsName most token = (0 < length token) × (length token ≤ most) × All IsNameLetter token
 
 -- two hex digits for each byte
 abbrev pub AreBytes : List ℕ → Type 0
