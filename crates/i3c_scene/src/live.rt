@@ -16,7 +16,7 @@ ghost use Rattle.i3c_scene.specs.declared.named.Named.{Named as NamedValue};
 
 use crate::known::Known;
 use crate::line::{Expectation, Line};
-use crate::scene::Scene;
+use crate::scene::{Rest, Scene};
 use arrayvec::ArrayVec;
 use i3c_base::{Addr7, Cuts, Fixed, Setup, Slot};
 use i3c_bus::{
@@ -80,13 +80,14 @@ impl Scene {
     pub(crate) fn wake(&self, alloc: Global) -> Result<Live, AllocError>
         ensures { IfOk result (λ live. live ≡ self.now) }
     {
-        let known = self.known.copied()?;
-        let cuts = self.cuts.clone()?;
-        match self.still.wake(alloc) {
+        let rest = &*self.rest;
+        let known = rest.known.copied()?;
+        let cuts = rest.cuts.clone()?;
+        match rest.still.wake(alloc) {
             Ok((bus, hand)) => Ok(Live {
                 bus,
                 hand: Some(hand),
-                settings: self.settings.copied(),
+                settings: rest.settings.copied(),
                 cuts,
                 known,
             }),
@@ -115,15 +116,16 @@ impl Live {
     pub(crate) fn wake_to(&mut self, alloc: Global, scene: &Scene) -> Result<(), AllocError>
         ensures { OnOk result (self.new ≡ scene.now) }
     {
+        let rest = &*scene.rest;
         let hand = take(&mut self.hand);
-        let (hand, woken) = scene.still.wake_into(alloc, &mut self.bus, hand);
+        let (hand, woken) = rest.still.wake_into(alloc, &mut self.bus, hand);
         give_back(&mut self.hand, hand);
         let Ok(()) = woken else {
             return Err(AllocError);
         };
-        self.settings = scene.settings.copied();
-        self.cuts = scene.cuts.clone()?;
-        self.known.copy_from(&scene.known)?;
+        self.settings = rest.settings.copied();
+        self.cuts = rest.cuts.clone()?;
+        self.known.copy_from(&rest.known)?;
         Ok(())
     }
 
@@ -132,7 +134,7 @@ impl Live {
         requires { IsBehind slot scene.now self.old }
         ensures { self.new ≡ scene.now }
     {
-        scene.still.wake_at(slot, &mut self.bus);
+        scene.rest.still.wake_at(slot, &mut self.bus);
     }
 
     /// The slot and the byte of a line's raise, if the line is one, of a device whose slot is known.
@@ -183,24 +185,27 @@ impl Live {
         let Ok(still) = Still::of(alloc, &self.bus) else {
             return Err(AllocError);
         };
-        Ok(Scene {
+        let rest = Rest {
             still,
             settings: self.settings.copied(),
             cuts: self.cuts.clone()?,
             known: self.known.copied()?,
-        })
+        };
+        let rest = Box::new(alloc, rest)?;
+        Ok(Scene { rest })
     }
 
     /// The bus at rest, in the room of a scene.
     pub(crate) fn keep_in(&self, alloc: Global, scene: &mut Scene) -> Result<(), AllocError>
         ensures { OnOk result (scene.new ≡ self.now) }
     {
-        let Ok(()) = scene.still.copy_from(alloc, &self.bus) else {
+        let rest = &mut *scene.rest;
+        let Ok(()) = rest.still.copy_from(alloc, &self.bus) else {
             return Err(AllocError);
         };
-        scene.settings = self.settings.copied();
-        scene.cuts = self.cuts.clone()?;
-        scene.known.copy_from(&self.known)?;
+        rest.settings = self.settings.copied();
+        rest.cuts = self.cuts.clone()?;
+        rest.known.copy_from(&self.known)?;
         Ok(())
     }
 

@@ -140,7 +140,7 @@ impl Scene {
             Frame::Serve => 9,
             Frame::Enec(..) | Frame::Disec(..) | Frame::SetStatic(..) | Frame::SetNew(..) => 45,
             Frame::Reset => 27,
-            Frame::SendList => 18 + usize::from(self.still.list_bits()),
+            Frame::SendList => 18 + usize::from(self.rest.still.list_bits()),
             Frame::ReadFrom(_) => 171,
             Frame::Get(..) => 90,
             Frame::SetLength(..) => 54,

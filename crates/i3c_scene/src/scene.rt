@@ -13,13 +13,19 @@ use std::marker::Model;
 /// A bus between two lines: at rest, with what its lines have set, the cuts that wait for the next frame, and the names that
 /// were given.
 ///
-/// Clauses see these.
+/// Clauses see these. It is stored out of line, so that a scene is moved as a word.
 #[derive(Drop)]
 pub struct Scene {
-    pub(crate) still: Box<Still>,
-    pub(crate) settings: Settings,
-    pub(crate) cuts: Cuts,
-    pub(crate) known: Known,
+    pub(crate) rest: Box<Rest>,
+}
+
+/// What a scene has.
+#[derive(Drop)]
+pub(crate) struct Rest {
+    pub still: Box<Still>,
+    pub settings: Settings,
+    pub cuts: Cuts,
+    pub known: Known,
 }
 
 impl Model for Scene {
@@ -27,7 +33,7 @@ impl Model for Scene {
 
     ghost Value = { Seen };
 
-    ghost view = { λ s. seen s.still.value s.settings s.cuts s.known };
+    ghost view = { λ s. seen s.rest.value.still.value s.rest.value.settings s.rest.value.cuts s.rest.value.known };
 }
 
 /// Why a bus isn't begun.
@@ -74,12 +80,16 @@ impl Scene {
         let Ok(still) = Box::new(alloc, still) else {
             return Err(BeginFault::Memory);
         };
-        Ok(Scene {
+        let rest = Rest {
             still,
             settings: Settings::new(),
             cuts: Cuts::new(),
             known: Known::new(names),
-        })
+        };
+        match Box::new(alloc, rest) {
+            Ok(rest) => Ok(Scene { rest }),
+            Err(_) => Err(BeginFault::Memory),
+        }
     }
 
     /// The same scene once more.
@@ -98,20 +108,23 @@ impl Scene {
     pub(crate) fn is_same(&self, live: &Live) -> bool
         ensures { IsTrue result → self.now ≡ live.now }
     {
-        self.settings.is_same(&live.settings)
-            && are_same_cuts(&self.cuts, &live.cuts)
-            && self.still.is_of(&live.bus)
-            && self.known.is_same(&live.known)
+        let rest = &*self.rest;
+        rest.settings.is_same(&live.settings)
+            && are_same_cuts(&rest.cuts, &live.cuts)
+            && rest.still.is_of(&live.bus)
+            && rest.known.is_same(&live.known)
     }
 
     /// Whether another scene is the same.
     pub(crate) fn is_equal(&self, other: &Scene) -> bool
         ensures { IsTrue result → self.now ≡ other.now }
     {
-        self.settings.is_same(&other.settings)
-            && are_same_cuts(&self.cuts, &other.cuts)
-            && self.still.is_same(&other.still)
-            && self.known.is_same(&other.known)
+        let rest = &*self.rest;
+        let others = &*other.rest;
+        rest.settings.is_same(&others.settings)
+            && are_same_cuts(&rest.cuts, &others.cuts)
+            && rest.still.is_same(&others.still)
+            && rest.known.is_same(&others.known)
     }
 }
 

@@ -21,7 +21,7 @@ impl Scene {
     pub fn show(&self, alloc: Global, text: &mut Text) -> Result<(), AllocError>
         ensures { OnOk result ((said : List ℕ) × IsShown self.now said × (text.new ≡ text.old ++ said)) }
     {
-        let names = names_of(alloc, self.known.as_slice())?;
+        let names = names_of(alloc, self.rest.known.as_slice())?;
         let live = self.wake(alloc)?;
         show_bus(live.bus(), &names, live.forgotten(), text)
     }

@@ -436,6 +436,16 @@ fn growing_break(alloc: Global) -> Option<usize> {
 
 // four adds and four doubles come to 81 · 16, so a break is 8 turns long
 #[test]
+fn jobs_share_the_lines_of_one_track(rt: HostRuntime) -> Result<(), Fail> {
+    let lines = [Line::Add(3), Line::Double, Line::Risk(2)];
+    let more = [Line::Risk(1), Line::Add(5), Line::Risk(7)];
+    let tracks: &[&[Line]] = &[&lines, &lines, &more];
+    let one: &[&[Line]] = &[&more];
+    assert!(rt; jobs_agree(&rt, rt.alloc(), &[tracks, one], WIDE, Part::whole())?);
+    Ok(())
+}
+
+#[test]
 fn jobs_tell_the_break_that_one_thread_tells(rt: HostRuntime) -> Result<(), Fail> {
     assert!(rt; growing_break(rt.alloc()) == Some(8));
     assert!(rt; growing_agrees(&rt, rt.alloc(), WIDE)?);

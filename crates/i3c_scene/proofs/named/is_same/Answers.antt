@@ -1,6 +1,5 @@
 -- A name is known by its letters.
 use Rattle.std.proofs.Common.{◌≡◌, ◌∙◌, rules, sym}
-use Rattle.i3c_lines.specs.Naming.{letters}
 use Rattle.i3c_lines.proofs.Meanings.{same_name}
 use Rattle.i3c_scene.proofs.named.is_same.Goals as goal
 

@@ -3,6 +3,7 @@ use Rattle.std.proofs.Common.{◌≡◌, ◌++◌, List, ℕ, OnOk, Result, Ok, 
 use Rattle.i3c_base.specs.State.{State}
 use Rattle.i3c_lines.specs.declared.names.Names.{Names}
 use Rattle.i3c_script.specs.Printed.{show_text}
+use Rattle.i3c_scene.specs.declared.scene.Rest.{Rest}
 use Rattle.i3c_scene.specs.declared.named.Named.{Named}
 use Rattle.i3c_scene.specs.Scenes.{Seen}
 use Rattle.i3c_scene.specs.Shown.{IsShown, StandFor}
@@ -19,4 +20,4 @@ shown (Ok u) scene live st forgotten names old new same is gone stand told = (
 
 pub returns : goal.returns
 returns c = shown c.show_bus.result c.args.self.now c.in_ok-live.live c.bus.result.now.state c.forgotten.result c.in_ok-names.names c.args.text.now c.show_bus.new.text c.in_ok-live.ensures c.bus.ensures c.forgotten.ensures
-    (subst (λ (known : List Named). StandFor known c.in_ok-names.names) (c.as_slice.ensures ∙ ap (λ (s : Seen). s.names) c.self.view_is) c.in_ok-names.ensures) c.show_bus.ensures
+    (subst (λ (known : List Named). StandFor known c.in_ok-names.names) (c.as_slice.ensures ∙ ap (λ (r : Rest). r.known) c.deref.ensures ∙ ap (λ (s : Seen). s.names) c.self.view_is) c.in_ok-names.ensures) c.show_bus.ensures
