@@ -1,5 +1,5 @@
 -- Lines that are run by several jobs, each by one.
-use Rattle.std.proofs.Common.{◌≡◌, ◌⊎◌, ◌∙◌, ◌<◌, ◌==◌, ◌+◌, ◌*◌, ℕ, Bool, true, false, suc, List, [], ◌∷◌, ◌++◌, Option, None, Some, ap, arith, if◌then◌else◌, inl, inr, length, nat_le, refl, subst, sym, get_or}
+use Rattle.std.proofs.Common.{◌≡◌, ◌⊎◌, ◌∙◌, ◌<◌, ◌==◌, ◌+◌, ◌*◌, ℕ, Bool, true, false, suc, List, [], ◌∷◌, ◌++◌, Option, None, Some, ap, arith, if◌then◌else◌, inl, inr, nat_le, refl, subst, sym, get_or}
 use Rattle.std.specs.Global.{Vec}
 use Rattle.std.specs.List.{Contains, slice_get}
 use Rattle.std.proofs.lemmas.Bool.Decides.{eqb_tells, leb_tells}
@@ -8,7 +8,7 @@ use Rattle.i3c_explore.specs.declared.node.Node.{Node}
 use Rattle.i3c_explore.specs.Layers.{IsNextAt}
 use Rattle.i3c_explore.specs.Owners.{AreOwned, number, own, own_below, owner}
 use Rattle.i3c_explore.specs.Shares.{Gains, IsAdded, IsLed, by_line, by_track, by_tracks, longer}
-use Rattle.i3c_explore.proofs.Counting.{by_tracks_from, gains_no_line, in_by_tracks, longer_once, longer_track}
+use Rattle.i3c_explore.proofs.Counting.{by_tracks_from, in_by_tracks, longer_once, longer_track}
 use Rattle.i3c_explore.proofs.Lists.{push_cases}
 
 -- each line is of one or of the other
@@ -104,10 +104,7 @@ own_split jobs tracks job lines k t = let at = owner jobs tracks k t in elim (eq
 pub own_none : {L : Type 0} (jobs : List ℕ) (tracks : ℕ) (lines : ℕ → List L) (k t : ℕ) → own_below jobs tracks 0 lines k t ≡ []
 own_none jobs tracks lines k t = let at = owner jobs tracks k t in not_chosen (nat_le (suc at) 0) (lines t) (below_not at 0 (omega arith))
 
--- nothing is noted of more jobs than there are
-pub owned_none : (jobs : List ℕ) (count : ℕ) → jobs ≡ [] → AreOwned jobs count
-owned_none jobs count none k job found = let lt = slice_get_within jobs k job found in let e = ap length none in absurd (omega arith)
-
+-- one more line is noted
 pub owned_more : (jobs new : List ℕ) (owner count : ℕ) → AreOwned jobs count → owner < count → new ≡ jobs ++ owner ∷ [] → AreOwned new count
 owned_more jobs new owner count owned lt is k job found = elim (push_cases jobs owner job k (sym (ap (λ (l : List ℕ). slice_get l k) is) ∙ found)) [
   | inl before ↦ owned k job before
@@ -133,9 +130,3 @@ pub gains_as : {S L : Type 0} (steps : S → L → ℕ → S → Type 0) (tracks
     → Gains steps tracks node old new (by_track lines node.places.items t) → Gains steps tracks node old new (by_track others node.places.items t)
 gains_as {S} {L} steps tracks lines others node old new t same gains starts past own mine =
     subst (λ (l : List L). IsAdded (IsLed steps tracks starts past) old new (by_line (slice_get l (get_or node.places.items t 0)) t own)) same (gains starts past own mine)
-
-pub gains_none : {S L : Type 0} (steps : S → L → ℕ → S → Type 0) (tracks : List (Vec L)) (lines : ℕ → List L) (node : Node S) (layer : List (Node S)) (t : ℕ) → lines t ≡ []
-    → Gains steps tracks node layer layer (by_track lines node.places.items t)
-gains_none {S} {L} steps tracks lines node layer t none =
-    let nothing : slice_get (lines t) (get_or node.places.items t 0) ≡ None = ap (λ (l : List L). slice_get l (get_or node.places.items t 0)) none in
-    gains_no_line steps tracks lines node layer t nothing
