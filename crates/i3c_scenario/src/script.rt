@@ -71,9 +71,8 @@ pub fn run_script<R: Read, W: Write>(
 /// Names the run of a script that isn't watched.
 struct Plain;
 
-/// The state of a running script: its bus and names, the partial line, the current command, that command's output, output
-/// not yet written, what expectations speak of (the number of the line, and what the last command came to), and the
-/// expectations that last.
+/// The state of a running script: its bus and names, the partial line, the current command, that command's output, and output
+/// not yet written. For expectations it has the number of the line, what the last command came to, and those that last.
 pub(crate) struct Script {
     pub(crate) alloc: Global,
     pub(crate) stage: Stage,
