@@ -18,4 +18,4 @@ pub mod KeepLaws
 mod LengthLaws
 mod RegisterLaws
 mod EightLaws
-pub mod BriefLaws
+pub mod ByteFieldLaws

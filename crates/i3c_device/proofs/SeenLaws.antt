@@ -56,9 +56,9 @@ changed_from_set f n (x ∷ xs) (suc i) place =
 pub seen_put : (e : Enabled) (xs : List (Option Device)) (i : ℕ) (place : Option Device) → seen e (set xs i place) ≡ set (seen e xs) i (seen_in e i place)
 seen_put e xs i place = let same : i + 0 ≡ i = omega arith in changed_from_set (seen_in e) 0 xs i place ∙ ap (λ k. set (seen e xs) i (seen_in e k place)) same
 
--- a happening in one slot
-pub happened_seen : (e : Enabled) (f : ℕ → Option Device → Option Device) (xs ys now : List (Option Device)) (i : ℕ) → IsBlind f → seen e xs ≡ now → ys ≡ set xs i (f i (get_or xs i None)) → seen e ys ≡ set now i (f i (get_or now i None))
-happened_seen e f xs ys now i blind is happened =
+-- an update in one slot
+pub updated_seen : (e : Enabled) (f : ℕ → Option Device → Option Device) (xs ys now : List (Option Device)) (i : ℕ) → IsBlind f → seen e xs ≡ now → ys ≡ set xs i (f i (get_or xs i None)) → seen e ys ≡ set now i (f i (get_or now i None))
+updated_seen e f xs ys now i blind is happened =
     ap (seen e) happened ∙ (seen_put e xs i (f i (get_or xs i None)) ∙ (ap (set (seen e xs) i) (blind (kinds_in e i) i (get_or xs i None) ∙ ap (f i) (sym (seen_at e xs i)))
     ∙ ap (λ zs. set zs i (f i (get_or zs i None))) is))
 

@@ -15,4 +15,4 @@ pub mod Least
 pub mod Keeping
 pub mod Lengths
 pub mod Registers
-pub mod Brief
+pub mod ByteFields

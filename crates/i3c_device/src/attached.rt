@@ -2,7 +2,7 @@ ghost use Rattle.std.specs.Prelude.{◌≡◌, ◌≤◌, ◌+◌, ◌↔◌, Is
 ghost use Rattle.std.specs.Int.{from_le_bytes, w64};
 ghost use Rattle.i3c_base.specs.declared.device.TheConstants.{REGISTERS as REGISTER_COUNT};
 ghost use Rattle.i3c_base.specs.Frames.{pid_bytes};
-ghost use Rattle.i3c_device.specs.Brief.{HaveSameBriefs, IsBrief, brief_bytes};
+ghost use Rattle.i3c_device.specs.ByteFields.{HaveSameByteFields, FitBytes, field_bytes};
 ghost use Rattle.i3c_device.specs.Registers.{eight_from};
 
 use crate::answering::NOWHERE;
@@ -137,22 +137,22 @@ impl Attached {
         ensures kinds { self.now.kinds ≡ other.now.kinds }
     {
         self.identity == other.identity
-            && self.has_same_brief(other)
+            && self.has_same_byte_fields(other)
             && are_same_registers(&self.registers, &other.registers)
             && are_same(&self.waiting, &other.waiting)
     }
 
     /// Whether the other device has the same of what has a byte each.
-    fn has_same_brief(&self, other: &Attached) -> bool
-        ensures { IsTrue result ↔ HaveSameBriefs self.now other.now }
+    fn has_same_byte_fields(&self, other: &Attached) -> bool
+        ensures { IsTrue result ↔ HaveSameByteFields self.now other.now }
     {
-        self.brief() == other.brief()
+        self.byte_fields() == other.byte_fields()
     }
 
     /// Its addresses, its willingness, its wishes, whether it hears the open session, and its lengths, as one number.
-    fn brief(&self) -> u64
-        ensures number { result ≡ from_le_bytes w64 (brief_bytes self.now) }
-        ensures ranged { IsBrief self.now }
+    fn byte_fields(&self) -> u64
+        ensures number { result ≡ from_le_bytes w64 (field_bytes self.now) }
+        ensures ranged { FitBytes self.now }
     {
         u64::from_le_bytes([
             self.fixed.byte(),

@@ -14,7 +14,7 @@ pub(crate) struct ByteAddress {
 
 impl Model for ByteAddress {
     ghost use Rattle.std.specs.Prelude.{◌≤◌, ℕ, Option};
-    ghost use Rattle.i3c_device.specs.Brief.{address_of};
+    ghost use Rattle.i3c_device.specs.ByteFields.{address_of};
 
     ghost Value = { Option ℕ };
 
@@ -26,7 +26,7 @@ impl Model for ByteAddress {
 impl ByteAddress {
     ghost use Rattle.std.specs.Prelude.{◌≡◌, None, is_none};
     ghost use Rattle.i3c_base.specs.State.{is_the};
-    ghost use Rattle.i3c_device.specs.Brief.{IsSmall, byte_of};
+    ghost use Rattle.i3c_device.specs.ByteFields.{IsSmall, byte_of};
 
     /// No address.
     pub fn none() -> ByteAddress

@@ -7,9 +7,9 @@ use crate::occupants::Occupants;
 use crate::places::{address_in, byte_in, front_in, identity_in, waiting_in};
 use crate::resting::Resting;
 use crate::slot_set::{SlotSet, lost_slots};
-use crate::walks::{
-    Accepted, Ended, FrontLost, JoinWished, Limited, Lost, Opened, Readdressed, Registers, Reset,
-    RoleLost, RoleWished, SlotUpdate, Told, Willing, Won, Written,
+use crate::slot_update::{
+    Accepted, Ended, InterruptAccepted, JoinWished, Limited, Lost, Opened, Readdressed, Registers,
+    Reset, RoleLost, RoleWished, SlotUpdate, Told, Willing, Won, Written,
 };
 use arrayvec::ArrayVec;
 use i3c_base::{
@@ -217,21 +217,21 @@ impl Devices {
     pub fn wish_join(&mut self, slot: Slot)
         ensures { self.new ≡ slice_set self.old slot (option_map wishing_join (slice_index_or self.old slot None)) }
     {
-        self.occupants.happen(slot, &JoinWished);
+        self.occupants.apply(slot, &JoinWished);
     }
 
     /// The slot's device, if there is one, wishes for the controller role.
     pub fn wish_role(&mut self, slot: Slot)
         ensures { self.new ≡ slice_set self.old slot (option_map wishing_role (slice_index_or self.old slot None)) }
     {
-        self.occupants.happen(slot, &RoleWished);
+        self.occupants.apply(slot, &RoleWished);
     }
 
     /// The slot's device, if there is one, loses its wish for the role.
     pub fn lose_role_wish(&mut self, slot: Slot)
         ensures { self.new ≡ slice_set self.old slot (option_map without_role (slice_index_or self.old slot None)) }
     {
-        self.occupants.happen(slot, &RoleLost);
+        self.occupants.apply(slot, &RoleLost);
     }
 
     /// The slot's device raises the interrupt after this many of its slot, and answers its number. The first fault
@@ -294,7 +294,7 @@ impl Devices {
     {
         match request {
             // which changes less than a wish
-            Request::Interrupt(_) => self.occupants.each(drivers, &FrontLost),
+            Request::Interrupt(_) => self.occupants.each(drivers, &InterruptAccepted),
             _ => self.occupants.each(drivers, &Accepted { request }),
         }
     }

@@ -10,7 +10,7 @@ pub(crate) struct Flag {
 
 impl Model for Flag {
     ghost use Rattle.std.specs.Prelude.{◌≤◌, Bool};
-    ghost use Rattle.i3c_device.specs.Brief.{is_one};
+    ghost use Rattle.i3c_device.specs.ByteFields.{is_one};
 
     ghost Value = { Bool };
 
@@ -21,9 +21,9 @@ impl Model for Flag {
 
 impl Flag {
     ghost use Rattle.std.specs.Prelude.{◌≡◌};
-    ghost use Rattle.i3c_device.specs.Brief.{bit_of};
+    ghost use Rattle.i3c_device.specs.ByteFields.{bit_of};
 
-    /// Yes where it is so.
+    /// The flag of a truth value.
     pub fn of(is_so: bool) -> Flag
         ensures { result ≡ is_so }
     {

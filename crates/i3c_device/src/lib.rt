@@ -19,7 +19,7 @@ mod places;
 mod queues;
 mod resting;
 mod slot_set;
-mod walks;
+mod slot_update;
 
 pub use device::Device;
 pub use devices::Devices;

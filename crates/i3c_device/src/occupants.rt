@@ -3,7 +3,7 @@ use crate::kept::Kept;
 use crate::marks::Marks;
 use crate::places::{byte_from, length_in, pull_low, raise, stands, wishes_interrupt};
 use crate::slot_set::SlotSet;
-use crate::walks::{Driven, SlotUpdate, Sought, happen_in};
+use crate::slot_update::{Driven, SlotUpdate, Sought, update_in};
 use i3c_base::{Addr7, Cuts, Direction, Length, REGISTERS, RaiseRefusal, SLOTS, Slot};
 use std::marker::Model;
 
@@ -241,23 +241,23 @@ impl Occupants {
         None
     }
 
-    /// This happens in one slot.
-    pub fn happen<H: SlotUpdate>(&mut self, slot: Slot, happening: &H)
-        ensures changed { self.new ≡ slice_set self.old slot (H.after happening.now slot (slice_index_or self.old slot None)) }
+    /// Applies an update to one slot.
+    pub fn apply<H: SlotUpdate>(&mut self, slot: Slot, update: &H)
+        ensures changed { self.new ≡ slice_set self.old slot (H.after update.now slot (slice_index_or self.old slot None)) }
         ensures slots { length self.old ≡ SLOT_COUNT }
     {
         let index = slot.index();
-        happen_in(happening, index, &mut self.places[index], &mut self.marks);
+        update_in(update, index, &mut self.places[index], &mut self.marks);
     }
 
-    /// This happens in each of these slots.
-    pub fn each<H: SlotUpdate>(&mut self, among: SlotSet, happening: &H)
-        ensures changed { self.new ≡ changed (within among (H.after happening.now)) self.old }
+    /// Applies an update to each of these slots.
+    pub fn each<H: SlotUpdate>(&mut self, among: SlotSet, update: &H)
+        ensures changed { self.new ≡ changed (within among (H.after update.now)) self.old }
         ensures slots { length self.old ≡ SLOT_COUNT }
     {
         let mut left = among;
         while let Some(index) = left.take_lowest() {
-            happen_in(happening, index, &mut self.places[index], &mut self.marks);
+            update_in(update, index, &mut self.places[index], &mut self.marks);
         }
     }
 }

@@ -16,7 +16,7 @@ ghost use Rattle.i3c_device.specs.Wishing.{wishes_interrupt, wishes_join, wishes
 
 use crate::answering::NOWHERE;
 use crate::attached::Attached;
-use crate::walks::Driven;
+use crate::slot_update::Driven;
 use i3c_base::{
     Addr7, Direction, Identity, Length, REGISTERS, RaiseRefusal, Request, Slot, Waiting,
 };

@@ -2,7 +2,7 @@ use Rattle.std.proofs.Common.{◌≡◌, ◌∙◌, ap, suc, get_or, set, None, 
 use Rattle.i3c_device.specs.Enabling.{seen}
 use Rattle.i3c_device.specs.Sets.{has}
 use Rattle.i3c_device.proofs.Blindness.{blind_raise}
-use Rattle.i3c_device.proofs.SeenLaws.{happened_seen}
+use Rattle.i3c_device.proofs.SeenLaws.{updated_seen}
 use Rattle.i3c_device.proofs.SeenWalks.{fault_seen, on_ok, there_seen}
 use Rattle.i3c_device.proofs.devices.Devices.raise.Goals as goal
 use Rattle.i3c_base.specs.Local.{with_raise}
@@ -21,4 +21,4 @@ returns-clause-raised c =
     let f = with_raise (suc c.args.raised) c.args.byte in
     on_ok c.raise.result (c.raise.new.self ≡ set c.self.inside.occupants c.args.slot (option_map f (get_or c.self.inside.occupants c.args.slot None)))
     (seen c.self.inside.enabled c.raise.new.self ≡ set c.args.self.now c.args.slot (option_map f (get_or c.args.self.now c.args.slot None)))
-    (happened_seen c.self.inside.enabled (λ s place. option_map f place) c.self.inside.occupants c.raise.new.self c.args.self.now c.args.slot (blind_raise (suc c.args.raised) c.args.byte) c.self.view_is) c.raise.ensures.raised
+    (updated_seen c.self.inside.enabled (λ s place. option_map f place) c.self.inside.occupants c.raise.new.self c.args.self.now c.args.slot (blind_raise (suc c.args.raised) c.args.byte) c.self.view_is) c.raise.ensures.raised

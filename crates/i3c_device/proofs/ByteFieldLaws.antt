@@ -3,7 +3,7 @@ use Rattle.std.proofs.Common.{◌≡◌, ◌∙◌, ℕ, zero, suc, ◌<◌, Boo
 use Rattle.std.specs.Int.{from_le_bytes, to_le_bytes, w64}
 use Rattle.std.proofs.lemmas.Nat.{le_bytes_8}
 use Rattle.i3c_base.specs.State.{Device}
-use Rattle.i3c_device.specs.Brief.{HaveSameBriefs, IsBrief, IsSmall, bit_of, brief_bytes, byte_of}
+use Rattle.i3c_device.specs.ByteFields.{HaveSameByteFields, FitBytes, IsSmall, bit_of, field_bytes, byte_of}
 
 bit_small : (b : Bool) → bit_of b < 256
 bit_small false = omega arith
@@ -13,21 +13,21 @@ byte_small : (a : Option ℕ) → IsSmall a → byte_of a < 256
 byte_small None h = omega arith
 byte_small (Some a) h = omega (arith, h)
 
-brief_small : (d : Device) → IsBrief d → (i : ℕ) → get_or (brief_bytes d) i 0 < 256
-brief_small d h zero = byte_small d.fixed h.fixed
-brief_small d h (suc zero) = byte_small d.address h.address
-brief_small d h (suc (suc zero)) = bit_small d.willing
-brief_small d h (suc (suc (suc zero))) = bit_small d.join_wish
-brief_small d h (suc (suc (suc (suc zero)))) = bit_small d.role_wish
-brief_small d h (suc (suc (suc (suc (suc zero))))) = bit_small d.hearing
-brief_small d h (suc (suc (suc (suc (suc (suc zero)))))) = h.written
-brief_small d h (suc (suc (suc (suc (suc (suc (suc zero))))))) = h.read
-brief_small d h (suc (suc (suc (suc (suc (suc (suc (suc i)))))))) = omega arith
+fields_small : (d : Device) → FitBytes d → (i : ℕ) → get_or (field_bytes d) i 0 < 256
+fields_small d h zero = byte_small d.fixed h.fixed
+fields_small d h (suc zero) = byte_small d.address h.address
+fields_small d h (suc (suc zero)) = bit_small d.willing
+fields_small d h (suc (suc (suc zero))) = bit_small d.join_wish
+fields_small d h (suc (suc (suc (suc zero)))) = bit_small d.role_wish
+fields_small d h (suc (suc (suc (suc (suc zero))))) = bit_small d.hearing
+fields_small d h (suc (suc (suc (suc (suc (suc zero)))))) = h.written
+fields_small d h (suc (suc (suc (suc (suc (suc (suc zero))))))) = h.read
+fields_small d h (suc (suc (suc (suc (suc (suc (suc (suc i)))))))) = omega arith
 
 -- one number is of one list of bytes
-same_bytes : (d e : Device) (n m : ℕ) → IsBrief d → IsBrief e → n ≡ from_le_bytes w64 (brief_bytes d) → m ≡ from_le_bytes w64 (brief_bytes e) → n ≡ m → brief_bytes d ≡ brief_bytes e
+same_bytes : (d e : Device) (n m : ℕ) → FitBytes d → FitBytes e → n ≡ from_le_bytes w64 (field_bytes d) → m ≡ from_le_bytes w64 (field_bytes e) → n ≡ m → field_bytes d ≡ field_bytes e
 same_bytes d e n m h k is are same =
-    sym (le_bytes_8 (brief_bytes d) n refl (brief_small d h) is) ∙ (ap (to_le_bytes w64) same ∙ le_bytes_8 (brief_bytes e) m refl (brief_small e k) are)
+    sym (le_bytes_8 (field_bytes d) n refl (fields_small d h) is) ∙ (ap (to_le_bytes w64) same ∙ le_bytes_8 (field_bytes e) m refl (fields_small e k) are)
 
 bit_own : (b c : Bool) → bit_of b ≡ bit_of c → b ≡ c
 bit_own false false h = refl
@@ -42,8 +42,8 @@ byte_own (Some a) None h k e = absurd (omega (arith, h, e))
 byte_own (Some a) (Some b) h k e = ap Some e
 
 -- they are where the numbers are
-pub same_briefs : (d e : Device) (n m : ℕ) → IsBrief d → IsBrief e → n ≡ from_le_bytes w64 (brief_bytes d) → m ≡ from_le_bytes w64 (brief_bytes e) → n ≡ m → HaveSameBriefs d e
-same_briefs d e n m h k is are same = (
+pub same_byte_fields : (d e : Device) (n m : ℕ) → FitBytes d → FitBytes e → n ≡ from_le_bytes w64 (field_bytes d) → m ≡ from_le_bytes w64 (field_bytes e) → n ≡ m → HaveSameByteFields d e
+same_byte_fields d e n m h k is are same = (
   byte_own d.fixed e.fixed h.fixed k.fixed (at 0),
   byte_own d.address e.address h.address k.address (at 1),
   bit_own d.willing e.willing (at 2),
@@ -54,10 +54,10 @@ same_briefs d e n m h k is are same = (
   at 7,
 )
   where
-    at : (i : ℕ) → get_or (brief_bytes d) i 0 ≡ get_or (brief_bytes e) i 0
+    at : (i : ℕ) → get_or (field_bytes d) i 0 ≡ get_or (field_bytes e) i 0
     at i = ap (λ bytes. get_or bytes i 0) (same_bytes d e n m h k is are same)
 
 -- and then the bytes are the same
-pub brief_alike : (d e : Device) → HaveSameBriefs d e → brief_bytes d ≡ brief_bytes e
-brief_alike d e h i =
+pub fields_alike : (d e : Device) → HaveSameByteFields d e → field_bytes d ≡ field_bytes e
+fields_alike d e h i =
     byte_of (h.0 i) ∷ byte_of (h.1 i) ∷ bit_of (h.2 i) ∷ bit_of (h.3 i) ∷ bit_of (h.4 i) ∷ bit_of (h.5 i) ∷ h.6 i ∷ h.7 i ∷ []

@@ -1,4 +1,4 @@
-use Rattle.i3c_device.proofs.walks.WonSlotUpdate.noted.Goals as goal
+use Rattle.i3c_device.proofs.slot_update.WonSlotUpdate.noted.Goals as goal
 
 pub returns : goal.returns
 returns c places long are is = c.won.ensures places c.args.self.now.address long are is

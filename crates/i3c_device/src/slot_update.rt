@@ -19,7 +19,7 @@ use crate::places::{
 };
 use i3c_base::{Addr7, Datum, Direction, Length, Request, Slot};
 
-/// What happens to whatever stands in some slots.
+/// A change of what is in some slots.
 pub(crate) trait SlotUpdate {
     /// What stands in a slot after it.
     ghost after: { Self → ℕ → Option DeviceState → Option DeviceState };
@@ -28,8 +28,8 @@ pub(crate) trait SlotUpdate {
     fn concerns(&self, place: &Option<Attached>, index: usize) -> bool
         ensures { result ≡ false → after self.now index place.now ≡ place.now };
 
-    /// It happens in this slot.
-    fn happen(&self, place: &mut Option<Attached>, index: usize)
+    /// Changes what is in this slot.
+    fn apply(&self, place: &mut Option<Attached>, index: usize)
         ensures { place.new ≡ after self.now index place.old };
 
     /// Updates the marks after this change in this slot: all that is marked of the slot is marked anew, unless less has
@@ -42,21 +42,21 @@ pub(crate) trait SlotUpdate {
     }
 }
 
-/// This happens to whatever stands in a slot, if it concerns it, and is noted in the marks.
+/// Applies an update to a slot that it concerns, and notes it in the marks.
 #[inline(always)]
-pub(crate) fn happen_in<H: SlotUpdate>(
-    happening: &H,
+pub(crate) fn update_in<H: SlotUpdate>(
+    update: &H,
     index: usize,
     place: &mut Option<Attached>,
     marks: &mut Marks,
 )
     requires { index < SLOT_COUNT }
-    ensures changed { place.new ≡ H.after happening.now index place.old }
+    ensures changed { place.new ≡ H.after update.now index place.old }
     ensures marked { (places : List (Option DeviceState)) → length places ≡ SLOT_COUNT → AreMarks marks.old places → slice_index_or places index None ≡ place.old → AreMarks marks.new (slice_set places index place.new) }
 {
-    if happening.concerns(place, index) {
-        happening.happen(place, index);
-        happening.noted(marks, index, place);
+    if update.concerns(place, index) {
+        update.apply(place, index);
+        update.noted(marks, index, place);
     }
 }
 
@@ -73,23 +73,23 @@ impl SlotUpdate for Accepted<'_> {
         true
     }
 
-    fn happen(&self, place: &mut Option<Attached>, _index: usize) {
+    fn apply(&self, place: &mut Option<Attached>, _index: usize) {
         accept(place, self.request);
     }
 }
 
 /// An interrupt was accepted, which is driven here.
 #[derive(Drop)]
-pub(crate) struct FrontLost;
+pub(crate) struct InterruptAccepted;
 
-impl SlotUpdate for FrontLost {
+impl SlotUpdate for InterruptAccepted {
     ghost after = { λ h s place. option_map without_front place };
 
     fn concerns(&self, _place: &Option<Attached>, _index: usize) -> bool {
         true
     }
 
-    fn happen(&self, place: &mut Option<Attached>, _index: usize) {
+    fn apply(&self, place: &mut Option<Attached>, _index: usize) {
         lose_front(place);
     }
 
@@ -109,7 +109,7 @@ impl SlotUpdate for JoinWished {
         true
     }
 
-    fn happen(&self, place: &mut Option<Attached>, _index: usize) {
+    fn apply(&self, place: &mut Option<Attached>, _index: usize) {
         wish_join(place);
     }
 }
@@ -125,7 +125,7 @@ impl SlotUpdate for RoleWished {
         true
     }
 
-    fn happen(&self, place: &mut Option<Attached>, _index: usize) {
+    fn apply(&self, place: &mut Option<Attached>, _index: usize) {
         wish_role(place);
     }
 }
@@ -142,7 +142,7 @@ impl SlotUpdate for RoleLost {
         has_role_wish(place)
     }
 
-    fn happen(&self, place: &mut Option<Attached>, _index: usize) {
+    fn apply(&self, place: &mut Option<Attached>, _index: usize) {
         lose_role_wish(place);
     }
 }
@@ -158,7 +158,7 @@ impl SlotUpdate for Reset {
         true
     }
 
-    fn happen(&self, place: &mut Option<Attached>, _index: usize) {
+    fn apply(&self, place: &mut Option<Attached>, _index: usize) {
         reset(place);
     }
 
@@ -178,7 +178,7 @@ impl SlotUpdate for Opened {
         true
     }
 
-    fn happen(&self, place: &mut Option<Attached>, _index: usize) {
+    fn apply(&self, place: &mut Option<Attached>, _index: usize) {
         open(place);
     }
 
@@ -198,7 +198,7 @@ impl SlotUpdate for Ended {
         true
     }
 
-    fn happen(&self, place: &mut Option<Attached>, _index: usize) {
+    fn apply(&self, place: &mut Option<Attached>, _index: usize) {
         silence(place);
     }
 
@@ -221,7 +221,7 @@ impl SlotUpdate for Won {
         true
     }
 
-    fn happen(&self, place: &mut Option<Attached>, _index: usize) {
+    fn apply(&self, place: &mut Option<Attached>, _index: usize) {
         win(place, self.address);
     }
 
@@ -244,7 +244,7 @@ impl SlotUpdate for Readdressed {
         true
     }
 
-    fn happen(&self, place: &mut Option<Attached>, _index: usize) {
+    fn apply(&self, place: &mut Option<Attached>, _index: usize) {
         readdress(place, self.address);
     }
 }
@@ -263,7 +263,7 @@ impl SlotUpdate for Limited {
         true
     }
 
-    fn happen(&self, place: &mut Option<Attached>, _index: usize) {
+    fn apply(&self, place: &mut Option<Attached>, _index: usize) {
         limit(place, self.way, self.most);
     }
 }
@@ -284,7 +284,7 @@ impl SlotUpdate for Written<'_> {
         reaches(place, index, self.active, &Some(self.address))
     }
 
-    fn happen(&self, place: &mut Option<Attached>, index: usize) {
+    fn apply(&self, place: &mut Option<Attached>, index: usize) {
         write(place, index, self.active, self.address, self.bytes);
     }
 }
@@ -300,7 +300,7 @@ impl SlotUpdate for Lost {
         true
     }
 
-    fn happen(&self, place: &mut Option<Attached>, _index: usize) {
+    fn apply(&self, place: &mut Option<Attached>, _index: usize) {
         *place = None;
     }
 }
