@@ -8,8 +8,7 @@ use Rattle.i3c_explore.specs.Layers.{IsBreak, IsExpanded, IsSuccessor}
 use Rattle.i3c_explore.specs.Parts.{Part, opening}
 use Rattle.i3c_explore.specs.Shares.{IsLed, IsMeant, by_tracks}
 
--- From each node of a range some lines are run: `ran` has those of each track, by the node's index.
--- the orders of the nodes in a range are shared out to the next layer, each with each turn that is run, and no other ones
+-- the orders of the nodes in a range are shared out to the next layer, each with each turn that is run, and no other ones; `ran` has the lines of each track that are run from a node, by the node's index
 pub record IsSharedIn {S L : Type 0} (Fits : Node S → List ℕ × List (List ℕ) → Type 0) (ran : ℕ → ℕ → List L) (count : ℕ) (layer : List (Node S)) (first last : ℕ) (next : List (Node S)) (share : ℕ → List (List ℕ × List (List ℕ))) : Type 0 where
   pub now : ℕ → List (List ℕ × List (List ℕ))
   pub shared : IsShared next now
@@ -30,7 +29,7 @@ AreExpanded {S} steps ran count layer first last next = (k : ℕ) → k < last �
 abbrev pub AreSuccessors : {S L : Type 0} → (S → L → ℕ → S → Type 0) → (ℕ → List L) → List (Node S) → List (Node S) → Type 0
 AreSuccessors {S} steps lines layer next = (n : Node S) → Contains next n → (old : Node S) × Contains layer old × IsSuccessor steps lines old n
 
--- a layer has what the nodes in a range lead to by the lines that are run, and nothing else, with their orders
+-- a layer has what the nodes in a range lead to by the lines that are run, with their orders alone; each of its nodes follows one of the whole layer before
 pub record IsNextOf {S L : Type 0} (steps : S → L → ℕ → S → Type 0) (tracks : List (Vec L)) (lines : ℕ → List L) (ran : ℕ → ℕ → List L) (layer : List (Node S)) (first last : ℕ) (next : List (Node S)) : Type 0 where
   pub expanded : AreExpanded steps ran (length tracks) layer first last next
   pub from : AreSuccessors steps lines layer next

@@ -10,10 +10,11 @@ number (Some job) = job
 abbrev pub owner : List ℕ → ℕ → ℕ → ℕ → ℕ
 owner jobs tracks node track = number (slice_get jobs (node * tracks + track))
 
+-- whether it is this job
 abbrev pub takes : List ℕ → ℕ → ℕ → ℕ → ℕ → Bool
 takes jobs tracks job node track = owner jobs tracks node track == job
 
--- each line is run by one of so many jobs
+-- each job that is noted is one of so many
 abbrev pub AreOwned : List ℕ → ℕ → Type 0
 AreOwned jobs count = (k job : ℕ) → slice_get jobs k ≡ Some job → job < count
 

@@ -158,7 +158,7 @@ where
     }
 }
 
-/// The nodes that all jobs found, as one layer: none is like another.
+/// The nodes that all jobs found, as one layer, where no lines of two jobs lead to the same places.
 fn all_at_once<M: Machine>(alloc: Global, all: Gathered<M>) -> Result<Layer<M>, Stop>
     ensures { IfOk result (λ layer. ArePut [] all.nodes.items layer.nodes.items) }
 {

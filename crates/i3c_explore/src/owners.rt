@@ -56,7 +56,8 @@ impl Owners {
 /// How many nodes of a layer are looked at to share it out.
 const SAMPLE: usize = 512;
 
-/// More than the lines of a track.
+/// More than the lines of a script's track. Where tracks are longer, different places can have the same number, and the lines are
+/// shared out less evenly.
 const LINES: u64 = 128;
 
 /// The next line of a track at a node.
@@ -163,7 +164,7 @@ fn sampled<M: Machine>(
 
 /// Where the lines of a job begin: with this one, and all behind it that lead to the same places or to later ones.
 #[derive(Clone, Copy)]
-struct Cut {
+struct Boundary {
     target: u64,
     node: usize,
 }
@@ -178,9 +179,13 @@ fn ways_of(samples: &[Sample]) -> usize {
 }
 
 /// Where the lines of each job but the first one begin. They begin with all that lead to some places, unless many do.
-fn cuts_of(alloc: Global, samples: &[Sample], jobs: usize) -> Result<Vec<Cut>, AllocError> {
+fn boundaries_of(
+    alloc: Global,
+    samples: &[Sample],
+    jobs: usize,
+) -> Result<Vec<Boundary>, AllocError> {
     let each = ways_of(samples) / jobs.max(1);
-    let mut cuts = Vec::new(alloc);
+    let mut boundaries = Vec::new(alloc);
     // how often those before ran, and those before that lead to the same places
     let mut before = 0usize;
     let mut alike = 0usize;
@@ -190,22 +195,22 @@ fn cuts_of(alloc: Global, samples: &[Sample], jobs: usize) -> Result<Vec<Cut>, A
             target = sample.target;
             alike = 0;
         }
-        let due = cuts.len().saturating_add(1).saturating_mul(each);
-        if before >= due && cuts.len().saturating_add(1) < jobs {
+        let due = boundaries.len().saturating_add(1).saturating_mul(each);
+        if before >= due && boundaries.len().saturating_add(1) < jobs {
             let node = if alike > each / 8 { sample.node } else { 0 };
-            cuts.push(Cut { target, node })?;
+            boundaries.push(Boundary { target, node })?;
         }
         before = before.saturating_add(sample.ways);
         alike = alike.saturating_add(sample.ways);
     }
-    Ok(cuts)
+    Ok(boundaries)
 }
 
 /// The job that a line is run by.
-fn owner_by(cuts: &[Cut], target: u64, node: usize) -> usize {
+fn owner_by(boundaries: &[Boundary], target: u64, node: usize) -> usize {
     let mut owner = 0usize;
-    for cut in cuts {
-        if (cut.target, cut.node) <= (target, node) {
+    for boundary in boundaries {
+        if (boundary.target, boundary.node) <= (target, node) {
             owner = owner.saturating_add(1);
         }
     }
@@ -215,7 +220,7 @@ fn owner_by(cuts: &[Cut], target: u64, node: usize) -> usize {
 /// Notes the jobs of a node's tracks.
 fn note(
     owners: &mut Vec<usize>,
-    cuts: &[Cut],
+    boundaries: &[Boundary],
     node: usize,
     code: u64,
     weights: &[u64],
@@ -226,7 +231,7 @@ fn note(
     ensures { OnOk result (AreOwned owners.new.items jobs) }
 {
     for weight in weights {
-        let owner = owner_by(cuts, code.wrapping_add(*weight), node);
+        let owner = owner_by(boundaries, code.wrapping_add(*weight), node);
         owners.push(owner.min(jobs.saturating_sub(1)))?;
     }
     Ok(())
@@ -246,12 +251,12 @@ pub(crate) fn owners_of<M: Machine>(
 {
     let weights = weights_of(alloc, tracks.len())?;
     let samples = sampled(alloc, layer, &weights, tracks, part)?;
-    let cuts = cuts_of(alloc, &samples, jobs)?;
+    let boundaries = boundaries_of(alloc, &samples, jobs)?;
     let codes = codes_of(alloc, layer)?;
     let mut owners = Owners::none(alloc);
-    owners.overlap = cuts.iter().any(|cut| cut.node > 0);
+    owners.overlap = boundaries.iter().any(|boundary| boundary.node > 0);
     for (node, code) in codes.iter().enumerate() {
-        note(&mut owners.jobs, &cuts, node, *code, &weights, jobs)?;
+        note(&mut owners.jobs, &boundaries, node, *code, &weights, jobs)?;
     }
     Ok(owners)
 }

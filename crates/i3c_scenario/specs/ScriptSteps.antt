@@ -41,7 +41,7 @@ ReadsCounted now line before after result new = Prints (λ said refused. Counted
 abbrev pub HaveLasted : Standing → List ℕ → List ℕ → Standing → Type 0
 HaveLasted now before after new = (told : List ℕ) × (after ≡ before ++ told) × LastsAt now now.script.stage told new
 
--- the same behind a command that came to this, which its line comes to as well. Nothing is said where memory is short
+-- expectations that last, tested after a command with this outcome: the line has the same outcome. Nothing is said where memory is short
 abbrev pub Outlasts : Standing → List ℕ → List ℕ → Result (Unit {0}) (Stop Refusal) → Result (Unit {0}) (Stop Refusal) → Standing → Type 0
 Outlasts now before after (Ok done) (Ok same) new = HaveLasted now before after new
 Outlasts now before after (Ok done) (Err (Stop.Refused why)) new = ⊥

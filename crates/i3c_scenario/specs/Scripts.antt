@@ -45,8 +45,8 @@ abbrev pub Lead : ScriptState → List LineRun → ScriptState → Type 0
 Lead old [] new = new ≡ old
 Lead old (run ∷ rest) new = (mid : ScriptState) × IsRun old run mid × Lead mid rest new
 
--- of a script: what a line that was counted prints, why it is refused, if it is, and where the script is after it. A mark does
--- what it does, and is none of the lines before that a later fact speaks of. Behind what a command prints stands which
+-- of a script: what a line that was counted prints, why it is refused, if it is, and where the script is after it. A mark that
+-- isn't refused is none of the lines before that a later fact speaks of. Behind what a command prints stands which
 -- expectations that last no longer hold
 abbrev pub CountedRuns : Standing → List ℕ → List ℕ → Option Refusal → Standing → Type 0
 CountedRuns now line said refused new = (IsBad line × (said ≡ []) × (refused ≡ Some Refusal.BadLine) × (new ≡ went now now.script (Some Refusal.BadLine)))

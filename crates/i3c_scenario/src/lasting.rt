@@ -8,7 +8,7 @@ use i3c_lines::Names;
 use i3c_text::Text;
 use std::alloc::{AllocError, Global};
 
-/// An expectation that lasts to the end of its block.
+/// An expectation that lasts to the next `close`.
 #[derive(Drop)]
 pub(crate) struct Lasting {
     /// The number of its line.

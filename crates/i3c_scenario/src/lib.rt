@@ -2,7 +2,7 @@
 //!
 //! * `script` reads a script's lines, runs them and counts the refusals.
 //! * `expecting` prints whether expectations are met.
-//! * `lasting` tests those that last to the end of a block.
+//! * `lasting` tests those that last to the next `close`.
 //! * `check` tells which lines of a script have no form.
 //! * `script_lines` reads one line after another.
 //! * `watched` runs a script and shows more of it.

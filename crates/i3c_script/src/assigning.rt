@@ -11,7 +11,7 @@ ghost use Rattle.i3c_script.specs.Printed.{round_text};
 ghost use Rattle.i3c_script.specs.Ran.{ran_of};
 ghost use Rattle.i3c_script.specs.Telling.{Prints};
 
-use crate::stop::outcome_of_round;
+use crate::outcomes::outcome_of_round;
 use crate::telling::{show_request, show_round};
 use crate::wires::Wires;
 use i3c_base::{Cuts, RoundReply, SLOTS};

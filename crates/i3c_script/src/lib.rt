@@ -14,7 +14,7 @@
 //! * `tenures` tells who was active when interrupts were recorded.
 //! * `wires` keeps the last symbols.
 //! * `symbols` and `frames` print them.
-//! * `stop` says what a line comes to by the bus's reply.
+//! * `outcomes` says what a line comes to by the bus's reply.
 //! * `laws` says that lines make legal runs.
 #![tactic(auto)]
 
@@ -23,11 +23,11 @@ mod assigning;
 mod details;
 mod frames;
 mod laws;
+mod outcomes;
 mod running;
 mod settings;
 mod show;
 mod stage;
-mod stop;
 mod symbols;
 mod telling;
 mod tenures;
@@ -35,8 +35,8 @@ mod wires;
 
 pub use asking::entrance_at;
 pub use laws::scripts_are_legal_runs;
+pub use outcomes::outcome_of;
 pub use running::Running;
 pub use settings::{Settings, sum_of};
 pub use show::{show_askers, show_bus, show_records_behind};
 pub use stage::Stage;
-pub use stop::outcome_of;

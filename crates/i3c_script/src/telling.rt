@@ -7,7 +7,7 @@ ghost use Rattle.i3c_script.specs.declared.telling.Subject.{Subject as SubjectVa
 ghost use Rattle.i3c_script.specs.Telling.{Counts, IsTold, Prints};
 ghost use Rattle.i3c_log_laws.specs.Behind.{counted_from, reply_from};
 
-use crate::stop::outcome_of;
+use crate::outcomes::outcome_of;
 use i3c_base::{
     Addr7, Answer, Datum, Identity, JoinRefusal, RaiseRefusal, RoleRefusal, RoundReply, Served,
     Slot,

@@ -126,6 +126,7 @@ A script says what happens on the bus, one line for each event, and each line pr
   symbols                       the last symbols of the wire
   frames 2                      its last two whole frames, a line each
   expect t waiting 0            whether this holds here: 'met', or 'unmet', the line's number and what is there
+  always not t gone             from here to 'close' this holds behind each line, or 'unmet' is printed once
 
 'check' runs nothing, and tells each line of a script that has no form, and why.
 'draw' runs a script, and prints a picture of its wire, an SVG.
@@ -138,7 +139,7 @@ Exit status:
   0  each line was done
   1  a line was refused, and printed 'refused' and why; or 'check' told a line
   2  the script was not run, or the trace not read, to its end, and standard error says why
-  3  a line that expects something printed 'unmet', or 'explore' found an order in which something doesn't hold
+  3  what is expected didn't hold, and 'unmet' was printed, or 'explore' found an order in which something doesn't hold
 
 'i3cbus --version' prints which program this is.
 
