@@ -46,10 +46,6 @@ abbrev pub IsHeardIn : Population → Option ℕ → Lost → Type 0
 IsHeardIn all None lost = AnyLeftIn all lost
 IsHeardIn all (Some a) lost = SomeLeftIn all a lost
 
--- a header is acknowledged on this bus
-abbrev pub IsHeard : State → Option ℕ → Lost → Type 0
-IsHeard st to lost = IsHeardIn (population st) to lost
-
 -- a command reaches this device: all but the active controller, or those at one address
 abbrev pub reaches_at : ℕ → Option ℕ → ℕ → Device → Bool
 reaches_at active None s d = not (s == active)

@@ -199,10 +199,6 @@ transferred gives tap first last old mid new event cuts served answer word begun
       room = record { enough = λ full short. cc; lasts = λ full none. same ∙ room none };
     }
 
--- registers are no part of a table
-lvr_of : Option LegacyTarget → Option Lvr
-lvr_of place = option_map (λ (t : LegacyTarget). t.lvr) place
-
 lvr_written : (bytes : List ℕ) (place : Option LegacyTarget) → option_map (λ (t : LegacyTarget). t.lvr) (legacy_written bytes place) ≡ option_map (λ (t : LegacyTarget). t.lvr) place
 lvr_written bytes None = refl
 lvr_written bytes (Some target) = refl

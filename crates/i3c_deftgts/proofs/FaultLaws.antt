@@ -38,10 +38,6 @@ module _ (words : List Word) where
       ∙ (ap (λ b. chosen None b miscounted (entries_in (bytes words))) whole
       ∙ ap (λ b. chosen None false b (entries_in (bytes words))) right)
 
-or_true : (b : Bool) → (b || true) ≡ true
-or_true true = refl
-or_true false = refl
-
 pub whole_is_not : (n : ℕ) → 5 ≤ n → (n - 5) % 4 ≡ 0 → is_cut_short n ≡ false
 whole_is_not n l even = ap (λ b. b || not ((n - 1) % 4 == 0)) (le-ltb n 5 l) ∙ ap not (eq-eqb ((n - 1) % 4) 0 (omega (arith, even, l)))
 

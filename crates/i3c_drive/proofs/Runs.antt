@@ -89,18 +89,6 @@ pub record DrivenSoFar (form : Form) (known now before after : Option (List ℕ)
   pub read : Consumes known now (lines_bytes lines ++ pending input)
   pub knows : Knows new
 
-pub none_driven : (form : Form) (known before : Option (List ℕ)) (input : Input) (driver : Driver) → pending input ≡ [] → Knows driver → DrivenSoFar form known known before before input driver driver 1
-none_driven form known before input driver none knows = record {
-  lines = [];
-  answers = [];
-  answered = (refl, refl);
-  number = omega arith;
-  out = nothing_out before;
-  count = omega arith;
-  read = none_read known (pending input) none;
-  knows = knows;
-}
-
 -- what was read, where a text more was taken of it
 taken_read : (known now next : Option (List ℕ)) (old new : Input) (before text : List ℕ) → Consumes known now (before ++ pending old) → Takes now next old new text → Consumes known next ((before ++ text) ++ pending new)
 taken_read known now next old new before text one takes =

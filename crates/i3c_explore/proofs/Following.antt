@@ -20,11 +20,6 @@ jobs_more (other ∷ jobs) job from to (at, rest) number = (at, jobs_more jobs j
 pub jobs_next : {S : Type 0} (jobs : List (Job S)) (job : Job S) (from to : ℕ) → AreJobs jobs from to → job.number ≡ to → AreJobs (jobs ++ job ∷ []) from (to + 1)
 jobs_next {S} jobs job from to are number = let next : suc to ≡ to + 1 = omega arith in subst (λ (k : ℕ). AreJobs (jobs ++ job ∷ []) from k) next (jobs_more jobs job from to are number)
 
-pub joined_more : {S : Type 0} (old mid new : List (Node S)) (made : List (Result (Layer S) Stop)) (layer : Layer S) → AreJoined old made mid → ArePut mid layer.nodes.items new → AreJoined old (made ++ Ok layer ∷ []) new
-joined_more {S} old mid new [] layer same put = (new, subst (λ (l : List (Node S)). ArePut l layer.nodes.items new) same put, refl)
-joined_more old mid new (Ok other ∷ made) layer (next, first, rest) put = (next, first, joined_more next mid new made layer rest put)
-joined_more old mid new (Err stop ∷ made) layer never put = absurd never
-
 put_behind : {S : Type 0} (old nodes : List (Node S)) → ArePut old nodes (old ++ nodes)
 put_behind old [] = append-nil old
 put_behind {S} old (n ∷ nodes) =

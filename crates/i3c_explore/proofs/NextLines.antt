@@ -9,13 +9,6 @@ use Rattle.i3c_explore.specs.declared.turn.Turn.{Turn}
 use Rattle.i3c_explore.specs.Layers.{IsNextAt, IsSuccessor, advanced}
 use Rattle.i3c_explore.specs.Orders.{lines_in, track}
 
--- behind a track's last line there is none
-pub none_read : {L : Type 0} (tracks : List (Vec L)) (t : ℕ) (v : Vec L) (p : ℕ) (lines : List L)
-    → t < length tracks → v ≡ get_or tracks t v → lines ≡ v.items → length lines ≤ p → slice_get (track tracks t) p ≡ None
-none_read {L} tracks t v p lines within is same over =
-    let alike : lines ≡ track tracks t = same ∙ sym (ap lines_in (slice_get_read tracks (length tracks) t v refl within is)) in
-    subst (λ (l : List L). slice_get l p ≡ None) alike (slice_get_past lines p over)
-
 -- what a track has at a node's place runs next
 pub next_at : {L : Type 0} (lines : ℕ → List L) (places : List ℕ) (t p : ℕ) (found : Option L) → t < length places → p ≡ get_or places t p → slice_get (lines t) p ≡ found → slice_get (lines t) (get_or places t 0) ≡ found
 next_at lines places t p found here at is = ap (λ (k : ℕ). slice_get (lines t) k) (sym (at ∙ get_or_default_zero places t p here)) ∙ is

@@ -20,34 +20,6 @@ use Rattle.i3c_step.proofs.Uniqueness.{accept≢refuse, first_unique}
 use Rattle.i3c_model.specs.Meaning.{MayAnswer, is_meant}
 use Rattle.i3c_model.specs.Storing.{IsRecordDue}
 
--- where a request comes first, somebody asks
-pub somebody_asks : (st : State) (r : Request) → NoneAsks st → IsFirst st r → ⊥
-somebody_asks st r none first = both_ways _ (none first.driven.0 r) first.driven.1
-
--- the mandatory word is due for an accepted interrupt alone
-abbrev WordIs : State → Fixed → ℕ → Type 0
-WordIs st policy bits =
-    ((a : ℕ) → IsFirst st (Interrupt a) → verdict st policy (Interrupt a) ≡ Accept → bits ≡ (if byte_due (entry_at st a) then 9 else 0))
-    × (¬ IsRecordDue st policy → bits ≡ 0)
-
-pub word_sent : (st : State) (policy : Fixed) (bits : ℕ) → WordIs st policy bits → (lost : Lost) (served : Served) (new : State) → Serves st policy lost served new → IsWordBits st served bits
-word_sent st policy bits is lost Quiet new h = is.1 (λ due. somebody_asks st (Interrupt due.0) h.0 due.1)
-word_sent st policy bits is lost Refused new h = is.1 (λ due.
-    accept≢refuse (sym due.2 ∙ subst (λ r. verdict st policy r ≡ Refuse) (first_unique st h.0.0 (Interrupt due.0) h.0.1 due.1) h.0.2))
-word_sent st policy bits is lost Joining new h = is.1 (λ due. let e : Join ≡ Interrupt due.0 = first_unique st Join (Interrupt due.0) h.0 due.1 in cc)
-word_sent st policy bits is lost (WantsRole a) new h = is.1 (λ due. let e : Role a ≡ Interrupt due.0 = first_unique st (Role a) (Interrupt due.0) h.0 due.1 in cc)
-word_sent st policy bits is lost (Recorded place) new h = (h.at, h.first, is.0 h.at h.first h.accepted)
-word_sent st policy bits is lost Torn new h = is.0 h.at h.first h.accepted ∙ ap (λ b. if b then 9 else 0) h.due
-
--- the header that goes on
-pub header_sent : (st : State) (r : Request) → IsFirst st r → (policy : Fixed) (lost : Lost) (served : Served) (new : State) → Serves st policy lost served new → 9 ≡ header_bits served
-header_sent st r first policy lost Quiet new h = absurd (somebody_asks st r h.0 first)
-header_sent st r first policy lost Refused new h = refl
-header_sent st r first policy lost Joining new h = refl
-header_sent st r first policy lost (WantsRole a) new h = refl
-header_sent st r first policy lost (Recorded place) new h = refl
-header_sent st r first policy lost Torn new h = refl
-
 -- a frame that serves, does its own part, and loses whom it loses by its last bit
 pub frame_of : (old : State) (policy : Fixed) (cuts : CutList) (served : Served) (rest word last : ℕ) (Own : Lost → State → State → Type 0) (mid done new : State)
     → last ≡ word + rest → IsWordBits old served word → Serves old policy (lost_by cuts last) served mid → Own (lost_by cuts last) mid done → new ≡ emptied (lost_by cuts last) done → Frame old policy cuts served rest Own new

@@ -165,13 +165,6 @@ module _ (p : Inside) (st : State) (seen : state_of p ≡ st) (within : IsWithin
 pub left_wins : (st : State) (lost : Lost) (i : Identity) → IsLeastHearer st lost false i → IsWinner st lost i
 left_wins st lost i h = (h.0, λ j c below. h.1 c.0 c.1 c.2 c.3 (subst (λ k. IsBelow k i) (sym c.4) below))
 
-pub none_left : (st : State) (lost : Lost) → NoHearer st lost false → AllHearersLost st lost
-none_left st lost none s d h = go (lost s) refl
-  where
-    go : (b : Bool) → lost s ≡ b → b ≡ true
-    go true e = refl
-    go false e = absurd (none s d h e)
-
 -- the least of those who are lost beats all who are left, if it is below the least of these
 pub lost_beats : (st : State) (lost : Lost) (i j : Identity) → IsLeastHearer st lost true i → IsLeastHearer st lost false j → identity_cmp i j ≡ Less → IsBeatenByLost st lost
 lost_beats st lost i j l r less =

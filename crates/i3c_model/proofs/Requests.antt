@@ -20,30 +20,6 @@ pub record FirstBelow (st : State) (n : ℕ) (r : Request) : Type 0 where
 abbrev pub IsFirstSoFar : State → ℕ → Option Request → Type 0
 IsFirstSoFar st n first = MatchOption first (NoneBelow st n) (FirstBelow st n)
 
--- one slot more, which drives r, where f comes first of r and of what came first
-pub first_more : (st : State) (n : ℕ) (first : Option Request) (r f : Request) → IsFirstSoFar st n first → drives st r n ≡ true → ((q : Request) → drives st q n ≡ true → q ≡ r)
-    → (f ≡ r) ⊎ (first ≡ Some f) → rank f ≤ rank r → MatchOption first ⊤ (λ g. rank f ≤ rank g) → FirstBelow st (n + 1) f
-first_more st n None r f h d alone one least still = elim one [
-  | inl e ↦ record {
-    driven = (n, subst (λ q. drives st q n ≡ true) (sym e) d);
-    least = λ s q l dq. elim (cases_eq s n) [
-      | inl same ↦ subst (λ g. rank f ≤ rank g) (sym (alone q (subst (λ k. drives st q k ≡ true) same dq))) least
-      | inr ne ↦ absurd (both_ways _ (h s q (omega arith)) dq)
-    ];
-  }
-  | inr e ↦ cc
-]
-first_more st n (Some g) r f h d alone one least still = record {
-  driven = elim one [
-    | inl e ↦ (n, subst (λ q. drives st q n ≡ true) (sym e) d)
-    | inr e ↦ let same : g ≡ f = cc in (h.driven.0, subst (λ q. drives st q h.driven.0 ≡ true) same h.driven.1)
-  ];
-  least = λ s q l dq. elim (cases_eq s n) [
-    | inl same ↦ subst (λ k. rank f ≤ rank k) (sym (alone q (subst (λ k. drives st q k ≡ true) same dq))) least
-    | inr ne ↦ let low : rank g ≤ rank q = h.least s q (omega arith) dq in let s : rank f ≤ rank g = still in omega arith
-  ];
-}
-
 and_false : (b : Bool) → (b && false) ≡ false
 and_false true = refl
 and_false false = refl

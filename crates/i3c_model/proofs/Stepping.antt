@@ -95,11 +95,6 @@ is_silent Silent h = refl
 pub silent_is : (c : Choice) → c ≡ Silent → sameb the_type c Silent ≡ true
 silent_is c e = ap (λ x. sameb the_type x Silent) e
 
-pub is_lost : (c : Choice) → sameb the_type c Lost ≡ true → c ≡ Lost
-is_lost Heard h = absurd (false≢true h)
-is_lost Lost h = refl
-is_lost Silent h = absurd (false≢true h)
-
 pub lost_is : (c : Choice) → c ≡ Lost → sameb the_type c Lost ≡ true
 lost_is c e = ap (λ x. sameb the_type x Lost) e
 

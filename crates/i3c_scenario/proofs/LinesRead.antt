@@ -50,10 +50,6 @@ gives next end bytes feed none =
       ap (λ n. take n bytes) (sym more) ∙ sym (take_more next (suc end) bytes) ∙ ap (λ b. take next bytes ++ b) (take_feed rest end here ∙ ap (λ b. b ++ 10 ∷ []) line),
     )
 
--- no line is left
-pub none_left : (next : ℕ) (bytes : List ℕ) → HasNoFeed (take (length bytes - next) (drop next bytes)) → HasNoFeed (drop next bytes)
-none_left next bytes none = subst HasNoFeed (whole_rest next bytes) none
-
 ends_in_feed : (read : List ℕ) → HasNoFeed (read ++ 10 ∷ []) → ⊥
 ends_in_feed [] none = none 0 0 (omega arith) refl
 ends_in_feed (byte ∷ read) none = ends_in_feed read (All-tail (λ (b : ℕ). b ≢ 10) byte (read ++ 10 ∷ []) none)

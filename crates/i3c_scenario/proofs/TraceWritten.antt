@@ -6,15 +6,6 @@ use Rattle.std.specs.Io.KnownBytes.{Appends, Keeps}
 use Rattle.i3c_scenario.specs.Outcomes.{AppendsSome}
 use Rattle.i3c_scenario.proofs.Written.{appends_both}
 
-pub keeps_all : (a b : Option (List ℕ)) → Keeps a b → Appends a b []
-keeps_all None b kept = tt
-keeps_all (Some xs) None kept = absurd kept
-keeps_all (Some xs) (Some ys) kept = kept ∙ sym (append-nil xs)
-
--- where nothing went out
-pub none_out : (a b : Option (List ℕ)) (text : List ℕ) → Keeps a b → AppendsSome a b text
-none_out a b text kept = let least : 0 ≤ length text = omega arith in (0, least, keeps_all a b kept)
-
 -- where nothing was written
 pub same_out : (a : Option (List ℕ)) → Keeps a a
 same_out None = tt

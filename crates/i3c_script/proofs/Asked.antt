@@ -25,9 +25,6 @@ all_left st r askers are = record {
   behind = λ s from within. are s within;
 }
 
-not_both : (b : Bool) → b ≡ true → b ≡ false → ⊥
-not_both b is none = false≢true (sym none ∙ is)
-
 -- the lowest slot of those that are left asks, and the others are left
 pub next_asks : (st : State) (r : Request) (n : ℕ) (left others : SlotSet) → n < SLOTS → AreLeft st r n left → IsLowestOf left n → ((s : ℕ) → s < SLOTS → has others s ≡ (if s == n then false else has left s))
     → (drives st r n ≡ true) × AreLeft st r (n + 1) others

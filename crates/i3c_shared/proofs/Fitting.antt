@@ -176,17 +176,3 @@ pub put_count : (cs : Rings) (y : ℕ) (o : Option Reading) → length (slice_se
 put_count [] y o = refl
 put_count (x ∷ cs) zero o = refl
 put_count (x ∷ cs) (suc y) o = ap suc (put_count cs y o)
-
-none_at : (cs : Rings) (y : ℕ) → ring_at (taken_in y cs) y ≡ None
-none_at [] y = refl
-none_at (o ∷ cs) zero = refl
-none_at (o ∷ cs) (suc y) = none_at cs y
-
-taken_at : (cs : Rings) (run : List Entry) (y s : ℕ) (d : Reading) (t : Bool) → (y == s) ≡ t → Fits cs run → ring_at (taken_in y cs) s ≡ Some d → (received d ≡ raises_of s run) × (consumer_capacity d ≡ POSTS)
-taken_at cs run y s d true is fits at =
-    let same : s ≡ y = grind (arith, nat_tests) in
-    let none : ring_at (taken_in y cs) s ≡ None = rw same (none_at cs y) in
-    absurd (none-some d (sym none ∙ at))
-taken_at cs run y s d false is fits at =
-    let other : s ≡ y → ⊥ = grind (arith, nat_tests) in
-    fits s d (sym (get_or-set_other cs y s None None other) ∙ at)

@@ -24,9 +24,6 @@ IsSteady reply was = (is_handed reply ≡ false) × (session_after reply was ≡
 pub same_reply : (reply other : Reply) (was : Bool) → reply ≡ other → IsSteady other was → IsSteady reply was
 same_reply reply other was is h = (ap is_handed is ∙ h.0, ap (λ r. session_after r was) is ∙ h.1)
 
-pub steady : (old : State) (event : Event) (reply : Reply) (new : State) → Step old event reply new → IsSteady reply old.in_session → Stands old new
-steady old event reply new step h = let k = slots_kept old event reply new step in (k.active h.0, k.session ∙ h.1)
-
 -- what a device does by itself
 local_acts : (old : State) (event : Event) (reply : Reply) (new : State) → is_frame event ≡ false → Acts old event reply new → Stands old new
 local_acts old (Attach s setup) reply new n h = (ap (λ (st : State). st.active) h.1, ap (λ (st : State). st.in_session) h.1)

@@ -35,11 +35,6 @@ read_behind old new body later line was is on first begun =
           ∙ ap (λ b. if b then option_map (λ (o : Outline). record o { blocks = comes_to body (line ∷ rest) }) first else None) (on.spot rest) ∙ ap (λ b. comes_on b old.front first (line ∷ rest)) (sym was),
     )
 
--- a line before the bus that makes none
-pub read_before : (old new : Draft) (number : ℕ) (command : Command) → old.body ≡ None → new.body ≡ None → Declares old.front command new.front → Reads old (number, Said.Does command) new
-read_before old new number command was is declares first begun =
-    (first, subst (λ b. IsBegunBy b first) (sym is) tt, λ rest. ap (λ b. comes_on b new.front first rest) is ∙ sym (declares number rest) ∙ ap (λ b. comes_on b old.front first ((number, Said.Does command) ∷ rest)) (sym was))
-
 -- a line that makes the bus
 pub read_begun : (old new : Draft) (number : ℕ) (command : Command) (body : Body) → old.body ≡ None → new.body ≡ Some body → Begins old.front command body.start
     → IsUnread body → Reads old (number, Said.Does command) new

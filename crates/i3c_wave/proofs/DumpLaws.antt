@@ -6,16 +6,6 @@ use Rattle.i3c_wave.specs.declared.timing.Timing.{Timing}
 use Rattle.i3c_wave.specs.declared.wave.Wave.{Wave}
 use Rattle.i3c_wave.specs.Dump.{after_symbol, level_text, levels_text, moved, symbol_dump, symbols_dump}
 
--- a text with the levels to come, after one more of them
-pub one_more : (timing : Timing) (wave : Wave) (level : Level) (left rest : List Level) (text new whole : List ℕ)
-    → left ≡ level ∷ rest → text ++ levels_text timing wave left ≡ whole → new ≡ text ++ level_text timing wave level
-    → new ++ levels_text timing (moved timing wave level) rest ≡ whole
-one_more timing wave level left rest text new whole e before grown =
-    ap (λ t. t ++ levels_text timing (moved timing wave level) rest) grown
-    ∙ append_assoc text (level_text timing wave level) (levels_text timing (moved timing wave level) rest)
-    ∙ ap (λ ls. text ++ levels_text timing wave ls) (sym e)
-    ∙ before
-
 -- a symbol by its number begins what is left from there
 pub drop_item : (xs : List Symbol) (i : ℕ) (x : Symbol) → i < length xs → x ≡ get_or xs i x → drop i xs ≡ x ∷ drop (i + 1) xs
 drop_item [] i x within is = absurd (omega arith)

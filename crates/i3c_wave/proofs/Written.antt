@@ -29,20 +29,6 @@ still_written (Some xs) None c text one kept = absurd one
 still_written (Some xs) (Some ys) None text one kept = absurd kept
 still_written (Some xs) (Some ys) (Some zs) text one kept = kept ∙ one
 
-pub keeps_all : (a b : Option (List ℕ)) → Keeps a b → Appends a b []
-keeps_all None b kept = tt
-keeps_all (Some xs) None kept = absurd kept
-keeps_all (Some xs) (Some ys) kept = kept ∙ sym (append-nil xs)
-
--- where nothing went out
-pub none_out : (a b : Option (List ℕ)) (text : List ℕ) → Keeps a b → AppendsSome a b text
-none_out a b text kept = let least : 0 ≤ length text = omega arith in (0, least, keeps_all a b kept)
-
--- where nothing was written
-pub same_out : (a : Option (List ℕ)) → Keeps a a
-same_out None = tt
-same_out (Some xs) = refl
-
 -- the lines before went out, and of one some
 pub some_out : (a b c : Option (List ℕ)) (first line rest : List ℕ) → Appends a b first → AppendsSome b c line → AppendsSome a c (first ++ (line ++ rest))
 some_out a b c first line rest all some =
@@ -51,14 +37,6 @@ some_out a b c first line rest all some =
     let cut : take (length first + n) (first ++ (line ++ rest)) ≡ first ++ take n line =
     take-append-add first (line ++ rest) n ∙ ap (λ bytes. first ++ bytes) (take-append-le n line rest some.1) in
     (length first + n, within, subst (Appends a c) (sym cut) (appends_both a b c first (take n line) all some.2))
-
--- the lines before went out
-pub front_out : (a b : Option (List ℕ)) (first rest : List ℕ) → Appends a b first → AppendsSome a b (first ++ rest)
-front_out a b first rest all =
-    let within : length first ≤ length (first ++ rest) = omega (arith, length-append first rest) in
-    let same : take (length first) (first ++ rest) ≡ first =
-    take-append-le (length first) first rest (omega arith) ∙ take_all (length first) first (omega arith) in
-    (length first, within, subst (Appends a b) (sym same) all)
 
 -- the front of the text goes out too
 pub written_on : (all first text front left more : List ℕ) → all ≡ first ++ (text ++ more) → text ≡ front ++ left → all ≡ (first ++ front) ++ (left ++ more)
