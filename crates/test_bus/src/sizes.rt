@@ -32,6 +32,6 @@ fn a_reply_is_48_bytes(rt: HostRuntime) {
 // for each address that tells where its identity may stand, and legacy targets with sixteen registers. All is inline, so
 // that a frame wants no memory but for a record.
 #[test]
-fn a_bus_is_18464_bytes(rt: HostRuntime) {
-    same(&rt, size_of::<Bus>(), 18464);
+fn a_bus_is_17952_bytes(rt: HostRuntime) {
+    same(&rt, size_of::<Bus>(), 17952);
 }
