@@ -237,8 +237,8 @@ fn note(
     Ok(())
 }
 
-/// Shares out the lines that run from a layer's nodes among so many jobs, by the places that they lead to: equal states are then found by
-/// one job. The jobs run about as many lines, each counted in all its ways.
+/// Shares out the lines that run from a layer's nodes among so many jobs, by the places that they lead to. One job then finds equal
+/// states, unless `overlap` says that some are shared. The jobs run about as many lines, each counted in all its ways.
 pub(crate) fn owners_of<M: Machine>(
     alloc: Global,
     layer: &[Node<M>],
