@@ -6,16 +6,16 @@ use crate::limits::Limits;
 use crate::machine::Machine;
 use crate::node::Node;
 use crate::stop::Stop;
-use crate::twin::Stretch;
-use std::alloc::Global;
+use crate::twin::JobSpan;
+use std::alloc::{AllocError, Global};
 
 /// What all jobs found.
 #[derive(Drop)]
 pub(crate) struct Gathered<M> {
     /// The nodes of all jobs, one job's behind the other's. Jobs can have found the same one.
     pub nodes: Vec<Node<M>>,
-    /// Each job's stretch of them.
-    pub stretches: Vec<Stretch>,
+    /// Each job's span of them.
+    pub spans: Vec<JobSpan>,
     /// Where each node stands in the order in which one thread finds them.
     pub ranks: Vec<usize>,
     /// Nodes whose room is free to be taken.
@@ -45,11 +45,36 @@ impl<M: Machine> Gathered<M> {
         self.nodes.append(&mut nodes)?;
         self.ranks.append(&mut ranks)?;
         self.spares.append(&mut spares)?;
-        match self.stretches.push(Stretch { first, index }) {
+        match self.spans.push(JobSpan { first, index }) {
             Ok(()) => Ok(()),
             Err(_) => Err(Stop::Memory),
         }
     }
+}
+
+/// Nothing yet, with room for what these layers have.
+fn room_for<M: Machine>(
+    alloc: Global,
+    layers: &[Result<Layer<M>, Stop>],
+    limits: Limits,
+) -> Result<Gathered<M>, AllocError>
+    ensures { IfOk result (λ all. all.nodes.items ≡ []) }
+{
+    let mut nodes = 0usize;
+    let mut spares = 0usize;
+    for made in layers {
+        if let Ok(layer) = made {
+            nodes = nodes.saturating_add(layer.nodes.len());
+            spares = spares.saturating_add(layer.spares.len());
+        }
+    }
+    Ok(Gathered {
+        nodes: Vec::with_capacity(alloc, nodes)?,
+        spans: Vec::new(alloc),
+        ranks: Vec::with_capacity(alloc, nodes)?,
+        spares: Vec::with_capacity(alloc, spares)?,
+        limits,
+    })
 }
 
 /// The layers of all jobs, one behind the other. Their steps are taken from the limits.
@@ -60,13 +85,7 @@ pub(crate) fn gather<M: Machine>(
 ) -> Result<Gathered<M>, Stop>
     ensures { IfOk result (λ all. AreNodesOf layers.items all.nodes.items) }
 {
-    let mut all = Gathered {
-        nodes: Vec::new(alloc),
-        stretches: Vec::new(alloc),
-        ranks: Vec::new(alloc),
-        spares: Vec::new(alloc),
-        limits,
-    };
+    let mut all = room_for(alloc, &layers, limits)?;
     for made in layers {
         let layer = match made {
             Ok(layer) => layer,

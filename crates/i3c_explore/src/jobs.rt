@@ -96,7 +96,11 @@ fn expand_job<M: Machine>(
         spares,
         &view,
     ) {
-        Ok(next) => Ok(next),
+        Ok(mut next) => {
+            // no more room is kept than the next layer can take, so that each job frees its part
+            next.spares.truncate(next.nodes.len());
+            Ok(next)
+        }
         Err(stop) => Err(stop),
     }
 }

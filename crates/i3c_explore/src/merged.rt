@@ -13,7 +13,7 @@ use crate::machine::Machine;
 use crate::node::Node;
 use crate::ordered::order;
 use crate::stop::Stop;
-use crate::twin::{Stretch, Twin, all_twins, twins_of};
+use crate::twin::{JobSpan, Twin, all_twins, twins_of};
 use std::alloc::{AllocError, Global};
 use std::thread::{Threads, map_indices};
 
@@ -164,7 +164,7 @@ fn all_at_once<M: Machine>(alloc: Global, all: Gathered<M>) -> Result<Layer<M>, 
 {
     let Gathered {
         nodes,
-        stretches: _,
+        spans: _,
         ranks,
         spares,
         limits,
@@ -192,23 +192,23 @@ where
 {
     let Gathered {
         nodes,
-        stretches,
+        spans,
         ranks,
         spares,
         limits,
     } = all;
-    let twins = found_by_jobs(rt, alloc, &nodes, &stretches)?;
+    let twins = found_by_jobs(rt, alloc, &nodes, &spans)?;
     match merged(alloc, nodes, &ranks, &twins, spares, limits) {
         Ok(layer) => Ok(layer),
         Err(stop) => Err(stop),
     }
 }
 
-/// The node with which a job begins to look for twins, of so many jobs. They look from the second stretch on, since nothing
+/// The node with which a job begins to look for twins, of so many jobs. They look from the second span on, since nothing
 /// was found before the first one.
-fn search_from(stretches: &[Stretch], nodes: usize, job: usize) -> usize {
-    let jobs = stretches.len();
-    match stretches.get(1) {
+fn search_from(spans: &[JobSpan], nodes: usize, job: usize) -> usize {
+    let jobs = spans.len();
+    match spans.get(1) {
         Some(second) if job < jobs => {
             let each = nodes.saturating_sub(second.first) / jobs;
             second.first.saturating_add(each.saturating_mul(job))
@@ -217,12 +217,12 @@ fn search_from(stretches: &[Stretch], nodes: usize, job: usize) -> usize {
     }
 }
 
-/// The twins of some stretches of nodes, by as many jobs.
+/// The twins of some spans of nodes, by as many jobs.
 fn found_by_jobs<R: Threads + Sync, M: Machine + Send + Sync>(
     rt: &R,
     alloc: Global,
     nodes: &[Node<M>],
-    stretches: &[Stretch],
+    spans: &[JobSpan],
 ) -> Result<Vec<Twin>, AllocError>
 where
     M::Line: Sync,
@@ -232,11 +232,11 @@ where
     let search = |job: usize| -> Result<Vec<Twin>, AllocError>
         ensures { IfOk result (λ twins. AllTwins nodes.entry.now twins.items) }
     {
-        let from = search_from(stretches, nodes.len(), job);
-        let to = search_from(stretches, nodes.len(), job.saturating_add(1));
-        twins_of(alloc, nodes, stretches, from, to)
+        let from = search_from(spans, nodes.len(), job);
+        let to = search_from(spans, nodes.len(), job.saturating_add(1));
+        twins_of(alloc, nodes, spans, from, to)
     };
-    let found = map_indices(rt, alloc, stretches.len(), &search)?;
+    let found = map_indices(rt, alloc, spans.len(), &search)?;
     match all_twins(alloc, found) {
         Ok(twins) => Ok(twins),
         Err(why) => Err(why),

@@ -54,7 +54,7 @@ impl Owners {
 }
 
 /// How many nodes of a layer are looked at to share it out.
-const SAMPLE: usize = 512;
+const SAMPLE: usize = 128;
 
 /// More than the lines of a script's track. Where tracks are longer, different places can have the same number, and the lines are
 /// shared out less evenly.
@@ -99,7 +99,7 @@ fn weights_of(alloc: Global, tracks: usize) -> Result<Vec<u64>, AllocError> {
 
 /// The numbers of all nodes' places.
 fn codes_of<M>(alloc: Global, layer: &[Node<M>]) -> Result<Vec<u64>, AllocError> {
-    let mut codes = Vec::new(alloc);
+    let mut codes = Vec::with_capacity(alloc, layer.len())?;
     for node in layer {
         codes.push(code_of(&node.places))?;
     }
@@ -253,8 +253,10 @@ pub(crate) fn owners_of<M: Machine>(
     let samples = sampled(alloc, layer, &weights, tracks, part)?;
     let boundaries = boundaries_of(alloc, &samples, jobs)?;
     let codes = codes_of(alloc, layer)?;
-    let mut owners = Owners::none(alloc);
-    owners.overlap = boundaries.iter().any(|boundary| boundary.node > 0);
+    let mut owners = Owners {
+        jobs: Vec::with_capacity(alloc, codes.len().saturating_mul(weights.len()))?,
+        overlap: boundaries.iter().any(|boundary| boundary.node > 0),
+    };
     for (node, code) in codes.iter().enumerate() {
         note(&mut owners.jobs, &boundaries, node, *code, &weights, jobs)?;
     }

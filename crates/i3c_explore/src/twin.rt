@@ -17,7 +17,7 @@ pub(crate) struct Twin {
 
 /// The nodes that one job found, of those of all jobs: where they begin, and the table by which they are found.
 #[derive(Drop)]
-pub(crate) struct Stretch {
+pub(crate) struct JobSpan {
     pub first: usize,
     pub index: Index,
 }
@@ -35,20 +35,15 @@ fn are_alike<M: Machine>(nodes: &[Node<M>], before: usize, later: usize) -> bool
     }
 }
 
-/// The node of a stretch that is like a later one, which has this key.
-fn twin_in<M: Machine>(
-    nodes: &[Node<M>],
-    stretch: &Stretch,
-    key: u64,
-    later: usize,
-) -> Option<usize>
+/// The node of a span that is like a later one, which has this key.
+fn twin_in<M: Machine>(nodes: &[Node<M>], span: &JobSpan, key: u64, later: usize) -> Option<usize>
     ensures { IfSome result (λ before. AreTwins nodes.now before later) }
 {
-    for distance in 0..stretch.index.slots() {
-        let Some((has_key, index)) = stretch.index.at(key, distance) else {
+    for distance in 0..span.index.slots() {
+        let Some((has_key, index)) = span.index.at(key, distance) else {
             return None;
         };
-        let before = stretch.first.saturating_add(index);
+        let before = span.first.saturating_add(index);
         if has_key && are_alike(nodes, before, later) {
             return Some(before);
         }
@@ -56,28 +51,28 @@ fn twin_in<M: Machine>(
     None
 }
 
-/// The first node of some stretches that is like a later one, which has this key.
+/// The first node of some spans that is like a later one, which has this key.
 fn twin_of<M: Machine>(
     nodes: &[Node<M>],
-    stretches: &[Stretch],
+    spans: &[JobSpan],
     key: u64,
     later: usize,
 ) -> Option<usize>
     ensures { IfSome result (λ before. AreTwins nodes.now before later) }
 {
-    for stretch in stretches {
-        if let Some(before) = twin_in(nodes, stretch, key, later) {
+    for span in spans {
+        if let Some(before) = twin_in(nodes, span, key, later) {
             return Some(before);
         }
     }
     None
 }
 
-/// The number of the stretch that has a node.
-fn stretch_of(stretches: &[Stretch], node: usize) -> usize {
+/// The number of the span that has a node.
+fn span_of(spans: &[JobSpan], node: usize) -> usize {
     let mut begun = 0usize;
-    for stretch in stretches {
-        if stretch.first <= node {
+    for span in spans {
+        if span.first <= node {
             begun = begun.saturating_add(1);
         }
     }
@@ -85,13 +80,13 @@ fn stretch_of(stretches: &[Stretch], node: usize) -> usize {
 }
 
 /// The first node like this one that another job found before.
-fn twin_before<M: Machine>(nodes: &[Node<M>], stretches: &[Stretch], later: usize) -> Option<usize>
+fn twin_before<M: Machine>(nodes: &[Node<M>], spans: &[JobSpan], later: usize) -> Option<usize>
     ensures { IfSome result (λ before. AreTwins nodes.now before later) }
 {
-    let number = stretch_of(stretches, later).min(stretches.len());
-    let (earlier, rest) = stretches.split_at(number);
-    let stretch = rest.first()?;
-    let key = stretch.index.key(later.saturating_sub(stretch.first));
+    let number = span_of(spans, later).min(spans.len());
+    let (earlier, rest) = spans.split_at(number);
+    let span = rest.first()?;
+    let key = span.index.key(later.saturating_sub(span.first));
     twin_of(nodes, earlier, key, later)
 }
 
@@ -99,7 +94,7 @@ fn twin_before<M: Machine>(nodes: &[Node<M>], stretches: &[Stretch], later: usiz
 pub(crate) fn twins_of<M: Machine>(
     alloc: Global,
     nodes: &[Node<M>],
-    stretches: &[Stretch],
+    spans: &[JobSpan],
     from: usize,
     to: usize,
 ) -> Result<Vec<Twin>, AllocError>
@@ -107,7 +102,7 @@ pub(crate) fn twins_of<M: Machine>(
 {
     let mut twins = Vec::new(alloc);
     for later in from..to {
-        if let Some(before) = twin_before(nodes, stretches, later) {
+        if let Some(before) = twin_before(nodes, spans, later) {
             twins.push(Twin { before, later })?;
         }
     }
