@@ -3,7 +3,7 @@ use Rattle.std.proofs.lemmas.List.{take_more}
 use Rattle.i3c_step.proofs.Active.{active_along}
 use Rattle.i3c_step.proofs.Answering.{unique_along}
 use Rattle.i3c_step.proofs.RunLaws.{legal_more, legal_none}
-use Rattle.i3c_bus.proofs.runs.run_events.Goals as goal
+use Rattle.i3c_bus.proofs.outcome.run_events.Goals as goal
 
 pub loop-event-init : goal.loop-event-init
 loop-event-init c = record {
