@@ -5,7 +5,7 @@ use Rattle.i3c_base.specs.Numbers.{KindSet}
 use Rattle.i3c_word.specs.Parity.{bit_of}
 use Rattle.i3c_ccc.specs.declared.codes.Code.{Code}
 use Rattle.i3c_ccc.specs.declared.codes.Code.TheVariants.{Enec, Disec, EnecDirect, DisecDirect}
-use Rattle.i3c_events.specs.declared.words.Setting.{Setting}
+use Rattle.i3c_events.specs.declared.setting.Setting.{Setting}
 use Rattle.i3c_base.specs.declared.kinds.Change.{Change}
 use Rattle.i3c_base.specs.declared.kinds.Change.TheVariants.{Enable, Disable}
 

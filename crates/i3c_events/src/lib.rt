@@ -10,8 +10,6 @@ mod words;
 
 pub use hearing::{NoAnswer, answer_of, hear_kinds, hear_length, kinds_bits, length_bits};
 pub use i3c_base::{Answer, Change, Kinds};
-pub use setting::{hear_new, hear_static};
+pub use setting::{Setting, hear_new, hear_static};
 pub use wire::{tell_kinds, tell_length, tell_setting};
-pub use words::{
-    Setting, address_word, code_word, kinds_word, length_code, length_word, setting_word,
-};
+pub use words::{address_word, code_word, kinds_word, length_code, length_word, setting_word};

@@ -7,6 +7,15 @@ use crate::hearing::{ACK_BITS, NoAnswer};
 use i3c_base::{Addr7, Cuts, Slot};
 use i3c_device::Devices;
 
+/// A command that sets the dynamic address of a device.
+#[derive(Clone, Copy, Debug, PartialEq, Eq)]
+pub enum Setting {
+    /// SETDASA, to a static address (I3C Basic 5.1.9.3.10).
+    Static,
+    /// SETNEWDA, to a dynamic address (I3C Basic 5.1.9.3.11).
+    New,
+}
+
 /// SETDASA, after so many bits of its frame in which these devices are cut: who has the static address and no dynamic one
 /// takes the new address, but the active controller (I3C Basic 5.1.9.3.10). Where none of those is left at the
 /// acknowledgement, nothing changes. No dynamic address is below `08`.
