@@ -4,9 +4,10 @@ ghost use Rattle.std.specs.Io.KnownBytes.{Appends, IsAtEnd};
 ghost use Rattle.i3c_tracks.specs.Answering.{IsAnswer, IsExplored, IsPrinted};
 ghost use Rattle.i3c_tracks.specs.Planning.{AreLines, IsPlan};
 ghost use Rattle.i3c_tracks.specs.Telling.{refusal_line};
-ghost use Rattle.i3c_tracks.specs.declared.exploring.Answer.{Answer as AnswerValue};
+ghost use Rattle.i3c_tracks.specs.declared.answer.Answer.{Answer as AnswerValue};
 ghost use Rattle.i3c_tracks.specs.declared.refusal.Refusal.{Refusal as RefusalValue};
 
+use crate::answer::Answer;
 use crate::broken::push_broken;
 use crate::plan::{Plan, PlanFault, read_plan};
 use crate::refusal::{Reason, Refusal};
@@ -20,17 +21,6 @@ use std::thread::Threads;
 
 /// How many bytes are read at once.
 const CHUNK: usize = 8192;
-
-/// What an exploration of a file came to.
-#[derive(Clone, Copy, Debug, PartialEq, Eq)]
-pub enum Answer {
-    /// Every order of the part was tried, and none breaks an expectation.
-    Holds,
-    /// The file is refused, or a limit was reached: nothing is said of orders that weren't tried.
-    Refused,
-    /// An order of the part breaks an expectation.
-    Breaks,
-}
 
 /// Explores every order of a part of a file's orders, and prints the ends that they lead to, or an order that breaks an expectation, or
 /// why the file is refused.

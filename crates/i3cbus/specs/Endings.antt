@@ -4,7 +4,7 @@ use Rattle.i3c_frame.specs.declared.traces.TraceFault.{TraceFault}
 use Rattle.i3c_scenario.specs.declared.faults.ScriptFault.{ScriptFault}
 use Rattle.i3c_scenario.specs.declared.script.Tally.{Tally}
 use Rattle.i3c_scenario.specs.declared.report.StressFault.{StressFault}
-use Rattle.i3c_tracks.specs.declared.exploring.Answer.{Answer}
+use Rattle.i3c_tracks.specs.declared.answer.Answer.{Answer}
 use Rattle.i3c_wave.specs.declared.capture_fault.CaptureFault.{CaptureFault}
 use Rattle.i3c_wave.specs.declared.fault.WaveFault.{WaveFault}
 use Rattle.i3cbus.specs.declared.fault.Fault.{Fault}

@@ -5,7 +5,7 @@ use Rattle.std.specs.Prelude.{IfOk}
 use Rattle.i3c_explore.specs.Parts.{Part}
 use Rattle.i3c_scene.specs.declared.line.Line.{Line}
 use Rattle.i3c_scene.specs.Scenes.{Seen}
-use Rattle.i3c_tracks.specs.declared.exploring.Answer.{Answer}
+use Rattle.i3c_tracks.specs.declared.answer.Answer.{Answer}
 use Rattle.i3c_tracks.specs.Answering.{IsAnswer, IsExplored}
 use Rattle.i3c_tracks.specs.Planning.{IsPlan}
 use Rattle.i3c_tracks.proofs.exploring.answered.Goals as goal
