@@ -13,7 +13,7 @@ use Rattle.i3c_lines.specs.Forms.{IsNamed, tokens_of}
 use Rattle.i3c_lines.specs.Refusing.{refusal_token}
 use Rattle.i3c_lines.specs.Tokens.{IsDecimal, IsHex}
 use Rattle.i3c_lines.proofs.Meanings.{are_same, hex, named, same_name}
-use Rattle.i3c_facts.specs.declared.claims.Claim.{Claim}
+use Rattle.i3c_facts.specs.declared.facts.Claim.{Claim}
 use Rattle.i3c_facts.specs.declared.fact.Fact.{Fact}
 use Rattle.i3c_facts.specs.declared.marks.Mark.{Mark}
 use Rattle.i3c_facts.specs.Forms.{AreClaims, IsByteOrNone, IsClaimOf, IsFact, IsReason, parts}

@@ -5,7 +5,7 @@ use Rattle.std.specs.Cmp.Lexicographic.{pointwise}
 use Rattle.std.specs.List.{slice_split}
 use Rattle.i3c_step.specs.declared.replies.Refusal.{Refusal as BusRefusal}
 use Rattle.i3c_legacy.specs.declared.faults.DeclareFault.{DeclareFault}
-use Rattle.i3c_facts.specs.declared.claims.Claim.{Claim}
+use Rattle.i3c_facts.specs.declared.facts.Claim.{Claim}
 use Rattle.i3c_facts.specs.declared.fact.Fact.{Fact}
 use Rattle.i3c_facts.specs.declared.marks.Mark.{Mark}
 use Rattle.i3c_lines.specs.declared.refusals.Refusal.{Refusal}

@@ -4,7 +4,7 @@ ghost use Rattle.i3c_facts.specs.Reading.{Extends};
 ghost use Rattle.i3c_lines.specs.Parsing.{Reads};
 
 use crate::fact::Fact;
-use crate::facts::{NOT, read_fact};
+use crate::fact_tokens::{NOT, read_fact};
 use i3c_lines::Refusal;
 use i3c_lines::tokens::is_token;
 use i3c_step::Refusal as BusRefusal;
@@ -31,7 +31,7 @@ pub struct Facts {
 
 impl Model for Facts {
     ghost use Rattle.std.specs.Prelude.{List};
-    ghost use Rattle.i3c_facts.specs.declared.claims.Claim.{Claim};
+    ghost use Rattle.i3c_facts.specs.declared.facts.Claim.{Claim};
 
     ghost Value = { List Claim };
 

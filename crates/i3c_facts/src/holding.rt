@@ -3,24 +3,14 @@ ghost use Rattle.i3c_base.specs.declared.range.TheConstants.{SLOTS};
 ghost use Rattle.i3c_base.specs.State.{has_address, in_slot};
 ghost use Rattle.i3c_facts.specs.Holding.{are_recorded, claim_holds, claims_hold, device_of, fact_holds, is_done, is_refused, is_same_refusal, address_about, place_for, slot_of, waiting_below};
 
-use crate::claims::{Claim, Facts};
+use crate::before::Before;
 use crate::counting::{are_assigned, records_of, waiting};
 use crate::fact::Fact;
+use crate::facts::{Claim, Facts};
 use crate::naming::Naming;
 use i3c_base::{Addr7, Record, Slot};
 use i3c_bus::{Bus, Refusal as BusRefusal};
 use i3c_lines::{Place, Refusal};
-
-/// What the line before came to.
-#[derive(Clone, Copy)]
-pub enum Before {
-    /// There is no line before.
-    Nothing,
-    /// It was done.
-    Done,
-    /// It was refused, for this reason.
-    Refused(Refusal),
-}
 
 impl Fact {
     /// Whether it holds of a bus, where its name stands for this place and this is what the line before came to.

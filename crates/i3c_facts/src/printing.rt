@@ -5,8 +5,8 @@ ghost use Rattle.i3c_lines.specs.Naming.{letters};
 ghost use Rattle.i3c_lines.specs.Refusing.{refusal_text};
 ghost use Rattle.i3c_text.specs.Hex.{byte_text};
 
-use crate::claims::{Claim, Facts};
 use crate::fact::Fact;
+use crate::facts::{Claim, Facts};
 use crate::marks::Mark;
 use i3c_base::Addr7;
 use i3c_lines::{Name, Refusal};

@@ -5,10 +5,11 @@ ghost use Rattle.i3c_facts.specs.Holding.{device_of, slot_of, waiting_below};
 ghost use Rattle.i3c_facts.specs.Printing.{active_text, address_text, before_text, counted_text, place_text, there_text, unmet_claim, unmet_text, waiting_text};
 ghost use Rattle.i3c_lines.specs.Naming.{letters};
 
-use crate::claims::{Claim, Facts};
+use crate::before::Before;
 use crate::counting::{records_of, waiting};
 use crate::fact::Fact;
-use crate::holding::{Before, device_slot, place_for, slot_of};
+use crate::facts::{Claim, Facts};
+use crate::holding::{device_slot, place_for, slot_of};
 use crate::naming::{Naming, SlotNames};
 use crate::printing::{
     push_at, push_name, push_named, push_number, push_recorded, push_refused, push_waiting,

@@ -7,7 +7,7 @@ use Rattle.i3c_lines.specs.Forms.{IsCommand}
 use Rattle.i3c_script.specs.declared.stage.Stage.{Stage}
 use Rattle.i3c_script.specs.Obeying.{IsObeyed, ScriptState}
 use Rattle.i3c_script.specs.Telling.{Prints}
-use Rattle.i3c_facts.specs.declared.holding.Before.{Before}
+use Rattle.i3c_facts.specs.declared.before.Before.{Before}
 use Rattle.i3c_scenario.specs.Expecting.{LastsAt, Standing, lasting_text, still_lasting, unmet_with, went}
 use Rattle.i3c_scenario.specs.ScriptSteps.{Outlasts, ReadsCounted, noted}
 

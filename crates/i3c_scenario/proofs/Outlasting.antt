@@ -1,7 +1,7 @@
 -- Expectations that last, tested one after another.
 use Rattle.std.proofs.Common.{◌≡◌, ◌∙◌, ℕ, Bool, true, false, List, [], ◌∷◌, ◌++◌, ap, append_assoc, append-nil, refl, sym}
 use Rattle.i3c_base.specs.State.{State}
-use Rattle.i3c_facts.specs.declared.holding.Before.{Before}
+use Rattle.i3c_facts.specs.declared.before.Before.{Before}
 use Rattle.i3c_lines.specs.declared.names.Names.{Names}
 use Rattle.i3c_scenario.specs.declared.lasting.Lasting.{Lasting}
 use Rattle.i3c_scenario.specs.Expecting.{is_met, lasting_line, lasting_text, lasts_if, still_lasting, unmet_if, unmet_with}

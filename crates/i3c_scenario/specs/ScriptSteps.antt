@@ -7,7 +7,7 @@ use Rattle.i3c_text.specs.declared.stop.Stop.{Stop}
 use Rattle.i3c_scenario.specs.declared.script.Script.{Script}
 use Rattle.i3c_script.specs.Obeying.{script}
 use Rattle.i3c_script.specs.Telling.{Prints}
-use Rattle.i3c_facts.specs.declared.holding.Before.{Before}
+use Rattle.i3c_facts.specs.declared.before.Before.{Before}
 use Rattle.i3c_scenario.specs.Expecting.{LastsAt, Standing}
 use Rattle.i3c_scenario.specs.Outcomes.{HasNoFeed, Output, Puts, PutsSome, written}
 use Rattle.i3c_scenario.specs.Scripts.{CountedRuns, LineRun, LineRuns, LinesLead, OutBefore, lines_bytes, lines_out, lines_refused, refusals_of, refused_text}

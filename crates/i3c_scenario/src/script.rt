@@ -3,7 +3,7 @@ ghost use Rattle.std.specs.Io.KnownBytes.{IsAtEnd};
 ghost use Rattle.i3c_lines.specs.Gathering.{gathered};
 ghost use Rattle.i3c_scenario.specs.Outcomes.{HasNoFeed, output, written};
 ghost use Rattle.i3c_script.specs.Printed.{end_text};
-ghost use Rattle.i3c_facts.specs.declared.holding.Before.{Before as BeforeValue};
+ghost use Rattle.i3c_facts.specs.declared.before.Before.{Before as BeforeValue};
 ghost use Rattle.i3c_text.specs.declared.stop.Stop.{Stop as StopValue};
 ghost use Rattle.i3c_scenario.specs.Scripts.{LinesGoOut, refused_text};
 ghost use Rattle.i3c_lines.specs.Forms.{HasNoForm};

@@ -6,7 +6,7 @@ use Rattle.i3c_base.specs.Cutting.{no_cuts}
 use Rattle.i3c_base.specs.Numbers.{is_capable}
 use Rattle.i3c_base.specs.State.{Board, IsStart, no_board}
 use Rattle.i3c_legacy.specs.Declaring.{first_declare_fault, first_fault}
-use Rattle.i3c_facts.specs.declared.claims.Claim.{Claim}
+use Rattle.i3c_facts.specs.declared.facts.Claim.{Claim}
 use Rattle.i3c_facts.specs.declared.marks.Mark.{Mark}
 use Rattle.i3c_lines.specs.declared.command.Command.{Command}
 use Rattle.i3c_lines.specs.declared.names.Name.{Name}

@@ -1,6 +1,6 @@
 -- Why lines of a file are refused.
 use Rattle.std.specs.Prelude.{ℕ, ◌==◌, Bool, true, false, not, ◌&&◌, ◌||◌, List, [], ◌∷◌, Option, Some, None, is_none, is_some, if◌then◌else◌}
-use Rattle.i3c_facts.specs.declared.claims.Claim.{Claim}
+use Rattle.i3c_facts.specs.declared.facts.Claim.{Claim}
 use Rattle.i3c_facts.specs.declared.fact.Fact.{Fact}
 use Rattle.i3c_facts.specs.declared.marks.Mark.{Mark}
 use Rattle.i3c_lines.specs.declared.command.Command.{Command}

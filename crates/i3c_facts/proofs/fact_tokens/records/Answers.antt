@@ -1,7 +1,7 @@
 use Rattle.std.proofs.Common.{◌<◌, ◌^◌, subst}
 use Rattle.std.proofs.lemmas.Bool.{false≢true}
 use Rattle.i3c_facts.proofs.FactArgs.{records_args}
-use Rattle.i3c_facts.proofs.facts.records.Goals as goal
+use Rattle.i3c_facts.proofs.fact_tokens.records.Goals as goal
 
 pub returns-in_err-count : goal.returns-in_err-count
 returns-in_err-count c =

@@ -1,5 +1,5 @@
 use Rattle.i3c_facts.proofs.FactArgs.{refused_at_args}
-use Rattle.i3c_facts.proofs.facts.refused_at.Goals as goal
+use Rattle.i3c_facts.proofs.fact_tokens.refused_at.Goals as goal
 
 pub returns-in_err-why : goal.returns-in_err-why
 returns-in_err-why c =

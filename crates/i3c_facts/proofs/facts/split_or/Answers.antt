@@ -1,6 +1,6 @@
 use Rattle.std.proofs.Common.{◌≡◌, arith, length, refl, subst}
 use Rattle.i3c_facts.proofs.ClaimLaws.{IsNoOrBelow, first_part_cut, one_part}
-use Rattle.i3c_facts.proofs.claims.split_or.Goals as goal
+use Rattle.i3c_facts.proofs.facts.split_or.Goals as goal
 
 pub returns-then-is_token-clause-parts : goal.returns-then-is_token-clause-parts
 returns-then-is_token-clause-parts c = first_part_cut c.args.tokens.now c.loop-at.at _ c.loop-at-test.true (c.if-is_token.ensures.0 refl) c.loop-at.invariant
