@@ -1,4 +1,4 @@
--- Drop-offs inside a frame: the bits at which devices lose power, and whom a frame loses so.
+-- Drop-offs inside a frame: the bits at which devices lose power, and which devices a frame loses.
 use Rattle.std.specs.Prelude.{◌≡◌, ℕ, ◌-◌, Bool, false, nat_le, List, Option, Some, None, map, min, option_map, replicate, slice_index_or}
 use Rattle.i3c_base.specs.declared.range.TheConstants.{SLOTS}
 

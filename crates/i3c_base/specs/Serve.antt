@@ -164,7 +164,7 @@ without (Interrupt a) d = without_front d
 abbrev pub recorded : Record → State → State
 recorded r st = record st { records = st.records ++ r ∷ [] }
 
--- an accepted interrupt at the address `at`, of which the lowest driver's raise is recorded
+-- an accepted interrupt at the address `at`: the raise of its lowest driver is recorded
 pub record IsRecorded (st : State) (policy : Fixed) (lost : Lost) (place : ℕ) (new : State) : Type 0 where
   pub at : ℕ
   pub slot : ℕ

@@ -12,7 +12,7 @@ use Rattle.i3c_step.specs.Step.{Step}
 abbrev pub behind : List Record → State → State
 behind gone st = record st { records = gone ++ st.records }
 
--- what became of a request, where so many more records are counted
+-- the result of a request, with `count` more records counted
 abbrev pub counted_from : ℕ → Served → Served
 counted_from count (Served.Recorded place) = Served.Recorded (place + count)
 counted_from count Served.Quiet = Served.Quiet

@@ -32,7 +32,7 @@ use Rattle.i3c_step.proofs.Lost.{unlost}
 use Rattle.i3c_step.proofs.Recording.{Contains-first}
 use Rattle.i3c_step.proofs.Steps.{no_test, step_cases, test_at}
 
--- whoever is in this slot hears the session
+-- the device in this slot hears the session
 abbrev hears_at : Option Device → Bool
 hears_at place = in_slot (λ d. d.hearing) place
 
@@ -44,7 +44,7 @@ one_more true b h = subst (λ c. 1 ≤ one_if c) (sym (h refl)) (omega arith)
 one_more false true h = omega arith
 one_more false false h = omega arith
 
--- who hears afterwards heard before
+-- a device that hears afterwards heard before
 abbrev IsWithin : List (Option Device) → List (Option Device) → Type 0
 IsWithin xs ys = (k : ℕ) → hears_at (get_or xs k None) ≡ true → hears_at (get_or ys k None) ≡ true
 
@@ -96,7 +96,7 @@ not_all (x ∷ xs) (suc j) d p deaf = omega (arith, at_most_one (hears_at x), no
 itself : (i : Identity) → same_identity i i ≡ true
 itself i = λ k. eq-eqb i.pid i.pid refl k && (eq-eqb i.bcr.0 i.bcr.0 refl k && eq-eqb i.dcr.0 i.dcr.0 refl k)
 
--- who hears after a round heard before
+-- a device that hears after a round heard before
 within_assigned : (lost : Lost) (i : Identity) (a : ℕ) (old : State) → IsWithin (emptied lost (assigned lost i a old)).devices old.devices
 within_assigned lost i a old k h = go (device_at (emptied lost (assigned lost i a old)) k) refl h
   where
@@ -148,7 +148,7 @@ uncut_is_acknowledged old cuts new uncut h = elim h.2 [
   | inr beaten ↦ lost_none cuts uncut 73 beaten.0 beaten.3
 ]
 
--- who gets an address hears no more
+-- a device that gets an address hears no more
 pub one_fewer : (old : State) (cuts : CutList) (a : ℕ) (i : Identity) (new : State) → Rounds old cuts (RoundReply.Assigned a i) new → hearers new.devices < hearers old.devices
 one_fewer old cuts a i new h =
     let lost : Lost = lost_by cuts 73 in
@@ -192,7 +192,7 @@ record Went (old : State) (event : Event) (new : State) : Type 0 where
   less : one_if (is_round event) + hearers new.devices ≤ hearers old.devices
   session : new.in_session ≡ true
 
--- what else happens in it: nobody hears who didn't
+-- the rest of what happens in it: no device begins to hear
 record Calm (old new : State) : Type 0 where
   long : length new.devices ≡ length old.devices
   within : IsWithin new.devices old.devices

@@ -70,7 +70,7 @@ frame_alike old policy cuts other served rest last Own new alike frame within =
       left = subst (λ (l : Lost). new ≡ emptied l frame.done) same frame.left;
     }
 
--- a frame with a header after its request, and at most so many bits of its own
+-- a frame with a header after its request, and at most `most` bits of its own
 asking_alike : (old : State) (policy : Fixed) (cuts other : CutList) (served : Served) (bits most : ℕ) (Own : Lost → State → State → Type 0) (new : State)
     → AreAlike old (bits_after_byte most) cuts other → bits ≤ most → Frame old policy cuts served (header_bits served + bits) Own new
     → Frame old policy other served (header_bits served + bits) Own new
@@ -273,7 +273,7 @@ each_alike old event f g all = go (cuts_in event)
     go None = tt
     go (Some cuts) = all cuts
 
--- for whoever changes the cuts of an event: no event with cuts is left out, and its last bit stays
+-- for a function that changes the cuts of an event: it covers all events with cuts, and keeps their last bit
 pub cuts_in-recut : (f : CutList → CutList) (event : Event) → cuts_in (recut f event) ≡ option_map f (cuts_in event)
 cuts_in-recut f (Serve policy cuts) = refl
 cuts_in-recut f (Enec to kinds policy cuts) = refl

@@ -269,7 +269,7 @@ sound_changed s f st steady same keeps sound = record {
   fitting = AllFit-change s f st keeps sound.fitting;
 }
 
--- such a one is one that wishes to join, and one that wishes for the role
+-- a sound bus stays sound when a device wishes to join or for the role
 pub sound_wishes : (s : ℕ) (st : State) → IsSound st → IsSound (ask_join s st)
 sound_wishes s st sound = sound_changed s (λ d. record d { join_wish = true }) st (λ d. record { identity = refl; fixed = refl; address = λ a p. p }) (λ d. (refl, refl)) (λ d f. f) sound
 

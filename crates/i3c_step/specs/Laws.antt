@@ -58,7 +58,7 @@ InterruptsAreRecordedOnce = (main : Setup) (board : Board) (start : State) (h : 
     → IsStart main board start → IsLegal start h → AllDistinct start h → HasFaithfulRecords start h
 
 -- A frame whose first request is an interrupt that it accepts records it at its address, for the lowest driver's slot, with
--- the number of its front. Or it was torn, if a byte was due and each driver was lost in the frame.
+-- the number of its front. Or it was torn, if it has a mandatory byte and each driver was lost in the frame.
 abbrev pub AcceptedInterruptsAreRecorded : Type 0
 AcceptedInterruptsAreRecorded = (old : State) (event : Event) (reply : Reply) (new : State) (policy : Fixed) (served : Served) (a : ℕ)
     → Step old event reply new → policy_of event ≡ Some policy → served_of reply ≡ Some served

@@ -7,7 +7,7 @@ use Rattle.i3c_base.specs.State.{IsPresent, State}
 use Rattle.i3c_step.specs.declared.events.Event.{Event}
 use Rattle.i3c_step.specs.declared.replies.Reply.{Reply}
 
--- whether a session is open after this reply: an opening opens one, an end ends it, and nothing else does either
+-- whether a session is open after this reply: an opening opens one, an end ends it, and the other replies leave it as it is
 abbrev pub session_after : Reply → Bool → Bool
 session_after (Reply.Opened served) was = true
 session_after Reply.Ended was = false

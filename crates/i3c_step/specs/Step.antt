@@ -74,8 +74,8 @@ abbrev pub is_kept_for : State → Option Identity → ℕ → Bool
 is_kept_for st None a = false
 is_kept_for st (Some i) a = is_the a (known_in st.given i)
 
--- the refusals of SETDASA: nobody is declared at the static address, or the new one may not be picked and isn't kept for
--- who is declared
+-- the refusals of SETDASA: nobody is declared at the static address, or the new one may not be picked and isn't kept for the
+-- declared identity
 abbrev pub static_checks : State → ℕ → ℕ → Checks
 static_checks st f new =
     (is_none (declared_at st f), NoAnswer f) ∷ (not (is_pickable st new || is_kept_for st (declared_at st f) new), BadAddress new) ∷ []
@@ -153,7 +153,7 @@ RekindsBy old to f policy cuts reply new =
     (framed : Framed) × (reply ≡ Reply.Framed framed)
     × Frame old policy cuts framed.served (header_bits framed.served + kinds_bits to framed.answer) (Rekinds to f framed.answer) new
 
--- a frame to all that is done, and that f says of what it leaves; its own part has so many bits
+-- a frame to all that is done, whose effect is f; its own part has `bits` bits
 abbrev pub Announces : State → ℕ → (State → State) → Fixed → CutList → Reply → State → Type 0
 Announces old bits f policy cuts reply new =
     (served : Served) × (reply ≡ Reply.Framed (record { served = served; answer = Answer.Done })) × Frame old policy cuts served (header_bits served + bits) (Becomes f) new

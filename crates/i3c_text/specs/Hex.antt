@@ -11,7 +11,7 @@ abbrev pub bytes_text : List ℕ → List ℕ
 bytes_text [] = []
 bytes_text (byte ∷ bytes) = byte_text byte ++ bytes_text bytes
 
--- the last digits of a number, so many
+-- the last `count` digits of a number
 unfoldable pub hex_text : ℕ → ℕ → List ℕ
 hex_text zero number = []
 hex_text (suc count) number = hex_text count (number / 16) ++ digit_glyph true (number % 16) ∷ []
