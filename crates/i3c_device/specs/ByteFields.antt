@@ -14,7 +14,7 @@ bit_of is_so = if is_so then 1 else 0
 abbrev pub address_of : ℕ → Option ℕ
 address_of byte = if byte == 128 then None else Some byte
 
--- the byte that stands for an address or none
+-- the byte for an address or for none
 abbrev pub byte_of : Option ℕ → ℕ
 byte_of None = 128
 byte_of (Some a) = a

@@ -1,4 +1,4 @@
--- What is asked of whatever stands in a slot.
+-- Properties of the device in a slot, if any.
 use Rattle.std.specs.Prelude.{ℕ, length, Option, Some, None, slice_get}
 use Rattle.i3c_base.specs.declared.datum.Direction.{Direction}
 use Rattle.i3c_base.specs.declared.device.TheConstants.{REGISTERS}
@@ -18,7 +18,7 @@ abbrev pub address_in : Option Device → Option ℕ
 address_in None = None
 address_in (Some d) = d.address
 
--- its maximum length of writes or reads; as many bytes as there are registers where nothing stands
+-- its maximum length of writes or reads; for an empty slot the number of registers
 abbrev pub length_in : Direction → Option Device → ℕ
 length_in way None = REGISTERS
 length_in way (Some d) = length_of way d

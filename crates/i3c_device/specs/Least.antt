@@ -1,4 +1,4 @@
--- Who has the least identity of those who hear the open session.
+-- The least identity of the devices that hear the open session.
 use Rattle.std.specs.Prelude.{◌≡◌, ℕ, ◌<◌, ◌≤◌, true, false, List, Option, Some, None, slice_index_or}
 use Rattle.i3c_base.specs.declared.range.TheConstants.{SLOTS}
 use Rattle.i3c_base.specs.Numbers.{IsInRange, number_of}

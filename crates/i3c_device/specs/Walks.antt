@@ -1,4 +1,5 @@
--- What a request, a command, a session or a drop-off does to whatever stands in a slot. `active` is the active controller's slot.
+-- The effect of a request, a command, a session or a drop-off on the device in a slot. `active` is the active controller's
+-- slot.
 use Rattle.std.specs.Prelude.{◌≡◌, ℕ, ◌<◌, Bool, ◌&&◌, ◌==◌, List, Option, Some, None, option_map, if◌then◌else◌, slice_index_or}
 use Rattle.i3c_base.specs.declared.range.TheConstants.{SLOTS}
 use Rattle.i3c_base.specs.declared.requests.Request.{Request}

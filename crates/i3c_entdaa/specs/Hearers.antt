@@ -1,4 +1,4 @@
--- Who contends in a round, and with which number.
+-- The contenders of a round, and their numbers.
 use Rattle.std.specs.Prelude.{ℕ, suc, ◌≡◌, true, List, [], ◌∷◌, ◌++◌, Option, None, Some, if◌then◌else◌, slice_index_or}
 use Rattle.i3c_base.specs.Numbers.{IsInRange, number_of}
 use Rattle.i3c_base.specs.State.{Device}

@@ -29,7 +29,7 @@ IsTaken st cuts bits = (i : Identity) × IsContender st (lost_by cuts 73) i × (
 abbrev pub IsSent : State → ℕ → ℕ → Type 0
 IsSent st bits a = (i : Identity) × IsInRange i × (number_of i ≡ bits) × IsAddressFor st i a
 
--- the bits that a round read and the address that it sent; the identity that is assigned is that of the bits
+-- the bits that a round read, the address that it sent, and the identity that these bits give
 abbrev pub IsRead : State → CutList → Round → Type 0
 IsRead st cuts NoAddress = ⊤
 IsRead st cuts Done = ⊤

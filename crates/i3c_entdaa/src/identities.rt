@@ -25,7 +25,7 @@ const IDENTITY_BITS: u32 = 64;
 /// The ninth bit after the address byte, where the winners acknowledge: a round's last bit.
 pub(crate) const ADDRESS_ACK: u16 = 73;
 
-/// What is read of those who contend, and who acknowledges the address that is sent then.
+/// The bits read of the contenders, and the one that acknowledges the address sent next.
 #[derive(Clone, Copy)]
 pub(crate) struct Contested {
     pub bits: u64,

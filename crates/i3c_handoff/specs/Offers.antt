@@ -1,4 +1,4 @@
--- What becomes of the role that is offered to an address.
+-- The offer of the role to an address.
 use Rattle.std.specs.Prelude.{◌≡◌, ℕ, ◌+◌, ◌-◌, ◌<◌, Bool, true, false, ⊤}
 use Rattle.std.specs.Int.{bit_at}
 use Rattle.i3c_base.specs.Cutting.{CutList, Lost, lost_by}

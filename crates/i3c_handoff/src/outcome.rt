@@ -1,6 +1,6 @@
 use i3c_base::Slot;
 
-/// What became of the role that was offered to an address (GETACCCR, I3C Basic 5.1.9.3.16).
+/// The result of an offer of the role to an address (GETACCCR, I3C Basic 5.1.9.3.16).
 #[derive(Clone, Copy, Debug, PartialEq, Eq)]
 pub enum Offer {
     /// Nobody who would take it was left to acknowledge the header.

@@ -1,4 +1,4 @@
--- Who drives an interrupt, and what is read behind it.
+-- The drivers of an interrupt, and the byte read behind it.
 use Rattle.std.specs.Prelude.{◌≡◌, ℕ, ◌-◌, ◌/◌, ◌^◌, ◌<◌, ◌↔◌, Bool, true, false, not, ◌&&◌, ◌==◌, nat_le, if◌then◌else◌, List, Option, Some, None, option_and_then, option_map, is_some, length, IfSome}
 use Rattle.std.specs.Int.{bit_at}
 use Rattle.std.specs.Int.RustNames.{bit_or}
@@ -22,7 +22,7 @@ pub record IsDriven (devices : List (Option Device)) (r : Request) (drivers : Sl
   pub are : AreDrivers (with_active devices active) r drivers
   pub driven : AnyDrives (with_active devices active) r
 
--- each front of those who drive an interrupt at the address `at` has a mandatory byte exactly where one is due
+-- each front of the drivers of an interrupt at the address `at` has a mandatory byte exactly if `due` holds
 abbrev pub HaveBytes : Population → ℕ → Bool → Type 0
 HaveBytes all at due = (s : ℕ) (w : Waiting) → drives_in all (Interrupt at) s ≡ true → IsFrontOf (device_in all s) w → is_some w.byte ≡ due
 
@@ -31,7 +31,7 @@ abbrev pub driven : Option ℕ → ℕ → ℕ
 driven None byte = byte
 driven (Some bit) byte = if nat_le 9 bit then byte else (if nat_le bit 1 then 255 else bit_or byte (255 / 2 ^ (bit - 1)))
 
--- the byte at the front of what stands in a slot
+-- the byte at the front of the device in a slot
 abbrev pub slot_byte : Option Device → Option ℕ
 slot_byte place = option_and_then (λ d. front_byte d.waiting) place
 

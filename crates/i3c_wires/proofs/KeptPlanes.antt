@@ -49,7 +49,7 @@ some_bit n some fits = let low = bit_at-trailing_zeros w64 n (omega (arith, some
 
 -- ---- the contest
 
--- k bits before the end: who is still in has the bits that were read, and who isn't had a lower bit before them
+-- k bits before the end: each contender that is still in has the bits read so far, and each other one had a lower bit before
 pub record Held (n : ℕ → ℕ) (among still bits k : ℕ) : Type 0 where
   pub within : (s : ℕ) → s < 64 → bit_at still s ≡ 1 → bit_at among s ≡ 1
   pub same : (s : ℕ) → s < 64 → bit_at still s ≡ 1 → n s / 2 ^ k ≡ bits / 2 ^ k

@@ -1,4 +1,4 @@
--- The invariant of a contest: what was read so far, and who is still in.
+-- The invariant of a contest: the bits read so far, and the contenders still in.
 use Rattle.std.proofs.Common.{◌≡◌, ◌≢◌, ℕ, zero, suc, ◌+◌, ◌-◌, ◌*◌, ◌/◌, ◌%◌, ◌^◌, ◌<◌, ◌≤◌, ◌==◌, nat_lt, Bool, true, false, cond, List, [], ◌∷◌, get_or, map, refl, ap, sym, ◌∙◌, arith, not, ◌&&◌, inl, inr, ◌⊎◌, Option, Some, None}
 use Rattle.std.proofs.lemmas.Bool.{cases_Bool, cases_lt, and_parts, and_cases, and_from, cond-true, cond-false, eqb-true, eqb-false, eq-eqb, both_ways, not_from_false, true_from_ne_false}
 use Rattle.std.proofs.lemmas.Bool.Decides.{nat_tests}
@@ -12,7 +12,7 @@ use mir.Val.{bool_byte}
 
 -- ---- numbers: one bit more
 
--- what stands before the bit with `left` bits after it
+-- the bits above the one with `left` bits after it
 upper : (n left : ℕ) → n / 2 ^ suc left ≡ n / 2 ^ left / 2
 upper n left = rw pow-suc (sym (div-div-eq-div-mul n (2 ^ left) 2))
 
@@ -127,7 +127,7 @@ drives_is cuts width left bits e = shift (e.1 / 2 ^ suc left == bits) _ _ _ (bef
     shift true b c d h = h
     shift false b c d h = refl
 
--- who stays after the bit drove what was read
+-- a contender that stays after the bit drove what was read
 pub stays_is : (cuts : CutList) (width left bits : ℕ) (b : Bool) (e : ℕ × ℕ) → left < width → stays cuts width left (2 * bits + bool_byte b) e ≡ (drives cuts width left bits e && cond b (drives_one left e) (not (drives_one left e)))
 stays_is cuts width left bits b e l =
     let more : width - left ≡ suc (width - suc left) = omega arith in

@@ -22,8 +22,8 @@ pub fn contest(keys: &ArrayVec<(Slot, u64), SLOTS>, width: u32, cuts: &Cuts) -> 
     requires few_bits { width ≤ 64 }
     requires fit { All (λ e. e.1 < 2 ^ width) keys.now.items }
 
-    // the winners are those whose key was read and who aren't lost, that is, cut at the last bit or before; of all who
-    // aren't lost nobody has a lower key
+    // the winners are the slots whose key was read and that aren't lost, that is, cut at the last bit or before; no slot that
+    // isn't lost has a lower key
     ensures winners { result.winners.items ≡ holders cuts.now keys.now.items width result.bits }
     ensures least { All (λ e. is_lost cuts.now width e ≡ false → result.bits ≤ e.1) keys.now.items }
 
