@@ -1,4 +1,4 @@
--- Who acknowledges a broadcast.
+-- The devices that acknowledge a broadcast.
 use Rattle.std.proofs.lemmas.Bool.{false≢true}
 use Rattle.std.proofs.Common.{◌≡◌, ℕ, ◌+◌, Bool, true, false, List, [], ◌∷◌, Option, Some, None, Result, Ok, Err, IsOk, option_map, if◌then◌else◌, ◌↔◌, sym, ap, ◌∙◌, subst, refl}
 use Rattle.i3c_base.specs.declared.answers.Answer.{Answer}

@@ -55,7 +55,7 @@ pub acknowledged : (st new : State) (answer : RoundReply) → st.in_session ≡ 
 acknowledged st new answer opened step e =
     uncut_is_acknowledged st no_cuts new none_uncut (subst (λ a. Rounds st no_cuts a new) e (answered st new answer opened step))
 
--- and who gets an address hears no more
+-- and a device that gets an address hears no more
 pub fewer_hear : (st new : State) (answer : RoundReply) → st.in_session ≡ true → Step st (Event.Round no_cuts) (Reply.Round answer) new → (a : ℕ) (i : Identity) → answer ≡ RoundReply.Assigned a i
     → hearers new.devices < hearers st.devices
 fewer_hear st new answer opened step a i e = one_fewer st no_cuts a i new (subst (λ r. Rounds st no_cuts r new) e (answered st new answer opened step))

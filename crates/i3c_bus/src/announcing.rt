@@ -50,8 +50,8 @@ impl Bus {
         })
     }
 
-    /// Tells the devices of all addresses (DEFTGTS, I3C Basic 5.1.9.3.7): whoever can be a controller and has an address
-    /// keeps the list. It serves the first request before.
+    /// Tells the devices of all addresses (DEFTGTS, I3C Basic 5.1.9.3.7): each device that can be a controller and has an
+    /// address keeps the list. The first request is served before it.
     #[inline(always)]
     pub fn list<P: Policy, T: Tap>(
         &mut self,

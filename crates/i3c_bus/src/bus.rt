@@ -301,8 +301,8 @@ impl Bus {
         Ok(())
     }
 
-    /// The slot's device raises an interrupt, with its mandatory byte where one is due (I3C Basic 5.1.6.2). It answers
-    /// the raise's number: each slot has a count of its own, which begins with 1 and never goes back.
+    /// The slot's device raises an interrupt, with its mandatory byte if it sends one (I3C Basic 5.1.6.2). It answers the
+    /// raise's number: each slot has a count of its own, which begins with 1 and never goes back.
     pub fn raise(&mut self, slot: Slot, byte: Option<u8>) -> Result<u64, RaiseRefusal>
         ensures step { Step self.old.state (Event.Raise slot byte) (raised_reply result) self.new.state }
         ensures around { StaysAround self.old self.new }

@@ -55,7 +55,8 @@ impl Bus {
         })
     }
 
-    /// The own part of GETPID and its like, after so many bits of the frame: the datum is told, and who is cut is gone.
+    /// The own part of GETPID and its like, with `begun` bits of the frame before it: the datum is told, and cut devices are
+    /// gone.
     fn get_part<T: Tap>(
         &mut self,
         what: Datum,

@@ -58,8 +58,8 @@ impl Bus {
         })
     }
 
-    /// The own part of SETMWL and SETMRL, after so many bits of the frame: whom it reaches has the maximum length, and who
-    /// is cut is gone.
+    /// The own part of SETMWL and SETMRL, with `begun` bits of the frame before it: each device that it reaches has the
+    /// maximum length, and cut devices are gone.
     fn length_part<T: Tap>(
         &mut self,
         way: Direction,

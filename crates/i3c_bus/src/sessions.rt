@@ -45,7 +45,7 @@ impl Bus {
         Ok((Session { role }, served))
     }
 
-    /// A session is open, and whoever has no address hears it.
+    /// Opens a session: each device without an address hears it.
     fn open(&mut self)
         ensures state { self.new.state ≡ opened self.old.state }
         ensures room { self.new.room ≡ self.old.room }

@@ -81,7 +81,7 @@ rekinds_of (Some a) f answer cuts begin st mid done keeps may did not_did = elim
   )
 ]
 
--- whom a command reaches: each device that it means, but for the active controller
+-- the devices that a command reaches: those that it means, except the active controller
 pub is_reached : (st : State) (to : Option ℕ) (active s : ℕ) (d : Device) → active ≡ st.active → (not (s == active) && is_meant to d) ≡ reaches st to s d
 is_reached st None active s d e = go (not (s == active)) ∙ ap (λ k. not (s == k)) e
   where
@@ -118,7 +118,7 @@ recorded_served st a slot front byte mid new place first lowest read kept answer
       left = left;
     }
 
--- nothing is torn where no byte is due, or a driver is left
+-- nothing is torn if the interrupt has no mandatory byte, or a driver is left
 pub not_torn : (st : State) (policy : Fixed) (lost : Lost) (a : ℕ) → IsFirst st (Interrupt a) → (byte_due (entry_at st a) ≡ false) ⊎ ((s : ℕ) × (drives st (Interrupt a) s ≡ true) × (lost s ≡ false)) → (new : State) → ¬ Serves st policy lost Torn new
 not_torn st policy lost a first why new t =
     let e : Interrupt t.at ≡ Interrupt a = first_unique st (Interrupt t.at) (Interrupt a) t.first first in

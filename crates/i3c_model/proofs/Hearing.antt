@@ -161,7 +161,7 @@ module _ (p : Inside) (st : State) (seen : state_of p ≡ st) (within : IsWithin
       go None h = nobody_hears h
       go (Some i) h = least_hears i h
 
--- who wins: the least of those who are left, and nobody where there is none
+-- the winner: the least of the devices that are left, and none if no device is left
 pub left_wins : (st : State) (lost : Lost) (i : Identity) → IsLeastHearer st lost false i → IsWinner st lost i
 left_wins st lost i h = (h.0, λ j c below. h.1 c.0 c.1 c.2 c.3 (subst (λ k. IsBelow k i) (sym c.4) below))
 
@@ -170,7 +170,7 @@ pub lost_beats : (st : State) (lost : Lost) (i j : Identity) → IsLeastHearer s
 lost_beats st lost i j l r less =
     (l.0.0, l.0.1, l.0.2, l.0.3, λ k c. subst (λ x. IsBelow x k) (sym l.0.4) (below_all k (λ b. r.1 c.0 c.1 c.2 c.3 (subst (λ x. IsBelow x j) (sym c.4) b))))
   where
-    -- whoever isn't below j is above i
+    -- an identity that isn't below j is above i
     below_all : (k : Identity) → ¬ IsBelow k j → IsBelow i k
     below_all k above = go (is_lt (identity_cmp i k)) refl
       where

@@ -36,7 +36,7 @@ module _ (active : ℕ) (way : Direction) (a : ℕ) where
         after : ℕ
         after = least_length_from active way a (suc s) (changed_from (suc s) (λ t place. option_map (f t) place) places)
 
--- so many bytes at most, in the slots so far and in the others
+-- at most `least` bytes, in the slots so far and in the others
 abbrev pub IsLeastSoFar : State → Direction → ℕ → ℕ → ℕ → Type 0
 IsLeastSoFar st way a n least = (least ≤ 16) × (min least (least_length_from st.active way a n (drop n st.devices)) ≡ least_length_from st.active way a 0 st.devices)
 

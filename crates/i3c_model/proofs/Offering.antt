@@ -1,4 +1,4 @@
--- Who takes the role that is offered, and how the offer ends.
+-- The device that takes the offered role, and the end of the offer.
 use Rattle.std.proofs.Common.{◌≡◌, ℕ, ◌+◌, ◌≤◌, ◌<◌, true, length, is_none, Option, Some, None, MatchOption, inl, inr, sym, refl, ap, ◌∙◌, subst, arith}
 use Rattle.std.specs.Prelude.{⊤}
 use Rattle.std.proofs.lemmas.Bool.{both_ways, cases_eq, cases_lt, false≢true}
@@ -66,7 +66,7 @@ stands_none st lost (WantsRole a) new h = refl
 stands_none st lost (Recorded place) new h = absurd (accept≢refuse (sym h.accepted ∙ refuses st (Interrupt h.at)))
 stands_none st lost Torn new h = absurd (accept≢refuse (sym h.accepted ∙ refuses st (Interrupt h.at)))
 
--- an offer at this address, where so many bits of the header go on
+-- an offer at this address; `header` is the number of bits of its header
 module _ (old : State) (to : ℕ) (cuts : CutList) (choice : Choice) (header : ℕ) (header_sent : (policy : Fixed) (lost : LostDevices) (served : Served) (new : State) → Serves old policy lost served new → header ≡ header_bits served) where
   abbrev By : ℕ → LostDevices
   By bits = lost_by cuts (header + bits)
@@ -74,7 +74,7 @@ module _ (old : State) (to : ℕ) (cuts : CutList) (choice : Choice) (header : �
   abbrev Comes : Reply → State → Type 0
   Comes = Acts old (HandOver to cuts)
 
-  -- its own part starts on what stood before
+  -- its own part starts on the state after serving
   own_of : (served : Served) (bits : ℕ) (Own : LostDevices → State → State → Type 0) (new : State) → Frame old refuse_all cuts served (header_bits served + bits) Own new → (done : State) × Own (By bits) old done
   own_of served bits Own new f =
       let last : ℕ = f.word + (header_bits served + bits) in

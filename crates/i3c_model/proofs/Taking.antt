@@ -1,4 +1,4 @@
--- A reply stands for the choice that is taken.
+-- A reply means the choice that is taken.
 use Rattle.std.proofs.Common.{◌≡◌, ℕ, ◌+◌, ◌≤◌, true, Option, Some, None, Result, Ok, Err, IfOk, MatchOption, if◌then◌else◌, ◌⊎◌, inl, inr, sym, refl, ap, ◌∙◌, subst, arith}
 use Rattle.std.specs.Prelude.{⊤, nat_le}
 use Rattle.std.proofs.lemmas.Bool.{false≢true, leb-true}
@@ -98,7 +98,7 @@ pub follows_step : {E : Type 0} (old : State) (event : Event) (choice : Choice) 
 follows_step old event choice (Ok reply) allowed h = follows_acts old event choice reply allowed h
 follows_step old event choice (Err e) allowed h = h
 
--- who stands for what
+-- the choice that each reply means
 pub torn_from : (served : Served) → of_served served ≡ Some Lost → served ≡ Served.Torn
 torn_from Served.Torn e = refl
 torn_from (Served.Recorded place) e = cc
@@ -126,7 +126,7 @@ request_taken L old policy lost choice (Served.WantsRole a) given own tear never
 request_taken L old policy lost choice (Served.Recorded place) given own tear never = taken_heard L choice (λ e l. let t = tear place refl e l in given e t.0 t.1) (λ e. never)
 request_taken L old policy lost choice Served.Torn given own tear never = taken_lost L choice (own Lost refl) (λ ne. absurd (ne given)) (λ e. absurd (lost≢silent (sym given ∙ e)))
 
--- the mandatory word of a record is a torn one's where a byte is due
+-- the mandatory word of a record is a torn one's if the interrupt has a mandatory byte
 same_word : (old : State) (policy : Fixed) (lost : LostDevices) (place word torn : ℕ) (mid : State) → IsWordBits old (Served.Recorded place) word → IsWordBits old Served.Torn torn → Serves old policy lost Served.Torn mid → word ≡ torn
 same_word old policy lost place word torn mid h k t =
     let e : Interrupt h.0 ≡ Interrupt t.at = first_unique old (Interrupt h.0) (Interrupt t.at) h.1 t.first in

@@ -1,4 +1,4 @@
--- What a choice decides where drop-offs leave open what comes of an event.
+-- The choice decides the result of an event where drop-offs leave it open.
 use Rattle.std.specs.Prelude.{◌≡◌, ℕ, ◌+◌, ◌≤◌, ◌⊎◌, Option, Some, None, MatchOption, option_and_then, ⊤}
 use Rattle.i3c_base.specs.declared.answers.Answer.{Answer}
 use Rattle.i3c_base.specs.declared.answers.RoundReply.{RoundReply}
@@ -16,12 +16,12 @@ use Rattle.i3c_step.specs.Serving.{served_of}
 use Rattle.i3c_model.specs.declared.plain.Choice.{Choice}
 use Rattle.i3c_model.specs.declared.plain.Choice.TheVariants.{Heard, Lost, Silent}
 
--- what a frame may leave open: what became of its first request, and what its own part came to
+-- what a frame may leave open: the result of its first request, and the result of its own part
 pub data Question : Type 0 where
   of_request : Question
   of_own_part : Question
 
--- the choice that a reply stands for in either
+-- the choice that a reply means in either question
 abbrev pub of_served : Served → Option Choice
 of_served (Served.Recorded place) = Some Heard
 of_served Served.Torn = Some Lost
@@ -60,11 +60,11 @@ pub record IsTaken (IsLawful : Choice → Type 0) (choice taken : Choice) : Type
   pub chosen : IsLawful choice → taken ≡ choice
   pub first : ¬ IsLawful choice → (other : Choice) → IsLawful other → order taken ≤ order other
 
--- what may come of an event may answer the question by this choice
+-- a possible reply to the event means this choice in the question
 abbrev pub MayStandFor : (Reply → State → Type 0) → Question → Choice → Type 0
 MayStandFor Comes q choice = (reply : Reply) × (new : State) × Comes reply new × (stands_for q reply ≡ Some choice)
 
--- in each question, the reply stands for what is taken
+-- in each question, the reply means the choice that is taken
 abbrev pub Follows : (Reply → State → Type 0) → Choice → Reply → Type 0
 Follows Comes choice reply = (q : Question) → MatchOption (stands_for q reply) ⊤ (IsTaken (MayStandFor Comes q) choice)
 

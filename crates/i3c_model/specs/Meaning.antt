@@ -1,4 +1,4 @@
--- Whom a command means, what it may be answered, who contends in a round, and who takes the role.
+-- The devices that a command means, its answers, the contenders of a round, and the device that takes the role.
 use Rattle.std.specs.Prelude.{◌≡◌, ℕ, ◌+◌, ◌*◌, Bool, true, false, ◌⊎◌, List, [], ◌∷◌, Option, Some, None, option_map, if◌then◌else◌}
 use Rattle.i3c_base.specs.declared.answers.Answer.{Answer}
 use Rattle.i3c_base.specs.declared.datum.Datum.{Datum}

@@ -21,7 +21,7 @@ IsRecordDue st policy = (a : ℕ) × IsFirst st (Interrupt a) × (verdict st pol
 abbrev pub MayAssign : State → CutList → Type 0
 MayAssign st cuts = AnyPickable st × ((i : Identity) × IsWinner st (lost_by cuts 73) i)
 
--- what the event stores: a device, an interrupt, a record, or an entry for who gets an address
+-- the values that the event stores: a device, an interrupt, a record, or an entry for the device that gets an address
 abbrev pub Stores : State → Event → Type 0
 Stores st (Attach s setup) = ⊤
 Stores st (Raise s byte) = ⊤

@@ -338,7 +338,7 @@ pub(crate) struct PlainEntry {
     pub(crate) dcr: Dcr,
     // the identity that the address is kept for
     pub(crate) kept: Option<Identity>,
-    // the static address of who got it
+    // the static address of its holder
     pub(crate) fixed: Option<Addr7>,
 }
 

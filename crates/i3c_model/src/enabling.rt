@@ -56,7 +56,7 @@ impl Plain {
         Answer::Done
     }
 
-    // The enabled kinds of whom a command reaches are changed.
+    // The enabled kinds of each device that a command reaches are changed.
     fn change_kinds(&mut self, to: &Option<Addr7>, change: Change, kinds: Kinds)
         ensures { self.new ≡ rekinded to.now (changed_kinds change kinds) self.old }
     {

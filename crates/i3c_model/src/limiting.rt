@@ -41,7 +41,7 @@ impl Plain {
         Ok(Reply::Framed(Framed { served, answer }))
     }
 
-    // Whom a command reaches has this maximum length.
+    // Each device that a command reaches has this maximum length.
     fn limit(&mut self, to: &Option<Addr7>, way: Direction, most: Length)
         ensures { self.new ≡ with_length to.now way most self.old }
     {

@@ -6,8 +6,8 @@ use std::alloc::Global;
 use std::collections::BTreeMap;
 use std::marker::Model;
 
-/// What the bus does where drop-offs leave open what comes of an event. Where the choice can't come about, the first of the
-/// three that can is taken in its place; where nothing is open, it has no effect.
+/// Decides the result of an event where drop-offs leave it open. If the choice isn't possible, the first of the three that is
+/// possible is taken in its place; if nothing is open, the choice has no effect.
 #[derive(Clone, Copy, Debug, PartialEq, Eq)]
 pub enum Choice {
     /// What a lost device sent last was heard: an interrupt is recorded, an identity gets its address, a command or a

@@ -140,7 +140,7 @@ impl Plain {
         });
     }
 
-    // The table is another one, of which no list tells.
+    // The table is replaced, and the list of DEFTGTS is out of date.
     fn replace_table(&mut self, table: Entries)
         requires { IsKeyedBelow ADDRESSES table }
         ensures { self.new ≡ record self.old { given = places_of ADDRESSES table; listed = false } }

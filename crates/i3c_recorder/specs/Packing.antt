@@ -59,7 +59,7 @@ entry_in wide (Packed.Wide at) = slice_index_or wide at no_entry
 abbrev pub entries_in : List Entry → List Packed → List Entry
 entries_in wide packed = map (entry_in wide) packed
 
--- a wide entry's place is one of so many
+-- a wide entry's place is below `count`
 abbrev pub IsWithin : ℕ → Packed → Type 0
 IsWithin count (Packed.Short brief said) = ⊤
 IsWithin count (Packed.Wide at) = at < count

@@ -90,7 +90,7 @@ impl Run {
         }
     }
 
-    /// Makes room for so many entries more.
+    /// Makes room for `more` more entries.
     pub(crate) fn reserve(&mut self, more: usize) -> Result<(), OutOfMemory>
         ensures entries { self.new.entries ≡ self.old.entries }
         ensures spare { OnOk result (more ≤ self.new.spare) }

@@ -1,4 +1,4 @@
--- What became of a port's posts, over a whole run.
+-- The posts of a port over a whole run: how many were recorded, lost, or still wait.
 use Rattle.std.specs.Prelude.{◌≡◌, ℕ, ◌+◌, ◌&&◌, List, [], ◌∷◌, ◌++◌, length, Option, Some, is_some, if◌then◌else◌}
 use Rattle.rtrb.specs.Ring.{sent}
 use Rattle.i3c_base.specs.declared.device.Setup.{Setup}

@@ -17,12 +17,13 @@ use Rattle.i3c_shared.specs.Values.{HeldValue, KeptValue, Log, PortValue, Rings}
 abbrev pub is_role_out : KeptValue → Option HeldValue → Bool
 is_role_out k role = k.log.state.in_session || (is_none role && is_none k.parked)
 
--- so many interrupts wait on the bus, by slot
+-- the numbers of the interrupts that wait on the bus, by slot
 pub record AreWaiting (waiting : List ℕ) (st : State) : Type 0 where
   pub slots : length waiting ≡ SLOTS
   pub each : (s : ℕ) → s < SLOTS → slice_index waiting s ≡ waiting_of (device_at st s)
 
--- posts are taken up for the last time: the run is legal and leads to a state that has these records, and in which so many interrupts wait
+-- posts are taken up for the last time: the run is legal and leads to a state that has these records and these numbers of
+-- waiting interrupts
 pub record TakesLast (old : Log) (run : List Entry) (records : List Record) (waiting : List ℕ) : Type 0 where
   pub seen : Rings
   pub looked : AllLooked old.rings seen

@@ -54,7 +54,7 @@ is_hand_reply (Reply.Framed framed) = is_no_answer framed.answer
 is_hand_reply (Reply.Refused why) = true
 is_hand_reply _ = false
 
--- the reply that is such a fault of the bus
+-- the bus gave the reply of this fault
 abbrev pub IsUnhanded : HandOverFault → Reply → Type 0
 IsUnhanded (HandOverFault.Refused why) reply = reply ≡ Reply.Refused why
 IsUnhanded (HandOverFault.NoAnswer served a) reply = reply ≡ Reply.Framed (record { served = served; answer = Answer.NoAnswer a })

@@ -21,8 +21,8 @@ impl<L: Ledger, M: Ledger, N: Ledger> Model for Books<L, M, N> {
     ghost view = { λ b. record { active = b.active.total; session = b.session.total; frames = b.frames.total } };
 }
 
-/// All shares of the three ledgers, which a role or session has in hand, with the slot and the count that they stand for.
-/// They are seen as their amounts.
+/// All shares of the three ledgers, for a role or session, with the slot and the count that they hold. They are seen as their
+/// amounts.
 pub struct Shares<L: Ledger, M: Ledger, N: Ledger> {
     pub(crate) holder: Slot,
     pub(crate) count: u64,

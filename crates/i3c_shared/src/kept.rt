@@ -318,8 +318,8 @@ impl<L: Ledger, M: Ledger, N: Ledger> Kept<L, M, N> {
         }
     }
 
-    /// The active controller offers its role to a device at an address (GETACCCR, I3C Basic 5.1.9.3.16): it is parked
-    /// for whoever took it, or comes back.
+    /// The active controller offers its role to a device at an address (GETACCCR, I3C Basic 5.1.9.3.16): it is parked for the
+    /// device that took it, or comes back.
     pub fn hand_over<T: Tap>(
         &mut self,
         role: HeldRole<L, M, N>,

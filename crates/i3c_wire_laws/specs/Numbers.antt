@@ -26,7 +26,8 @@ abbrev pub BeginsAtBit0 : Bool → List Symbol → Type 0
 BeginsAtBit0 sda wire = (first : Symbol) (address : ℕ) (read ack : Bool) (rest : List Symbol) → bits_of first ≡ [] → wire ≡ first ∷ Symbol.Header address read ack ∷ rest
     → (at_bit (high sda) (wire_levels wire) 0 ≡ Some (not ack)) × IsSentFrom sda wire 1 rest
 
--- a frame's own part, by its definition after so many bits, is sent behind that many; and so is the way to it behind the mandatory word
+-- a frame's own part, which its definition puts behind a number of bits, is sent behind that number; and so is the way to it
+-- behind the mandatory word
 pub record IsNumberedFrame (sda : Bool) (old : State) (cuts : CutList) (served : Served) (IsOwn : ℕ → List Symbol → Type 0) (wire : List Symbol) : Type 0 where
   pub word : ℕ
   pub on : List Symbol
@@ -37,7 +38,7 @@ pub record IsNumberedFrame (sda : Bool) (old : State) (cuts : CutList) (served :
   pub way : IsSentFrom sda wire (1 + word) (on ++ own)
   pub there : IsSentFrom sda wire (1 + (word + header_bits served)) own
 
--- what an event sends is such a frame, if it sends one that has an own part
+-- what an event sends is a numbered frame, if it is a frame with an own part
 abbrev pub IsNumbered : Bool → State → Event → Reply → State → List Symbol → Type 0
 IsNumbered sda old event (Reply.Framed framed) new wire = OfCuts event (λ cuts. IsNumberedFrame sda old cuts framed.served (IsOwnWire old cuts event framed.answer new) wire)
 IsNumbered sda old event (Reply.Opened served) new wire = OfCuts event (λ cuts. IsNumberedFrame sda old cuts served (λ begun. IsOpenWire) wire)

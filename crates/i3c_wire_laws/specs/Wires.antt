@@ -13,12 +13,12 @@ use Rattle.i3c_bus.specs.Assigning.{Sends, given_reply, last_reply}
 use Rattle.i3c_wave.specs.declared.awaited.Awaited.{Awaited}
 use Rattle.i3c_wave.specs.Awaited.{next_place}
 
--- the place behind symbols, if each may stand where it does
+-- the place behind symbols, if each is allowed at its place
 abbrev pub place_behind : ℕ → Option Awaited → List Symbol → Option (Option Awaited)
 place_behind legacies place [] = Some place
 place_behind legacies place (symbol ∷ rest) = option_and_then (λ next. place_behind legacies next rest) (next_place legacies place symbol)
 
--- symbols lead from the one place to the other, and each stands where it may
+-- symbols lead from the one place to the other, and each is allowed at its place
 abbrev pub Leads : ℕ → Option Awaited → List Symbol → Option Awaited → Type 0
 Leads legacies place symbols next = place_behind legacies place symbols ≡ Some next
 
