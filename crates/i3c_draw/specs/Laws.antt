@@ -3,7 +3,7 @@ use Rattle.std.specs.Prelude.{◌≡◌, ℕ, ◌==◌, nat_lt, Bool, true, not,
 use Rattle.std.specs.List.{list_all}
 use Rattle.i3c_draw.specs.Escaped.{escaped}
 
--- a byte that may stand in XML: it is printed ASCII, and neither `<` nor `>`
+-- a byte that is allowed in XML: it is printed ASCII, and neither `<` nor `>`
 abbrev pub is_plain : ℕ → Bool
 is_plain byte = not (nat_lt byte 32 || (nat_lt 126 byte || (byte == 60 || byte == 62)))
 

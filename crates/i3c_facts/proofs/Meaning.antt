@@ -147,7 +147,7 @@ fact_is tokens (Fact.Refused why) (rest, e, is) = ap fact_of e ∙ refused_is re
 abbrev second_letter : List (List ℕ) → ℕ
 second_letter tokens = letter_of (tail_of (first_of tokens))
 
--- what stands behind `not` is never a fact by itself, if with `not` it is one
+-- tokens that are a fact with `not` before them are never a fact by themselves
 at_two : (spot : List ℕ) → (spot ≡ codes "gone" → ⊥) → (fact : Fact) → IsFact (codes "at" ∷ spot ∷ []) fact → ⊥
 at_two spot other (Fact.Active name) (w, e, is) = omega (arith, ap second_letter e)
 at_two spot other (Fact.At name address) (w, place, e, is, writes) = omega (arith, ap length e)

@@ -67,7 +67,7 @@ abbrev pub records_of : ℕ → Option ℕ → List Record → ℕ
 records_of slot byte [] = 0
 records_of slot byte (first ∷ records) = (if is_record_of slot byte first then 1 else 0) + records_of slot byte records
 
--- so many records are of the slot that a name stands for
+-- the slot of a name has `count` records, with this mandatory byte or with none
 abbrev pub are_recorded : List Record → Option ℕ → Option ℕ → ℕ → Bool
 are_recorded records None byte count = false
 are_recorded records (Some slot) byte count = records_of slot byte records == count

@@ -23,7 +23,7 @@ pub struct Claim {
     pub negated: bool,
 }
 
-/// Claims of which one has to hold. Clauses see the claims.
+/// Claims, one of which has to hold. Clauses see the claims.
 #[derive(Drop)]
 pub struct Facts {
     pub(crate) claims: Vec<Claim>,
@@ -41,7 +41,7 @@ impl Model for Facts {
 impl Facts {
     ghost use Rattle.std.specs.Prelude.{◌≡◌, IfOk};
 
-    /// The claims, as they stand in the line: at least one.
+    /// The claims in the order of the line: at least one.
     pub fn claims(&self) -> &[Claim]
         ensures { result.now ≡ self.now }
     {
@@ -115,7 +115,7 @@ fn read_claim(tokens: &[&[u8]]) -> Option<Claim>
     Some(Claim { fact, negated })
 }
 
-/// The fact that stands behind `not`, if the tokens have this form.
+/// The fact behind `not`, if the tokens have this form.
 fn read_negated(tokens: &[&[u8]]) -> Option<Fact>
     ensures { Reads (λ tokens fact. IsClaim tokens (record { fact = fact; negated = true })) (texts tokens.now) result }
 {

@@ -88,7 +88,7 @@ fn has_no_address(bus: &Bus, place: Option<Place>) -> bool
     }
 }
 
-/// Whether it is there, and so many of its interrupts wait.
+/// Whether it is there, with `count` waiting interrupts.
 fn has_waiting(bus: &Bus, place: Option<Place>, count: u16) -> bool
     ensures { result ≡ in_slot (λ d. length d.waiting == count) (device_of bus.now.state place) }
 {
@@ -98,7 +98,7 @@ fn has_waiting(bus: &Bus, place: Option<Place>, count: u16) -> bool
     }
 }
 
-/// Whether so many interrupts of all devices wait.
+/// Whether all devices together have `count` waiting interrupts.
 fn are_waiting(bus: &Bus, count: u16) -> bool
     ensures { result ≡ (waiting_below bus.now.state SLOTS == count) }
 {
@@ -108,7 +108,7 @@ fn are_waiting(bus: &Bus, count: u16) -> bool
     }
 }
 
-/// Whether so many records are of the slot that a name stands for, with this mandatory byte or with none.
+/// Whether the slot of a name has `count` records with this mandatory byte, or with none.
 fn are_recorded(records: &[Record], place: Option<Place>, byte: Option<u8>, count: u16) -> bool
     ensures { result ≡ are_recorded records.now (slot_of place) byte count }
 {

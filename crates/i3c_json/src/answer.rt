@@ -214,13 +214,13 @@ fn put_asking(alloc: Global, asking: Option<&[u8]>, fields: &mut Fields) -> Resu
     }
 }
 
-/// An array of names, each of which stands behind a space.
+/// An array of names, each of which follows a space.
 fn names_value(alloc: Global, names: &[u8]) -> Result<Value, AllocError>
     ensures { IfOk result (λ value. view value ≡ array (items_of (map text_data (drop 1 (pieces 32 names.now))))) }
 {
     let names = pieces(alloc, b' ', names)?;
     let mut values = Vec::new(alloc);
-    // no name stands before the first space
+    // no name is before the first space
     let mut rest = match names.as_slice() {
         [] => &[],
         [_, more @ ..] => more,

@@ -82,7 +82,7 @@ shown token (next ∷ tokens) form =
           inr (inr (one, e ∙ ap (λ ws. codes "show" ∷ ws) e', subst (λ (n : ℕ). WritesPlace one n) (ap (digits_value 10) same) is))
     ]
 
--- a line behind `show`, of which `all` is another
+-- a line behind `show`, if it isn't `all`
 pub shown_args : (line : List ℕ) (command : Command) → (line ≡ codes "all" → ⊥) → IsForm (codes "show" ∷ tokens_of line) command → (first : ℕ) × ArePlace (tokens_of line) first
 shown_args line command other form =
     elim (shown (codes "show") (tokens_of line) (as_meant (codes "show" ∷ tokens_of line) command form)) [
@@ -179,7 +179,7 @@ behind_get rest token tokens e =
     let both : (103 ∷ 101 ∷ 116 ∷ some.0) ∷ some.1 ≡ (103 ∷ 101 ∷ 116 ∷ token) ∷ tokens = ap (λ ws. with_first 103 (with_first 101 (with_first 116 ws))) (sym some.2) ∙ e in
     some.2 ∙ (λ i. drop 3 (first_of (both i)) ∷ rest_of (both i))
 
--- such a line has `get` in front
+-- a question for a datum has `get` in front
 pub asks : (tail : List ℕ) (command : Command) → IsForm (tokens_of (103 ∷ tail)) command → (rest : List ℕ) × (tail ≡ codes "et" ++ rest)
 asks tail command form = let (what, at, token, e, is) = only_g tail command form in (told_token what ++ 32 ∷ token, ap tail_of (line_is (103 ∷ tail) _ e))
 

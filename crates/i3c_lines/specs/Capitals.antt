@@ -9,7 +9,7 @@ use Rattle.i3c_lines.specs.Printing.{spaced}
 abbrev pub capital_token : List ℕ → List ℕ
 capital_token token = if list_all is_ascii_hexdigit token then map to_ascii_uppercase token else token
 
--- whether a name stands behind this first token
+-- whether a name follows this first token
 abbrev pub has_name : List ℕ → Bool
 has_name token =
     bytes_eq token (codes "legacy") || (bytes_eq token (codes "main") || (bytes_eq token (codes "attach") || (bytes_eq token (codes "drop")

@@ -77,7 +77,7 @@ fn push_uppercase(token: &[u8], text: &mut Text) -> Result<(), AllocError>
     push_uppercase(rest, text)
 }
 
-/// Whether a name stands behind this first token.
+/// Whether a name follows this first token.
 fn has_name(token: &[u8]) -> bool
     ensures { result ≡ has_name token.now }
 {

@@ -10,7 +10,7 @@ const DECLINE: &[u8] = b"decline";
 /// The last token of a line that shows all of the bus.
 const ALL: &[u8] = b"all";
 
-/// A place of a line behind its command, by what stands there.
+/// A place of a line behind its command, by what is expected there.
 #[derive(Clone, Copy, Debug, PartialEq, Eq)]
 pub enum Field {
     /// The name of a device or a legacy target.

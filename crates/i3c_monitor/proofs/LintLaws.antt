@@ -71,7 +71,7 @@ header_first legacies mode frames before known faults (Symbol.Identity identity)
 header_first legacies mode frames before known faults (Symbol.AddressByte byte ack) rest header is = unheaded header is
 header_first legacies mode frames before known faults (Symbol.LegacyWord byte ack) rest header is = unheaded header is
 
--- what is told at a header that was read: where the frame stands, what it tells, what is known then, and the faults
+-- the result of a header that was read: the frame's mode, what it tells, what is known then, and the faults
 abbrev told_on : ℕ → ℕ → ℕ → Known → List LintFault → Header → List Symbol → Mode → List Symbol → Told → List LintLine
 told_on legacies frames before known faults header rest at front found =
     map Shown (option_to_list found.decoded)

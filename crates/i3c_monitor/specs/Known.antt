@@ -1,4 +1,4 @@
--- What a trace shows of addresses: who has each, and who didn't answer.
+-- What a trace shows of addresses: their owners, and the addresses that didn't answer.
 use Rattle.std.specs.Prelude.{ℕ, ◌/◌, ◌==◌, ◌||◌, Bool, true, false, List, [], ◌∷◌, drop, Option, Some, None, replicate, slice_get, slice_set, if◌then◌else◌}
 use Rattle.i3c_base.specs.declared.requests.Request.{Request}
 use Rattle.i3c_deftgts.specs.declared.entries.Entry.{Entry}
@@ -14,7 +14,7 @@ use Rattle.i3c_monitor.specs.declared.known.Owner.{Owner}
 use Rattle.i3c_monitor.specs.declared.known.Status.{Status}
 use Rattle.i3c_monitor.specs.Due.{words_in}
 
--- an address of which nothing is known
+-- an address without anything known
 abbrev pub nobodys : Status
 nobodys = record { owner = Owner.Nobody; silent = None }
 
@@ -55,7 +55,7 @@ silenced a symbol known = with_status a (record { owner = (status_of a known).ow
 abbrev pub heard : ℕ → Known → Known
 heard a known = with_status a (record { owner = (status_of a known).owner; silent = None }) known
 
--- the owner of an address that is shown to have one: whoever was given it, or somebody
+-- the owner of an address that is shown to have one: the one that was given it, or somebody
 abbrev pub some_owner : Owner → Owner
 some_owner Owner.Nobody = Owner.Somebody
 some_owner Owner.Somebody = Owner.Somebody
@@ -110,7 +110,7 @@ present (Decoded.Request (Request.Interrupt a) accepted byte) = Some a
 present (Decoded.Request (Request.Role a) accepted byte) = Some a
 present _ = None
 
--- the address of a target that had to answer and didn't: whoever declines the role need not
+-- the address of a target that had to answer and didn't: a target may decline the role
 abbrev pub absent : Decoded → Option ℕ
 absent (Decoded.Transfer a read None) = Some a
 absent (Decoded.Get what a None) = Some a

@@ -53,7 +53,7 @@ command_text Direct.Setdasa = codes "SETDASA "
 command_text Direct.Setnewda = codes "SETNEWDA "
 command_text Direct.Getacccr = codes "GETACCCR "
 
--- the byte behind a header of such a command, unless nobody answered
+-- the byte behind a header of a single command, unless nobody answered
 abbrev pub answer_text : Option ℕ → List ℕ
 answer_text None = codes " no answer"
 answer_text (Some byte) = words_text (codes " ") byte

@@ -31,7 +31,7 @@ abbrev pub is_t_word : Symbol → Bool
 is_t_word (Symbol.Word word) = true
 is_t_word _ = false
 
--- the first of some symbols is such a one
+-- the first of some symbols passes the test
 abbrev pub begins_with : (Symbol → Bool) → List Symbol → Bool
 begins_with is [] = false
 begins_with is (symbol ∷ rest) = is symbol
@@ -46,7 +46,7 @@ abbrev pub is_transfer : ℕ → Header → List Symbol → Bool
 is_transfer legacies header symbols =
     not (header.address == 0x7E) && (is_in legacies header.address || (header.ack && carries_more header.read symbols))
 
--- where a frame stands at a header: one that begins with a private transfer is in no command
+-- the mode of a frame at a header: one that begins with a private transfer is in no command
 abbrev pub mode_at : ℕ → Mode → Header → List Symbol → Mode
 mode_at legacies Mode.First header symbols = if is_transfer legacies header symbols then Mode.Plain else Mode.First
 mode_at legacies mode header symbols = mode
@@ -201,7 +201,7 @@ abbrev pub taken_by : Mode → Header → List Symbol → Option ℕ
 taken_by mode header symbols =
     if (header.address == 0x7E) && not header.read then code_takes symbols else mode_takes mode (heads_round header)
 
--- a word follows so many symbols
+-- a word follows the first n symbols
 abbrev pub surplus_after : ℕ → ℕ → List Symbol → Option ℕ → Option LintFault
 surplus_after frame number symbols None = None
 surplus_after frame number symbols (Some n) = fault_if (begins_with is_word (drop n symbols)) frame (number + (n + 1)) Breach.Surplus
@@ -261,8 +261,8 @@ pub data LintLine : Type 0 where
   Shown : Decoded → LintLine
   Faulty : LintFault → LintLine
 
--- what the rest of a trace tells a linter, of which so many symbols stand behind a header that was told. A frame's faults
--- come at its end
+-- what the rest of a trace tells a linter; its first `skip` symbols are behind a header that was told. A frame's faults come
+-- at its end
 abbrev pub linted : ℕ → Mode → ℕ → ℕ → Known → List LintFault → ℕ → List Symbol → List LintLine
 linted legacies mode frames before known faults skip [] = []
 linted legacies mode frames before known faults (suc skip) (symbol ∷ rest) = linted legacies mode frames (before + 1) known faults skip rest

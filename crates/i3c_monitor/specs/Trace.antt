@@ -16,14 +16,14 @@ abbrev pub header_in : Symbol → Option Header
 header_in (Symbol.Header address read ack) = Some (record { address = address; read = read; ack = ack })
 header_in _ = None
 
--- a symbol ends what stands behind a header
+-- a symbol ends the symbols behind a header
 abbrev pub ends : Symbol → Bool
 ends Symbol.Start = true
 ends Symbol.Repeated = true
 ends Symbol.Stop = true
 ends _ = false
 
--- how many symbols stand behind a header: those up to the next START, repeated START or STOP
+-- the number of symbols behind a header: those up to the next START, repeated START or STOP
 abbrev pub count_behind : List Symbol → ℕ
 count_behind symbols = position_or_len ends symbols
 
@@ -36,8 +36,8 @@ abbrev pub and_on : Result Told Fault → (Mode → List Decoded) → List Decod
 and_on (Ok told) rest = option_to_list told.decoded ++ rest told.mode
 and_on (Err fault) rest = Decoded.Refused fault ∷ []
 
--- what the rest of a trace tells, of which so many symbols stand behind a header that was told. So many frames and symbols
--- came before
+-- what the rest of a trace tells; its first `skip` symbols are behind a header that was told. `frames` and `before` count the
+-- frames and symbols before it
 abbrev pub rest_told : Mode → ℕ → ℕ → ℕ → List Symbol → List Decoded
 rest_told mode frames before skip [] = []
 rest_told mode frames before (suc skip) (symbol ∷ rest) = rest_told mode frames (before + 1) skip rest

@@ -95,7 +95,7 @@ pub(crate) fn surplus_fault(
     Some(fault_at(spot.frame, spot.symbol + (taken + 1), Breach::Surplus))
 }
 
-/// Whether a word follows so many symbols.
+/// Whether a word follows the first `count` symbols.
 fn word_follows(count: usize, symbols: &[Symbol]) -> bool
     ensures word { result ≡ begins_with is_word (drop count symbols.now) }
     ensures within { result ≡ true → count < length symbols.now }

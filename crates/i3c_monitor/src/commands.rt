@@ -28,7 +28,7 @@ pub(crate) fn read_code(
     read_command(alloc, code, rest, before + 1)
 }
 
-/// A command, of whose code this is what follows.
+/// A command with this code, by the symbols behind it.
 #[inline(always)]
 fn read_command(
     alloc: Global,

@@ -17,7 +17,7 @@ pub(crate) const BROADCAST: u8 = 0x7E;
 /// The address of a Hot-Join (I3C Basic 5.1.5).
 const HOT_JOIN: u8 = 0x02;
 
-/// Where a frame stands before its next header.
+/// The mode of a frame before its next header.
 #[derive(Clone, Copy)]
 pub(crate) enum Mode {
     /// At its start.
@@ -36,7 +36,7 @@ pub(crate) enum Mode {
     Skipped,
 }
 
-/// What a header and the symbols behind it tell, and where the frame stands then.
+/// What a header and the symbols behind it tell, and the frame's mode then.
 #[derive(Clone, Copy)]
 pub(crate) struct Told {
     pub decoded: Option<Decoded>,
@@ -231,7 +231,7 @@ fn read_single(
     })
 }
 
-/// The byte behind such a header.
+/// The byte behind a header of a direct command.
 #[inline(always)]
 fn single_byte(command: &Direct, symbols: &[Symbol], before: usize) -> Result<u8, Fault>
     requires { before < usize.MAX }
