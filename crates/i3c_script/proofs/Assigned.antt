@@ -52,7 +52,7 @@ stays_open hand session st settings cuts symbols ended text is fits =
     (λ why. (Reply.Refused BusRefusal.SessionOpen ≡ Reply.Refused why) × (st ≡ st))) (sym opened) (refl, refl) in
     ([], sym (append-nil text), (ran_of st settings no_cuts symbols ended, Reply.Refused BusRefusal.SessionOpen, unsent st st settings cuts symbols ended (Event.OpenDaa cuts) (Reply.Refused BusRefusal.SessionOpen) refl refused refl, (refl, refl, refl)))
 
--- so many rounds, each of which goes on, and what they printed
+-- `count` rounds, each of which goes on, and what they printed
 pub record SoFar (old now : Ran) (before after : List ℕ) (count : ℕ) : Type 0 where
   pub answers : List RoundReply
   pub rounds : Rounds old answers now

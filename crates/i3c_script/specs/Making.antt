@@ -31,7 +31,7 @@ abbrev pub replies_of : List Made → List Reply
 replies_of [] = []
 replies_of (made ∷ rest) = made.reply ∷ replies_of rest
 
--- those of rounds, whose answers stand newest first
+-- those of rounds; the newest answer comes first
 abbrev pub rounds_made : (old : Ran) (answers : List RoundReply) (new : Ran) → Rounds old answers new → List Made
 rounds_made old [] new same = []
 rounds_made old (answer ∷ earlier) new (mid, before, moved) = rounds_made old earlier mid before ++ one (Event.Round mid.cuts) (Reply.Round answer)

@@ -133,7 +133,7 @@ fn is_same_policy(policy: &Fixed, other: &Fixed) -> bool
     *policy == *other
 }
 
-/// Whether the same slots stand in the same order.
+/// Whether the slots are the same in the same order.
 fn are_same_slots(slots: &[Slot], others: &[Slot]) -> bool
     ensures { IsTrue result ↔ (slots.now ≡ others.now) }
 {

@@ -133,7 +133,7 @@ fn number_from(forgotten: usize, reply: &mut Reply) -> Result<(), AllocError>
     }
 }
 
-/// The same of what became of a request.
+/// The same of the result of a request.
 fn number_served(forgotten: usize, served: &mut Served) -> Result<(), AllocError>
     ensures { OnOk result (served.new ≡ counted_from forgotten served.old) }
 {
@@ -284,7 +284,7 @@ fn show_attached(names: &Names, subject: Subject, text: &mut Text) -> Result<(),
     }
 }
 
-/// Prints what became of the request in a frame's first header.
+/// Prints the result of the request in a frame's first header.
 fn show_served(served: &Served, text: &mut Text) -> Result<(), AllocError>
     ensures { OnOk result (text.new ≡ text.old ++ served_text served.now) }
 {
@@ -349,7 +349,7 @@ fn show_opened(served: &Served, text: &mut Text) -> Result<(), AllocError>
     text.push(b"open\n")
 }
 
-/// Prints what was served while the role was handed over, and the address of who has it.
+/// Prints what was served while the role was handed over, and the address of the device that has it.
 fn show_handed(subject: Subject, served: &Served, text: &mut Text) -> Result<(), AllocError>
     ensures { OnOk result (text.new ≡ text.old ++ handed_text subject served.now) }
 {

@@ -62,7 +62,7 @@ fault_read None b legacies scl sda items fault one is = tt
 fault_read (Some xs) None legacies scl sda items fault one is = absurd one
 fault_read (Some xs) (Some ys) legacies scl sda items fault one is = subst (λ text. text_read legacies scl sda text ≡ Err fault) (sym one) (fault_on legacies scl sda items ys fault is)
 
--- the symbols of a text of which all bytes were read
+-- the symbols of a text, all of whose bytes were read
 pub ended_with : (legacies : Addresses) (scl sda text : List ℕ) (input : Input) (symbols : List Stamped) → bytes_read scl sda (new_input legacies) text ≡ Ok input → Ended scl sda input symbols
     → HasSymbols legacies scl sda text symbols
 ended_with legacies scl sda text input symbols is (last, end, same) = (last, ap (λ step. goes_on step (text_ended scl sda)) is ∙ end, same)

@@ -8,7 +8,7 @@ use Rattle.i3c_wave.specs.declared.capture_fault.CaptureFault.{CaptureFault}
 use Rattle.i3c_wave.specs.CaptureTexts.{Input, byte_read, bytes_read, goes_on, is_space, letters_in, letters_kept, part_read, parted, word_ended}
 use Rattle.i3c_wave.proofs.CaptureLaws.{bytes_both}
 
--- no space stands among them
+-- none of the bytes is a space
 abbrev pub AreLetters : List ℕ → Type 0
 AreLetters [] = ⊤
 AreLetters (byte ∷ rest) = (is_space byte ≡ false) × AreLetters rest
@@ -77,7 +77,7 @@ letter_first x text false is more =
     let next : 1 + position_or_len is_space text ≡ suc (position_or_len is_space text) = omega arith in
     rw is (subst (λ n. AreLetters (take n (x ∷ text))) (sym next) (is, more))
 
--- what stands before the first space are letters
+-- the bytes before the first space are letters
 letters_first : (text : List ℕ) → AreLetters (take (position_or_len is_space text) text)
 letters_first [] = tt
 letters_first (x ∷ text) = letter_first x text (is_space x) refl (letters_first text)

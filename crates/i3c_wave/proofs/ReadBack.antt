@@ -23,7 +23,7 @@ within legacies place number left = record { legacies = legacies; place = place;
 abbrev behind : List Mark → Turn → List Reading
 behind rest t = told t.reading ++ read_from t.reader rest
 
--- a whole symbol that may stand there is told
+-- a whole symbol that is allowed there is told
 entered_is : (reader : Reader) (symbol : Symbol) (next : Option Awaited) (rest : List Mark) → next_place reader.legacies.0 reader.place symbol ≡ Some next
     → behind rest (entered reader symbol) ≡ Reading.Symbol symbol ∷ read_from (awaiting reader.legacies next) rest
 entered_is reader symbol next rest e = ap (λ place. behind rest (entered_at reader symbol place)) e

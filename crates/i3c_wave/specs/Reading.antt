@@ -13,15 +13,15 @@ pub record Turn : Type 0 where
   pub reading : Reading
   pub reader : Reader
 
--- a reader of which nothing is read of what comes next
+-- a reader that has read nothing of the awaited symbol
 abbrev pub awaiting : Addresses → Option Awaited → Reader
 awaiting legacies place = record { legacies = legacies; place = place; number = 0; left = bits_in place }
 
--- no symbol that may stand there: the reader waits for the next frame
+-- a symbol that isn't allowed there: the reader waits for the next frame
 abbrev pub misread : Reader → Turn
 misread reader = record { reading = Reading.Misread; reader = awaiting reader.legacies None }
 
--- a whole symbol that leads to a place, if it may stand there
+-- a whole symbol that leads to a place, if it is allowed there
 abbrev pub entered_at : Reader → Symbol → Option (Option Awaited) → Turn
 entered_at reader symbol None = misread reader
 entered_at reader symbol (Some place) = record { reading = Reading.Symbol symbol; reader = awaiting reader.legacies place }
@@ -30,7 +30,7 @@ entered_at reader symbol (Some place) = record { reading = Reading.Symbol symbol
 abbrev pub entered : Reader → Symbol → Turn
 entered reader symbol = entered_at reader symbol (next_place reader.legacies.0 reader.place symbol)
 
--- a START or a STOP, which stands between symbols
+-- a START or a STOP, which comes between symbols
 abbrev pub framed : Reader → Symbol → Turn
 framed reader symbol = if reader.left == bits_in reader.place then entered reader symbol else misread reader
 
@@ -38,7 +38,7 @@ framed reader symbol = if reader.left == bits_in reader.place then entered reade
 abbrev pub shifted : ℕ → Bool → ℕ
 shifted number bit = if bit then number % 9223372036854775808 * 2 + 1 else number % 9223372036854775808 * 2
 
--- the number of the bits so far, where so many were still to come: the last makes the symbol whole
+-- the number of the bits so far, and the number of those still to come: the last makes the symbol whole
 abbrev pub bit_turn : Reader → ℕ → ℕ → Turn
 bit_turn reader number zero = misread reader
 bit_turn reader number (suc zero) = entered reader (symbol_in reader.place number)

@@ -25,7 +25,7 @@ pub(crate) struct Capture {
     time: u64,
     since: u64,
     level: Level,
-    /// Who watches the lines, from the first level on that lasts.
+    /// The watcher of the lines, from the first level on that lasts.
     edges: Option<Edges>,
     reader: Reader,
     /// Whether a START was read.

@@ -11,7 +11,7 @@ use crate::dump_word::{
 /// The setup time without a timescale, whose unit is then 1 ns.
 const UNSCALED: u64 = 3;
 
-/// Where a dump stands between two words.
+/// The place of a dump between two words.
 #[derive(Clone, Copy, Debug, PartialEq, Eq)]
 pub(crate) enum Place {
     /// Between commands.
@@ -32,7 +32,7 @@ pub(crate) enum Place {
     Vector,
 }
 
-/// What a dump has said so far: where it stands, the codes of the two lines, and the setup time in its units.
+/// What a dump has said so far: its place, the codes of the two lines, and the setup time in its units.
 #[derive(Clone, Copy, Debug, Drop)]
 pub(crate) struct Dump {
     place: Place,
@@ -85,8 +85,7 @@ impl Dump {
         self.setup
     }
 
-    /// Takes the next word, which stands at this line of the text, and gives what it says. The signals of these names are SCL and
-    /// SDA.
+    /// Takes the next word, at this line of the text, and gives what it says. The signals of these names are SCL and SDA.
     pub fn take(
         &mut self,
         scl: &[u8],
@@ -288,7 +287,7 @@ impl Dump {
         }
     }
 
-    /// Takes the unit of a timescale that stands behind its number, if one does.
+    /// Takes the unit of a timescale behind its number, if it is there.
     fn scale_by(
         self,
         magnitude: Option<Magnitude>,
