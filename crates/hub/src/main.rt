@@ -27,7 +27,7 @@ fn main(rt: HostRuntime) -> ExitCode {
     }
 }
 
-/// Prints each record of the alarms, of which one is accepted, and how many symbols their wire had.
+/// Prints each record of the alarms, one of which is accepted, and the number of their wire's symbols.
 fn tell<R: Print + AllocGlobal>(rt: &R) -> Result<(), HubFault> {
     let (mut quota, mut wire) = (Quota::new(1), Count::default());
     let records = alarm(rt.alloc(), &mut quota, &mut wire)?;

@@ -78,7 +78,7 @@ length_more : (lines : List LineRun) (run : LineRun) → length (lines ++ run �
 length_more [] run = omega arith
 length_more (one ∷ lines) run = omega (arith, length_more lines run)
 
--- the lines that were run so far, of which the next has this number, and what was read beside them
+-- the lines that were run so far, the number of the next one, and the bytes that were read beside them
 pub record DrivenSoFar (form : Form) (known now before after : Option (List ℕ)) (input : Input) (old new : Driver) (at : ℕ) : Type 0 where
   pub lines : List LineRun
   pub answers : List ℕ

@@ -64,13 +64,14 @@ abbrev pub news_text : Option (List ℕ) → List ℕ
 news_text None = []
 news_text (Some names) = codes "asking" ++ (names ++ 10 ∷ [])
 
--- the first of the records that a line added behind so many, with its number
+-- the first of the records that a line added behind the first `count`, with its number
 abbrev pub first_added : ℕ → List Record → Option (ℕ × Record)
 first_added count [] = None
 first_added count (added ∷ more) = Some (suc count, added)
 
--- an answer in its form: what the line prints, the records that it added behind so many, who asks, where that has changed, and
--- what it came to. As lines these follow one another, and the last line has the line's number. As an object they are its fields
+-- an answer in its form: what the line prints, the records that it added behind the first `count`, the devices that ask, if
+-- they have changed, and its result. As lines these follow one another, and the last line has the line's number. As an object
+-- they are its fields
 abbrev pub IsWritten : Form → ℕ → List ℕ → ℕ → List Record → Option (List ℕ) → Option Refusal → List ℕ → Type 0
 IsWritten Form.Lines number said count added news refused answer = answer ≡ said ++ (numbered_text (suc count) added ++ (news_text news ++ last_line number refused))
 IsWritten Form.Json number said count added news refused answer = IsLineOf (answer_data number refused said (first_added count added) news) answer

@@ -41,7 +41,7 @@ news_of false names = None
 abbrev pub Asked : Driver → Driver → Bool → Type 0
 Asked old new changed = Asks (state old) new.asked × IsNews old.asked new.asked (news_of changed new.asked)
 
--- the answer is whole, of which there was what the line printed
+-- the answer is whole, which had the line's output so far
 pub record Closes (form : Form) (number count : ℕ) (refused : Option Refusal) (old new : Driver) : Type 0 where
   pub news : Option (List ℕ)
   pub told : IsWritten form number old.answer (forgotten_of (state old) + count) (drop count (log_of (state old))) news refused new.answer

@@ -8,7 +8,7 @@ use std::io::Read;
 /// How many bytes are read at once.
 const PIECE: usize = 8192;
 
-/// What came of the next line.
+/// The result of reading the next line.
 #[derive(Clone, Copy, Debug, PartialEq, Eq)]
 pub(crate) enum Next {
     /// It came with its line feed.
@@ -39,7 +39,7 @@ impl Input {
     ghost use Rattle.i3c_lines.specs.Gathering.{gathered};
     ghost use Rattle.i3c_drive.specs.Inputs.{EndsFront, Gives, HasFront, pending};
 
-    /// An input of which nothing was read.
+    /// An input before its first byte.
     pub(crate) fn new(alloc: Global) -> Result<Input, AllocError>
         ensures { IfOk result (λ input. pending input ≡ []) }
     {

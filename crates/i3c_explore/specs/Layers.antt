@@ -106,7 +106,7 @@ abbrev pub Holds : {S L : Type 0} → (S → L → ℕ → S → Type 0) → Lis
 Holds {S} steps tracks start layer order =
     (n : Node S) × Contains layer n × ((t : ℕ) → turns_of t order ≡ slice_index n.places.items t) × Leads steps tracks start order n.state
 
--- a layer begins a block: the same states, none of whose lines has run
+-- a layer begins a block: the same states, with no line of it run
 abbrev pub IsRestarted : {S : Type 0} → ℕ → Node S → Node S → Type 0
 IsRestarted count old new = (new.state ≡ old.state) × (new.order.items ≡ old.order.items) × (new.orders ≡ old.orders) × ((t : ℕ) → slice_index new.places.items t ≡ 0) × (length new.places.items ≡ count)
 

@@ -43,6 +43,6 @@ ArePlaced {S} layer tracks = (n : Node S) → Contains layer n → length n.plac
 abbrev pub FollowsAll : {S L : Type 0} → (S → L → ℕ → S → Type 0) → List (Vec L) → Part → List (Node S) → List (Node S) → Type 0
 FollowsAll steps tracks part layer next = IsNextOf steps tracks (opening part tracks) (λ _. opening part tracks) layer 0 (length layer) next
 
--- one more line of such a track breaks an expectation behind a node of a layer, in this order
+-- one more line of this track breaks an expectation behind a node of a layer, in this order
 abbrev pub BreaksNext : {S L : Type 0} → (S → L → ℕ → Type 0) → List (Vec L) → Part → List (Node S) → List Turn → Type 0
 BreaksNext {S} breaks tracks part layer order = (old : Node S) × Contains layer old × IsBreak breaks (opening part tracks) old order

@@ -4,7 +4,7 @@ use Rattle.std.proofs.Math.ListN.{set}
 use Rattle.std.proofs.lemmas.List.{take-append-le, take_all}
 use Rattle.i3c_scenario.specs.Traces.{ascii}
 
--- so many bytes are done
+-- the first bytes are done, up to an index
 pub marked : ℕ → List ℕ → List ℕ
 marked zero xs = xs
 marked (suc i) [] = []

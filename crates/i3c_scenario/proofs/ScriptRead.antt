@@ -98,7 +98,7 @@ pub leaves_all : (known : Option (List ℕ)) (most : ℕ) → Leaves most known 
 leaves_all None most = tt
 leaves_all (Some xs) most = omega arith
 
--- so many bytes are left of the most
+-- as many bytes are left as before, without those that were read
 pub leaves_more : (known now next : Option (List ℕ)) (chunk : List ℕ) (most left count : ℕ) → Leaves most known now left → Consumes now next (take count chunk) → count ≤ left → count ≤ length chunk
     → Leaves most known next (left - count)
 leaves_more None now next chunk most left count leaves consumed within room = tt
@@ -112,7 +112,7 @@ leaves_more (Some xs) (Some ys) (Some zs) chunk most left count leaves consumed 
 pub none_run : (known old : Option (List ℕ)) (start : Standing) → HasBegun start → LinesGoOut known known old old (Err ScriptFault.Memory)
 none_run known old start begun = no_part known old start begun
 
--- a script of which a part was run, from its start
+-- a script that was run in part, from its start
 pub part_run : (known left old new : Option (List ℕ)) (from : Progress) (fault : ScriptFault) → HasBegun from.state → ReadPart known left old new from fault → LinesGoOut known left old new (Err fault)
 part_run known left old new from fault begun part = record {
   lines = part.lines;
@@ -135,7 +135,7 @@ more_so_far known now next old mid new held held2 chunk from c1 c2 left count so
   begun = begun;
 }
 
--- a piece at one of whose lines the run stops
+-- a piece with a line at which the run stops
 pub stopped_in : (known now next old mid new : Option (List ℕ)) (held chunk : List ℕ) (from c1 : Progress) (left count n : ℕ) (fault : ScriptFault)
     → (so_far : ReadSoFar known now old mid held from c1 left) → count ≤ n → Consumes now next (take n chunk) → RunStops (so_far.rest ++ take count chunk) (written mid) (written new) c1 fault → ReadPart known next old new from fault
 stopped_in known now next old mid new held chunk from c1 left count n fault so_far within consumed stops =

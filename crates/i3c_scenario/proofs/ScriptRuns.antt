@@ -36,7 +36,7 @@ its_refusals (Ok done) = refl
 its_refusals (Err Stop.Memory) = refl
 its_refusals (Err (Stop.Refused why)) = refl
 
--- whoever passes isn't short of memory
+-- a result that passes isn't short of memory
 pub passes : (result : Result (Unit {0}) ScriptFault) (done : Unit {0}) → result ≡ Ok done → result ≡ Err ScriptFault.Memory → ⊥
 passes result done one two = subst (λ r. MatchResult r (λ _. ⊥) (λ _. Unit {0})) (sym two ∙ one) tt
 
@@ -73,7 +73,7 @@ no_form_whole line none = if_short (cases_lt 256 (length (take 257 line))) where
 mark_short : (n : ℕ) (line : List ℕ) → length line ≤ n → take (suc n) line ≡ line
 mark_short n line short = take_all (suc n) line (omega (arith, short))
 
--- whatever may not stand by its first bytes may not
+-- a line is bad if its first bytes are
 bad_whole : (line : List ℕ) → IsBad (take 257 line) → IsBad line
 bad_whole line (form, none) = (no_form_whole line form, λ marked. none (subst IsMarked (sym (mark_short 256 line marked.1.0)) marked))
 

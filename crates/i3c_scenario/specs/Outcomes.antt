@@ -1,4 +1,4 @@
--- What comes of a script's lines: what they printed, and how the run ended.
+-- The results of a script's lines: their output, and the run's end.
 use Rattle.std.specs.Prelude.{◌≡◌, ◌≢◌, ◌⊎◌, ℕ, ◌≤◌, List, [], ◌++◌, length, take, All, Option, Result, Ok, Err}
 use Rattle.std.specs.Io.KnownBytes.{Appends}
 use Rattle.i3c_scenario.specs.declared.faults.ScriptFault.{ScriptFault}
@@ -11,7 +11,7 @@ HasNoFeed bytes = All (λ byte. byte ≢ 10) bytes
 abbrev pub AppendsSome : Option (List ℕ) → Option (List ℕ) → List ℕ → Type 0
 AppendsSome old new text = (count : ℕ) × (count ≤ length text) × Appends old new (take count text)
 
--- known bytes grow by the front of a text, of which this is left
+-- known bytes grow by the front of a text, and `left` is the rest of it
 abbrev pub WritesFront : Option (List ℕ) → Option (List ℕ) → List ℕ → List ℕ → Type 0
 WritesFront old new text left = (front : List ℕ) × Appends old new front × (text ≡ front ++ left)
 
@@ -35,7 +35,8 @@ Puts old new text = WritesFront old.out new.out (old.gathered ++ text) new.gathe
 abbrev pub PutsSome : Output → Output → List ℕ → Type 0
 PutsSome old new text = AppendsSome old.out new.out (old.gathered ++ text)
 
--- what comes of a text that is to be put behind: for want of memory nothing of it is, and a writer that fails took a beginning
+-- the result of putting a text behind an output: for want of memory nothing of it is put, and a writer that fails took a
+-- prefix
 abbrev pub PutsOrFails : Output → Output → List ℕ → Result (Unit {0}) ScriptFault → Type 0
 PutsOrFails old new text (Ok done) = Puts old new text
 PutsOrFails old new text (Err ScriptFault.Memory) = Puts old new []

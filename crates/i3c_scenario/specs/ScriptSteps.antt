@@ -128,7 +128,7 @@ pub record ReadWhole (known left old new : Option (List ℕ)) (from to : Progres
   pub consumed : Consumes known left read
   pub runs : RunsTo (read ++ 10 ∷ []) [] (written old) (written new) from to
 
--- a fault ended the reading of a script, some of whose lines were run
+-- a fault ended the reading of a script, part of whose lines were run
 pub record ReadPart (known left old new : Option (List ℕ)) (from : Progress) (fault : ScriptFault) : Type 0 where
   pub lines : List LineRun
   pub rest : List ℕ

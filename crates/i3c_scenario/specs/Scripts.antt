@@ -45,9 +45,9 @@ abbrev pub Lead : ScriptState → List LineRun → ScriptState → Type 0
 Lead old [] new = new ≡ old
 Lead old (run ∷ rest) new = (mid : ScriptState) × IsRun old run mid × Lead mid rest new
 
--- of a script: what a line that was counted prints, why it is refused, if it is, and where the script is after it. A mark that
--- isn't refused is none of the lines before that a later fact speaks of. Behind what a command prints stands which
--- expectations that last no longer hold
+-- of a script: what a line that was counted prints, why it is refused, if it is, and where the script is after it. A mark
+-- that isn't refused isn't the previous line of a later fact. The lasting expectations that no longer hold follow the
+-- command's output
 abbrev pub CountedRuns : Standing → List ℕ → List ℕ → Option Refusal → Standing → Type 0
 CountedRuns now line said refused new = (IsBad line × (said ≡ []) × (refused ≡ Some Refusal.BadLine) × (new ≡ went now now.script (Some Refusal.BadLine)))
     ⊎ (IsSkipped line × (said ≡ []) × (refused ≡ None) × (new ≡ now))
@@ -120,6 +120,6 @@ pub record IsPart (known left old new : Option (List ℕ)) (fault : ScriptFault)
   pub first : IfSome known (λ script. lines_bytes lines ++ rest ≡ script ++ 10 ∷ [])
   pub out : OutBefore fault known left old new lines
 
--- what goes out of a script of known bytes, of which some are left in the end
+-- the output of a script of known bytes, of which some are left at the end
 abbrev pub LinesGoOut : Option (List ℕ) → Option (List ℕ) → Option (List ℕ) → Option (List ℕ) → Result Tally ScriptFault → Type 0
 LinesGoOut known left old new result = MatchResult result (IsWhole known old new) (IsPart known left old new)

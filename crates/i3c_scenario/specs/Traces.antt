@@ -42,7 +42,7 @@ fault_line TraceFault.NoStart = codes "refused NoStart" ++ 10 ∷ []
 fault_line TraceFault.NoStop = codes "refused NoStop" ++ 10 ∷ []
 fault_line TraceFault.OutOfMemory = []
 
--- the text is a trace, with these lines and so many refusals
+-- the text is a trace, with these lines and this number of refusals
 pub record IsTraceTold (text lines : List ℕ) (refused : ℕ) : Type 0 where
   pub trace : List Symbol
   pub is_trace : IsTrace trace
@@ -58,7 +58,7 @@ pub record IsFaultTold (text lines : List ℕ) (refused : ℕ) : Type 0 where
   pub told : lines ≡ fault_line fault
   pub counted : refused ≡ 1
 
--- the known bytes come to these lines, and to so many refusals
+-- the known bytes give these lines, and this number of refusals
 pub record CameTo (known : Option (List ℕ)) (lines : List ℕ) (refused : ℕ) : Type 0 where
   pub text : List ℕ
   pub read : IfSome known (λ bytes. text ≡ map ascii bytes)

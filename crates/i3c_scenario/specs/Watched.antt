@@ -30,7 +30,7 @@ echo_text (byte ∷ line) = codes "> " ++ ((byte ∷ line) ++ 10 ∷ [])
 abbrev pub echoed : Watching → List ℕ → List ℕ
 echoed watching line = if watching.echo then echo_text line else []
 
--- a text, each of whose lines begins with this number, if lines are numbered
+-- a text whose lines each begin with this number, if lines are numbered
 abbrev pub numbered_by : Watching → ℕ → List ℕ → List ℕ
 numbered_by watching number text = if watching.numbers then numbered (decimal number ++ codes ": ") true text else text
 

@@ -6,8 +6,8 @@ use i3c_shared::{Closed, Entry};
 use i3c_step::{Event, Reply};
 use thiserror::Error;
 
-/// What became of the raises that were tried: over the slots of the devices, how many were posted, turned away by the
-/// bus, recorded, and waited at the end.
+/// The raises that were tried: over the slots of the devices, how many were posted, turned away by the bus, recorded, and
+/// waited at the end.
 #[derive(Clone, Copy, Debug, PartialEq, Eq, Drop)]
 pub struct StressReport {
     /// The tries: as many as devices times posts.

@@ -35,11 +35,10 @@ pub struct Tally {
     pub unmet: u64,
 }
 
-/// Runs a script: its lines in order, as they are read, each of which prints its own. After a refused line the next
-/// is run.
+/// Runs a script: its lines in order, as they are read; each prints its output. After a refused line the next is run.
 ///
-/// A script has at most 1,048,576 bytes. Where more come, or where the reader fails, each line whose line feed came
-/// before that is run. At the end an open session is ended, and the bus retired.
+/// A script has at most 1,048,576 bytes. Where more come, or where the reader fails, each line whose line feed came before
+/// that is run. At the end an open session is ended, and the bus retired.
 pub fn run_script<R: Read, W: Write>(
     alloc: Global,
     reader: &mut R,
@@ -90,7 +89,7 @@ pub(crate) struct Script {
 }
 
 impl Script {
-    /// A script of which nothing was read.
+    /// A script before its first line.
     pub(crate) fn new(alloc: Global) -> Script
         ensures held { gathered result.line ≡ [] }
         ensures refused { result.refused ≡ 0 }
@@ -234,8 +233,8 @@ impl Script {
         gather(self.text.as_bytes(), &mut self.gathered, out)
     }
 
-    /// Obeys a line, if it has a command or is a mark. `settle` notes a refusal. Whoever calls it is named by `K`, so that each
-    /// caller has it in line.
+    /// Obeys a line, if it has a command or is a mark. `settle` notes a refusal. `K` names the caller, so that each caller
+    /// has it in line.
     pub(crate) fn obey<K>(&mut self, line: &[u8]) -> Result<(), Stop<Refusal>>
         ensures held { self.new.line ≡ self.old.line }
         ensures gathered { self.new.gathered ≡ self.old.gathered }

@@ -235,7 +235,7 @@ struct Server<'a, L: Ledger, M: Ledger, N: Ledger, P> {
 }
 
 impl<'a, L: Ledger, M: Ledger, N: Ledger, P: Policy> Server<'a, L, M, N, P> {
-    /// Serves so many times.
+    /// Serves `times` times.
     fn serve_all<R: Threads + Wait + Sync, W: Watch>(
         &mut self,
         rt: &R,

@@ -15,7 +15,7 @@ use std::io::Read;
 /// How many symbols of a wire are kept.
 const KEPT: usize = 256;
 
-/// Who is shown each line of a script that runs.
+/// A viewer is shown each line of a script that runs.
 pub trait Viewer {
     /// What a viewer may be after it was shown a line, what the line printed, and the symbols that it sent.
     ghost view_gives: { Self → List ℕ → List ℕ → List SymbolValue → Self → Type 0 };
@@ -72,7 +72,7 @@ impl ViewedRun {
     ghost use Rattle.i3c_scenario.specs.Expecting.{HasBegun};
     ghost use Rattle.i3c_script.specs.Obeying.{wire_on};
 
-    /// A run of which nothing was read.
+    /// A run before its first line.
     fn new(alloc: Global) -> ViewedRun
         ensures begun { HasBegun (state result.script) }
         ensures refused { result.script.refused ≡ 0 }

@@ -43,7 +43,7 @@ impl Watching {
     }
 }
 
-/// Who is told why lines are refused.
+/// A witness is told why lines are refused.
 pub trait Witness {
     /// Is told this line, with its line feed.
     fn tell(&mut self, line: &[u8]);
@@ -104,7 +104,7 @@ impl WatchedRun {
     ghost use Rattle.i3c_scenario.specs.Watched.{EndsAt, IsFormed, LineEndsWatched, LineRan, RunsWatched, echoed, numbered_by};
     ghost use Rattle.i3c_scenario.specs.Expecting.{HasBegun};
 
-    /// A run of which nothing was read.
+    /// A run before its first line.
     fn new(alloc: Global, watching: Watching) -> WatchedRun
         ensures begun { HasBegun (state result.script) }
         ensures refused { result.script.refused ≡ 0 }

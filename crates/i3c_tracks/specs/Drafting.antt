@@ -25,7 +25,7 @@ pub record Open : Type 0 where
 abbrev pub open_of : OpenBlock → Open
 open_of block = record { risk = block.risk; always = block.always.items; tracks = tracks_of block.tracks.items; last = option_map steps_of block.last }
 
--- a line of which more is expected
+-- a line of which one thing more is expected
 abbrev pub awaited : Step → List Expectation → Step
 awaited step more = record step { expected = step.expected ++ more }
 
@@ -49,7 +49,7 @@ abbrev pub tracks_left : Open → Option (List Step) → Option Step → List (�
 tracks_left block None held rest = block.tracks ++ tracks_in (either block.risk (risk_in rest)) (block.always ++ always_in rest) rest
 tracks_left block (Some last) held rest = block.tracks ++ (last ++ (held_in held block.always rest ++ steps_in block.risk block.always rest)) ∷ tracks_in block.risk block.always rest
 
--- the line that is held stands before the open block, until a track has begun
+-- the line that is held comes before the open block, until a track has begun
 abbrev pub held_before : Option (List Step) → Option Step → List (ℕ × Said) → List (List (List Step))
 held_before None held rest = held_alone held rest
 held_before (Some last) held rest = []
@@ -63,7 +63,7 @@ left (Some block) held rest = held_before block.last held rest ++ tracks_left bl
 abbrev pub comes_to : Body → List (ℕ × Said) → List (List (List Step))
 comes_to body rest = blocks_of body.blocks.items ++ left (option_map open_of body.block) (option_map step_of body.held) rest
 
--- where the next line stands: by the open block, whether a track has begun in it, and whether a line is held
+-- the spot of the next line: by the open block, by whether a track has begun in it, and by whether a line is held
 abbrev pub spot_in : Option (List Step) → Option Step → Spot
 spot_in None held = Spot.Head
 spot_in (Some track) None = Spot.Beginning
@@ -121,7 +121,8 @@ pub record ReadsOn (old : Body) (line : ℕ × Said) (new : Body) : Type 0 where
 abbrev pub begun_in : Option OpenBlock → Option Bool
 begun_in block = option_map (λ (b : OpenBlock). is_some b.last) block
 
--- the line that was held has its place, before lines that expect nothing of it: a command, a `track` or a `close` may stand there as before
+-- the line that was held has its place, before lines that expect nothing of it: a command, a `track` or a `close` is allowed
+-- there as before
 pub record Settles (old new : Body) : Type 0 where
   pub start : new.start ≡ old.start
   pub none : new.held ≡ None
@@ -136,7 +137,7 @@ abbrev pub all_tracks : List (List Step) → Option (List Step) → List (List S
 all_tracks tracks None = tracks
 all_tracks tracks (Some last) = tracks ++ last ∷ []
 
--- a line of which one thing more is expected; where none is held, a place
+-- a line of which one thing more is expected; without a held line, a place
 abbrev pub with_expected : Expectation → Option Step → Step
 with_expected expectation None = record { number = expectation.number; command = None; risk = None; expected = expectation ∷ [] }
 with_expected expectation (Some step) = awaited step (expectation ∷ [])

@@ -80,7 +80,7 @@ steps_in risk always ((number, Said.Marks Mark.Track) ∷ rest) = []
 steps_in risk always ((number, Said.Marks Mark.Close) ∷ rest) = []
 steps_in risk always (line ∷ rest) = steps_in risk always rest
 
--- the tracks of a block: what stands behind each `track`, up to `close`
+-- the tracks of a block: the lines behind each `track`, up to `close`
 abbrev pub tracks_in : Option Name → List Expectation → List (ℕ × Said) → List (List Step)
 tracks_in risk always [] = []
 tracks_in risk always ((number, Said.Marks Mark.Track) ∷ rest) = steps_in risk always rest ∷ tracks_in risk always rest
@@ -104,14 +104,14 @@ blocks_in false ((number, Said.Marks Mark.Any) ∷ rest) = tracks_in (risk_in re
 blocks_in true ((number, Said.Marks Mark.Close) ∷ rest) = place (expected rest) ++ blocks_in false rest
 blocks_in inside (line ∷ rest) = blocks_in inside rest
 
--- where a line stands: outside of blocks, at the head of one, where a track begins, or behind a line of a track
+-- the spot of a line: outside of blocks, at the head of one, where a track begins, or behind a line of a track
 pub data Spot : Type 0 where
   Outside : Spot
   Head : Spot
   Beginning : Spot
   Within : Spot
 
--- whether each of these lines stands where it may, from a spot on, and each block is closed
+-- whether each of these lines is allowed at its spot, from a spot on, and each block is closed
 abbrev pub stand : Spot → List (ℕ × Said) → Bool
 stand Spot.Outside [] = true
 stand Spot.Outside ((number, Said.Marks Mark.Any) ∷ rest) = stand Spot.Head rest
@@ -140,7 +140,8 @@ pub record Outline : Type 0 where
 abbrev pub named : Name → Place → Named
 named name place = record { name = name; place = place }
 
--- a line before the bus that isn't refused declares something, or makes the bus, and then the blocks follow. Where a line stands where it may not, nothing is asked for
+-- a line before the bus that isn't refused declares something, or makes the bus, and then the blocks follow. If a line isn't
+-- allowed at its spot, nothing is required
 abbrev pub outline : Board → List Named → List (ℕ × Said) → Option Outline
 outline board names [] = None
 outline board names ((number, Said.Does (Command.Legacy name address lvr)) ∷ rest) =

@@ -37,11 +37,12 @@ is_outer _ = false
 abbrev pub risk_of : Option Name → Command → Option Name
 risk_of risk command = if sends_frame command then risk else None
 
--- why an open block refuses a command, where a track has begun or not, and its tracks may still get so many lines
+-- why an open block refuses a command: by whether a track has begun, and by the number of lines that its tracks may still get
 abbrev pub refuses_command : Bool → ℕ → Command → Option Reason
 refuses_command begun left command = if is_outer command then Some Reason.BlockOpen else if not begun then Some Reason.NoTrack else if left == 0 then Some Reason.Most else None
 
--- why an open block refuses a mark, where a track has begun or not, a device may lose power or not, and so many tracks may begin
+-- why an open block refuses a mark: by whether a track has begun, whether a device may lose power, and the number of tracks
+-- that may still begin
 abbrev pub refuses_mark : Bool → Bool → ℕ → Mark → Option Reason
 refuses_mark begun risked left Mark.Any = Some Reason.BlockOpen
 refuses_mark begun risked left (Mark.Anywhere name) = if begun then Some Reason.BlockOpen else if risked then Some Reason.Most else None

@@ -1,4 +1,4 @@
--- What comes of a line of a file, as the plan is read.
+-- The result of a line of a file, as the plan is read.
 use Rattle.std.specs.Prelude.{◌≡◌, ℕ, List, Some, None, Result, MatchResult}
 use Rattle.i3c_tracks.specs.declared.draft.Draft.{Draft}
 use Rattle.i3c_tracks.specs.declared.plan.PlanFault.{PlanFault}
@@ -16,6 +16,6 @@ abbrev pub IsTakenNot : Draft → ℕ → List ℕ → PlanFault → Type 0
 IsTakenNot draft number line PlanFault.Memory = Unit {0}
 IsTakenNot draft number line (PlanFault.Refused refusal) = (said : Said) × IsSaid line said × (refuses draft said ≡ Some refusal.reason) × (refusal.line ≡ Some number)
 
--- what comes of a line
+-- the result of a line
 abbrev pub Takes : Draft → ℕ → List ℕ → Draft → Result (Unit {0}) PlanFault → Type 0
 Takes draft number line new result = MatchResult result (λ _. IsTaken draft number line new) (IsTakenNot draft number line)

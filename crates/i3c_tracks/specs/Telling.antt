@@ -27,7 +27,7 @@ number_text (Some number) = codes " " ++ decimal number
 abbrev pub refusal_line : Refusal → List ℕ
 refusal_line refusal = codes "refused " ++ (reason_token refusal.reason ++ (number_text refusal.line ++ 10 ∷ []))
 
--- the line of a number, from 1 on, as it stands in the file
+-- the line of a number, counted from 1, as the file has it
 abbrev pub bytes_of : Option (Vec ℕ) → List ℕ
 bytes_of None = []
 bytes_of (Some line) = line.items
@@ -49,7 +49,7 @@ cut_in _ _ = None
 abbrev pub cut_text : Name → ℕ → List ℕ
 cut_text name bit = codes "cut " ++ (letters name ++ (codes " " ++ decimal bit))
 
--- the cut before a line, with what stands between them
+-- the cut before a line, and the text between them
 abbrev pub cut_before : Option (Name × ℕ) → List ℕ → List ℕ
 cut_before None between = []
 cut_before (Some (name, bit)) between = cut_text name bit ++ between
@@ -105,7 +105,7 @@ head_text number orders counted = codes "end " ++ (decimal number ++ (of_orders 
 abbrev pub short_run_text : List (Vec ℕ) → Run → List ℕ
 short_run_text lines run = cut_before (cut_in run.line.now.risk run.way) (codes " / ") ++ line_at lines run.line.now.number
 
--- what stands before a line: it is the first one, or not
+-- the text before a line, which may be the first one
 abbrev pub parting : Bool → List ℕ
 parting true = codes " "
 parting false = codes " / "

@@ -24,7 +24,7 @@ pub(crate) struct Blocks {
     pub risky: bool,
 }
 
-/// What lines behind the bus come to, of which some were read.
+/// The lines behind the bus, as far as they were read.
 #[derive(Drop)]
 pub(crate) struct Body {
     alloc: Global,
@@ -52,7 +52,7 @@ fn block_of(alloc: Global, line: Line) -> Result<Vec<Vec<Line>>, AllocError>
     Ok(tracks)
 }
 
-/// A line of which one thing more is expected; where none is held, a place.
+/// A line of which one thing more is expected; without a held line, a place.
 fn expecting(
     alloc: Global,
     held: Option<Line>,

@@ -139,7 +139,7 @@ fn push_short(line: &[u8], text: &mut Text) -> Result<(), AllocError>
     text.end()
 }
 
-/// Appends the line of this number, as it stands in the file.
+/// Appends the line of this number, as the file has it.
 fn push_line(lines: &[Vec<u8>], number: u64, text: &mut Text) -> Result<(), AllocError>
     ensures { OnOk result (text.new ≡ text.old ++ (line_at lines.now number ++ 10 ∷ [])) }
 {
@@ -147,7 +147,7 @@ fn push_line(lines: &[Vec<u8>], number: u64, text: &mut Text) -> Result<(), Allo
     text.end()
 }
 
-/// Appends the lines of these numbers, as they stand in the file.
+/// Appends the lines of these numbers, as the file has them.
 fn push_lines(lines: &[Vec<u8>], numbers: &[u64], text: &mut Text) -> Result<(), AllocError>
     ensures { OnOk result (text.new ≡ text.old ++ lines_text lines.now numbers.now) }
 {

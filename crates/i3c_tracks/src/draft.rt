@@ -9,7 +9,7 @@ use i3c_scene::Scene;
 use std::alloc::{AllocError, Global};
 use std::mem;
 
-/// A plan of which some lines were read.
+/// A plan of the lines that were read.
 #[derive(Drop)]
 pub(crate) struct Draft {
     alloc: Global,
@@ -30,7 +30,7 @@ impl Draft {
     ghost use Rattle.i3c_tracks.specs.declared.body.Body.{Body as BodyValue};
     ghost use Rattle.i3c_tracks.specs.declared.said.Said.{Said as SaidValue};
 
-    /// A plan of which nothing was read.
+    /// A plan before the first line.
     pub(crate) fn new(alloc: Global) -> Draft
         ensures begun { (first : Option Outline) → IsBegunBy result.body first }
         ensures outline { (first : Option Outline) (rest : List (ℕ × SaidValue)) → comes result first rest ≡ outline no_board [] rest }

@@ -22,12 +22,11 @@ use std::thread::Threads;
 /// How many bytes are read at once.
 const CHUNK: usize = 8192;
 
-/// Explores every order of a part of a file's orders, and prints the ends that they lead to, or an order that breaks an expectation, or
-/// why the file is refused.
+/// Explores every order of a part of a file's orders. It prints the ends that they lead to, or an order that breaks an
+/// expectation, or why the file is refused.
 ///
-/// The file is read whole before anything runs. Up to so many jobs run lines, each on a thread of its own. Each number of
-/// jobs prints the same. Once lines run in many orders a watcher is told how far that is, and before anything is printed that
-/// it is over.
+/// The file is read whole before anything runs. Up to `jobs` threads run lines, and each number of jobs prints the same. A
+/// watcher is told the progress while lines run in many orders, and the end before anything is printed.
 pub fn run_explore<T: Threads + Sync, R: Read, W: Write, V: Watch>(
     rt: &T,
     alloc: Global,

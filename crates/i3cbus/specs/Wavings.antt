@@ -44,7 +44,7 @@ pub record Dumping : Type 0 where
 abbrev pub dump_at : ℕ → Wave → Option (List ℕ) → List ℕ → Dumping
 dump_at legacies wave out gathered = record { legacies = legacies; wave = wave; output = output out gathered }
 
--- a line was put behind, of which some may go out
+-- a line was put behind, and part of it may be written out
 abbrev pub WavesLine : Dumping → List ℕ → List ℕ → List Symbol → Dumping → Type 0
 WavesLine old line printed wire new =
     (new.legacies ≡ old.legacies) × (new.wave ≡ after_wire old.legacies old.wave wire) × Puts old.output new.output (seen_dump old.legacies old.wave line printed wire)

@@ -10,7 +10,7 @@ use i3c_wave::WaveFault;
 /// What a run of the program came to.
 #[derive(Clone, Copy, Debug, PartialEq, Eq)]
 pub(crate) enum Ending {
-    /// Lines were run, checked or told, of which so many were refused, and so many expectations not met.
+    /// Lines were run, checked or told; the tally counts the refused ones, and the expectations not met.
     Ran(Tally),
     /// Orders of lines were explored.
     Explored(Answer),

@@ -224,7 +224,7 @@ fn timed_from<R: Print + Eprint + AllocGlobal, S: Read>(
     came_to(outcome, written && flushed)
 }
 
-/// What came of lines that are gathered, which are lost for want of memory alone.
+/// The result of lines whose output is gathered: it is lost only for want of memory.
 fn gathered(outcome: Result<Tally, ScriptFault>) -> Result<Tally, ScriptFault> {
     match outcome {
         Err(ScriptFault::Write) => Err(ScriptFault::Memory),

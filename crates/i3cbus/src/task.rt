@@ -49,7 +49,7 @@ const SDA: &str = "sda";
 /// Its option that names the address of a legacy target.
 const LEGACY: &str = "legacy";
 
-/// The flags with which it takes such an address.
+/// The flags with which it takes the addresses of legacy targets.
 const WITH_LEGACIES: &str = "with-legacies";
 
 /// The least and the most address of a legacy target.
@@ -98,7 +98,7 @@ const DEVICES: &str = "devices";
 
 const POSTS: &str = "posts";
 
-/// Its option: what became of the posts is printed too.
+/// Its option: the totals of the posts are printed too.
 const TOTALS: &str = "totals";
 
 /// The word that asks which program this is.
@@ -192,7 +192,7 @@ pub(crate) enum Task<'a> {
     File(Work, &'a str),
     /// Reads this file as a capture, and tells its symbols.
     Capture(Capturing<'a>, Telling, &'a str),
-    /// Tries every order of this part, of this file's tracks, within these limits, by up to so many jobs.
+    /// Tries every order of this part, of this file's tracks, within these limits, by up to this number of jobs.
     Explore(Limits, Part, usize, &'a str),
     /// Lets devices post from threads of their own.
     Stress(Stress),
@@ -249,7 +249,7 @@ pub(crate) struct Capturing<'a> {
 pub(crate) struct Stress {
     pub devices: u8,
     pub posts: u64,
-    /// Whether what became of the posts is printed too.
+    /// Whether the totals of the posts are printed too.
     pub totals: bool,
 }
 
@@ -266,7 +266,7 @@ pub(crate) fn task_named<'a>(alloc: Global, words: &'a [String]) -> Result<Task<
     task_given(&parsed(alloc, words)?)
 }
 
-/// Whether the words ask which program this is, and nothing else.
+/// Whether the words ask only which program this is.
 fn is_version(words: &[String]) -> bool {
     match words {
         [only] => only.as_str() == VERSION,

@@ -1,8 +1,8 @@
 use i3c_explore::{Progress, Watch};
 use std::cell::Cell;
 
-/// After so many lines that were run somebody who watches is told how far an exploration is. They take a quarter of a second
-/// to a second.
+/// A watcher is told the progress of an exploration each time this many lines were run: every quarter of a second to a
+/// second.
 const TOLD_EVERY: u64 = 200_000;
 
 /// Takes the cursor to the beginning of a terminal's line, and clears the line.
@@ -18,7 +18,7 @@ pub(crate) struct Watcher<'a, R> {
 }
 
 impl<'a, R> Watcher<'a, R> {
-    /// Whoever watches standard error of this runtime, if somebody does.
+    /// A watcher on standard error of this runtime, if somebody watches it.
     pub(crate) fn new(rt: &'a R, is_watched: bool) -> Watcher<'a, R> {
         Watcher {
             rt,

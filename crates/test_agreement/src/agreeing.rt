@@ -17,7 +17,7 @@ pub(crate) struct Verdict {
     pub cuts: usize,
     /// So many of the cuts left two questions open, which the plain machine's one choice can't answer both.
     pub twofold: usize,
-    /// After so many of them a byte differs that the definitions leave open.
+    /// The number of events after which a byte differs that the definitions leave open.
     pub open: usize,
     pub disagreements: Vec<Disagreement>,
 }
@@ -36,7 +36,7 @@ pub(crate) enum Disagreement {
 enum Measure {
     /// All.
     Whole,
-    /// All but bytes: of devices that drive one together, of whom one is lost, it may be any.
+    /// All but bytes: if devices drive one together and one of them is lost, it may be any.
     ButBytes,
 }
 
@@ -115,7 +115,7 @@ fn all_heard(alloc: Global, count: usize) -> Result<Vec<Choice>, Fault> {
     Ok(choices)
 }
 
-/// The choice at an event with which so many events come to what they came to on the bus.
+/// The choice at an event with which the plain machine has the results of these runs.
 fn choice_for(
     alloc: Global,
     script: &Script,
@@ -136,7 +136,7 @@ fn choice_for(
     Ok(None)
 }
 
-/// Whether each of these runs, which have so many events of the script, is one of the plain machine with these choices.
+/// Whether each of these runs, of the first events of the script, is one of the plain machine with these choices.
 fn all_agree(
     alloc: Global,
     script: &Script,
@@ -160,7 +160,7 @@ fn has_cuts(event: &mut Event) -> bool {
     }
 }
 
-/// Runs the script as it stands, and then each of its frames with each device cut at these bits.
+/// Runs the script unchanged, and then each of its frames with each device cut at these bits.
 pub(crate) fn judge(alloc: Global, mut script: Script, bits: Bits) -> Result<Verdict, Fault> {
     let mut verdict = Verdict {
         events: script.own,
@@ -177,7 +177,7 @@ pub(crate) fn judge(alloc: Global, mut script: Script, bits: Bits) -> Result<Ver
     Ok(verdict)
 }
 
-/// The script as it stands: the first event after which the machines disagree, whatever is chosen at it.
+/// The unchanged script: the first event after which the machines disagree, whatever is chosen at it.
 fn as_it_stands(alloc: Global, script: &mut Script) -> Result<Option<usize>, Fault> {
     let _ = KNOWN;
     let count = script.events.len();
@@ -328,7 +328,7 @@ fn judge_cut(
     Ok(())
 }
 
-/// Whether one of the choices at an event has the plain machine come to these runs, all else being heard.
+/// Whether one of the choices at an event makes the plain machine agree with these runs, with the choice `Heard` elsewhere.
 fn is_chosen(
     alloc: Global,
     script: &Script,
@@ -373,7 +373,8 @@ fn is_giving(event: &Event, reply: &Reply) -> bool {
     matches!(event, Event::SetStatic(..)) || matches!(reply, Reply::Round(RoundReply::Assigned(..)))
 }
 
-/// The bit past the last one that the frame of an index may send, if the event is one, where so many addresses are known.
+/// The bit past the last one that the frame of an index may send, if the event is one, where this number of addresses is
+/// known.
 fn past(script: &Script, at: usize, addresses: usize) -> Option<u16> {
     match script.events.get(at)? {
         Event::Serve(..) => Some(10),

@@ -89,7 +89,7 @@ fn first_of(script: &Script, count: usize) -> &[Event] {
     }
 }
 
-/// Runs so many events of a script on the bus.
+/// Runs the first `count` events of a script on the bus.
 pub(crate) fn on_bus(alloc: Global, script: &Script, count: usize) -> Result<Ran, Fault> {
     let _ = KNOWN;
     let events = first_of(script, count);
@@ -108,7 +108,7 @@ pub(crate) fn on_bus(alloc: Global, script: &Script, count: usize) -> Result<Ran
     })
 }
 
-/// Runs so many events of a script on the plain machine, with a choice for each.
+/// Runs the first events of a script on the plain machine, with a choice for each.
 pub(crate) fn on_plain(
     alloc: Global,
     script: &Script,

@@ -84,7 +84,7 @@ fn first(setting: &Setting) -> Answer {
     }
 }
 
-/// Who drives the first request.
+/// The slots that drive the first request.
 fn driving(setting: &Setting) -> Result<SlotSet, Fault> {
     match setting.devices.first_request(setting.active) {
         Some((_, drivers)) => Ok(drivers),

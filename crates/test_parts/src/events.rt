@@ -13,7 +13,7 @@ use i3c_events::{
 use i3c_word::Word;
 use std::alloc::Global;
 
-/// The most bits that may stand before a command: a mandatory byte's word and a header.
+/// The most bits that may come before a command: a mandatory byte's word and a header.
 pub(crate) const MOST_BEGUN: u16 = 18;
 
 /// The commands that set an address.
@@ -71,7 +71,7 @@ fn bits_of_length(words: &mut Words<'_>) -> Result<u16, Fault> {
     Ok(length_bits(&to, &answer_of(&heard)))
 }
 
-/// What became of a command: it was `heard`, or at its address by `nobody`.
+/// The result of a command: it was `heard`, or at its address by `nobody`.
 fn heard(words: &mut Words<'_>, to: Option<Addr7>) -> Result<Result<(), NoAnswer>, Fault> {
     match words.word()? {
         "heard" => Ok(Ok(())),

@@ -47,7 +47,7 @@ fn pass_role(alloc: Global, words: &mut Words<'_>) -> Answer {
     told(alloc, &(before, after))
 }
 
-/// What becomes of the role that is offered to an address.
+/// The offer of the role to an address.
 fn offered(setting: &Setting, words: &mut Words<'_>) -> Result<Offer, Fault> {
     let address = words.address()?;
     let begun = setting.begun;

@@ -21,7 +21,7 @@ pub(crate) fn call(setting: &mut Setting, call: &str, words: &mut Words<'_>) -> 
     nothing(setting.alloc)
 }
 
-/// A new device, in hand or in a slot. The static address of a `static-device` stands before its identity.
+/// A new device, in hand or in a slot. The static address of a `static-device` comes before its identity.
 fn enter(setting: &mut Setting, call: &str, words: &mut Words<'_>) -> Answer {
     let place = words.place()?;
     let fixed = match call {

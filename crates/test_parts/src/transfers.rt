@@ -163,8 +163,8 @@ fn trace_of_write(alloc: Global, words: &mut Words<'_>) -> Answer {
     told_trace(alloc, &told.symbols)
 }
 
-/// A datum that is asked for: what it came to, its answer, or its bits. Behind the address stands whether the interrupts
-/// there have a byte.
+/// A read of a datum: its result, its answer, or its bits. The word behind the address says whether the interrupts there have
+/// a byte.
 fn of_get(setting: &Setting, call: &str, words: &mut Words<'_>) -> Answer {
     let alloc = setting.alloc;
     let what = words.named(&DATA)?;

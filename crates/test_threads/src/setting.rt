@@ -537,7 +537,7 @@ pub(crate) fn got(run: &Run, place: usize) -> Option<Entry> {
     }
 }
 
-/// Whether these entries stand in the run from this place on.
+/// Whether these entries are in the run from this place on.
 pub(crate) fn has_from(run: &Run, place: usize, due: &[Entry]) -> bool {
     let mut at = place;
     for entry in due {

@@ -125,7 +125,7 @@ impl<'a, R: Clock> Policy for Patient<'a, R> {
     }
 }
 
-/// What the serve under such a policy answers.
+/// The answer to a serve under a patient policy.
 fn serve_patiently<L: Ledger, M: Ledger, N: Ledger, R: Wait + Clock>(
     rt: &R,
     bus: &SharedBus<L, M, N>,

@@ -7,7 +7,7 @@ use crate::script::{HUB, HUB_LINE, last_line, prints, run};
 use std::alloc::Global;
 use std::process::Abort;
 
-/// The usable dynamic address that comes after so many others, from `08` on: `3E`, `5E`, `6E` and `76` are left out.
+/// The usable dynamic address behind the first `before`, from `08` on: `3E`, `5E`, `6E` and `76` are left out.
 fn usable_address(before: u8) -> u8
     requires { before < 108 }
 {
@@ -83,7 +83,7 @@ fn all_come(rt: &impl Abort, alloc: Global) -> String {
     format!(in alloc; "{HUB}{coming}{LAST}").expect(rt, "memory")
 }
 
-/// The 53rd and the 54th device stand beside an address that is left out.
+/// The addresses of the 53rd and the 54th device are next to one that is left out.
 fn left_out(rt: &impl Abort, lines: &str) {
     let is_before = lines.contains("assigned 3D 020400010035 06 44\n");
     holds(rt, is_before, "the 53rd has 3D");
