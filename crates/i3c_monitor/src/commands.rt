@@ -11,7 +11,7 @@ use i3c_text::Stop;
 use std::alloc::Global;
 
 /// What follows `7E`/W: the code of a command, and what is read with it (I3C Basic 5.1.9.1). No symbol is no command.
-/// So many symbols of the trace come before.
+/// `before` counts the symbols of the trace before them.
 #[inline(always)]
 pub(crate) fn read_code(
     alloc: Global,

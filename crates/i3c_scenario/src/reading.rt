@@ -16,7 +16,7 @@ pub(crate) const CHUNK: usize = 8192;
 pub(crate) enum Piece {
     /// The input ended.
     End,
-    /// So many bytes came, no more than may still come.
+    /// This many bytes came; they are allowed.
     Within(usize),
     /// More bytes came than are allowed; this many were.
     Beyond(usize),

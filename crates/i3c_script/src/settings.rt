@@ -112,7 +112,7 @@ impl Settings {
     }
 }
 
-/// So many records, and more of them.
+/// The sum of two numbers of records.
 ///
 /// # Errors
 ///

@@ -10,7 +10,7 @@ use Rattle.i3c_tracks.specs.declared.body.Body.{Body}
 use Rattle.i3c_tracks.specs.declared.draft.Draft.{Draft}
 use Rattle.i3c_tracks.specs.declared.open_block.OpenBlock.{OpenBlock}
 use Rattle.i3c_tracks.specs.declared.refusal.Reason.{Reason}
-use Rattle.i3c_tracks.specs.declared.said.Said.{Said}
+use Rattle.i3c_tracks.specs.declared.file_line.FileLine.{FileLine}
 
 -- whether a command sends a frame, in which a device may lose power
 abbrev pub sends_frame : Command → Bool
@@ -122,8 +122,8 @@ refuses_on_mark None mark = Some Reason.NoBus
 refuses_on_mark (Some body) mark = refuses_body body mark
 
 -- why a line is refused behind those that were read: the first reason
-abbrev pub refuses : Draft → Said → Option Reason
-refuses draft Said.Nothing = None
-refuses draft Said.Formless = Some Reason.BadLine
-refuses draft (Said.Does command) = refuses_on draft.body command
-refuses draft (Said.Marks mark) = refuses_on_mark draft.body mark
+abbrev pub refuses : Draft → FileLine → Option Reason
+refuses draft FileLine.Nothing = None
+refuses draft FileLine.Formless = Some Reason.BadLine
+refuses draft (FileLine.Does command) = refuses_on draft.body command
+refuses draft (FileLine.Marks mark) = refuses_on_mark draft.body mark

@@ -114,7 +114,7 @@ impl Body {
     ghost use Rattle.std.specs.Prelude.{◌≡◌, ◌++◌, [], ℕ, List, None, Some, IfOk, IfSome, OnOk, option_map, false};
     ghost use Rattle.i3c_lines.specs.declared.command.Command.{Command as CommandValue};
     ghost use Rattle.i3c_facts.specs.declared.marks.Mark.{Mark as MarkValue};
-    ghost use Rattle.i3c_tracks.specs.declared.said.Said.{Said as SaidValue};
+    ghost use Rattle.i3c_tracks.specs.declared.file_line.FileLine.{FileLine as FileLineValue};
     ghost use Rattle.i3c_tracks.specs.Planning.{blocks_of, step_of, tracks_of};
     ghost use Rattle.i3c_tracks.specs.Drafting.{Adds, Holds, IsUnread, Puts, ReadsOn, Settles, TakesPlace, comes_to, with_expected};
     ghost use Rattle.i3c_tracks.specs.Refusing.{begins_track, has_command, is_in_track, misses_line, refuses_body, refuses_mark_there, refuses_there};
@@ -203,7 +203,7 @@ impl Body {
     /// Adds a command that isn't refused.
     pub(crate) fn add_command(&mut self, number: u64, command: Command) -> Result<(), AllocError>
         requires { refuses_there self.old.block command ≡ None }
-        ensures { OnOk result (ReadsOn self.old (number, SaidValue.Does command) self.new) }
+        ensures { OnOk result (ReadsOn self.old (number, FileLineValue.Does command) self.new) }
     {
         self.settle()?;
         let risk = self.take_place(&command);
@@ -230,7 +230,7 @@ impl Body {
     pub(crate) fn add_mark(&mut self, number: u64, mark: Mark) -> Result<(), AllocError>
         requires placed { refuses_mark_there self.old.block mark ≡ None }
         requires known { misses_line self.old.block self.old.held mark ≡ false }
-        ensures { OnOk result (ReadsOn self.old (number, SaidValue.Marks mark) self.new) }
+        ensures { OnOk result (ReadsOn self.old (number, FileLineValue.Marks mark) self.new) }
     {
         match mark {
             Mark::Any => {
@@ -251,7 +251,7 @@ impl Body {
     /// `anywhere`: this device may lose power in each frame of the block.
     fn set_risk(&mut self, name: Name)
         requires { refuses_mark_there self.old.block (MarkValue.Anywhere name) ≡ None }
-        ensures { (number : ℕ) → ReadsOn self.old (number, SaidValue.Marks (MarkValue.Anywhere name)) self.new }
+        ensures { (number : ℕ) → ReadsOn self.old (number, FileLineValue.Marks (MarkValue.Anywhere name)) self.new }
     {
         self.risky = true;
         match &mut self.block {
@@ -265,7 +265,7 @@ impl Body {
     /// `always`: these facts have to hold at the block's start and after each of its lines.
     fn add_always(&mut self, number: u64, facts: Facts) -> Result<(), AllocError>
         requires { refuses_mark_there self.old.block (MarkValue.Always facts) ≡ None }
-        ensures { OnOk result (ReadsOn self.old (number, SaidValue.Marks (MarkValue.Always facts)) self.new) }
+        ensures { OnOk result (ReadsOn self.old (number, FileLineValue.Marks (MarkValue.Always facts)) self.new) }
     {
         let again = facts.copied()?;
         self.expect(Expectation {
@@ -290,7 +290,7 @@ impl Body {
     /// `track`: the next track begins.
     fn begin_track(&mut self) -> Result<(), AllocError>
         requires { refuses_mark_there self.old.block MarkValue.Track ≡ None }
-        ensures { OnOk result ((number : ℕ) → ReadsOn self.old (number, SaidValue.Marks MarkValue.Track) self.new) }
+        ensures { OnOk result ((number : ℕ) → ReadsOn self.old (number, FileLineValue.Marks MarkValue.Track) self.new) }
     {
         self.settle()?;
         match &mut self.block {
@@ -302,7 +302,7 @@ impl Body {
     /// `close`: the block is added.
     fn close(&mut self) -> Result<(), AllocError>
         requires { refuses_mark_there self.old.block MarkValue.Close ≡ None }
-        ensures { OnOk result ((number : ℕ) → ReadsOn self.old (number, SaidValue.Marks MarkValue.Close) self.new) }
+        ensures { OnOk result ((number : ℕ) → ReadsOn self.old (number, FileLineValue.Marks MarkValue.Close) self.new) }
     {
         self.settle()?;
         match mem::replace(&mut self.block, None) {

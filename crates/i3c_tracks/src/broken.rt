@@ -70,15 +70,15 @@ fn unmet_number(
     let Some((last, earlier)) = runs.split_last() else {
         return Err(AllocError);
     };
-    let scene = replayed(alloc, plan, earlier)?;
+    let scene = scene_after(alloc, plan, earlier)?;
     match scene.unmet(alloc, last.line, last.way, found)? {
         Some(number) => Ok(number),
         None => Err(AllocError),
     }
 }
 
-/// The bus after these lines.
-fn replayed(alloc: Global, plan: &Plan, runs: &[Run<'_>]) -> Result<Scene, AllocError> {
+/// The scene after these lines.
+fn scene_after(alloc: Global, plan: &Plan, runs: &[Run<'_>]) -> Result<Scene, AllocError> {
     let mut scene = plan.start.copied(alloc)?;
     for run in runs {
         if let Some(next) = scene.after(alloc, run.line, run.way)? {

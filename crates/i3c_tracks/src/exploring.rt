@@ -53,7 +53,7 @@ pub fn run_explore<T: Threads + Sync, R: Read, W: Write, V: Watch>(
         Err(fault) => return Err(fault),
     };
     let mut text = Text::new(alloc);
-    let Ok(answer) = answered(rt, alloc, &lines, limits, part, jobs, watch, &mut text) else {
+    let Ok(answer) = answer_file(rt, alloc, &lines, limits, part, jobs, watch, &mut text) else {
         return Err(ScriptFault::Memory);
     };
     match write_out(text.as_bytes(), writer) {
@@ -99,8 +99,8 @@ fn add_line(alloc: Global, line: &[u8], lines: &mut Vec<Vec<u8>>) -> Result<(), 
     Ok(())
 }
 
-/// Appends what is printed of a file.
-fn answered<T: Threads + Sync, V: Watch>(
+/// Reads and explores a file, and appends what is printed of it.
+fn answer_file<T: Threads + Sync, V: Watch>(
     rt: &T,
     alloc: Global,
     lines: &[Vec<u8>],
@@ -114,7 +114,7 @@ fn answered<T: Threads + Sync, V: Watch>(
     ensures printed { IfOk result (λ answer. IsPrinted lines.now part answer text.old text.new) }
 {
     match read_plan(alloc, lines) {
-        Ok(plan) => explored(rt, alloc, lines, &plan, limits, part, jobs, watch, text),
+        Ok(plan) => explore_plan(rt, alloc, lines, &plan, limits, part, jobs, watch, text),
         Err(PlanFault::Memory) => Err(AllocError),
         Err(PlanFault::Refused(refusal)) => {
             refusal.push(text)?;
@@ -133,7 +133,7 @@ fn limits_left(limits: Limits, before: usize) -> Option<Limits> {
 }
 
 /// Explores a part of a plan's orders, and appends what is printed of it.
-fn explored<T: Threads + Sync, V: Watch>(
+fn explore_plan<T: Threads + Sync, V: Watch>(
     rt: &T,
     alloc: Global,
     lines: &[Vec<u8>],

@@ -1,6 +1,6 @@
 //! Files of tracks, whose lines interleave in every order: read, explored, and told.
 //!
-//! `read_plan` reads the plan of a file (`plan`): `said` parses a line, `draft` gathers lines, `front` keeps those before the
+//! `read_plan` reads the plan of a file (`plan`): `file_line` parses a line, `draft` gathers lines, `front` keeps those before the
 //! bus, and `body` those behind it, with the `open_block`. `refusal` says why a file isn't explored. `run_explore`, in
 //! `exploring`, explores the plan and prints the ends (`report`), or an order that breaks an expectation as a script
 //! (`broken`), whose lines `course` puts one after another; `answer` is its result. `laws` is a theorem over all files.
@@ -12,13 +12,13 @@ mod broken;
 mod course;
 mod draft;
 mod exploring;
+mod file_line;
 mod front;
 mod laws;
 mod open_block;
 mod plan;
 mod refusal;
 mod report;
-mod said;
 
 pub use answer::Answer;
 pub use exploring::run_explore;

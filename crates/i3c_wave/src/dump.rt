@@ -56,7 +56,7 @@ pub(crate) enum Item {
 
 /// A dump behind a word, and what the word says.
 #[derive(Clone, Copy, Debug, Drop)]
-pub(crate) struct Said {
+pub(crate) struct DumpStep {
     pub dump: Dump,
     pub item: Item,
 }
@@ -126,7 +126,7 @@ impl Dump {
     }
 
     /// Keeps the dump behind a word.
-    fn keep(&mut self, said: Result<Said, CaptureFault>) -> Result<Item, CaptureFault>
+    fn keep(&mut self, said: Result<DumpStep, CaptureFault>) -> Result<Item, CaptureFault>
         ensures { Says said self.new result }
     {
         match said {
@@ -193,7 +193,7 @@ impl Dump {
     }
 
     /// The dump behind the word that begins a command.
-    fn command(self, command: Command) -> Result<Said, CaptureFault>
+    fn command(self, command: Command) -> Result<DumpStep, CaptureFault>
         ensures { result ≡ command_said self command }
     {
         match command {
@@ -232,7 +232,7 @@ impl Dump {
     }
 
     /// Ends a command.
-    fn end(self, at: u64) -> Result<Said, CaptureFault>
+    fn end(self, at: u64) -> Result<DumpStep, CaptureFault>
         ensures { result ≡ ended self at }
     {
         match self.place {
@@ -243,7 +243,7 @@ impl Dump {
     }
 
     /// Takes a word inside a command.
-    fn inside(self, scl: &[u8], sda: &[u8], at: u64, word: &[u8]) -> Result<Said, CaptureFault>
+    fn inside(self, scl: &[u8], sda: &[u8], at: u64, word: &[u8]) -> Result<DumpStep, CaptureFault>
         ensures { result ≡ inside scl.now sda.now self at word.now }
     {
         match self.place {
@@ -276,7 +276,12 @@ impl Dump {
     }
 
     /// Takes a word of a timescale, behind a number or not.
-    fn scale(self, magnitude: Option<Magnitude>, at: u64, word: &[u8]) -> Result<Said, CaptureFault>
+    fn scale(
+        self,
+        magnitude: Option<Magnitude>,
+        at: u64,
+        word: &[u8],
+    ) -> Result<DumpStep, CaptureFault>
         ensures { result ≡ scale_word self magnitude at word.now }
     {
         let count = digits_in(word);
@@ -293,7 +298,7 @@ impl Dump {
         magnitude: Option<Magnitude>,
         at: u64,
         unit: &[u8],
-    ) -> Result<Said, CaptureFault>
+    ) -> Result<DumpStep, CaptureFault>
         ensures { result ≡ scaled_by self magnitude at unit.now }
     {
         match magnitude {
@@ -306,7 +311,12 @@ impl Dump {
     }
 
     /// Takes the unit of a timescale.
-    fn scale_unit(self, magnitude: Magnitude, at: u64, unit: &[u8]) -> Result<Said, CaptureFault>
+    fn scale_unit(
+        self,
+        magnitude: Magnitude,
+        at: u64,
+        unit: &[u8],
+    ) -> Result<DumpStep, CaptureFault>
         ensures { result ≡ scaled_unit self magnitude at (unit_setup unit.now) }
     {
         match unit_setup(unit) {
@@ -328,14 +338,14 @@ impl Dump {
 }
 
 /// A dump behind a word that says this.
-fn saying(dump: Dump, item: Item) -> Said
+fn saying(dump: Dump, item: Item) -> DumpStep
     ensures { result ≡ record { dump = dump; item = item } }
 {
-    Said { dump, item }
+    DumpStep { dump, item }
 }
 
 /// A dump behind a word that says nothing of the lines.
-fn nothing(dump: Dump) -> Said
+fn nothing(dump: Dump) -> DumpStep
     ensures { result ≡ nothing dump }
 {
     saying(dump, Item::Nothing)

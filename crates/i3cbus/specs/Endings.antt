@@ -68,9 +68,9 @@ explore_ending (Ok answer) true = Ok (Ending.Explored answer)
 explore_ending (Ok answer) false = Err Fault.Write
 
 -- what lines came to, as what the program came to
-abbrev pub ran : Result Tally Fault → Result Ending Fault
-ran (Ok tally) = Ok (Ending.Ran tally)
-ran (Err fault) = Err fault
+abbrev pub lines_ending : Result Tally Fault → Result Ending Fault
+lines_ending (Ok tally) = Ok (Ending.Ran tally)
+lines_ending (Err fault) = Err fault
 
 -- 0 where every order holds, 1 where the file or a limit is refused, 3 where an order breaks an expectation
 abbrev pub answer_status : Answer → ℕ

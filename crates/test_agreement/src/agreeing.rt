@@ -1,4 +1,4 @@
-use crate::course::{Plainly, Ran, on_bus, on_plain, slots};
+use crate::course::{BusRun, PlainRun, on_bus, on_plain, slots};
 use crate::cutting::{Bits, Place, cuts_of};
 use crate::faults::Fault;
 use crate::script::{KNOWN, Script};
@@ -15,7 +15,7 @@ const CHOICES: [Choice; 3] = [Choice::Heard, Choice::Lost, Choice::Silent];
 pub(crate) struct Verdict {
     pub events: usize,
     pub cuts: usize,
-    /// So many of the cuts left two questions open, which the plain machine's one choice can't answer both.
+    /// The number of cuts that left two questions open, which the plain machine's one choice can't both answer.
     pub twofold: usize,
     /// The number of events after which a byte differs that the definitions leave open.
     pub open: usize,
@@ -42,7 +42,7 @@ enum Measure {
 
 /// Whether the plain machine comes to what the bus came to. Where the bus says that a byte is torn, and that its device
 /// doesn't answer later in the same frame, the plain machine may say the first alone.
-fn agree(ran: &Ran, plainly: &Plainly, measure: Measure) -> bool {
+fn agree(ran: &BusRun, plainly: &PlainRun, measure: Measure) -> bool {
     let (records, due) = (ran.records.as_slice(), plainly.plain.records());
     ran.seen == plainly.seen
         && records.len() == due.len()
@@ -121,7 +121,7 @@ fn choice_for(
     script: &Script,
     choices: &mut [Choice],
     at: usize,
-    ran: &[Ran],
+    ran: &[BusRun],
     measure: Measure,
 ) -> Result<Option<Choice>, Fault> {
     let _ = KNOWN;
@@ -141,7 +141,7 @@ fn all_agree(
     alloc: Global,
     script: &Script,
     choices: &[Choice],
-    ran: &[Ran],
+    ran: &[BusRun],
     measure: Measure,
 ) -> Result<bool, Fault> {
     for run in ran {
@@ -249,7 +249,7 @@ fn one_frame(
 fn each_slot(
     alloc: Global,
     script: &mut Script,
-    before: &Plainly,
+    before: &PlainRun,
     at: usize,
     last: u16,
     bits: Bits,
@@ -309,7 +309,7 @@ fn judge_cut(
     alloc: Global,
     script: &Script,
     place: Place,
-    ran: &[Ran],
+    ran: &[BusRun],
     verdict: &mut Verdict,
 ) -> Result<(), Fault> {
     let _ = KNOWN;
@@ -333,7 +333,7 @@ fn is_chosen(
     alloc: Global,
     script: &Script,
     at: usize,
-    ran: &[Ran],
+    ran: &[BusRun],
     measure: Measure,
 ) -> Result<bool, Fault> {
     let _ = KNOWN;
@@ -342,7 +342,7 @@ fn is_chosen(
 }
 
 /// Whether the last reply of a run leaves two questions open.
-fn ends_twofold(run: &Ran) -> bool {
+fn ends_twofold(run: &BusRun) -> bool {
     run.replies.last().is_some_and(|reply| is_twofold(reply))
 }
 
@@ -356,7 +356,7 @@ fn put(script: &mut Script, at: usize, cuts: Cuts) {
 }
 
 /// How many addresses may be known by then: the main device's, the legacy targets', and those that were given.
-fn known(script: &Script, before: &Plainly) -> usize {
+fn known(script: &Script, before: &PlainRun) -> usize {
     let given = script
         .events
         .iter()

@@ -36,7 +36,7 @@ pub(crate) fn told<T: Debug>(alloc: Global, answer: &T) -> Answer {
     format!(in alloc; "{answer:?}").or(Err(Fault::Memory))
 }
 
-/// Such an answer, where there is one.
+/// An answer of this kind, if there is one.
 pub(crate) fn told_if<T: Debug + Drop>(alloc: Global, answer: Result<T, Fault>) -> Answer {
     told(alloc, &answer?)
 }

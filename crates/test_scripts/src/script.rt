@@ -346,7 +346,7 @@ fn one_read_fails(rt: HostRuntime) {
     same(&rt, printed, whole.len());
 }
 
-/// So many interrupts that are raised and served, as a script's lines.
+/// The lines of a script that raises and serves `count` interrupts.
 fn served(rt: &impl Abort, alloc: Global, count: u64) -> String {
     let mut script = String::new(alloc);
     for number in 1..=count {

@@ -8,7 +8,7 @@ use Rattle.i3c_scene.specs.declared.line.Line.{Line}
 use Rattle.i3c_scene.specs.Scenes.{Seen}
 use Rattle.i3c_scene.specs.Trying.{LineBreaks, LineSteps}
 use Rattle.i3c_tracks.specs.Courses.{LeadsTo}
-use Rattle.i3c_tracks.proofs.exploring.explored.Goals as goal
+use Rattle.i3c_tracks.proofs.exploring.explore_plan.Goals as goal
 
 pub returns-in_ok-push_ends-in-Ok-clause-answer : goal.returns-in_ok-push_ends-in-Ok-clause-answer
 returns-in_ok-push_ends-in-Ok-clause-answer g c =

@@ -1,6 +1,6 @@
 use Rattle.std.proofs.Common.{refl}
 use Rattle.i3c_shared.proofs.Fitting.{fits_event}
-use Rattle.i3c_shared.proofs.intake.Intake.make.Goals as goal
+use Rattle.i3c_shared.proofs.intake.Intake.apply.Goals as goal
 
 pub invariant_of-self : goal.invariant_of-self
 invariant_of-self g c = record { size = c.self.invariant.size; fits = fits_event _ _ _ c.args.event c.apply.result c.apply.ensures.run c.requires.other c.self.invariant.fits }

@@ -1,7 +1,7 @@
 use Rattle.std.proofs.Common.{refl}
 use Rattle.i3c_shared.proofs.Events.{frames_are_other}
 use Rattle.i3c_shared.proofs.Fitting.{fits_event}
-use Rattle.i3c_shared.proofs.intake.Intake.send.Goals as goal
+use Rattle.i3c_shared.proofs.intake.Intake.frame.Goals as goal
 
 pub invariant_of-self : goal.invariant_of-self
 invariant_of-self g c = record { size = c.self.invariant.size; fits = fits_event _ _ _ _ c.frame.result c.frame.ensures.run (frames_are_other c.args.command _ _) c.self.invariant.fits }

@@ -2,7 +2,7 @@ use Rattle.std.proofs.Common.{◌∙◌, ◌<◌, sym, refl, length, arith}
 use Rattle.i3c_shared.proofs.Fitting.{fits_granted, fits_refused, put_count}
 use Rattle.i3c_shared.specs.Values.{Log}
 use Rattle.i3c_shared.proofs.Growing.{puts_no, puts_yes}
-use Rattle.i3c_shared.proofs.intake.Intake.put.Goals as goal
+use Rattle.i3c_shared.proofs.intake.Intake.apply_attach.Goals as goal
 
 pub invariant_of-self : goal.invariant_of-self
 invariant_of-self c =

@@ -8,7 +8,7 @@ use Rattle.i3c_scene.specs.Scenes.{Seen}
 use Rattle.i3c_tracks.specs.declared.answer.Answer.{Answer}
 use Rattle.i3c_tracks.specs.Answering.{IsAnswer, IsExplored}
 use Rattle.i3c_tracks.specs.Planning.{IsPlan}
-use Rattle.i3c_tracks.proofs.exploring.answered.Goals as goal
+use Rattle.i3c_tracks.proofs.exploring.answer_file.Goals as goal
 
 of_file : {E : Type 0} (lines : List (Vec ℕ)) (start : Seen) (blocks : List (Vec (Vec Line))) (part : Part) (result : Result Answer E) → IsPlan lines start blocks → IfOk result (IsAnswer start blocks part) → IfOk result (IsExplored lines part)
 of_file lines start blocks part (Ok Answer.Holds) plan answer = (start, blocks, plan, answer)
@@ -17,4 +17,4 @@ of_file lines start blocks part (Ok Answer.Breaks) plan answer = (start, blocks,
 of_file lines start blocks part (Err e) plan answer = tt
 
 pub returns-in-Ok-clause-answer : goal.returns-in-Ok-clause-answer
-returns-in-Ok-clause-answer g c = of_file c.args.lines.now c.in-Ok.plan.start c.in-Ok.plan.blocks.items c.args.part c.explored.result c.in-Ok.ensures c.explored.ensures.answer
+returns-in-Ok-clause-answer g c = of_file c.args.lines.now c.in-Ok.plan.start c.in-Ok.plan.blocks.items c.args.part c.explore_plan.result c.in-Ok.ensures c.explore_plan.ensures.answer

@@ -1,17 +1,17 @@
 use Rattle.i3c_shared.proofs.Growing.{takes_from}
-use Rattle.i3c_shared.proofs.intake.Intake.carry.Goals as goal
+use Rattle.i3c_shared.proofs.intake.Intake.take_and_apply.Goals as goal
 
 pub returns : goal.returns
 returns g c = (
-  c.make.ensures.memory,
+  c.apply.ensures.memory,
   (
     record {
       seen = c.ready.new.self.log.rings;
       looked = c.ready.ensures.same.rings;
       mid = c.take_up.new.self.log;
       takes = takes_from _ _ _ c.ready.ensures.same c.take_up.ensures.taken;
-      makes = c.make.ensures.made;
+      makes = c.apply.ensures.made;
     },
-    c.make.ensures.told,
+    c.apply.ensures.told,
   ),
 )

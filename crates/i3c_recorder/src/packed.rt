@@ -37,7 +37,7 @@ pub(crate) enum ShortEntry {
 
 /// A reply with no bytes in it.
 #[derive(Clone, Copy)]
-pub(crate) enum Said {
+pub(crate) enum ShortReply {
     Refused(Refusal),
     OutOfMemory,
     Attached,
@@ -56,7 +56,7 @@ pub(crate) enum Said {
 /// How a run keeps an entry: in short, or as the wide entry of this place.
 #[derive(Clone, Copy)]
 pub(crate) enum Packed {
-    Short(ShortEntry, Said),
+    Short(ShortEntry, ShortReply),
     Wide(usize),
 }
 
@@ -64,8 +64,8 @@ pub(crate) enum Packed {
 const _: () = prove!(size_of::<Packed>() <= 64);
 
 /// The event in short, where it cuts nobody and writes nothing.
-pub(crate) fn brief_of(event: &Event) -> Option<ShortEntry>
-    ensures { MatchOption result ⊤ (λ brief. event.now ≡ event_in brief) }
+pub(crate) fn short_entry_of(event: &Event) -> Option<ShortEntry>
+    ensures { MatchOption result ⊤ (λ short. event.now ≡ event_in short) }
 {
     match event {
         Event::Attach(slot, setup) => {
@@ -78,13 +78,13 @@ pub(crate) fn brief_of(event: &Event) -> Option<ShortEntry>
         Event::AskRole(slot) => Some(ShortEntry::AskRole(*slot)),
         Event::WriteTo(_, _, _, _) => None,
         Event::EndDaa => Some(ShortEntry::EndDaa),
-        _ => brief_frame(event),
+        _ => short_frame(event),
     }
 }
 
 /// The same, of a frame with cuts that writes nothing.
-fn brief_frame(event: &Event) -> Option<ShortEntry>
-    ensures { MatchOption result ⊤ (λ brief. event.now ≡ event_in brief) }
+fn short_frame(event: &Event) -> Option<ShortEntry>
+    ensures { MatchOption result ⊤ (λ short. event.now ≡ event_in short) }
 {
     match event {
         Event::Serve(policy, cuts) if cuts.is_empty() => Some(ShortEntry::Serve(*policy)),
@@ -119,44 +119,44 @@ fn brief_frame(event: &Event) -> Option<ShortEntry>
 }
 
 /// The reply in short, where no bytes are in it.
-pub(crate) fn said_of(reply: &Reply) -> Option<Said>
+pub(crate) fn short_reply_of(reply: &Reply) -> Option<ShortReply>
     ensures { MatchOption result ⊤ (λ said. reply.now ≡ reply_in said) }
 {
     match reply {
-        Reply::Refused(why) => Some(Said::Refused(*why)),
-        Reply::OutOfMemory => Some(Said::OutOfMemory),
-        Reply::Attached => Some(Said::Attached),
-        Reply::Dropped => Some(Said::Dropped),
-        Reply::Raised(number) => Some(Said::Raised(*number)),
-        Reply::Asked => Some(Said::Asked),
-        Reply::Served(served) => Some(Said::Served(*served)),
+        Reply::Refused(why) => Some(ShortReply::Refused(*why)),
+        Reply::OutOfMemory => Some(ShortReply::OutOfMemory),
+        Reply::Attached => Some(ShortReply::Attached),
+        Reply::Dropped => Some(ShortReply::Dropped),
+        Reply::Raised(number) => Some(ShortReply::Raised(*number)),
+        Reply::Asked => Some(ShortReply::Asked),
+        Reply::Served(served) => Some(ShortReply::Served(*served)),
         Reply::Framed(framed) => match framed.answer {
-            Answer::Done => Some(Said::Done(framed.served)),
-            Answer::NoAnswer(address) => Some(Said::NoAnswer(framed.served, address)),
+            Answer::Done => Some(ShortReply::Done(framed.served)),
+            Answer::NoAnswer(address) => Some(ShortReply::NoAnswer(framed.served, address)),
             _ => None,
         },
-        Reply::Opened(served) => Some(Said::Opened(*served)),
-        Reply::Handed(served) => Some(Said::Handed(*served)),
-        Reply::Round(answer) => Some(Said::Round(*answer)),
-        Reply::Ended => Some(Said::Ended),
+        Reply::Opened(served) => Some(ShortReply::Opened(*served)),
+        Reply::Handed(served) => Some(ShortReply::Handed(*served)),
+        Reply::Round(answer) => Some(ShortReply::Round(*answer)),
+        Reply::Ended => Some(ShortReply::Ended),
     }
 }
 
 /// The entry in short, where it can be kept so.
-pub(crate) fn in_short(entry: &Entry) -> Option<(ShortEntry, Said)>
+pub(crate) fn in_short(entry: &Entry) -> Option<(ShortEntry, ShortReply)>
     ensures { MatchOption result ⊤ (λ short. IsShort short entry.now) }
 {
-    let brief = brief_of(&entry.event)?;
-    let said = said_of(&entry.reply)?;
-    Some((brief, said))
+    let short = short_entry_of(&entry.event)?;
+    let said = short_reply_of(&entry.reply)?;
+    Some((short, said))
 }
 
 /// The event that was kept in short.
-pub(crate) fn event_in(brief: &ShortEntry) -> Event
-    ensures { result ≡ event_in brief.now }
+pub(crate) fn event_in(short: &ShortEntry) -> Event
+    ensures { result ≡ event_in short.now }
 {
     let cuts = Cuts::new();
-    match brief {
+    match short {
         ShortEntry::Attach(slot, pid, bcr, dcr, willing) => {
             let identity = Identity {
                 pid: *pid,
@@ -197,29 +197,29 @@ pub(crate) fn event_in(brief: &ShortEntry) -> Event
 }
 
 /// The reply that was kept in short.
-pub(crate) fn reply_in(said: &Said) -> Reply
+pub(crate) fn reply_in(said: &ShortReply) -> Reply
     ensures { result ≡ reply_in said.now }
 {
     match said {
-        Said::Refused(why) => Reply::Refused(*why),
-        Said::OutOfMemory => Reply::OutOfMemory,
-        Said::Attached => Reply::Attached,
-        Said::Dropped => Reply::Dropped,
-        Said::Raised(number) => Reply::Raised(*number),
-        Said::Asked => Reply::Asked,
-        Said::Served(served) => Reply::Served(*served),
-        Said::Done(served) => Reply::Framed(Framed {
+        ShortReply::Refused(why) => Reply::Refused(*why),
+        ShortReply::OutOfMemory => Reply::OutOfMemory,
+        ShortReply::Attached => Reply::Attached,
+        ShortReply::Dropped => Reply::Dropped,
+        ShortReply::Raised(number) => Reply::Raised(*number),
+        ShortReply::Asked => Reply::Asked,
+        ShortReply::Served(served) => Reply::Served(*served),
+        ShortReply::Done(served) => Reply::Framed(Framed {
             served: *served,
             answer: Answer::Done,
         }),
-        Said::NoAnswer(served, address) => Reply::Framed(Framed {
+        ShortReply::NoAnswer(served, address) => Reply::Framed(Framed {
             served: *served,
             answer: Answer::NoAnswer(*address),
         }),
-        Said::Opened(served) => Reply::Opened(*served),
-        Said::Handed(served) => Reply::Handed(*served),
-        Said::Round(answer) => Reply::Round(*answer),
-        Said::Ended => Reply::Ended,
+        ShortReply::Opened(served) => Reply::Opened(*served),
+        ShortReply::Handed(served) => Reply::Handed(*served),
+        ShortReply::Round(answer) => Reply::Round(*answer),
+        ShortReply::Ended => Reply::Ended,
     }
 }
 
