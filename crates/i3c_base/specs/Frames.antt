@@ -135,7 +135,7 @@ AllUnaddressedLostAt st f lost = (s : ℕ) (d : Device) → IsUnaddressedAt st f
 abbrev pub SomeUnaddressedLeftIn : Population → ℕ → Lost → Type 0
 SomeUnaddressedLeftIn all f lost = (s : ℕ) × (d : Device) × IsUnaddressedIn all f s d × (lost s ≡ false)
 
--- some such device of this bus isn't lost
+-- some device of this bus with the static address f and no dynamic one isn't lost
 abbrev pub SomeUnaddressedLeftAt : State → ℕ → Lost → Type 0
 SomeUnaddressedLeftAt st f lost = SomeUnaddressedLeftIn (population st) f lost
 
@@ -181,7 +181,7 @@ moved old new given = slice_set (slice_set given old None) new (entry_in given o
 abbrev pub with_new_at : ℕ → ℕ → ℕ → ℕ → Device → Device
 with_new_at active old new s d = if reaches_at active (Some old) s d then readdressed new d else d
 
--- SETNEWDA: all who have the address `old` have the new one, with the entry of the table
+-- SETNEWDA: each device with the address `old` has the new one, with the entry of the table
 abbrev pub with_new : ℕ → ℕ → State → State
 with_new old new st = record (each (with_new_at st.active old new) st) {
   given = moved old new st.given;

@@ -251,7 +251,7 @@ abbrev pub has_fixed : ℕ → Option Entry → Bool
 has_fixed f None = false
 has_fixed f (Some entry) = is_the f entry.fixed
 
--- the least address of a table, but for the controller's own, whose entry has the static address f
+-- the least address of a table, except the controller's own, whose entry has the static address f
 abbrev pub home_in : List (Option Entry) → ℕ → ℕ → Option ℕ
 home_in given own f = find (λ a. not (a == own) && has_fixed f (entry_in given a)) (range_with_len 0 ADDRESSES)
 

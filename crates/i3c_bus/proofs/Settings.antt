@@ -23,7 +23,7 @@ use Rattle.i3c_bus.specs.Wire.{IsNewPart, IsStaticPart}
 use Rattle.i3c_bus.proofs.Heard.{answered_before}
 use Rattle.i3c_bus.proofs.Transfers.{Leaves}
 
--- a change that leaves both addresses leaves who is at a static one
+-- a change that keeps both addresses leaves the devices at a static one
 same_if : (b : Bool) (d e : Device) → e.address ≡ d.address → e.fixed ≡ d.fixed → ((if b then e else d).address ≡ d.address) × ((if b then e else d).fixed ≡ d.fixed)
 same_if true d e h k = (h, k)
 same_if false d e h k = (refl, refl)

@@ -71,8 +71,8 @@ IsBegun old cuts (Served.WantsRole a) new wire = wire ≡ Start ∷ request_head
 IsBegun old cuts (Served.Recorded place) new wire = IsRecordedWire old cuts new wire
 IsBegun old cuts Served.Torn new wire = IsTornWire old cuts wire
 
--- how a frame goes on to its own part: at once where nobody asked, else after a repeated START and the broadcast header,
--- whose ninth bit comes nine bits after the mandatory word
+-- how a frame goes on to its own part: at once without a request, and otherwise after a repeated START and the broadcast
+-- header, whose ninth bit comes nine bits after the mandatory word
 abbrev pub IsOn : State → CutList → Served → ℕ → List Symbol → Type 0
 IsOn old cuts Served.Quiet word wire = wire ≡ []
 IsOn old cuts _ word wire = (ack : Bool) × IsAck old cuts (word + 9) ack × (wire ≡ Repeated ∷ Header 0x7E false ack ∷ [])

@@ -78,7 +78,7 @@ impl Bus {
         })
     }
 
-    /// The addresses are cleared, but for the active controller's.
+    /// The addresses are cleared, except the active controller's.
     fn clear(&mut self)
         ensures state { self.new.state ≡ reset self.old.state }
         ensures room { self.new.room ≡ self.old.room }

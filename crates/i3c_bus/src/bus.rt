@@ -198,7 +198,7 @@ impl Bus {
     }
 
     /// The request that a slot's device would drive if each kind of its events was enabled, if it would drive one: a join
-    /// without an address, else the role request before the interrupt (I3C Basic 5.1.6).
+    /// without an address, otherwise the role request before the interrupt (I3C Basic 5.1.6).
     pub fn wish(&self, slot: Slot) -> Option<Request>
         ensures { result ≡ wish_of (device_at self.now.state slot) }
     {
@@ -212,7 +212,7 @@ impl Bus {
         self.records.as_slice()
     }
 
-    /// Lets the oldest records go, as many as these, or all where there are fewer. Nothing else changes, and room stays.
+    /// Lets the oldest `count` records go, or all if there are fewer. The rest is unchanged, and room stays.
     ///
     /// A reply counts the records that are left: the next one is at the place behind them.
     pub fn forget(&mut self, count: usize)

@@ -6,7 +6,7 @@ use Rattle.i3c_base.specs.State.{Device}
 abbrev pub is_one : ℕ → Bool
 is_one byte = byte == 1
 
--- 1 for a truth, and 0 else
+-- 1 for true, and 0 for false
 abbrev pub bit_of : Bool → ℕ
 bit_of is_so = if is_so then 1 else 0
 

@@ -24,7 +24,7 @@ abbrev pub key_in : Option Device → ℕ
 key_in None = 0
 key_in (Some d) = key_of d.address d.role_wish
 
--- the address at which a device with these two answers: its dynamic one, else its static one
+-- the address at which a device with these two answers: its dynamic one, or otherwise its static one
 abbrev pub answer_of : Option ℕ → Option ℕ → ℕ
 answer_of (Some a) fixed = a
 answer_of None (Some f) = f

@@ -32,8 +32,8 @@ key_of (Some a) false = 2 * a + 1
 abbrev pub request_of : ℕ → Request
 request_of key = if key == 4 then Join else (if key % 2 == 0 then Role (key / 2) else Interrupt (key / 2))
 
--- the request that a device with this address chooses, if it wishes for anything: a join without an address, else the role
--- request before the interrupt
+-- the request that a device with this address chooses, if it wishes for anything: a join without an address, otherwise the
+-- role request before the interrupt
 abbrev pub choice_of : Option ℕ → Device → Option Request
 choice_of None d = if d.join_wish then Some Join else None
 choice_of (Some a) d = if d.role_wish then Some (Role a) else (if is_empty d.waiting then None else Some (Interrupt a))

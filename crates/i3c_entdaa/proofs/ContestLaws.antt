@@ -167,14 +167,14 @@ contest_of st devices cuts counted keys winners bits acknowledged same shift exa
     none : acknowledged ≡ false → NoneLeft cuts keys bits
     none is = ap (list_any (λ s. not (lost_by cuts 73 s))) (sym held) ∙ (sym ack ∙ is)
 
--- ---- who acknowledges the address
+-- ---- the devices that acknowledge the address
 
 same_truth : (a b : Bool) → (a ≡ true → b ≡ true) → (b ≡ true → a ≡ true) → a ≡ b
 same_truth true b there back = sym (there refl)
 same_truth false true there back = back refl
 same_truth false false there back = refl
 
--- of those who aren't lost, the winners are the hearers whose number was read
+-- the winners, among the contenders that aren't lost, are the hearers whose number was read
 pub takers_of : (devices : List (Option Device)) (cuts counted : CutList) (keys : List (ℕ × ℕ)) (winners : List ℕ) (bits : ℕ) (slots takers : SlotSet) → counted ≡ counted_from 1 cuts → All (IsContenderKey devices) keys
     → ((s : ℕ) (d : Device) → get_or devices s None ≡ Some d → d.hearing ≡ true → Contains keys (s, number_of d.identity)) → winners ≡ holders counted keys 64 bits
     → ((s : ℕ) → s < SLOTS → has slots s ≡ list_any (λ t. t == s) winners) → ((s : ℕ) → s < SLOTS → has takers s ≡ (has slots s && not (lost_by cuts 73 s))) → AreTakers cuts devices bits takers

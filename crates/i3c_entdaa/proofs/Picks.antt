@@ -4,7 +4,7 @@ use Rattle.std.specs.List.{AllByRecursion, Contains, filter, list_all, list_any}
 use Rattle.std.proofs.lemmas.Bool.{both_ways, cases_Bool, or_cases, or_parts, true≢false}
 use Rattle.std.proofs.lemmas.List.Elements.{All-contains, All-from_recursion, Contains-append_left, Contains-append_right, Contains-push}
 
--- of the firsts of those who pass q, one passes p
+-- if a first of the keys that pass q passes p, one of those keys has it
 pub some_pick : (p : ℕ → Bool) (q : ℕ × ℕ → Bool) (keys : List (ℕ × ℕ)) → list_any p (map (λ e. e.0) (filter q keys)) ≡ true → (e : ℕ × ℕ) × Contains keys e × (q e ≡ true) × (p e.0 ≡ true)
 some_pick p q [] h = absurd (true≢false (sym h))
 some_pick p q (k ∷ keys) h =

@@ -8,7 +8,7 @@ abbrev pub contender : ℕ → Option Device → List (ℕ × ℕ)
 contender slot None = []
 contender slot (Some d) = if d.hearing then (slot, number_of d.identity) ∷ [] else []
 
--- those who hear among the places from this slot on, each with its number
+-- the hearers among the places from this slot on, each with its number
 unfoldable pub contenders_from : ℕ → List (Option Device) → List (ℕ × ℕ)
 contenders_from slot [] = []
 contenders_from slot (place ∷ places) = contender slot place ++ contenders_from (suc slot) places

@@ -13,7 +13,7 @@ use i3c_base::{Cuts, SLOTS, Slot};
 use i3c_device::{Devices, SlotSet};
 use i3c_wires::contest;
 
-/// The ninth bit of `7E`/R, where those who hear acknowledge: a round's first bit.
+/// The ninth bit of `7E`/R, where the hearers acknowledge: a round's first bit.
 pub(crate) const HEADER_ACK: u16 = 0;
 
 /// The first bit of the identities.
@@ -55,10 +55,10 @@ fn nobody_hears(devices: &Devices) -> bool
     devices.hearers().lowest().is_none()
 }
 
-/// The contest of a round: all who hear drive their identities at once. `None` where nobody acknowledges the header.
+/// The contest of a round: all hearers drive their identities at once. `None` if nobody acknowledges the header.
 ///
-/// Where nobody is cut, they contend by the words that the devices keep of each bit, and those who have the identity that was
-/// read acknowledge the address.
+/// Without cuts they contend by the words that the devices keep of each bit, and those with the identity that was read
+/// acknowledge the address.
 pub(crate) fn read_identity(devices: &Devices, cuts: &Cuts) -> Option<Contested>
     ensures contest { (st : State) → st.devices ≡ devices.now → MatchOption result (AllHearersLost st (lost_by cuts.now 0)) (λ read. IsContest st cuts.now read.bits read.acknowledged) }
     ensures takers { IfSome result (λ read. AreTakers cuts.now devices.now read.bits read.takers) }
@@ -78,7 +78,7 @@ pub(crate) fn read_identity(devices: &Devices, cuts: &Cuts) -> Option<Contested>
     })
 }
 
-/// The same, where somebody may be cut: the keys of those who hear contend bit by bit.
+/// The same with cuts: the keys of the hearers contend bit by bit.
 // out of line, since most rounds have no cuts; one that nobody hears, as each session's last, makes no room for keys
 #[inline(never)]
 fn read_cut(devices: &Devices, cuts: &Cuts) -> Option<Contested>

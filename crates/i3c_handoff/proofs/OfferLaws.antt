@@ -14,7 +14,7 @@ use Rattle.i3c_base.proofs.LostLaws.{left_before}
 use Rattle.i3c_word.specs.Parity.{IsAddressByte}
 use Rattle.i3c_handoff.specs.Offers.{IsTornByte, SomeTakes}
 
--- the lowest of those who would take the role that isn't lost
+-- the lowest of the devices that would take the role and aren't lost
 pub some_takes : (st : State) (a : ℕ) (lost : Lost) (devices : List (Option Device)) (active s : ℕ) → HasDevices st devices active → IsLowestWilling (with_active devices active) a lost s → SomeTakes st a lost
 some_takes st a lost devices active s has h = (s, subst (λ all. IsWillingIn all a s) (sym (population_is st devices active has)) h.0, h.1)
 

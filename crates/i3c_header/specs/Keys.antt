@@ -4,7 +4,7 @@ use Rattle.i3c_base.specs.declared.requests.Request.{Request}
 use Rattle.i3c_base.specs.declared.requests.Request.TheVariants.{Join, Role, Interrupt}
 use Rattle.i3c_base.specs.Serve.{rank}
 
--- the address that a request drives: 02 for a join, else its own
+-- the address that a request drives: 02 for a join, and its own otherwise
 abbrev pub address_of : Request → ℕ
 address_of Join = 0x02
 address_of (Role a) = a

@@ -52,7 +52,7 @@ pub record IsByteRead (st : State) (cuts : CutList) (at byte : ℕ) : Type 0 whe
   pub bits : (bit : ℕ) → bit < 8 → ((bit_at byte bit ≡ 1) ↔ ((s own : ℕ) → DrivesByte st (Interrupt at) s own → bit_at (driven (cut_of cuts s) own) bit ≡ 1))
 
 -- what was read of an accepted interrupt at the address `at`: the raise at the lowest driver's front, and of the byte what
--- those who end it drove
+-- the drivers drove that end it
 pub record IsReading (st : State) (cuts : CutList) (at : ℕ) (r : Record) : Type 0 where
   pub front : Waiting
   pub lowest : IsLowestDriver st (Interrupt at) r.slot

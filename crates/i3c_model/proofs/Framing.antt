@@ -20,7 +20,7 @@ use Rattle.i3c_step.proofs.Uniqueness.{accept≢refuse, first_unique}
 use Rattle.i3c_model.specs.Meaning.{MayAnswer, is_meant}
 use Rattle.i3c_model.specs.Storing.{IsRecordDue}
 
--- a frame that serves, does its own part, and loses whom it loses by its last bit
+-- a frame that serves, does its own part, and loses the devices cut by its last bit
 pub frame_of : (old : State) (policy : Fixed) (cuts : CutList) (served : Served) (rest word last : ℕ) (Own : Lost → State → State → Type 0) (mid done new : State)
     → last ≡ word + rest → IsWordBits old served word → Serves old policy (lost_by cuts last) served mid → Own (lost_by cuts last) mid done → new ≡ emptied (lost_by cuts last) done → Frame old policy cuts served rest Own new
 frame_of old policy cuts served rest word last Own mid done new e sent serves own left = record {

@@ -69,7 +69,7 @@ pub follows : (Comes : Reply → State → Type 0) (choice : Choice) (reply : Re
 follows Comes choice reply h k of_request = h
 follows Comes choice reply h k of_own_part = k
 
--- what an event that isn't refused may come to is what it does
+-- a possible result of an event that isn't refused is an effect of it
 may_act : (old : State) (event : Event) (q : Question) (choice : Choice) → first_refusal (checks old event) ≡ None → MayStandFor (Step old event) q choice → MayStandFor (Acts old event) q choice
 may_act old event q choice allowed m = (m.0, m.1, elim step [ inl short ↦ absurd (settled q short.1) | inr acts ↦ acts ], m.3)
   where

@@ -122,7 +122,7 @@ tells_chosen old mid what a by_header lost choice header answer may given h = el
       subst (TellsAsChosen old a by_header choice) (sym is) (answers_none old a by_header choice header given (λ e. done≢no_answer a (sym e ∙ x.0)))
 ]
 
--- somebody who is left is left after serving
+-- a device that is left is left after serving
 some_in : (st new : State) (a : ℕ) (lost : Lost) → Stay st new → SomeLeftAt st a lost → SomeLeftAt new a lost
 some_in st new a lost h some = let t = h.to a some.0 some.1 some.2 in (some.0, t.0, t.1, some.3)
 

@@ -55,7 +55,7 @@ order Heard = 0
 order Lost = 1
 order Silent = 2
 
--- of the lawful choices the given one is taken, or else the first
+-- the given choice is taken if it is lawful, and otherwise the first lawful one
 pub record IsTaken (IsLawful : Choice → Type 0) (choice taken : Choice) : Type 0 where
   pub chosen : IsLawful choice → taken ≡ choice
   pub first : ¬ IsLawful choice → (other : Choice) → IsLawful other → order taken ≤ order other

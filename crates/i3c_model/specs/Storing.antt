@@ -13,7 +13,7 @@ use Rattle.i3c_step.specs.declared.events.Event.{Event}
 use Rattle.i3c_step.specs.declared.events.Event.TheVariants.{Attach, DropOff, Raise, AskJoin, AskRole, Serve, Enec, Disec, Reset, SendList, ReadFrom, WriteTo, SetStatic, SetNew, Get, SetLength, OpenDaa, Round, EndDaa, HandOver}
 use Rattle.i3c_step.specs.Step.{checks, first_refusal}
 
--- an interrupt comes first and is accepted, so a record may be due
+-- an interrupt comes first and is accepted, so the event may add a record
 abbrev pub IsRecordDue : State → Fixed → Type 0
 IsRecordDue st policy = (a : ℕ) × IsFirst st (Interrupt a) × (verdict st policy (Interrupt a) ≡ Accept)
 

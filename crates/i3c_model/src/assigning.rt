@@ -34,7 +34,7 @@ impl Plain {
         served
     }
 
-    // One round of the session: the least identity of those who hear gets its address.
+    // One round of the session: the least identity of the hearers gets its address.
     pub(crate) fn round(&mut self, cuts: &Cuts, choice: Choice) -> Result<RoundReply, OutOfMemory>
         ensures rounds { IfOk result (λ answer. Rounds self.old cuts.now answer self.new) }
         ensures unchanged { OnErr result (self.new ≡ self.old) }

@@ -142,7 +142,7 @@ impl PlainDevice {
         self.hearing
     }
 
-    // The request that it drives: a join without an address, else the role request before the interrupt, its choice
+    // The request that it drives: a join without an address, otherwise the role request before the interrupt, and its choice
     // only while that kind is enabled.
     pub(crate) fn wants(&self) -> Option<Request>
         ensures asked { MatchOption result ((r : RequestValue) → asks self.now r ≡ false) (λ r. asks self.now r ≡ true) }
@@ -409,7 +409,7 @@ impl PlainEntry {
         }
     }
 
-    // Whether who got the address has this static address.
+    // Whether the holder of the address has this static address.
     pub(crate) fn has_fixed(&self, fixed: Addr7) -> bool
         ensures { result ≡ has_fixed fixed (Some self.now) }
     {
@@ -442,7 +442,7 @@ impl PlainEntry {
         self.kept = None;
     }
 
-    // Whether who got the address can be a controller.
+    // Whether the holder of the address can be a controller.
     pub(crate) fn is_capable(&self) -> bool
         ensures { result ≡ is_capable self.now.bcr }
     {

@@ -23,7 +23,7 @@ impl Plain {
         self.is_any_left_at(address, &uncut, 0)
     }
 
-    // Whether some such device isn't lost by this bit.
+    // Whether a device at the address isn't lost by this bit.
     pub(crate) fn is_any_left_at(&self, address: Addr7, cuts: &Cuts, last: u16) -> bool
         ensures { IsTrue result ↔ SomeLeftAt self.now address (lost_by cuts.now last) }
     {

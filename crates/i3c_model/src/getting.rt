@@ -79,7 +79,7 @@ impl Plain {
         Answer::NoEnd
     }
 
-    // The AND of what the devices at an address tell of a datum that aren't lost by this bit.
+    // The AND of a datum's bytes as the devices at an address tell them that aren't lost by this bit.
     fn told_together(&self, what: Datum, at: Addr7, cuts: &Cuts, last: u16) -> Bytes
         ensures all { length result ≡ told_length what (entry_at self.now at) }
         ensures together { (k : ℕ) → k < length result → IsAnd (slice_index result k) (DrivesToldLeft self.now what at (lost_by cuts.now last) k) }

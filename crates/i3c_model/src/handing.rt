@@ -41,7 +41,7 @@ impl Plain {
         }
     }
 
-    // The lowest such slot that isn't lost by this bit.
+    // The lowest slot of a willing device at the address that isn't lost by this bit.
     fn heir(&self, at: Addr7, cuts: &Cuts, last: u16) -> Option<Slot>
         ensures { MatchOption result (NoHeir self.now at (lost_by cuts.now last)) (IsHeir self.now at (lost_by cuts.now last)) }
     {

@@ -102,7 +102,7 @@ impl Plain {
         self.is_any_unaddressed_left(fixed, &uncut, 0)
     }
 
-    // Whether some such device isn't lost by this bit.
+    // Whether a device at the static address without a dynamic one isn't lost by this bit.
     fn is_any_unaddressed_left(&self, fixed: Addr7, cuts: &Cuts, last: u16) -> bool
         ensures { IsTrue result ↔ SomeUnaddressedLeftAt self.now fixed (lost_by cuts.now last) }
     {

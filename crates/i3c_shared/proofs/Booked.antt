@@ -199,14 +199,14 @@ closed_counted books old seen last (Some held) run was takes ran h = (
   ap (λ (b : BooksValue). b.frames) (h ∙ was) ∙ sym (taken_frames old seen last takes) ∙ sym (ap frames_in ran),
 )
 
--- whose shares come to what is booked has a role while no session is open, and a session while one is
+-- a holder whose shares are all that is booked has a role while no session is open, and a session while one is
 pub is_closed : (log : Log) (books shares : BooksValue) → shares ≡ books → books ≡ books_of log → shares.session ≡ 0 → log.state.in_session ≡ false
 is_closed log books shares whole was role = none_open log.state.in_session (sym (ap (λ (b : BooksValue). b.session) (whole ∙ was)) ∙ role)
 
 pub is_opened : (log : Log) (books shares : BooksValue) → shares ≡ books → books ≡ books_of log → shares.session ≡ 1 → log.state.in_session ≡ true
 is_opened log books shares whole was session = one_open log.state.in_session (sym (ap (λ (b : BooksValue). b.session) (whole ∙ was)) ∙ session)
 
--- the run has one frame event more than such shares count
+-- the run has one frame event more than these shares count
 pub one_more : (books shares : BooksValue) (old new : Log) (event : Event) (reply : Reply) → shares ≡ books → books ≡ books_of old → Grows old event reply new → is_frame event ≡ true → frames_in new.run ≡ shares.frames + 1
 one_more books shares old new event reply whole was g frame =
     grown_frames old new event reply g frame ∙ ap (λ (b : BooksValue). b.frames + 1) (sym (whole ∙ was))

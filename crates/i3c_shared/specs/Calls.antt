@@ -1,4 +1,4 @@
--- What each call does to what lies under the lock, by its answer.
+-- The effect of each call on the state under the lock, by its answer.
 use Rattle.std.specs.Prelude.{◌≡◌, ◌≢◌, ℕ, ◌+◌, ⊤, MatchOption, Bool, true, false, not, ◌&&◌, [], Option, Some, None, ◌⊎◌, is_some, Result, Ok, Err}
 use Rattle.rtrb.specs.Ring.{IsPair, sent}
 use Rattle.i3c_base.specs.declared.answers.Answer.{Answer}

@@ -27,7 +27,7 @@ IsMissing rings ports s = (is_out rings s ≡ true) × ¬ HasPort ports s
 abbrev pub NoneMissing : Rings → List PortValue → Type 0
 NoneMissing rings ports = (s : ℕ) → ¬ IsMissing rings ports s
 
--- the lowest such slot
+-- the lowest missing slot
 abbrev pub IsFirstMissing : Rings → List PortValue → ℕ → Type 0
 IsFirstMissing rings ports s = IsMissing rings ports s × ((t : ℕ) → t < s → ¬ IsMissing rings ports t)
 

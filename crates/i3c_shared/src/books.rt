@@ -4,8 +4,8 @@ use i3c_base::Slot;
 use std::marker::Model;
 use std::sync::ledger::{Blank, Book, Ledger, Share};
 
-/// The books of a bus's three ledgers. They are seen as what they come to: the active controller's slot, 1 while a
-/// session is open, and the number of frame events in the run.
+/// The books of a bus's three ledgers. They are seen as their amounts: the active controller's slot, 1 while a session is
+/// open, and the number of frame events in the run.
 #[derive(Drop)]
 pub struct Books<L: Ledger, M: Ledger, N: Ledger> {
     active: Book<L>,
@@ -94,7 +94,7 @@ impl<L: Ledger, M: Ledger, N: Ledger> Books<L, M, N> {
         (books, shares)
     }
 
-    /// Changes nothing, and tells that the shares come to what is booked: there are no others.
+    /// Changes nothing, and tells that the shares are all that is booked.
     pub(crate) fn audit(&mut self, shares: &mut Shares<L, M, N>)
         ensures same { (self.new ≡ self.old) × (shares.new ≡ shares.old) }
         ensures whole { shares.old ≡ self.old }

@@ -19,15 +19,15 @@ use std::marker::Model;
 use std::mem;
 use std::sync::ledger::{Blank, Ledger};
 
-/// What lies under the lock: the bus with its run, the rings of the ports that are out, the books of three ledgers, and
-/// the parked role.
+/// The state under the lock: the bus with its run, the rings of the ports that are out, the books of three ledgers, and the
+/// parked role.
 ///
-/// Each call first takes up what its devices posted, at most eight posts of each port, in the order of the slots, each
-/// as one raise; then comes its own event. A call that answers `SlotTaken` for an empty slot takes up nothing and is no
-/// event; nor is one that answers `OutOfMemory`, before which nothing is taken.
+/// Each call first takes up what its devices posted, at most eight posts of each port, in the order of the slots, each as one
+/// raise; then comes its own event. A call that answers `SlotTaken` for an empty slot takes up nothing and is no event; nor
+/// is one that answers `OutOfMemory`, before which nothing is taken.
 ///
-/// All shares of the ledgers are in the one role or session of the bus, in a thread's hand or parked. So what a thread
-/// holds is the active controller's, is a session just while one is open, and counts each frame event of the run.
+/// All shares of the ledgers are in the one role or session of the bus, in a thread's hand or parked. So what a thread holds
+/// is the active controller's, is a session just while one is open, and counts each frame event of the run.
 pub struct Kept<L: Ledger, M: Ledger, N: Ledger> {
     alloc: Global,
     intake: Intake,
@@ -363,7 +363,7 @@ impl<L: Ledger, M: Ledger, N: Ledger> Kept<L, M, N> {
     }
 
     /// Ends the bus. Its role has to be handed in or parked, with no session open, and each port that is out handed in;
-    /// else all comes back.
+    /// otherwise all comes back.
     pub fn close(
         self,
         role: Option<HeldRole<L, M, N>>,

@@ -14,8 +14,8 @@ use std::sync::{Mutex, Wait};
 
 /// A bus that threads share: its calls may wait for its one lock. It must be closed or let go.
 ///
-/// Each call is the method of the same name on what lies under the lock. The contracts of that are in `Kept`; here are those
-/// of the results. The types `L`, `M` and `N` name three ledgers of this bus alone: the active controller's slot, whether a
+/// Each call is the method of the same name on the state under the lock. `Kept` has the contracts of that; here are those of
+/// the results. The types `L`, `M` and `N` name three ledgers of this bus alone: the active controller's slot, whether a
 /// session is open, and the number of frame events in the run. The shares of all three are in the bus's one role or session,
 /// so that what it counts is what the run has. A call that says that it counts one more has added one frame event to the run
 /// under the lock.
@@ -175,7 +175,7 @@ impl<L: Ledger, M: Ledger, N: Ledger> SharedBus<L, M, N> {
     }
 
     /// Ends the bus. Its role has to be handed in or parked, with no session open, and each port that is out handed in;
-    /// else all comes back, the bus too.
+    /// otherwise all comes back, the bus too.
     pub fn close(
         self,
         role: Option<HeldRole<L, M, N>>,

@@ -58,7 +58,7 @@ not_more (x ∷ xs) (y ∷ ys) e h =
     let rest : hearers xs ≤ hearers ys = not_more xs ys (omega (arith, e)) (λ k. h (suc k)) in
     omega (arith, first, rest)
 
--- and one who hears no more makes them fewer
+-- and a device that hears no more makes them fewer
 fewer : (xs ys : List (Option Device)) (j : ℕ) → length xs ≡ length ys → IsWithin xs ys → hears_at (get_or ys j None) ≡ true → hears_at (get_or xs j None) ≡ false → hearers xs < hearers ys
 unfolding hearers
 fewer [] [] j e h was is = absurd (both_ways _ refl was)
@@ -187,7 +187,7 @@ round_goes old cuts reply new uncut busy h = go (first_refusal (checks old (Even
 Contains-later : {A : Type 0} (y : A) (xs : List A) (x : A) → Contains xs x → Contains (y ∷ xs) x
 Contains-later y xs x h = (suc h.0, omega (arith, h.1), h.2)
 
--- a step of the session that isn't its last round: those who hear are fewer by a round, and the session is open
+-- a step of the session that isn't its last round: a round leaves one hearer fewer, and the session is open
 record Went (old : State) (event : Event) (new : State) : Type 0 where
   less : one_if (is_round event) + hearers new.devices ≤ hearers old.devices
   session : new.in_session ≡ true

@@ -56,7 +56,7 @@ no_word st lost Refused mid bits h sent = sent
 no_word st lost Joining mid bits h sent = sent
 no_word st lost (WantsRole a) mid bits h sent = sent
 
--- a frame that ends by the last bit of such cuts
+-- a frame that ends by the last bit of the cuts
 frame_alike : (old : State) (policy : Fixed) (cuts other : CutList) (served : Served) (rest last : ℕ) (Own : Lost → State → State → Type 0) (new : State)
     → AreAlike old last cuts other → (frame : Frame old policy cuts served rest Own new) → frame.word + rest ≤ last → Frame old policy other served rest Own new
 frame_alike old policy cuts other served rest last Own new alike frame within =
@@ -144,7 +144,7 @@ rounds_alike old cuts other RoundReply.Nobody new alike h =
 rounds_alike old cuts other (RoundReply.Assigned a i) new alike h =
     subst (λ (l : Lost). AnyPickable old × IsWinner old l i × IsAddressFor old i a × (new ≡ emptied l (assigned l i a old))) (alike.lost 73 (omega arith)) h
 
--- such cuts of an event, which are changed by f, or by g
+-- cuts of an event that are alike when changed by f and by g
 abbrev pub AlikeIn : State → Event → (CutList → CutList) → (CutList → CutList) → Type 0
 AlikeIn old event f g = MatchOption (cuts_in event) ⊤ (λ cuts. AreAlike old (most_bits old event) (f cuts) (g cuts))
 
@@ -237,7 +237,7 @@ wants_alike (AskJoin s) f g wants = wants
 wants_alike (AskRole s) f g wants = wants
 wants_alike EndDaa f g wants = wants
 
--- a step is one with such other cuts
+-- a step is one with other cuts that are alike
 pub step_alike : (old : State) (event : Event) (f g : CutList → CutList) (reply : Reply) (new : State) → AlikeIn old event f g → Step old (recut f event) reply new → Step old (recut g event) reply new
 step_alike old event f g reply new alike h =
     step_like old (recut f event) (recut g event) reply new (checks_alike old event f g alike) (λ short. (wants_alike event f g short.0, short.1, short.2)) (acts_alike old event f g reply new alike) h

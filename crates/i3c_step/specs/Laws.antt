@@ -121,7 +121,7 @@ PidsAreTold = (d : Device) → IsInRange d.identity
     → (number_behind 0 (told_bytes Datum.Pid d) ≡ d.identity.pid) × All (λ byte. byte < 256) (told_bytes Datum.Pid d)
 
 -- Of as many rounds as there are slots, in one session and without cuts, one answers that nobody hears any more, or that no
--- address is left, whatever else happens between them.
+-- address is left, whatever events come between them.
 abbrev pub SessionsEnd : Type 0
 SessionsEnd = (main : Setup) (board : Board) (events : List Event) (replies : List Reply) (mid : State) → IsLegalRun main board events replies mid → mid.in_session ≡ true
     → (session : List Event) (answers : List Reply) (new : State) → All IsInSession session → SLOTS ≤ count_by is_round session → IsRun mid session answers new

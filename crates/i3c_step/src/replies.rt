@@ -65,7 +65,7 @@ pub enum Reply {
     Asked,
     /// The frame served this, and did no more.
     Served(Served),
-    /// A frame was sent, and came to this.
+    /// A frame was sent, with this result.
     Framed(Framed),
     /// A session is open; the frame served this.
     Opened(Served),

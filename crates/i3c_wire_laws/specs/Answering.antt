@@ -18,7 +18,7 @@ use Rattle.i3c_wave.specs.Clocks.{at_bit}
 use Rattle.i3c_wave.specs.Levels.{high, wire_levels}
 use Rattle.i3c_wire_laws.specs.Wires.{AreLegacies}
 
--- this bit is an answer: SDA is low there exactly where somebody gives it, and else high
+-- this bit is an answer: SDA is low there exactly if somebody gives it, and otherwise high
 abbrev pub IsAnsweredAt : Bool → List Symbol → ℕ → Type 0 → Type 0
 IsAnsweredAt sda wire bit Somebody = (ack : Bool) × (at_bit (high sda) (wire_levels wire) bit ≡ Some (not ack)) × ((ack ≡ true) ↔ Somebody)
 

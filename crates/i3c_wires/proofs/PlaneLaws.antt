@@ -20,7 +20,7 @@ use mir.Val.{bits as bits_of}
 abbrev pub mask_width : Width
 mask_width = w64
 
--- ---- those of a set who drive 0, one place after another
+-- ---- the elements of a set that drive 0, one place after another
 
 -- the places without the lowest one
 abbrev pub without_lowest : ℕ → ℕ
@@ -61,7 +61,7 @@ subtracted rest some fits = omega (arith, lowest_off rest some fits)
 abbrev pub key_at : List (ℕ × ℕ) → ℕ → ℕ
 key_at keys i = (get_or keys i (0, 0)).1
 
--- of the places that aren't left over, those who drive 0
+-- the places that drive 0, of those that aren't left over
 pub record ZerosSoFar (keys : List (ℕ × ℕ)) (among left rest low : ℕ) : Type 0 where
   pub within : (i : ℕ) → bit_at rest i ≡ 1 → bit_at among i ≡ 1
   pub are : (i : ℕ) → i < bits_of mask_width → bit_at low i ≡ cond (not (is_one i rest) && (is_one i among && not (is_one left (key_at keys i)))) 1 0

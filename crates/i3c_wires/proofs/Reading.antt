@@ -110,7 +110,7 @@ by_later : (bit last : ℕ) (cut : Option ℕ) → bit ≤ last → is_by last c
 by_later bit last None l h = refl
 by_later bit last (Some cut) l h = grind (arith, nat_tests)
 
--- ---- who is in
+-- ---- the contenders that are in
 
 -- in when `left` bits are still to come: the key agrees with what was read, and there was no cut before
 abbrev pub stays : CutList → ℕ → ℕ → ℕ → ℕ × ℕ → Bool
@@ -148,7 +148,7 @@ stays_first cuts width e l =
 
 -- ---- what was read so far
 
--- each bit of what was read so far is the AND of those who drove there
+-- each bit that was read so far is the AND of the contenders that drove there
 abbrev EachSoFar : CutList → List (ℕ × ℕ) → ℕ → ℕ → ℕ → Type 0
 EachSoFar cuts keys width left bits = (k : ℕ) → left + k < width → is_one k bits ≡ list_all (drives_one (left + k)) (filter (λ e. e.1 / 2 ^ suc (left + k) == bits / 2 ^ suc k && not (is_cut cuts width (left + k) e)) keys)
 
@@ -246,7 +246,7 @@ read_least cuts keys width bits r k d l uncut =
     let e : ℕ × ℕ = get_or keys k d in
     elim (held_last keys bits e (r.held e (Contains-get_or keys k d l) uncut)) [ inl same ↦ omega arith | inr above ↦ omega (arith, above.0) ]
 
--- all pass, or one of those who don't has the least number
+-- all pass, or one that doesn't has the least number
 some_least : (p : ℕ × ℕ → Bool) (xs : List (ℕ × ℕ)) → AllByRecursion (λ e. p e ≡ true) xs ⊎ ((m : ℕ × ℕ) × Contains xs m × (p m ≡ false) × AllByRecursion (λ f. p f ≡ false → m.1 ≤ f.1) xs)
 some_least p [] = inl tt
 some_least p (x ∷ xs) =

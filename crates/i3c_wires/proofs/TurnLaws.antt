@@ -48,7 +48,7 @@ module _ {X : Type 0} where
             ap (λ b. cond b 1 0 + 2 * mask_of q xs) (f x out) ∙ omega (arith, fewer p q xs f rest)
       ]
 
-  -- all who are left drive the same, and somebody is left
+  -- all that are left drive the same, and one is left
   reads_true : (p q : X → Bool) (xs : List X) → AllByRecursion (λ x. q x ≡ true) xs → list_all q (filter p xs) ≡ true
   reads_true p q [] h = refl
   reads_true p q (x ∷ xs) h =

@@ -25,7 +25,7 @@ is_in read left e = e.1 / 2 ^ suc left == read / 2 ^ suc left
 abbrev pub is_cut : CutList → ℕ → ℕ → ℕ × ℕ → Bool
 is_cut cuts width left e = lost_by cuts (width - suc left) e.0
 
--- each bit of the number that was read, of this width, is the AND of what those drive there who are still in and not cut
+-- each bit of the number that was read, of this width, is the AND of the contenders that are still in and not cut
 abbrev pub EachBit : CutList → List (ℕ × ℕ) → ℕ → ℕ → Type 0
 EachBit cuts keys width read = (left : ℕ) → left < width → is_one left read ≡ list_all (drives_one left) (filter (λ e. is_in read left e && not (is_cut cuts width left e)) keys)
 

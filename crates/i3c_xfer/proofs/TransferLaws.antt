@@ -59,7 +59,7 @@ not_both b z o = omega (arith, z, o)
 abbrev pub DrivesByte : Driving → State → ℕ → ℕ → ℕ → ℕ → Type 0
 DrivesByte own st a k s v = (d : Device) × IsTargetAt st a s d × (v ≡ get_or (own d) k 0)
 
--- which is the AND of what they drive where nobody of them is lost by the end
+-- the AND of what they drive, if none of them is lost by the end
 pub and_there : (own : Driving) (count : ℕ) (st : State) (a : ℕ) (cuts : CutList) (first last : ℕ) (bytes : List ℕ) → first + 9 * count ≤ suc last → AreDrivenBy own count st a cuts first bytes
     → ((k : ℕ) → k < count → get_or bytes k 0 < 256)
     → ((s : ℕ) (d : Device) → IsTargetAt st a s d → lost_by cuts last s ≡ false) → (k : ℕ) → k < count → IsAnd (get_or bytes k 0) (DrivesByte own st a k)
