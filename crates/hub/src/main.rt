@@ -16,7 +16,7 @@ use crate::policy::Quota;
 use crate::tap::Count;
 use std::process::ExitCode;
 
-/// Prints what the alarm came to, or why there was none.
+/// Prints the alarm's result, or why there was none.
 fn main(rt: HostRuntime) -> ExitCode {
     match tell(&rt) {
         Ok(()) => ExitCode::SUCCESS,

@@ -87,7 +87,7 @@ abbrev pub line_text : ℕ → ℕ → List ℕ → List ℕ
 line_text y width line =
     codes "<svg x='8' y='" ++ (decimal y ++ (codes "' width='" ++ (decimal width ++ (codes "' height='16'>" ++ (title_text line ++ (codes "<text y='12'>" ++ (escaped line ++ (codes "</text></svg>" ++ 10 ∷ []))))))))
 
--- a byte of what was printed: a line feed ends a line
+-- a byte of the output: a line feed ends a line
 abbrev pub printed_part : ℕ → List ℕ
 printed_part byte = if byte == 10 then codes "</tspan>" else escaped_byte byte
 

@@ -80,7 +80,7 @@ fn behind_bytes(begins: bool) -> &'static [u8]
     if begins { b"" } else { b"</tspan>" }
 }
 
-/// Appends a byte of what was printed.
+/// Appends a byte of the output.
 fn push_part(byte: u8, text: &mut Text) -> Result<(), AllocError>
     ensures { OnOk result (text.new ≡ text.old ++ printed_part byte) }
 {

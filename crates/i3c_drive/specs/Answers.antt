@@ -51,7 +51,7 @@ Asks state told = AsksAt state.stage state.names told
 abbrev pub IsNews : List ℕ → List ℕ → Option (List ℕ) → Type 0
 IsNews before after news = ((before ≡ after) × (news ≡ None)) ⊎ ((before ≢ after) × (news ≡ Some after))
 
--- what a line changed about who asks
+-- how a line changed the devices that ask
 pub record IsChange (old new : ScriptState) (news : Option (List ℕ)) : Type 0 where
   pub before : List ℕ
   pub after : List ℕ
@@ -105,7 +105,7 @@ AreAnswered form number old (run ∷ rest) new answers = (mid : ScriptState) × 
 abbrev pub LacksFeed : List ℕ → Type 0
 LacksFeed input = (front : List ℕ) × (last : ℕ) × (input ≡ front ++ last ∷ []) × (last ≢ 10)
 
--- these are the lines of an input: each ends in a line feed, but for the last one, which may lack it
+-- these are the lines of an input: each ends in a line feed, except the last one, which may lack it
 abbrev pub AreLinesOf : List ℕ → List LineRun → Type 0
 AreLinesOf input lines = (lines_bytes lines ≡ input) ⊎ (LacksFeed input × (lines_bytes lines ≡ input ++ 10 ∷ []))
 
@@ -144,7 +144,7 @@ pub record IsDrivenPart (form : Form) (known old new : Option (List ℕ)) (fault
 abbrev pub AnswersGoOut : Form → Option (List ℕ) → Option (List ℕ) → Option (List ℕ) → Result Tally ScriptFault → Type 0
 AnswersGoOut form known old new result = MatchResult result (IsDriven form known old new) (IsDrivenPart form known old new)
 
--- these lines of a script are those that driven lines stand for, and come to the same
+-- these lines of a script are the ones that driven lines mean, and have the same results
 abbrev pub StandFor : List LineRun → List LineRun → Type 0
 StandFor [] script = script ≡ []
 StandFor (run ∷ rest) script = (one : LineRun) × (more : List LineRun) × (script ≡ one ∷ more) × StandsFor run.line one.line × (one.said ≡ run.said) × (one.refused ≡ run.refused) × StandFor rest more

@@ -170,7 +170,7 @@ impl Driver {
         }
     }
 
-    /// Makes the answer of what a line printed, and counts its refusal.
+    /// Makes the answer of a line's output, and counts its refusal.
     fn close(
         &mut self,
         form: Form,
@@ -322,7 +322,7 @@ impl Driver {
         }
     }
 
-    /// Looks who asks now, and tells whether that has changed.
+    /// Looks which devices ask now, and tells whether they have changed.
     fn ask(&mut self) -> Result<bool, AllocError>
         ensures asked { IfOk result (Asked self.old self.new) }
         ensures state { state self.new ≡ state self.old }
@@ -369,14 +369,14 @@ fn push_askers(stage: &Stage, names: &Names, text: &mut Text) -> Result<(), Allo
     }
 }
 
-/// The names of those who ask, if they have changed.
+/// The names of the devices that ask, if they have changed.
 fn news(changed: bool, asks: &[u8]) -> Option<&[u8]>
     ensures { option_map (λ names. names.now) result ≡ news_of changed asks.now }
 {
     if changed { Some(asks) } else { None }
 }
 
-/// Appends the line of those who ask, if they have changed.
+/// Appends the line of the devices that ask, if they have changed.
 fn push_news(changed: bool, asks: &[u8], answer: &mut Text) -> Result<(), AllocError>
     ensures { OnOk result (answer.new ≡ answer.old ++ news_text (news_of changed asks.now)) }
 {

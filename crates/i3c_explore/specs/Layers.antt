@@ -16,7 +16,7 @@ Has {S} layer places state = (n : Node S) × Contains layer n × (n.places.items
 abbrev pub Keeps : {S : Type 0} → List (Node S) → List (Node S) → Type 0
 Keeps {S} old new = (places : List ℕ) (state : S) → Has old places state → Has new places state
 
--- two nodes are equal but for the numbers of their orders
+-- two nodes are equal except for the numbers of their orders
 abbrev pub IsLike : {S : Type 0} → Node S → Node S → Type 0
 IsLike one other = (one.state ≡ other.state) × (one.places.items ≡ other.places.items) × (one.order.items ≡ other.order.items)
 

@@ -1,4 +1,4 @@
--- What a fact holds of: the bus, the place of its name, and what the line before came to.
+-- When a fact holds: by the bus, the place of its name, and the result of the previous line.
 use Rattle.std.specs.Prelude.{ℕ, zero, suc, ◌+◌, ◌==◌, Bool, true, false, not, ◌&&◌, ◌||◌, List, [], ◌∷◌, Option, Some, None, if◌then◌else◌, is_some, length, nat_eq, option_and_then}
 use Rattle.std.specs.Cmp.Lexicographic.{pointwise}
 use Rattle.i3c_base.specs.declared.range.TheConstants.{SLOTS}
@@ -82,7 +82,7 @@ address_about _ = None
 abbrev pub is_same_refusal : Refusal → Refusal → Bool
 is_same_refusal why other = pointwise nat_eq (refusal_token why) (refusal_token other) && same_number (address_about why) (address_about other)
 
--- what a line came to, for the facts behind it
+-- the result of a line, for the facts behind it
 abbrev pub came_to : Option Refusal → Before
 came_to None = Before.Done
 came_to (Some why) = Before.Refused why
@@ -99,7 +99,7 @@ is_refused why Before.Nothing = false
 is_refused why Before.Done = false
 is_refused why (Before.Refused other) = is_same_refusal why other
 
--- a fact holds, where its name stands for this place and this is what the line before came to
+-- a fact holds, with this place of its name and this result of the previous line
 abbrev pub fact_holds : State → Option Place → Before → Fact → Bool
 fact_holds st place before (Fact.Active name) = same_number (slot_of place) (Some st.active)
 fact_holds st place before (Fact.At name address) = in_slot (has_address address) (device_of st place)

@@ -98,7 +98,7 @@ abbrev pub counted_text : Name → Option ℕ → Option ℕ → List Record →
 counted_text name byte None records = letters name ++ codes " gone"
 counted_text name byte (Some slot) records = recorded_text name byte (records_of slot byte records)
 
--- what the line before came to, where it wasn't what a fact says
+-- the result of the previous line, if it isn't the one that a fact says
 abbrev pub before_text : Fact → Before → List ℕ
 before_text fact Before.Nothing = codes "not " ++ fact_text fact
 before_text fact Before.Done = codes "done"

@@ -1,7 +1,7 @@
 use i3c_base::Addr7;
 use i3c_lines::{Name, Refusal};
 
-/// One thing that may hold: of the bus, of the device that a name stands for, or of what the line before came to.
+/// One thing that may hold: of the bus, of the device of a name, or of the previous line's result.
 #[derive(Clone, Copy)]
 pub enum Fact {
     /// `active NAME`: the device is the active controller.

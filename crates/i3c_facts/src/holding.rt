@@ -13,7 +13,7 @@ use i3c_bus::{Bus, Refusal as BusRefusal};
 use i3c_lines::{Place, Refusal};
 
 impl Fact {
-    /// Whether it holds of a bus, where its name stands for this place and this is what the line before came to.
+    /// Whether it holds of a bus, with this place of its name and this result of the previous line.
     pub fn holds(&self, bus: &Bus, place: Option<Place>, before: &Before) -> bool
         ensures { result ≡ fact_holds bus.now.state place before.now self.now }
     {
@@ -155,7 +155,7 @@ fn address_about(why: &Refusal) -> Option<Addr7>
 }
 
 impl Claim {
-    /// Whether it holds of a bus, where its name stands for this place and this is what the line before came to.
+    /// Whether it holds of a bus, with this place of its name and this result of the previous line.
     pub fn holds(&self, bus: &Bus, place: Option<Place>, before: &Before) -> bool
         ensures { result ≡ claim_holds bus.now.state place before.now self.now }
     {
@@ -174,7 +174,7 @@ pub(crate) fn place_for<N: Naming>(naming: &N, fact: &Fact) -> Option<Place>
 }
 
 impl Facts {
-    /// Whether one of its claims holds of a bus, with what names stand for and what the line before came to.
+    /// Whether one of its claims holds of a bus, with the places of names and the result of the previous line.
     pub fn hold<N: Naming>(&self, bus: &Bus, naming: &N, before: &Before) -> bool
         ensures { result ≡ claims_hold bus.now.state (N.place naming.now) before.now self.now }
     {

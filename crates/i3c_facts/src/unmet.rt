@@ -92,7 +92,7 @@ impl Fact {
         }
     }
 
-    /// Appends what the line before came to, where it wasn't this.
+    /// Appends the result of the previous line, if it isn't this fact.
     fn push_before(&self, before: &Before, text: &mut Text) -> Result<(), AllocError>
         ensures { OnOk result (text.new ≡ text.old ++ before_text self.now before.now) }
     {
@@ -107,7 +107,7 @@ impl Fact {
     }
 }
 
-/// Appends who is the active controller.
+/// Appends the active controller.
 fn push_active(active: Option<Name>, text: &mut Text) -> Result<(), AllocError>
     ensures { OnOk result (text.new ≡ text.old ++ active_text active) }
 {

@@ -62,7 +62,7 @@ abbrev pub put_address : Option ℕ → Members → Members
 put_address None members = members
 put_address (Some a) members = put (codes "about") (text_data (byte_text a)) members
 
--- what the line came to
+-- the result of the line
 abbrev pub put_outcome : Option Refusal → Members → Members
 put_outcome None members = put (codes "ok") (boolean true) members
 put_outcome (Some why) members = put_address (refusal_address why) (put (codes "refused") (text_data (refusal_token why)) members)

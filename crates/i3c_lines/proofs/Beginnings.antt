@@ -228,7 +228,7 @@ only_l tail command form =
           ]
     ]
 
--- what reads token by token reads a line that only such commands can have
+-- a reader of tokens reads a line that only its commands can have
 pub becomes_other : (tokens : List (List ℕ)) (result : Option (Unit {0})) (old new : Command) → ((command : Command) → IsForm tokens command → IsOther command) → BecomesOther tokens result old new → Becomes tokens result old new
 becomes_other tokens None old new other is = (λ command form. is.0 command (form, other command form), is.1)
 becomes_other tokens (Some done) old new other is = is.0

@@ -9,7 +9,8 @@ use crate::tokens::Tokens;
 use i3c_text::Text;
 use std::alloc::AllocError;
 
-/// Appends a line with its hexadecimal digits in capitals: each token of such digits alone, but for the first one and a name.
+/// Appends a line with its hexadecimal digits in capitals: each token that has only hexadecimal digits, except for the first
+/// one and a name.
 pub fn push_capitals(line: &[u8], text: &mut Text) -> Result<(), AllocError>
     ensures { OnOk result (text.new ≡ text.old ++ in_capitals line.now) }
 {
@@ -21,7 +22,7 @@ pub fn push_capitals(line: &[u8], text: &mut Text) -> Result<(), AllocError>
     push_args(has_name(first), &mut tokens, text)
 }
 
-/// Appends the tokens behind a first one in capitals, but for a name, each behind a space.
+/// Appends the tokens behind a first one in capitals, except for a name, each behind a space.
 fn push_args(named: bool, tokens: &mut Tokens<'_>, text: &mut Text) -> Result<(), AllocError>
     ensures { OnOk result (text.new ≡ text.old ++ behind (capital_args named (left_tokens tokens.old))) }
 {

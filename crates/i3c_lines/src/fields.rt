@@ -39,7 +39,7 @@ pub enum Field {
     Count,
     /// How many bytes a transfer may have.
     Length,
-    /// What else of the bus is shown: all of it, or its records from a number on.
+    /// The part of the bus that is shown: all of it, or its records from a number on.
     Shown,
     /// The number of a record.
     Place,

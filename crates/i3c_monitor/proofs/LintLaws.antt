@@ -37,7 +37,7 @@ after_behind legacies mode frames before known faults count rest front back is f
     ∙ ap (λ rest. linted legacies mode frames (before + count) known faults 0 rest) (sym back_is)
     ∙ ap (λ n. linted legacies mode frames (before + n) known faults 0 back) (sym front_is)
 
--- the same told of what is to come
+-- the same told of the rest
 pub told_too : {E : Type 0} → (r : Result (Option Report) E) (a b rest : List LintLine) → IfOk r (λ report. b ≡ reported report ++ rest) → a ≡ b
     → IfOk r (λ report. a ≡ reported report ++ rest)
 told_too (Ok report) a b rest tells same = same ∙ tells

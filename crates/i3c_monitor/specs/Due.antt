@@ -14,7 +14,7 @@ abbrev pub go_on : {A B : Type 0} → Result A Fault → (A → Result B Fault) 
 go_on (Ok part) more = more part
 go_on (Err fault) more = Err fault
 
--- a call comes to this, unless it lacks memory
+-- a call has this result, unless it lacks memory
 abbrev pub Comes : {A : Type 0} → Result A Fault → Result A (Stop Fault) → Type 0
 Comes wanted (Ok part) = wanted ≡ Ok part
 Comes wanted (Err (Stop.Refused fault)) = wanted ≡ Err fault

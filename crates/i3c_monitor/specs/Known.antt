@@ -22,7 +22,7 @@ nobodys = record { owner = Owner.Nobody; silent = None }
 unfoldable pub all_nobodys : List Status
 all_nobodys = replicate 128 nobodys
 
--- the trace doesn't show who has an address
+-- the trace doesn't show the owners of addresses
 abbrev pub forgotten : Known
 forgotten = record { shown = false; statuses = all_nobodys }
 
@@ -65,7 +65,7 @@ some_owner (Owner.Given identity) = Owner.Given identity
 abbrev pub given_to_somebody : ℕ → Known → Known
 given_to_somebody a known = with_status a (record { owner = Owner.Somebody; silent = None }) known
 
--- SETNEWDA gave who had the address `old` a new one
+-- SETNEWDA gave the owner of the address `old` a new one
 abbrev pub moved : ℕ → ℕ → Known → Known
 moved old new known = with_status new (record { owner = some_owner (status_of old known).owner; silent = None }) (with_status old nobodys known)
 

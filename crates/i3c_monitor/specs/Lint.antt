@@ -86,7 +86,7 @@ abbrev pub may_be_legacy : Decoded → List Symbol → Bool
 may_be_legacy (Decoded.Transfer a read (Some span)) symbols = not (begins_with is_t_word symbols)
 may_be_legacy _ symbols = false
 
--- nobody was given this address, in a trace that shows who was
+-- no owner was given to this address, in a trace that shows owners
 abbrev pub nobody_at : ℕ → Known → ℕ → ℕ → Option ℕ → Option LintFault
 nobody_at legacies known frame number None = None
 nobody_at legacies known frame number (Some a) =
@@ -97,7 +97,7 @@ abbrev pub nobody_fault : ℕ → Known → ℕ → ℕ → List Symbol → Deco
 nobody_fault legacies known frame number symbols decoded =
     if may_be_legacy decoded symbols then None else nobody_at legacies known frame number (spoken_to decoded)
 
--- the symbol since which somebody is silent whom a round gave an address: of others silence is no fault
+-- the symbol since which an owner is silent that got its address in a round: silence of others is no fault
 abbrev pub silent_since : Owner → Option ℕ → Option ℕ
 silent_since (Owner.Given identity) silent = silent
 silent_since _ silent = None
@@ -108,7 +108,7 @@ silence_at known frame number None = None
 silence_at known frame number (Some a) =
     option_map (λ since. fault_at frame number (Breach.Silent a since)) (silent_since (status_of a known).owner (status_of a known).silent)
 
--- somebody answers or asks who was silent before, and wasn't given the address again
+-- an owner answers or asks that was silent before, and wasn't given the address again
 abbrev pub silence_fault : Known → ℕ → ℕ → Decoded → Option LintFault
 silence_fault known frame number decoded = silence_at known frame number (present decoded)
 

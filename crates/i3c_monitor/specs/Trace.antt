@@ -55,7 +55,7 @@ trace_told symbols = rest_told Mode.Skipped 0 0 0 symbols
 abbrev pub to_come : Monitor → List Decoded
 to_come monitor = rest_told monitor.mode monitor.frames monitor.before 0 monitor.rest.now
 
--- the same of one who has just taken this header
+-- the same of a monitor that has just taken this header
 abbrev pub header_told : Monitor → Header → List Decoded
 header_told monitor header =
     let rest = monitor.rest.now in

@@ -30,7 +30,7 @@ fn heads_round(header: &Header) -> bool
     header.address.get() == BROADCAST && header.read
 }
 
-/// The fault of what follows a header that nobody acknowledged.
+/// The fault of the symbols behind a header that nobody acknowledged.
 pub(crate) fn unanswered_fault(spot: Spot, header: &Header, symbols: &[Symbol]) -> Option<LintFault>
     requires { spot.symbol + length symbols.now < usize.MAX }
     ensures { result ≡ unanswered_fault spot.frame spot.symbol header.now symbols.now }

@@ -33,7 +33,7 @@ const NOBODYS: Status = Status {
     silent: None,
 };
 
-/// What a trace shows of all addresses, and whether it shows who has each.
+/// What a trace shows of all addresses, and whether it shows their owners.
 #[derive(Drop)]
 pub(crate) struct Known {
     pub shown: bool,
@@ -46,7 +46,7 @@ impl Known {
     ghost use Rattle.std.specs.Prelude.{◌≡◌, if◌then◌else◌, map, OnOk, Some};
     ghost use Rattle.i3c_monitor.specs.Known.{after_absent, after_present, all_listed, all_nobodys, cleared, forgotten, given, given_to_somebody, heard, learned, learned_of, list_read, list_shown, listed, moved, silenced, status_of, with_status, absent, moves_addresses, present};
 
-    /// Nothing is known, and the trace doesn't show who has an address.
+    /// Nothing is known, and the trace doesn't show the owners of addresses.
     #[tactic(auto, unfolding(crate::specs::Known::all_nobodys))]
     pub fn new() -> Known
         ensures { result ≡ forgotten }
@@ -110,7 +110,7 @@ impl Known {
         );
     }
 
-    /// SETNEWDA gave who had an address a new one.
+    /// SETNEWDA gave the owner of an address a new one.
     fn move_owner(&mut self, old: Addr7, new: Addr7)
         ensures { self.new ≡ moved old new self.old }
     {

@@ -88,7 +88,7 @@ fn may_be_legacy(decoded: &Decoded, symbols: &[Symbol]) -> bool
     }
 }
 
-/// The fault of somebody who answers or asks, and was silent before, without having been given the address again.
+/// The fault of an owner that answers or asks, and was silent before, without having been given the address again.
 pub(crate) fn silence_fault(known: &Known, spot: Spot, decoded: &Decoded) -> Option<LintFault>
     ensures { result ≡ silence_fault known.now spot.frame spot.symbol decoded.now }
 {
@@ -98,7 +98,7 @@ pub(crate) fn silence_fault(known: &Known, spot: Spot, decoded: &Decoded) -> Opt
     Some(fault_at(spot.frame, spot.symbol, Breach::Silent(address, since)))
 }
 
-/// The symbol since which somebody is silent whom a round gave an address.
+/// The symbol since which an owner is silent that got its address in a round.
 fn silent_since(owner: &Owner, silent: Option<usize>) -> Option<usize>
     ensures { result ≡ silent_since owner.now silent }
 {

@@ -1,4 +1,4 @@
--- What lines come to that are commands.
+-- The results of lines that are commands.
 use Rattle.std.proofs.Common.{◌≡◌, ◌∙◌, ◌++◌, [], ℕ, List, Option, Some, None, Result, Ok, Err, ap, append_assoc, append-nil, inr, refl, subst, sym}
 use Rattle.i3c_lines.specs.declared.command.Command.{Command}
 use Rattle.i3c_lines.specs.declared.refusals.Refusal.{Refusal}

@@ -1,4 +1,4 @@
--- What was read of a script, chunk by chunk, and what it came to.
+-- The bytes that were read of a script, chunk by chunk, and the result.
 use Rattle.std.proofs.Common.{◌≡◌, ◌<◌, ◌≤◌, ◌∙◌, ℕ, ◌-◌, List, [], ◌∷◌, ◌++◌, length, take, drop, arith, Option, Some, None, Result, Ok, Err, IfSome, ap, append_assoc, append-nil, length-append, refl, subst, sym}
 use Rattle.std.proofs.lemmas.List.{length-take, take-append-drop, take-take}
 use Rattle.std.proofs.Math.Seq.{take-append_seam}

@@ -125,7 +125,7 @@ drop_next [] (suc end) = refl
 drop_next (byte ∷ rest) zero = refl
 drop_next (byte ∷ rest) (suc end) = drop_next rest end
 
--- the same, with what follows the feed as a slice of what follows the line
+-- the same, with the bytes behind the feed as a slice of those behind the line
 pub next_line : (rest line after : List ℕ) (end : ℕ) → end < length rest → slice_get rest end ≡ Some 10 → line ≡ take end rest → after ≡ drop end rest
     → rest ≡ (line ++ 10 ∷ []) ++ take (length after - 1) (drop 1 after)
 next_line rest line after end h e first behind =

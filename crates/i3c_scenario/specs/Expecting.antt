@@ -17,7 +17,8 @@ use Rattle.i3c_scenario.specs.declared.lasting.Lasting.{Lasting}
 use Rattle.i3c_script.specs.declared.stage.Stage.{Stage}
 use Rattle.i3c_script.specs.Obeying.{IsBegun, ScriptState}
 
--- where a script is between two lines: its bus and names, the number of the line before, what the last command came to, how many expectations weren't met, and those that last
+-- the state of a script between two lines: its bus and names, the number of the previous line, the result of the last
+-- command, the number of expectations not met, and the lasting ones
 pub record Standing : Type 0 where
   pub script : ScriptState
   pub lines : ℕ
@@ -41,7 +42,7 @@ one_more count = min (count + 1) 18446744073709551615
 abbrev pub counted : Standing → Standing
 counted old = record old { lines = one_more old.lines }
 
--- a command led to this state, and came to this
+-- a command led to this state, with this result
 abbrev pub went : Standing → ScriptState → Option Refusal → Standing
 went now script refused = record now { script = script; before = came_to refused }
 
@@ -54,7 +55,7 @@ unmet_if false unmet = one_more unmet
 abbrev pub tested : Standing → Bool → Standing
 tested now met = record now { unmet = unmet_if met now.unmet }
 
--- whether one of these claims holds of a bus, with these names and what the line before came to
+-- whether one of these claims holds of a bus, with these names and this result of the previous line
 abbrev pub is_met : State → Names → Before → List Claim → Bool
 is_met st names before facts = claims_hold st (place_named names) before facts
 

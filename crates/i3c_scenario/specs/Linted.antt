@@ -75,7 +75,7 @@ abbrev pub faults_in : Report → ℕ
 faults_in (Report.Decoded decoded) = refusals_in decoded
 faults_in (Report.Faults faults) = length faults.items
 
--- the lines of frames, and of what follows them
+-- the lines of frames, and of the text behind them
 abbrev pub frames_text : ℕ → Frames → List ℕ
 frames_text legacies frames = lint_text frames.symbols.items (trace_linted legacies frames.symbols.items) ++ break_text frames.broken
 

@@ -31,7 +31,7 @@ written out = output out []
 abbrev pub Puts : Output → Output → List ℕ → Type 0
 Puts old new text = WritesFront old.out new.out (old.gathered ++ text) new.gathered
 
--- of what is gathered and this text a beginning goes out
+-- a prefix of the gathered output and this text is written out
 abbrev pub PutsSome : Output → Output → List ℕ → Type 0
 PutsSome old new text = AppendsSome old.out new.out (old.gathered ++ text)
 
@@ -44,7 +44,7 @@ PutsOrFails old new text (Err ScriptFault.Write) = PutsSome old new text
 PutsOrFails old new text (Err ScriptFault.Read) = ⊥
 PutsOrFails old new text (Err ScriptFault.TooLarge) = ⊥
 
--- what was gathered goes out in the end, whatever lines came to; but nothing goes to a writer that failed
+-- the gathered output is written out at the end, whatever the result of the lines; but nothing goes to a writer that failed
 abbrev pub GoesLast : Option (List ℕ) → Option (List ℕ) → List ℕ → Result (Unit {0}) ScriptFault → Result (Unit {0}) ScriptFault → Type 0
 GoesLast old new gathered (Err ScriptFault.Write) result = (result ≡ Err ScriptFault.Write) × (new ≡ old)
 GoesLast old new gathered outcome result = ((result ≡ outcome) × Appends old new gathered) ⊎ ((result ≡ Err ScriptFault.Write) × AppendsSome old new gathered)

@@ -17,7 +17,7 @@ use Rattle.i3c_scenario.specs.Outcomes.{AppendsSome}
 abbrev pub ascii : ℕ → ℕ
 ascii byte = if nat_lt byte 128 then byte else 63
 
--- the lines of what is decoded in a trace
+-- the lines of the decoded parts of a trace
 abbrev pub lines_text : List Symbol → List Decoded → List ℕ
 lines_text trace decoded = flat_map (line_text trace) decoded
 

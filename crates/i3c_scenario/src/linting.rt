@@ -166,7 +166,7 @@ fn push_standing(broken: &Break<'_>, text: &mut Text) -> Result<(), AllocError>
     }
 }
 
-/// Appends the text of what is no symbol, in quotes: its first bytes, if it is longer.
+/// Appends a text that is no symbol, in quotes: its first bytes, if it is longer.
 fn push_part(part: &[u8], text: &mut Text) -> Result<(), AllocError>
     ensures { OnOk result (text.new ≡ text.old ++ part_text part.now) }
 {

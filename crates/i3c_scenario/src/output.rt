@@ -71,7 +71,8 @@ pub(crate) fn write_gathered<W: Write>(gathered: &mut Text, out: &mut W) -> Resu
     Ok(())
 }
 
-/// Writes out what is gathered in the end, whatever the lines came to. But to a writer that failed nothing is written.
+/// Writes out the gathered output at the end, whatever the result of the lines. But it writes nothing to a writer that
+/// failed.
 pub(crate) fn write_last<W: Write>(
     outcome: Result<(), ScriptFault>,
     gathered: &[u8],

@@ -33,7 +33,7 @@ impl Known {
         }
     }
 
-    /// Explains what a line came to that was just obeyed: why it was refused, which of the cuts that waited its frame never
+    /// Explains the result of a line that was just obeyed: why it was refused, which of the cuts that waited its frame never
     /// reached, and whether it attached a device of an identity that is there. What is known is then that before the next.
     pub(crate) fn explain(
         &mut self,

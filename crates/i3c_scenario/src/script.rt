@@ -52,7 +52,7 @@ pub fn run_script<R: Read, W: Write>(
     // command says. All that they print goes out with `Ok`, and before a fault as much as that fault says
     ensures lines { LinesGoOut (R.remaining reader.old) (R.remaining reader.new) (W.contents writer.old) (W.contents writer.new) result }
 {
-    // before the script, whose room would else be cleared twice
+    // before the script, whose room would otherwise be cleared twice
     let Ok(mut chunk) = vec![in alloc; 0u8; CHUNK] else {
         // with no name given, as each script begins
         let _none = Names::new(alloc);
@@ -71,7 +71,7 @@ pub fn run_script<R: Read, W: Write>(
 struct Plain;
 
 /// The state of a running script: its bus and names, the partial line, the current command, that command's output, and output
-/// not yet written. For expectations it has the number of the line, what the last command came to, and those that last.
+/// not yet written. For expectations it has the number of the line, the result of the last command, and the lasting ones.
 pub(crate) struct Script {
     pub(crate) alloc: Global,
     pub(crate) stage: Stage,
@@ -324,7 +324,7 @@ impl Script {
         Ok(())
     }
 
-    /// Tests the expectations that last, behind a command that came to this.
+    /// Tests the lasting expectations, behind a command with this result.
     #[cold]
     #[inline(never)]
     fn outlast(&mut self, outcome: Result<(), Stop<Refusal>>) -> Result<(), Stop<Refusal>>

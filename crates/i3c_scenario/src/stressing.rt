@@ -134,7 +134,7 @@ fn stress_with<
         mut ports,
     } = begin::<L, M, N, R>(rt, alloc, active, session, frames, devices)?;
     let before = role.frames();
-    // nobody else takes this lock: it lends the server to the threads' scope
+    // no other thread takes this lock: it lends the server to the threads' scope
     let server = Mutex::new(Server {
         role: &mut role,
         policy,

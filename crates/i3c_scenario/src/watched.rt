@@ -217,7 +217,7 @@ impl WatchedRun {
         }
     }
 
-    /// Explains what a line came to, if that is asked for.
+    /// Explains the result of a line, if that is asked for.
     fn explain(
         &mut self,
         number: u64,

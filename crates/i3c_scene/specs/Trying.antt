@@ -16,7 +16,7 @@ slot_at_risk old sends None = None
 slot_at_risk old false (Some name) = None
 slot_at_risk old true (Some name) = risked old.state (place_in old.names name)
 
--- a line runs in a way, and comes to this
+-- a line runs in a way, with this result
 abbrev pub Runs : Seen → Option Command → Option Name → ℕ → Before → Seen → Type 0
 Runs old None risk way before new = (new ≡ old) × (before ≡ Before.Nothing)
 Runs old (Some command) risk way before new = (refused : Option Refusal) × Does (cut_in old (slot_at_risk old (sends command) risk) way) command refused new × (before ≡ came_to refused)

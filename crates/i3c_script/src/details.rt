@@ -33,7 +33,7 @@ pub(crate) fn show_all(
     show_times(bus, settings, ended, text)
 }
 
-/// Prints who was active when interrupts were recorded.
+/// Prints the active controllers, with the numbers of the records of each.
 fn show_times(
     bus: &Bus,
     settings: &Settings,

@@ -60,7 +60,7 @@ refuses_outside Mark.Track = Some Reason.NoBlock
 refuses_outside Mark.Close = Some Reason.NoBlock
 refuses_outside (Mark.Expect facts) = None
 
--- whether a fact asks what the line before came to
+-- whether a fact asks for the result of the previous line
 abbrev pub is_of_before : Fact → Bool
 is_of_before Fact.Done = true
 is_of_before (Fact.Refused why) = true

@@ -80,7 +80,7 @@ fn place_of(alloc: Global, number: u64) -> Line
     }
 }
 
-/// Whether facts ask what the line before them came to.
+/// Whether facts ask for the result of the previous line.
 fn asks_before(facts: &Facts) -> bool
     ensures { result ≡ ask_before facts.now }
 {
@@ -93,7 +93,7 @@ fn asks_before(facts: &Facts) -> bool
     false
 }
 
-/// Whether a fact asks what the line before it came to.
+/// Whether a fact asks for the result of the previous line.
 fn is_of_before(fact: &Fact) -> bool
     ensures { result ≡ is_of_before fact.now }
 {

@@ -51,7 +51,7 @@ all_read (Some xs) None c items P one two end h = absurd one
 all_read (Some xs) (Some ys) None items P one two end h = absurd two
 all_read (Some xs) (Some ys) (Some zs) items P one two end h = subst P (sym (one ∙ ap (λ bytes. items ++ bytes) (two ∙ end) ∙ append-nil items)) h
 
--- what a text comes to whose first bytes come to a fault
+-- the result of a text whose first bytes give a fault
 fault_on : (legacies : Addresses) (scl sda xs ys : List ℕ) (fault : CaptureFault) → bytes_read scl sda (new_input legacies) xs ≡ Err fault → text_read legacies scl sda (xs ++ ys) ≡ Err fault
 fault_on legacies scl sda xs ys fault is =
     ap (λ step. goes_on step (text_ended scl sda)) (bytes_both scl sda xs ys (new_input legacies) ∙ ap (λ step. goes_on step (λ last. bytes_read scl sda last ys)) is)

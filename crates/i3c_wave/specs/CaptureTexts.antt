@@ -31,7 +31,7 @@ pub record Taken : Type 0 where
 abbrev pub new_reached : Addresses → CaptureWords
 new_reached legacies = record { dump = new_dump; capture = new_capture legacies; line = 1 }
 
--- a space, or a control byte, such as a tab or a line feed
+-- a space or a control byte, that is, a tab or a line feed
 abbrev pub is_space : ℕ → Bool
 is_space byte = nat_lt byte 33
 
@@ -94,7 +94,7 @@ abbrev pub letters_kept : Input → List ℕ → Result Input CaptureFault
 letters_kept input letters = if not (length letters == 0) && nat_lt 65536 (length input.word + length letters) then Err (CaptureFault.BadWord input.reached.line)
     else Ok (record input { word = input.word ++ letters })
 
--- such letters, and a space behind them
+-- letters that aren't spaces, and a space behind them
 abbrev pub part_read : List ℕ → List ℕ → Input → List ℕ → ℕ → Result Input CaptureFault
 part_read scl sda input letters space = parted space (goes_on (letters_kept input letters) (word_ended scl sda))
 
@@ -131,7 +131,7 @@ Closed outcome old new = (taken : Taken) × (outcome ≡ Ok taken) × (new ≡ o
 abbrev pub new_input : Addresses → Input
 new_input legacies = record { reached = new_reached legacies; word = []; symbols = [] }
 
--- what a whole text comes to, by the names of SCL and SDA
+-- the result of a whole text, by the names of SCL and SDA
 abbrev pub text_read : Addresses → List ℕ → List ℕ → List ℕ → Result Input CaptureFault
 text_read legacies scl sda text = goes_on (bytes_read scl sda (new_input legacies) text) (text_ended scl sda)
 

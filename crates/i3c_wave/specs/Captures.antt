@@ -27,7 +27,7 @@ Hears outcome capture result = MatchResult result (λ symbol. outcome ≡ Ok (re
 abbrev pub new_capture : Addresses → Capture
 new_capture legacies = record { time = 0; since = 0; level = high true; edges = None; reader = awaiting legacies None; started = false }
 
--- the capture at a time that doesn't lie before its own
+-- the capture at a time that isn't before its own
 abbrev pub at_time : Capture → ℕ → Option Capture
 at_time capture time = if nat_lt time capture.time then None else Some (record capture { time = time })
 
@@ -73,7 +73,7 @@ abbrev pub read_if : Capture → Option Mark → Result Heard CaptureFault
 read_if capture None = Ok (quiet capture)
 read_if capture (Some mark) = mark_read capture mark
 
--- what one who watches the lines hears of their level
+-- what a watcher of the lines hears of their level
 abbrev pub watched : Capture → Edges → Result Heard CaptureFault
 watched capture edges = read_if (first_heard capture (edges_after edges capture.level)) (mark_at edges capture.level)
 

@@ -19,7 +19,7 @@ abbrev pub bit_heard : Option Bool → Option Mark
 bit_heard None = None
 bit_heard (Some bit) = Some (Mark.Bit bit)
 
--- what is heard where the lines come to a level
+-- the mark that is heard as the lines reach a level
 abbrev pub mark_at : Edges → Level → Option Mark
 mark_at edges level = if edges.level.scl then (if level.scl then condition edges.level.sda level.sda else bit_heard edges.bit) else None
 

@@ -1,4 +1,4 @@
--- What a reader makes of what is heard of the lines.
+-- What a reader makes of the marks on the lines.
 use Rattle.std.specs.Prelude.{ℕ, zero, suc, ◌+◌, ◌*◌, ◌%◌, ◌==◌, Bool, List, [], ◌∷◌, ◌++◌, Option, Some, None, if◌then◌else◌}
 use Rattle.i3c_base.specs.declared.addresses.Addresses.{Addresses}
 use Rattle.i3c_frame.specs.declared.symbols.Symbol.{Symbol}

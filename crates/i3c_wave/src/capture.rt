@@ -61,7 +61,7 @@ impl Capture {
         self.time
     }
 
-    /// Goes on to a time, unless it lies before the time that was.
+    /// Goes on to a time, unless it is before the present one.
     pub fn advance(&mut self, time: u64) -> bool
         ensures { at_time self.old time ≡ if result then Some self.new else None }
     {
@@ -123,7 +123,7 @@ impl Capture {
         }
     }
 
-    /// What one who watches the lines hears of it.
+    /// What a watcher of the lines hears of it.
     fn hear_edges(&mut self, edges: Edges) -> Result<Option<Stamped>, CaptureFault>
         ensures { Hears (watched self.old edges) self.new result }
     {

@@ -24,7 +24,7 @@ pub enum CaptureFault {
     /// A timescale that is none, at this line.
     #[error("line {0} has no timescale")]
     BadTimescale(u64),
-    /// A time that is no number, or lies before the time that was, at this line.
+    /// A time that is no number, or is before the last one, at this line.
     #[error("line {0} has no later time")]
     BadTime(u64),
     /// What isn't part of a value change dump, at this line.

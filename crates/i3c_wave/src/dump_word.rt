@@ -272,7 +272,7 @@ pub(crate) enum Lead {
     NoLevel,
     /// `b`, `r` or `s`: a vector, a number or a text, behind which the code of its signal follows.
     Vector,
-    /// Something else.
+    /// Any other word.
     Other,
 }
 

@@ -67,7 +67,7 @@ explore_ending (Err fault) flushed = Err (told_as fault)
 explore_ending (Ok answer) true = Ok (Ending.Explored answer)
 explore_ending (Ok answer) false = Err Fault.Write
 
--- what lines came to, as what the program came to
+-- the ending of a run of lines
 abbrev pub lines_ending : Result Tally Fault → Result Ending Fault
 lines_ending (Ok tally) = Ok (Ending.Ran tally)
 lines_ending (Err fault) = Err fault
@@ -82,7 +82,7 @@ answer_status Answer.Breaks = 3
 abbrev pub tally_status : Tally → ℕ
 tally_status tally = if tally.unmet == 0 then (if tally.refused == 0 then 0 else 1) else 3
 
--- the status of lines, or of an exploration; 2 where the script or the exploration didn't come to its end
+-- the status of lines, or of an exploration; 2 if the script or the exploration wasn't done to its end
 abbrev pub exit_status : Result Ending Fault → ℕ
 exit_status (Ok (Ending.Ran tally)) = tally_status tally
 exit_status (Ok (Ending.Explored answer)) = answer_status answer

@@ -9,7 +9,7 @@ use std::thread::Threads;
 /// A watcher is told once the device in slot 1 has made this many tries.
 const TOLD_EVERY: u64 = 10_000;
 
-/// A gate that lets each device go on at once, and tells who watches how far that in slot 1 is.
+/// A gate that lets each device go on at once, and tells a watcher the progress of the one in slot 1.
 #[derive(Drop)]
 struct Progress<'a, R> {
     rt: &'a R,

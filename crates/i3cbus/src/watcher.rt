@@ -8,7 +8,7 @@ const TOLD_EVERY: u64 = 200_000;
 /// Takes the cursor to the beginning of a terminal's line, and clears the line.
 const CLEAR: &str = "\r\x1b[K";
 
-/// Tells somebody who watches standard error on a terminal how far an exploration is, on one line, which is cleared at the end.
+/// Tells the progress of an exploration on standard error, if that is a terminal: on one line, which is cleared at the end.
 #[derive(Drop)]
 pub(crate) struct Watcher<'a, R> {
     rt: &'a R,

@@ -147,7 +147,8 @@ fn write_gathered<W: Write>(text: &mut Text, out: &mut W) -> Result<(), ScriptFa
     }
 }
 
-/// Writes out what is gathered in the end, whatever the lines came to. But to a writer that failed nothing is written.
+/// Writes out the gathered output at the end, whatever the result of the lines. But it writes nothing to a writer that
+/// failed.
 fn write_last<W: Write>(
     outcome: Result<Tally, ScriptFault>,
     gathered: &[u8],

@@ -40,8 +40,8 @@ enum Measure {
     ButBytes,
 }
 
-/// Whether the plain machine comes to what the bus came to. Where the bus says that a byte is torn, and that its device
-/// doesn't answer later in the same frame, the plain machine may say the first alone.
+/// Whether the plain machine has the results of the bus. Where the bus says that a byte is torn, and that its device doesn't
+/// answer later in the same frame, the plain machine may say the first alone.
 fn agree(ran: &BusRun, plainly: &PlainRun, measure: Measure) -> bool {
     let (records, due) = (ran.records.as_slice(), plainly.plain.records());
     ran.seen == plainly.seen
@@ -286,7 +286,7 @@ fn each_bit(
     Ok(())
 }
 
-/// One cut, which is taken back: with one of the choices both come to the same after its frame, and at the end.
+/// One cut, which is taken back: with one of the choices both have the same results after its frame, and at the end.
 fn one_cut(
     alloc: Global,
     script: &mut Script,

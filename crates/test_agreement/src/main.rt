@@ -1,5 +1,5 @@
-//! `test_agreement FILE` runs the script of a file on the bus and on the plain machine, and says whether both come to the
-//! same. It runs once unchanged, and once for each device, each frame and each bit of it, with the device cut there.
+//! `test_agreement FILE` runs the script of a file on the bus and on the plain machine, and says whether their results agree.
+//! It runs once unchanged, and once for each device, each frame and each bit of it, with the device cut there.
 //!
 //! `test_agreement sevenths FILE` cuts at every seventh bit instead, for scripts with many devices, for which each bit would
 //! take too long.

@@ -3,8 +3,8 @@
 //!
 //! `calls` has typed calls of the bus, and what a refused growth leaves; lists of events with their replies, wires and
 //! records are scripts, in `tests/scripts`. `plain` has the plain machine's own refusal; the other tests of it are in
-//! `tests/choices` and `tests/agreement`. `sizes` has the sizes of what is kept by the million. `checks` has what they
-//! assert.
+//! `tests/choices` and `tests/agreement`. `sizes` has the sizes of values that are kept by the million. `checks` has what
+//! they assert.
 #![tactic(auto)]
 
 #[cfg(test)]

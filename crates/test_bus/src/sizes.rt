@@ -29,7 +29,7 @@ fn a_reply_is_48_bytes(rt: HostRuntime) {
 // identities are kept twice, by slot and by bit. Its table has thirteen bytes for each address, two of them for a static
 // address and one for the order of known identities, and three sets of addresses. It has a list of all addresses, sixteen
 // declared identities of 24 bytes with a byte for each address that tells where its identity may be, and legacy targets with
-// sixteen registers. All is inline, so that a frame wants no memory but for a record.
+// sixteen registers. All is inline, so that a frame wants no memory except for a record.
 #[test]
 fn a_bus_is_17952_bytes(rt: HostRuntime) {
     same(&rt, size_of::<Bus>(), 17952);

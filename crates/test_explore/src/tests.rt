@@ -22,7 +22,7 @@ impl Watch for Nobody {
     fn ended(&self) {}
 }
 
-/// Somebody who notes what was told last, and how often an exploration was over.
+/// A watcher that notes the last progress, and how often an exploration was over.
 #[derive(Drop)]
 struct Notes {
     last: Cell<Option<Progress>>,

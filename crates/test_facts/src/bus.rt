@@ -71,7 +71,7 @@ fn slot(rt: &impl Abort, number: u8) -> Slot {
     Slot::new(number).expect(rt, "a slot")
 }
 
-/// A bus with names, and what the line before came to.
+/// A bus with names, and the result of the previous line.
 #[derive(Drop)]
 struct NamedBus<'a> {
     bus: &'a Bus,

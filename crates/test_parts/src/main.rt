@@ -9,7 +9,7 @@
 //! address `all` for none. The cuts, the active controller's slot, and the number of bits of a frame before a command are set
 //! by lines of their own, until `new`.
 //!
-//! Answers of devices and of what frames carry have hexadecimal numbers too, but for counts, bits of frames, faults, and
+//! Answers of devices and of frames' contents have hexadecimal numbers too, except for counts, bits of frames, faults, and
 //! slots alone. For the lowest crates each text says at its head which numbers are in which digits.
 //!
 //! `calls` has what is set, `subject` picks the crate, `words` reads what a line says, `setting` has what stays from one line

@@ -36,7 +36,7 @@ pub(crate) fn call(setting: &mut Setting, call: &str, words: &mut Words<'_>) -> 
     }
 }
 
-/// A read: what it came to, its answer, or its bits.
+/// A read: its result, its answer, or its bits.
 fn of_read(setting: &Setting, call: &str, words: &mut Words<'_>) -> Answer {
     let alloc = setting.alloc;
     let to = words.address()?;
@@ -64,7 +64,7 @@ fn came(setting: &Setting, to: Addr7) -> Result<Read, Fault> {
     ))
 }
 
-/// A write: what it came to, its answer, or its bits.
+/// A write: its result, its answer, or its bits.
 fn of_write(setting: &mut Setting, call: &str, words: &mut Words<'_>) -> Answer {
     let alloc = setting.alloc;
     let to = words.address()?;

@@ -47,7 +47,7 @@ fn goes_on(rt: &impl Abort, alloc: Global, script: &str, wanted: &str, refused: 
     prints(rt, alloc, script.as_str(), wanted.as_str(), refused);
 }
 
-/// The last line of what was printed.
+/// The last line of an output.
 fn last_line<'a>(rt: &impl Abort, printed: &'a [u8]) -> &'a str {
     let text = str::from_utf8(printed).expect(rt, "a text");
     text.lines().last().expect(rt, "a line")

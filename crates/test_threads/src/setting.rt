@@ -45,7 +45,7 @@ pub(crate) fn target<R: Abort>(rt: &R) -> Setup {
     setup(rt, 0x0204_0000_0010, 0x06, 0x44)
 }
 
-/// Another such device, whose number is greater.
+/// Another target, with a greater number.
 pub(crate) fn other_target<R: Abort>(rt: &R) -> Setup {
     setup(rt, 0x0204_0000_0011, 0x06, 0x44)
 }
@@ -276,7 +276,7 @@ pub(crate) fn served<L: Ledger, M: Ledger, N: Ledger, R: Wait>(
     commanded(rt, bus, role, Command::Serve, Cuts::new())
 }
 
-/// A serve that accepts all comes to this.
+/// A serve that accepts all has this result.
 pub(crate) fn serves<L: Ledger, M: Ledger, N: Ledger, R: Wait + Abort>(
     rt: &R,
     bus: &SharedBus<L, M, N>,

@@ -196,7 +196,7 @@ fn ask_and_count<L: Ledger, M: Ledger, N: Ledger, R: Wait>(
     }
 }
 
-/// Each of these ports' devices asks to join, from a thread of its own where one can be made, and else from this one.
+/// Each of these ports' devices asks to join, from a thread of its own if one can be made, and otherwise from this one.
 fn ask_from_threads<
     L: Ledger + Send + Sync,
     M: Ledger + Send + Sync,

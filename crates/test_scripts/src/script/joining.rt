@@ -54,7 +54,7 @@ fn coming_lines(rt: &impl Abort, alloc: Global) -> String {
 const LAST: &str = "attach d 02040001006B 06 44\nopen\nround\nround\nend\ndrop d\n\
     attach d 02040001006C 06 44\ndaa\nshow\nsymbols\n";
 
-/// What that prints, but for the symbols.
+/// Its output, except for the symbols.
 const LAST_LINES: &str =
     "d slot 1\nopen\nassigned 77 02040001006B 06 44\nrefused NoAddress\nended\ndropped\n\
     d slot 1\nrefused NoAddress\nactive 08\nhub 08 waiting 0\nd -- waiting 0\nrecords 0\n";
