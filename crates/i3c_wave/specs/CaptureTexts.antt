@@ -31,7 +31,7 @@ pub record Taken : Type 0 where
 abbrev pub new_reached : Addresses → CaptureWords
 new_reached legacies = record { dump = new_dump; capture = new_capture legacies; line = 1 }
 
--- a space or a control byte, that is, a tab or a line feed
+-- a space, or a control byte like a tab or a line feed
 abbrev pub is_space : ℕ → Bool
 is_space byte = nat_lt byte 33
 
