@@ -14,7 +14,7 @@ cut_of cuts s = slice_index_or cuts s None
 abbrev pub IsUncut : CutList → Type 0
 IsUncut cuts = (s : ℕ) → cut_of cuts s ≡ None
 
--- no cuts
+-- the cuts of a frame in which no device loses power
 unfoldable pub no_cuts : CutList
 no_cuts = replicate SLOTS None
 

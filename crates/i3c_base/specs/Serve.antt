@@ -74,7 +74,7 @@ NobodyDrives all = (s : ℕ) (r : Request) → drives_in all r s ≡ false
 abbrev pub NoneAsks : State → Type 0
 NoneAsks st = NobodyDrives (population st)
 
--- the first request, if there is one
+-- the request that wins a frame's first header, or none if nobody drives one
 abbrev pub IsFirstRequest : State → Option Request → Type 0
 IsFirstRequest st first = MatchOption first (NoneAsks st) (λ r. IsFirst st r)
 
@@ -160,7 +160,7 @@ without Join d = without_join d
 without (Role a) d = without_role d
 without (Interrupt a) d = without_front d
 
--- a record more
+-- one more record is at the end of the log
 abbrev pub recorded : Record → State → State
 recorded r st = record st { records = st.records ++ r ∷ [] }
 

@@ -15,7 +15,7 @@ use Rattle.i3c_base.specs.declared.requests.Record.{Record}
 use Rattle.i3c_base.specs.Numbers.{KindSet, same_identity}
 use Rattle.i3c_base.specs.Places.{changed}
 
--- a device
+-- a device in its slot, as the abstract bus has it
 pub record Device : Type 0 where
   pub identity : Identity
   pub willing : Bool  -- it takes the controller role when it is offered
@@ -43,7 +43,7 @@ pub record Board : Type 0 where
   pub legacy : List (Option Lvr)
   pub declared : List (Option Identity)
 
--- the bus
+-- the abstract bus
 pub record State : Type 0 where
   pub devices : List (Option Device)  -- by slot
   pub raised : List ℕ  -- by slot: its accepted raises, over all its stays
@@ -174,7 +174,7 @@ IsPickable st a = IsPickableIn st.given st.legacy st.declared a
 abbrev pub IsPick : State → ℕ → Type 0
 IsPick st a = IsPickIn st.given st.legacy st.declared a
 
--- the address is a
+-- the optional address is there and is a
 abbrev pub is_the : ℕ → Option ℕ → Bool
 is_the a None = false
 is_the a (Some b) = b == a
@@ -323,15 +323,15 @@ pub record IsBoard (board : Board) : Type 0 where
   pub apart : (a : ℕ) (i : Identity) → declared_in board.declared a ≡ Some i → IsFree board.legacy a
   pub once : (a b : ℕ) (i : Identity) → declared_in board.declared a ≡ Some i → declared_in board.declared b ≡ Some i → a ≡ b
 
--- empty slots
+-- the devices of a bus without any
 unfoldable pub no_devices : List (Option Device)
 no_devices = replicate SLOTS None
 
--- no raises
+-- the raises of a bus at its start: none in any slot
 unfoldable pub no_raises : List ℕ
 no_raises = replicate SLOTS 0
 
--- no address given
+-- the table of a bus in which no address is given
 unfoldable pub no_entries : List (Option Entry)
 no_entries = replicate ADDRESSES None
 

@@ -13,7 +13,7 @@ abbrev pub address_of : Option Device → Option ℕ
 address_of None = None
 address_of (Some d) = d.address
 
--- what it is
+-- the identity of the device in a slot
 abbrev pub identity_of : Option Device → Option Identity
 identity_of None = None
 identity_of (Some d) = Some d.identity

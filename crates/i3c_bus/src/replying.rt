@@ -89,7 +89,7 @@ impl Bus {
         *reply = Reply::from(self.list(role, policy, tap, cuts));
     }
 
-    /// A read, and its reply.
+    /// A private read, and its reply.
     #[inline(never)]
     pub(crate) fn read_reply<P: Policy, T: Tap>(
         &mut self,

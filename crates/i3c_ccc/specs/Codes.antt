@@ -16,7 +16,7 @@ byte_of_datum Datum.Status = 0x90
 byte_of_datum Datum.Speed = 0x94
 byte_of_datum Datum.Capabilities = 0x95
 
--- the byte of a code
+-- the byte that stands for a command code on the wire
 abbrev pub byte_of_code : Code → ℕ
 byte_of_code Enec = 0x00
 byte_of_code Disec = 0x01

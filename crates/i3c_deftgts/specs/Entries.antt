@@ -50,7 +50,7 @@ upwards entry a [] = []
 upwards entry a (None ∷ rest) = upwards entry (suc a) rest
 upwards entry a (Some x ∷ rest) = entry a x ∷ upwards entry (suc a) rest
 
--- the own entry, if there is one
+-- the entry of the active controller's own address, if it is given
 abbrev pub own_entry : Table → ℕ → List Entry
 own_entry table own = option_to_list (option_map (device_at own) (entry_in table.given own))
 

@@ -8,12 +8,12 @@ use Rattle.i3c_base.specs.Frames.{length_of}
 use Rattle.i3c_base.specs.State.{Device}
 use Rattle.i3c_device.specs.Raising.{front_byte}
 
--- its identity
+-- the identity of the device in a slot
 abbrev pub identity_in : Option Device → Option Identity
 identity_in None = None
 identity_in (Some d) = Some d.identity
 
--- its dynamic address
+-- the dynamic address of the device in a slot
 abbrev pub address_in : Option Device → Option ℕ
 address_in None = None
 address_in (Some d) = d.address

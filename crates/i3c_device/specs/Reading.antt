@@ -18,7 +18,7 @@ IsDrivenFrom own cut at byte = (j : ℕ) → j < 8 → bit_at byte (7 - j) ≡ (
 abbrev pub Driving : Type 0
 Driving = Device → List ℕ
 
--- its registers
+-- a device drives its registers when it is read
 abbrev pub registers_of : Driving
 registers_of d = d.registers
 

@@ -16,10 +16,10 @@ use i3c_wires::contest;
 /// The ninth bit of `7E`/R, where the hearers acknowledge: a round's first bit.
 pub(crate) const HEADER_ACK: u16 = 0;
 
-/// The first bit of the identities.
+/// The bit of a round at which its identities begin.
 const FIRST_IDENTITY_BIT: u16 = 1;
 
-/// The bits of an identity.
+/// An identity is a PID, a BCR and a DCR.
 const IDENTITY_BITS: u32 = 64;
 
 /// The ninth bit after the address byte, where the winners acknowledge: a round's last bit.
@@ -47,7 +47,7 @@ fn is_left(slots: &[Slot], cuts: &Cuts, last: u16) -> bool
     slots.iter().any(|slot| !cuts.is_lost(*slot, last))
 }
 
-/// Whether nobody hears.
+/// Whether no device hears the session.
 fn nobody_hears(devices: &Devices) -> bool
     ensures silent { IsTrue result → NobodyHears devices.now }
     ensures slots { length devices.now ≡ SLOT_COUNT }

@@ -16,7 +16,7 @@ command Disable None = Disec
 command Enable (Some a) = EnecDirect
 command Disable (Some a) = DisecDirect
 
--- the byte of that code
+-- the byte of the command's code, broadcast or to one address
 abbrev pub code_byte : Change → Option ℕ → ℕ
 code_byte Enable None = 0x00
 code_byte Disable None = 0x01

@@ -124,7 +124,7 @@ claim_holds st place before claim = if claim.negated then not (fact_holds st pla
 abbrev pub place_for : (Name → Option Place) → Fact → Option Place
 place_for places fact = option_and_then places (name_of fact)
 
--- one of these claims holds
+-- at least one of these claims holds of a bus
 abbrev pub claims_hold : State → (Name → Option Place) → Before → List Claim → Bool
 claims_hold st places before [] = false
 claims_hold st places before (claim ∷ claims) = claim_holds st (place_for places claim.fact) before claim || claims_hold st places before claims

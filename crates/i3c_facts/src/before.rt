@@ -5,8 +5,8 @@ use i3c_lines::Refusal;
 pub enum Before {
     /// There is no previous line.
     Nothing,
-    /// It was done.
+    /// The previous line was done.
     Done,
-    /// It was refused, for this reason.
+    /// The previous line was refused, for this reason.
     Refused(Refusal),
 }

@@ -17,7 +17,7 @@ const OR: &[u8] = b"or";
 /// A fact that is claimed to hold, or, where it is negated, not to hold.
 #[derive(Clone, Copy)]
 pub struct Claim {
-    /// The fact.
+    /// The fact that the claim is about.
     pub fact: Fact,
     /// Whether it is claimed not to hold.
     pub negated: bool,

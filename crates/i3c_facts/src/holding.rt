@@ -68,7 +68,7 @@ fn has_address(bus: &Bus, place: Option<Place>, address: Addr7) -> bool
     }
 }
 
-/// Whether it is there, with an address.
+/// Whether the device of a name is there, with a dynamic address.
 fn has_any_address(bus: &Bus, place: Option<Place>) -> bool
     ensures { result ≡ in_slot (λ d. is_some d.address) (device_of bus.now.state place) }
 {

@@ -16,7 +16,7 @@ rnw_of Join = 0
 rnw_of (Role a) = 0
 rnw_of (Interrupt a) = 1
 
--- it reads
+-- the request is driven as a read
 abbrev pub is_read : Request → Bool
 is_read Join = false
 is_read (Role a) = false

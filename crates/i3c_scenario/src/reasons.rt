@@ -10,10 +10,10 @@ use std::alloc::AllocError;
 /// Where a refusal is explained.
 const REFUSALS: &[u8] = b" (docs/FORMATS.md, Refusals of lines)\n";
 
-/// Where cuts are.
+/// Names the document about cuts.
 const CUTS: &[u8] = b" (docs/FORMATS.md, Cuts)\n";
 
-/// Where the promises are.
+/// Names the document about promises.
 const PROMISES: &[u8] = b" (docs/PROMISES.md)\n";
 
 /// What is known of a script before a line, for its explanation: the cuts that wait, and the identity of the device that

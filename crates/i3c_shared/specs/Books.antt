@@ -23,7 +23,7 @@ frames_in run = count_by (λ (e : Entry). is_frame e.event) run
 abbrev pub sessions_in : Bool → ℕ
 sessions_in is_open = if is_open then 1 else 0
 
--- nothing is booked
+-- the books before the bus starts
 abbrev pub no_books : BooksValue
 no_books = record { active = 0; session = 0; frames = 0 }
 

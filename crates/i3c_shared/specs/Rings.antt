@@ -60,7 +60,7 @@ abbrev pub raises_below : ℕ → Rings → List Event
 raises_below zero rings = []
 raises_below (suc n) rings = raises_below n rings ++ raises_at n (known_of (ring_at rings n))
 
--- those of all slots
+-- the raises of the posts known in all slots' rings
 abbrev pub raises_in : Rings → List Event
 raises_in rings = raises_below (length rings) rings
 

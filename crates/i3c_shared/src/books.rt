@@ -104,7 +104,7 @@ impl<L: Ledger, M: Ledger, N: Ledger> Books<L, M, N> {
         self.frames.audit(&mut shares.frames);
     }
 
-    /// The same of a role, if there is one.
+    /// Audits the shares of a role, if there is one.
     pub(crate) fn audit_role(&mut self, role: &mut Option<HeldRole<L, M, N>>)
         ensures same { (self.new ≡ self.old) × (role.new ≡ role.old) }
         ensures whole { MatchOption role.old ⊤ (λ held. shares_of 0 held ≡ self.old) }

@@ -61,7 +61,7 @@ is_too_long st a bytes = nat_lt (transfer_length st Direction.Write a) (length b
 abbrev pub read_checks : State → ℕ → Checks
 read_checks st a = (is_no_partner st a, NoAnswer a) ∷ []
 
--- and of a write
+-- the refusals of a write, after those of each frame
 abbrev pub write_checks : State → ℕ → List ℕ → Checks
 write_checks st a bytes = (is_too_long st a bytes, TooLong) ∷ (is_no_partner st a, NoAnswer a) ∷ []
 
@@ -168,7 +168,7 @@ Transfers old bits Own policy cuts reply new =
 abbrev pub IsGranted : State → ℕ → CutList → Reply → State → Type 0
 IsGranted old to cuts reply new = (served : Served) × (reply ≡ Reply.Handed served) × Frame old refuse_all cuts served (header_bits served + 27) (Hands to) new
 
--- one that isn't
+-- an offer that nobody takes
 abbrev pub IsDeclined : State → ℕ → CutList → Reply → State → Type 0
 IsDeclined old to cuts reply new =
     (served : Served) × (bits : ℕ) × (reply ≡ Reply.Framed (record { served = served; answer = Answer.NoAnswer to })) × IsRefusedBits old to bits

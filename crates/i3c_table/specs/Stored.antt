@@ -14,7 +14,7 @@ use Rattle.i3c_table.specs.Rows.{HasStatic}
 abbrev pub identity_of : ℕ → Identity
 identity_of n = record { pid = n / 65536; bcr = record { 0 = n / 256 % 256 }; dcr = record { 0 = n % 256 } }
 
--- registers that say nothing
+-- the registers of an address that isn't given
 abbrev pub no_registers : Registers
 no_registers = record { bcr = record { 0 = 0 }; dcr = record { 0 = 0 }; fixed = None }
 

@@ -2,7 +2,7 @@
 use Rattle.std.specs.Prelude.{ℕ, zero, suc, ◌/◌, ◌%◌, true, List, [], ◌∷◌, ◌++◌}
 use Rattle.std.specs.Fmt.{digit_glyph}
 
--- two digits
+-- a byte in two hex digits
 abbrev pub byte_text : ℕ → List ℕ
 byte_text byte = digit_glyph true (byte / 16) ∷ digit_glyph true (byte % 16) ∷ []
 

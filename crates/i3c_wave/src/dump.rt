@@ -183,7 +183,7 @@ impl Dump {
         }
     }
 
-    /// Begins a command.
+    /// Goes to the place behind a command's first word.
     #[inline(never)]
     fn begin_command(&mut self, command: Command) -> Result<Item, CaptureFault>
         ensures { Says (command_said self.old command) self.new result }

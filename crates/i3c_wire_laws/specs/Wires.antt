@@ -47,6 +47,6 @@ round_answers given complete = map given_reply given ++ last_reply complete ∷ 
 abbrev pub assignment_events : CutList → List RoundReply → List Event
 assignment_events cuts answers = Event.OpenDaa cuts ∷ (map (λ _. Event.Round no_cuts) answers ++ Event.EndDaa ∷ [])
 
--- and their replies
+-- the replies to an assignment: to its opening, its rounds and its end
 abbrev pub assignment_replies : Served → List RoundReply → List Reply
 assignment_replies served answers = Reply.Opened served ∷ (map Reply.Round answers ++ Reply.Ended ∷ [])
