@@ -28,7 +28,7 @@ byte_or_none (Some byte) = byte_text byte
 abbrev pub recorded_text : Name → Option ℕ → ℕ → List ℕ
 recorded_text name byte count = codes "record " ++ (letters name ++ (codes " " ++ (byte_or_none byte ++ (codes " " ++ decimal count))))
 
--- a fact
+-- the text of a fact, as a line has it
 abbrev pub fact_text : Fact → List ℕ
 fact_text (Fact.Active name) = codes "active " ++ letters name
 fact_text (Fact.At name address) = letters name ++ (codes " at " ++ byte_text address)
@@ -50,7 +50,7 @@ abbrev pub negation_text : Bool → List ℕ
 negation_text true = codes "not "
 negation_text false = []
 
--- a claim
+-- the text of a claim, with `not` if it is negated
 abbrev pub claim_text : Claim → List ℕ
 claim_text claim = negation_text claim.negated ++ fact_text claim.fact
 
@@ -64,7 +64,7 @@ abbrev pub claims_text : List Claim → List ℕ
 claims_text [] = []
 claims_text (claim ∷ claims) = claim_text claim ++ more_text claims
 
--- a mark's line
+-- the line of a mark
 abbrev pub mark_text : Mark → List ℕ
 mark_text Mark.Any = codes "any"
 mark_text (Mark.Anywhere name) = codes "anywhere " ++ letters name

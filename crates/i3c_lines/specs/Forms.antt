@@ -71,21 +71,21 @@ abbrev pub AreDevice : List (List ℕ) → Name → Setup → Type 0
 AreDevice tokens name setup =
     (token pid bcr dcr : List ℕ) × (tokens ≡ token ∷ pid ∷ bcr ∷ dcr ∷ willing_tokens setup.willing) × IsNamed token name × WritesIdentity pid bcr dcr setup.identity
 
--- `[BYTE]`
+-- tokens of an optional byte, `[BYTE]`
 abbrev pub AreByte : List (List ℕ) → Option ℕ → Type 0
 AreByte tokens None = tokens ≡ []
 AreByte tokens (Some byte) = (token : List ℕ) × (tokens ≡ token ∷ []) × Writes 2 token byte
 
--- `[ADDR]`
+-- tokens of an optional address, `[ADDR]`
 abbrev pub AreAddress : List (List ℕ) → Option ℕ → Type 0
 AreAddress tokens None = tokens ≡ []
 AreAddress tokens (Some address) = (token : List ℕ) × (tokens ≡ token ∷ []) × WritesAddress token address
 
--- `BYTE [ADDR]`
+-- tokens of kinds and an optional address, `BYTE [ADDR]`
 abbrev pub AreKinds : List (List ℕ) → Option ℕ → Kinds → Type 0
 AreKinds tokens to kinds = (token : List ℕ) × (rest : List (List ℕ)) × (tokens ≡ token ∷ rest) × WritesKinds token kinds × AreAddress rest to
 
--- `N`
+-- the token of a count, `N`
 abbrev pub AreCount : List (List ℕ) → ℕ → Type 0
 AreCount tokens count = (token : List ℕ) × (tokens ≡ token ∷ []) × WritesCount token count
 
@@ -93,11 +93,11 @@ AreCount tokens count = (token : List ℕ) × (tokens ≡ token ∷ []) × Write
 abbrev pub ArePlace : List (List ℕ) → ℕ → Type 0
 ArePlace tokens place = (token : List ℕ) × (tokens ≡ token ∷ []) × WritesPlace token place
 
--- `N [ADDR]`
+-- tokens of a length and an optional address, `N [ADDR]`
 abbrev pub AreLength : List (List ℕ) → ℕ → Option ℕ → Type 0
 AreLength tokens most to = (token : List ℕ) × (rest : List (List ℕ)) × (tokens ≡ token ∷ rest) × WritesLength token most × AreAddress rest to
 
--- `ADDR ADDR`
+-- tokens of two addresses, `ADDR ADDR`
 abbrev pub AreAddresses : List (List ℕ) → ℕ → ℕ → Type 0
 AreAddresses tokens first second = (one other : List ℕ) × (tokens ≡ one ∷ other ∷ []) × WritesAddress one first × WritesAddress other second
 
@@ -105,7 +105,7 @@ AreAddresses tokens first second = (one other : List ℕ) × (tokens ≡ one ∷
 abbrev pub AreAsked : List (List ℕ) → Datum → ℕ → Type 0
 AreAsked tokens what at = (token : List ℕ) × (tokens ≡ told_token what ∷ token ∷ []) × WritesAddress token at
 
--- `ADDR PID BCR DCR`
+-- tokens of a declared identity, `ADDR PID BCR DCR`
 abbrev pub AreDeclared : List (List ℕ) → ℕ → Identity → Type 0
 AreDeclared tokens address identity = (at pid bcr dcr : List ℕ) × (tokens ≡ at ∷ pid ∷ bcr ∷ dcr ∷ []) × WritesAddress at address × WritesIdentity pid bcr dcr identity
 

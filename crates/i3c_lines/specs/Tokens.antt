@@ -4,7 +4,7 @@ use Rattle.std.specs.Int.{IsInRange}
 use Rattle.std.specs.Str.Parse.{digits_value}
 use Rattle.i3c_text.specs.Digits.{IsHexDigit}
 
--- `0` to `9`
+-- a decimal digit, `0` to `9`
 abbrev pub IsDecimalDigit : ℕ → Type 0
 IsDecimalDigit byte = IsInRange 48 57 byte
 

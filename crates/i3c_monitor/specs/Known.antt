@@ -125,7 +125,7 @@ abbrev pub after_present : Option ℕ → Known → Known
 after_present None known = known
 after_present (Some a) known = heard a known
 
--- and after one didn't
+-- what is known after an address didn't answer, if one didn't
 abbrev pub after_absent : ℕ → Option ℕ → Known → Known
 after_absent symbol None known = known
 after_absent symbol (Some a) known = silenced a symbol known

@@ -76,7 +76,7 @@ spoken_to (Decoded.SetLengthDirect way a bytes) = Some a
 spoken_to (Decoded.Single command a byte) = dynamic_in command a
 spoken_to _ = None
 
--- nobody has it
+-- the address has no owner
 abbrev pub is_nobodys : Owner → Bool
 is_nobodys Owner.Nobody = true
 is_nobodys _ = false
@@ -102,7 +102,7 @@ abbrev pub silent_since : Owner → Option ℕ → Option ℕ
 silent_since (Owner.Given identity) silent = silent
 silent_since _ silent = None
 
--- this address was silent
+-- the symbol since which the owner of this address is silent
 abbrev pub silence_at : Known → ℕ → ℕ → Option ℕ → Option LintFault
 silence_at known frame number None = None
 silence_at known frame number (Some a) =
@@ -227,7 +227,7 @@ abbrev pub is_wrong_address : Symbol → Bool
 is_wrong_address (Symbol.AddressByte byte ack) = not ((count_ones (byte / 2) + byte % 2) % 2 == 1)
 is_wrong_address _ = false
 
--- the first of these
+-- the fault of the first address byte with a wrong parity
 abbrev pub parity_fault : ℕ → ℕ → List Symbol → Option LintFault
 parity_fault frame number symbols = option_map (λ n. fault_at frame (number + (n + 1)) Breach.Parity) (position is_wrong_address symbols)
 

@@ -76,7 +76,7 @@ round_in (Symbol.Identity identity ∷ Symbol.AddressByte byte ack ∷ rest) bef
 round_in (Symbol.Identity identity ∷ rest) before = Err (Fault.Truncated (before + 2))
 round_in _ before = Err (Fault.Truncated (before + 1))
 
--- a round
+-- the round behind a header
 abbrev pub round_of : Header → List Symbol → ℕ → Result Decoded Fault
 round_of header symbols before = if header.ack then round_in symbols before else Ok Decoded.RoundsDone
 
@@ -120,7 +120,7 @@ code_at byte =
     else if byte == 0x81 then Code.DisecDirect else if byte == 0x87 then Code.Setdasa else if byte == 0x88 then Code.Setnewda
     else if byte == 0x91 then Code.Getacccr else length_at byte
 
--- what follows 7E/W
+-- the command behind `7E`/W
 abbrev pub code_of : List Symbol → ℕ → Result Told Fault
 code_of [] before = Ok (nothing Mode.Plain)
 code_of (symbol ∷ rest) before = go_on (written_byte (symbol ∷ rest) before) (λ byte. command_of (code_at byte) rest (before + 1))

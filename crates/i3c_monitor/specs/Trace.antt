@@ -47,7 +47,7 @@ rest_told mode frames before zero (Symbol.Header address read ack ∷ rest) =
     (λ next. rest_told next frames (before + 1) (count_behind rest) rest)
 rest_told mode frames before zero (symbol ∷ rest) = rest_told mode frames (before + 1) zero rest
 
--- what a trace tells
+-- what all symbols of a trace tell
 abbrev pub trace_told : List Symbol → List Decoded
 trace_told symbols = rest_told Mode.Skipped 0 0 0 symbols
 

@@ -46,7 +46,7 @@ parted_text (Some part) = part_text part
 abbrev pub cause_text : Break → List ℕ
 cause_text broken = parted_text (option_copied broken.part) ++ (due_text broken.due ++ 10 ∷ [])
 
--- the line of it
+-- the line that tells where a text stops being a trace
 abbrev pub broken_text : Break → List ℕ
 broken_text broken = number_text (codes "frame ") broken.frame ++ (number_text (codes ": symbol ") broken.symbol ++ cause_text broken)
 
@@ -65,7 +65,7 @@ abbrev pub line_faults : LintLine → ℕ
 line_faults (Shown decoded) = refusals_in decoded
 line_faults (Faulty fault) = 1
 
--- how many several are
+-- the number of faults among these lines
 abbrev pub all_faults : List LintLine → ℕ
 all_faults [] = 0
 all_faults (line ∷ rest) = line_faults line + all_faults rest

@@ -15,7 +15,7 @@ pub record Seen : Type 0 where
   pub cuts : CutList
   pub names : List Named
 
--- the same of these
+-- a scene with this bus, these settings, cuts and names
 abbrev pub seen : State → Settings → CutList → List Named → Seen
 seen state settings cuts names = record { state = state; settings = settings; cuts = cuts; names = names }
 

@@ -14,7 +14,7 @@ use Rattle.i3c_script.specs.declared.tenures.Tenure.{Tenure}
 use Rattle.i3c_script.specs.Printed.{show_text}
 use Rattle.i3c_script.specs.Tenures.{tenures_text}
 
--- what a device is
+-- the identity and kind of a device, as `show all` prints them
 abbrev pub registers_text : Identity → List ℕ
 registers_text identity = codes " pid " ++ (hex_text 12 identity.pid ++ (codes " bcr " ++ (byte_text identity.bcr.0 ++ (codes " dcr " ++ byte_text identity.dcr.0))))
 

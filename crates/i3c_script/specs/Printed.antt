@@ -92,7 +92,7 @@ identity_text identity = hex_text 12 identity.pid ++ (field_text identity.bcr.0 
 abbrev pub assigned_text : ℕ → Identity → List ℕ
 assigned_text a identity = codes "assigned " ++ (byte_text a ++ (codes " " ++ identity_text identity))
 
--- a round
+-- the line that a round prints
 abbrev pub round_text : RoundReply → List ℕ
 round_text (RoundReply.Assigned a identity) = assigned_text a identity
 round_text RoundReply.Nobody = codes "nobody" ++ 10 ∷ []
@@ -197,7 +197,7 @@ unfoldable pub devices_text : State → Names → ℕ → List ℕ
 devices_text st names zero = []
 devices_text st names (suc slot) = devices_text st names slot ++ device_text (slice_index_or (slot_names names) slot None) (device_at st slot)
 
--- a legacy target
+-- the line of a legacy target, if it has a name
 abbrev pub legacy_text : Option Name → ℕ → List ℕ
 legacy_text None a = []
 legacy_text (Some name) a = letters name ++ (codes " " ++ (byte_text a ++ (codes " legacy" ++ 10 ∷ [])))

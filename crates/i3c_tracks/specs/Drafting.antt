@@ -146,14 +146,14 @@ with_expected expectation (Some step) = awaited step (expectation ∷ [])
 abbrev pub with_line : Step → Open → Open
 with_line step block = record block { last = option_map (λ (track : List Step). track ++ awaited step block.always ∷ []) block.last }
 
--- a block is added
+-- the body with one more block, of these tracks
 pub record Adds (old : Body) (tracks : List (List Step)) (new : Body) : Type 0 where
   pub start : new.start ≡ old.start
   pub blocks : blocks_of new.blocks.items ≡ blocks_of old.blocks.items ++ tracks ∷ []
   pub block : new.block ≡ old.block
   pub held : new.held ≡ old.held
 
--- a line is held
+-- the body holds a line until its place is known
 pub record Holds (old : Body) (step : Step) (new : Body) : Type 0 where
   pub start : new.start ≡ old.start
   pub blocks : new.blocks ≡ old.blocks

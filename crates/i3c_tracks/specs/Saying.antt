@@ -5,7 +5,7 @@ use Rattle.i3c_facts.specs.Forms.{IsMark}
 use Rattle.i3c_lines.specs.Forms.{HasNoForm, IsCommand, IsSkipped}
 use Rattle.i3c_tracks.specs.declared.file_line.FileLine.{FileLine}
 
--- a line says this
+-- a line of a file is empty, a command, a mark, or has no form
 abbrev pub IsFileLine : List ℕ → FileLine → Type 0
 IsFileLine line FileLine.Nothing = IsSkipped line
 IsFileLine line (FileLine.Does command) = IsCommand line command

@@ -75,11 +75,11 @@ expectation_text line = codes "expect" ++ (drop (min 6 (length line)) line ++ 10
 abbrev pub short_line : List ℕ → List ℕ
 short_line line = take (min (length line) 256) line ++ 10 ∷ []
 
--- which line breaks
+-- the comment that names the line that breaks
 abbrev pub breaks_text : ℕ → List ℕ → List ℕ
 breaks_text number line = codes "# line " ++ (decimal number ++ (codes " breaks: " ++ line))
 
--- a comment
+-- a comment with this text
 abbrev pub comment_text : List ℕ → List ℕ
 comment_text line = codes "# " ++ (line ++ 10 ∷ [])
 
@@ -87,7 +87,7 @@ comment_text line = codes "# " ++ (line ++ 10 ∷ [])
 abbrev pub heading_text : ℕ → List ℕ → List ℕ → List ℕ
 heading_text number line found = short_line (breaks_text number line) ++ (comment_text found ++ comment_text (codes "run this script to see it"))
 
--- a number of orders
+-- the text of a number of orders
 abbrev pub orders_text : Option ℕ → List ℕ
 orders_text None = codes "over 18446744073709551615"
 orders_text (Some orders) = decimal orders

@@ -22,7 +22,7 @@ next_awaited legacies Awaited.Identity (Symbol.Identity number) = Some Awaited.A
 next_awaited legacies Awaited.AddressByte (Symbol.AddressByte byte ack) = Some (Awaited.Word true)
 next_awaited legacies awaited symbol = None
 
--- an assignment goes on
+-- whether the frame is an assignment that goes on
 abbrev pub was_assigning : Awaited → Bool
 was_assigning (Awaited.Header assigning) = assigning
 was_assigning (Awaited.Word assigning) = assigning

@@ -27,7 +27,7 @@ pub record Taken : Type 0 where
   pub reached : CaptureWords
   pub symbol : Option Stamped
 
--- before the first word
+-- the words of a capture before the first one
 abbrev pub new_reached : Addresses → CaptureWords
 new_reached legacies = record { dump = new_dump; capture = new_capture legacies; line = 1 }
 
@@ -40,7 +40,7 @@ abbrev pub item_taken : CaptureWords → Result Heard CaptureFault → Result Ta
 item_taken reached (Ok heard) = Ok (record { reached = record reached { capture = heard.capture }; symbol = heard.symbol })
 item_taken reached (Err fault) = Err fault
 
--- a time
+-- the result of a time: the capture goes on to it, unless it is too early
 abbrev pub time_taken : CaptureWords → Option Capture → Result Taken CaptureFault
 time_taken reached None = Err (CaptureFault.BadTime reached.line)
 time_taken reached (Some capture) = Ok (record { reached = record reached { capture = capture }; symbol = None })
@@ -57,7 +57,7 @@ abbrev pub said_taken : CaptureWords → Result DumpStep CaptureFault → Result
 said_taken reached (Ok said) = item_heard (record reached { dump = said.dump }) said.item
 said_taken reached (Err fault) = Err fault
 
--- the next word
+-- the result of the next word
 abbrev pub word_taken : List ℕ → List ℕ → CaptureWords → List ℕ → Result Taken CaptureFault
 word_taken scl sda reached word = said_taken reached (word_said scl sda reached.dump reached.line word)
 
@@ -102,7 +102,7 @@ part_read scl sda input letters space = parted space (goes_on (letters_kept inpu
 abbrev pub letters_in : List ℕ → ℕ
 letters_in bytes = unwrap_or (position is_space bytes) (length bytes)
 
--- bytes, one after another
+-- the state after these bytes, one after another
 abbrev pub bytes_read : List ℕ → List ℕ → Input → List ℕ → Result Input CaptureFault
 bytes_read scl sda input [] = Ok input
 bytes_read scl sda input (byte ∷ rest) = goes_on (byte_read scl sda input byte) (λ next. bytes_read scl sda next rest)
@@ -127,7 +127,7 @@ Ended scl sda input symbols = (last : Input) × (text_ended scl sda input ≡ Ok
 abbrev pub Closed : Result Taken CaptureFault → List Stamped → List Stamped → Type 0
 Closed outcome old new = (taken : Taken) × (outcome ≡ Ok taken) × (new ≡ old ++ option_to_list taken.symbol)
 
--- before a text
+-- the state before the first byte of a text
 abbrev pub new_input : Addresses → Input
 new_input legacies = record { reached = new_reached legacies; word = []; symbols = [] }
 
@@ -135,7 +135,7 @@ new_input legacies = record { reached = new_reached legacies; word = []; symbols
 abbrev pub text_read : Addresses → List ℕ → List ℕ → List ℕ → Result Input CaptureFault
 text_read legacies scl sda text = goes_on (bytes_read scl sda (new_input legacies) text) (text_ended scl sda)
 
--- the text's symbols
+-- the symbols of a whole text
 abbrev pub HasSymbols : Addresses → List ℕ → List ℕ → List ℕ → List Stamped → Type 0
 HasSymbols legacies scl sda text symbols = (input : Input) × (text_read legacies scl sda text ≡ Ok input) × (input.symbols ≡ symbols)
 

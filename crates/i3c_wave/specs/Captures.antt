@@ -19,7 +19,7 @@ pub record Heard : Type 0 where
   pub capture : Capture
   pub symbol : Option Stamped
 
--- a call hears so
+-- a call has the result of this hearing
 abbrev pub Hears : Result Heard CaptureFault → Capture → Result (Option Stamped) CaptureFault → Type 0
 Hears outcome capture result = MatchResult result (λ symbol. outcome ≡ Ok (record { capture = capture; symbol = symbol })) (λ fault. outcome ≡ Err fault)
 
@@ -36,17 +36,17 @@ abbrev pub with_line : Level → Line → Bool → Level
 with_line level Line.Scl bit = record level { scl = bit }
 with_line level Line.Sda bit = record level { sda = bit }
 
--- two bits are one
+-- two bits are equal
 abbrev pub is_same_bit : Bool → Bool → Bool
 is_same_bit true other = other
 is_same_bit false true = false
 is_same_bit false false = true
 
--- two levels are one
+-- two levels are equal
 abbrev pub is_same_level : Level → Level → Bool
 is_same_level one other = if is_same_bit one.scl other.scl then is_same_bit one.sda other.sda else false
 
--- no symbol is whole
+-- a hearing in which no symbol is whole
 abbrev pub quiet : Capture → Heard
 quiet capture = record { capture = capture; symbol = None }
 
@@ -64,7 +64,7 @@ read_as capture Reading.Misread = if capture.started then Err (CaptureFault.Misr
 abbrev pub mark_read : Capture → Mark → Result Heard CaptureFault
 mark_read capture mark = read_as (record capture { reader = (turn capture.reader mark).reader }) (turn capture.reader mark).reading
 
--- one watches the lines
+-- a watcher of the lines begins
 abbrev pub first_heard : Capture → Edges → Capture
 first_heard capture edges = record capture { edges = Some edges }
 

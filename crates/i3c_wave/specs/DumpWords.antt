@@ -27,7 +27,7 @@ code_of (a ∷ b ∷ c ∷ []) = Some (record { first = a; second = b; third = c
 code_of (a ∷ b ∷ c ∷ d ∷ []) = Some (record { first = a; second = b; third = c; fourth = d })
 code_of (a ∷ b ∷ c ∷ d ∷ e ∷ rest) = None
 
--- two codes are one
+-- two codes are equal
 abbrev pub is_same_code : Code → Code → Bool
 is_same_code one other = one.first == other.first && (one.second == other.second && (one.third == other.third && one.fourth == other.fourth))
 

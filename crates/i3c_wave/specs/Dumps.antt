@@ -12,7 +12,7 @@ use Rattle.i3c_wave.specs.declared.dump_word.Lead.{Lead}
 use Rattle.i3c_wave.specs.declared.dump_word.Magnitude.{Magnitude}
 use Rattle.i3c_wave.specs.DumpWords.{code_of, command_of, digits_in, is_same_code_as, lead_of, magnitude_of, number_of, scaled, unit_setup}
 
--- a call says so
+-- a call has the result of this step
 abbrev pub Says : Result DumpStep CaptureFault → Dump → Result Item CaptureFault → Type 0
 Says outcome dump result = MatchResult result (λ item. outcome ≡ Ok (record { dump = dump; item = item })) (λ fault. outcome ≡ Err fault)
 
@@ -28,7 +28,7 @@ at_place dump place = record dump { place = place }
 abbrev pub nothing : Dump → DumpStep
 nothing dump = record { dump = dump; item = Item.Nothing }
 
--- a line wasn't declared
+-- the fault of a line that wasn't declared
 abbrev pub missing : Option Code → Option Code → Result ⊤ CaptureFault
 missing None sda = Err CaptureFault.NoScl
 missing (Some scl) None = Err CaptureFault.NoSda
@@ -61,12 +61,12 @@ value_said dump level (Some code) = record { dump = dump; item = level_said (lin
 abbrev pub behind_vector : Dump → List ℕ → DumpStep
 behind_vector dump code = value_said (at_place dump Place.Between) None (code_of code)
 
--- no more signals follow
+-- the declarations end, if both lines were declared
 abbrev pub definitions_ended : Dump → Result ⊤ CaptureFault → Result DumpStep CaptureFault
 definitions_ended dump (Ok _) = Ok (nothing (at_place dump Place.Passed))
 definitions_ended dump (Err fault) = Err fault
 
--- a command begins
+-- the step at the first word of a command
 abbrev pub command_said : Dump → Command → Result DumpStep CaptureFault
 command_said dump Command.End = Ok (nothing dump)
 command_said dump Command.Values = Ok (nothing dump)
@@ -75,7 +75,7 @@ command_said dump Command.Var = Ok (nothing (at_place dump Place.Kind))
 command_said dump Command.Other = Ok (nothing (at_place dump Place.Passed))
 command_said dump Command.EndDefinitions = definitions_ended dump (missing dump.scl dump.sda)
 
--- a time
+-- the step at a time
 abbrev pub time_said : Dump → ℕ → Option ℕ → Result DumpStep CaptureFault
 time_said dump at None = Err (CaptureFault.BadTime at)
 time_said dump at (Some time) = Ok (record { dump = dump; item = Item.Time time })
@@ -90,7 +90,7 @@ led_word dump at Lead.NoLevel word rest = Ok (value_said dump None (code_of rest
 led_word dump at Lead.Vector word rest = Ok (nothing (at_place dump Place.Vector))
 led_word dump at Lead.Other word rest = Err (CaptureFault.BadWord at)
 
--- a word between commands
+-- the step at a word between commands
 abbrev pub begun_word : Dump → ℕ → List ℕ → Result DumpStep CaptureFault
 begun_word dump at [] = Err (CaptureFault.BadWord at)
 begun_word dump at (first ∷ rest) = led_word dump at (lead_of first) (first ∷ rest) rest
@@ -147,7 +147,7 @@ inside_from scl sda place dump at word = Ok (nothing dump)
 abbrev pub inside : List ℕ → List ℕ → Dump → ℕ → List ℕ → Result DumpStep CaptureFault
 inside scl sda dump at word = inside_from scl sda dump.place dump at word
 
--- the next word
+-- the step at the next word
 abbrev pub word_from : List ℕ → List ℕ → Place → Dump → ℕ → List ℕ → Result DumpStep CaptureFault
 word_from scl sda Place.Between dump at word = begun_word dump at word
 word_from scl sda Place.Vector dump at word = Ok (behind_vector dump word)

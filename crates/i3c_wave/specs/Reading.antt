@@ -26,7 +26,7 @@ abbrev pub entered_at : Reader → Symbol → Option (Option Awaited) → Turn
 entered_at reader symbol None = misread reader
 entered_at reader symbol (Some place) = record { reading = Reading.Symbol symbol; reader = awaiting reader.legacies place }
 
--- a whole symbol
+-- the reader after a whole symbol, if it is allowed there
 abbrev pub entered : Reader → Symbol → Turn
 entered reader symbol = entered_at reader symbol (next_place reader.legacies.0 reader.place symbol)
 
@@ -44,7 +44,7 @@ bit_turn reader number zero = misread reader
 bit_turn reader number (suc zero) = entered reader (symbol_in reader.place number)
 bit_turn reader number (suc (suc left)) = record { reading = Reading.Partial; reader = record { legacies = reader.legacies; place = reader.place; number = number; left = suc left } }
 
--- the next mark
+-- the reader after the next mark
 abbrev pub turn : Reader → Mark → Turn
 turn reader Mark.Start = framed reader (start_in reader.place)
 turn reader Mark.Stop = framed reader Symbol.Stop

@@ -34,7 +34,7 @@ abbrev pub ComesTo : ℕ → List ℕ → Option TraceFault → List ℕ → Typ
 ComesTo legacies text None lines = IsDump legacies text lines
 ComesTo legacies text (Some fault) lines = IsFirstFault (parts text) fault × (lines ≡ fault_line fault)
 
--- the known bytes do
+-- the known bytes are a text with this result
 pub record CameTo (legacies : ℕ) (known : Option (List ℕ)) (fault : Option TraceFault) (lines : List ℕ) : Type 0 where
   pub text : List ℕ
   pub read : IfSome known (λ bytes. text ≡ bytes)

@@ -15,7 +15,7 @@ use Rattle.i3cbus.specs.declared.drawing.Drawing.{Drawing}
 abbrev pub IsBlank : Picture → Type 0
 IsBlank picture = (picture.rows ≡ []) × (picture.pen ≡ pen_at 36)
 
--- a row was drawn
+-- a row was added to the picture
 abbrev pub DrawsRow : Picture → Drawn → Picture → Type 0
 DrawsRow old drawn new = (new.rows ≡ old.rows ++ row_text old.pen drawn) × (new.pen ≡ after_row old.pen drawn)
 

@@ -22,14 +22,14 @@ abbrev pub stress_told_as : StressFault → Fault
 stress_told_as StressFault.Memory = Fault.Memory
 stress_told_as StressFault.NotBalanced = Fault.NotBalanced
 
--- that of a waveform
+-- the program's fault for a fault of a waveform
 abbrev pub wave_told_as : WaveFault → Fault
 wave_told_as WaveFault.Memory = Fault.Memory
 wave_told_as WaveFault.Read = Fault.Read
 wave_told_as WaveFault.Write = Fault.Write
 wave_told_as WaveFault.TooLarge = Fault.TooLarge
 
--- that of a capture
+-- the program's fault for a fault of a capture
 abbrev pub capture_told_as : CaptureFault → Fault
 capture_told_as CaptureFault.Memory = Fault.Memory
 capture_told_as CaptureFault.Read = Fault.Read
