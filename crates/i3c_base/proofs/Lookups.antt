@@ -80,7 +80,6 @@ each_at f st s = changed_at (λ t place. option_map (f t) place) st.devices s No
 pub each_from : (f : ℕ → Device → Device) (st : State) (s : ℕ) (d : Device) → device_at (each f st) s ≡ Some d → (x : Device) × (device_at st s ≡ Some x) × (f s x ≡ d)
 each_from f st s d h = option_map_from (f s) (device_at st s) d (sym (each_at f st s) ∙ h)
 
--- one device changed
 pub change_at : (s : ℕ) (f : Device → Device) (st : State) (t : ℕ) → device_at (change s f st) t ≡ option_map (λ d. if t == s then f d else d) (device_at st t)
 change_at s f st t =
     set_default st.devices s t (option_map f (device_at st s)) None (λ l. ap (option_map f) (get_or_past st.devices s None l)) ∙ go (t == s) (λ e. eqb-true t s e) (device_at st t) refl

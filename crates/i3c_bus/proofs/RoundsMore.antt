@@ -74,7 +74,6 @@ sends_of gives first second st new cuts result answer is none step told =
     (subst (λ r. Tells gives first second (IsWire st (Event.Round cuts) (rounded_reply r) new)) is told) in
     (sent.0, sent.1, (step_of st new cuts result answer is none step, sent.2))
 
--- a round more
 rounds_more : (old : State) (answers : List RoundReply) (wire : List Symbol) (mid : State) (answer : RoundReply) (more : List Symbol) (new : State) → AreRounds old answers wire mid
     → Sends mid (Event.Round no_cuts) (Reply.Round answer) more new → AreRounds old (answers ++ answer ∷ []) (wire ++ more) new
 rounds_more old [] wire mid answer more new none sends =
@@ -82,7 +81,6 @@ rounds_more old [] wire mid answer more new none sends =
 rounds_more old (first ∷ later) wire mid answer more new are sends =
     (are.0, are.1, are.2 ++ more, are.3, rounds_more are.0 later are.2 mid answer more new are.4 sends, ap (λ w. w ++ more) are.5 ∙ append_assoc are.1 are.2 more)
 
--- and its wire
 pub told_more : {T : Type 0} (gives : T → Symbol → T → Type 0) (first second third : T) (old mid new : State) (answers : List RoundReply) (answer : RoundReply)
     → Tells gives first second (λ wire. AreRounds old answers wire mid) → Tells gives second third (λ wire. Sends mid (Event.Round no_cuts) (Reply.Round answer) wire new)
     → Tells gives first third (λ wire. AreRounds old (answers ++ answer ∷ []) wire new)

@@ -97,7 +97,7 @@ contenders_skip devices first upto keys sized l low silent h =
     let same : first + (upto - first) ≡ upto = omega arith in
     subst (λ k. ContendersSoFar devices k keys) same (skip_by (upto - first) devices first keys sized (omega arith) (λ t m n. silent t m (omega arith)) h)
 
--- all places
+-- all places were entered
 pub contenders_exact : (devices : List (Option Device)) (keys : List (ℕ × ℕ)) → length devices ≡ SLOTS → ContendersSoFar devices SLOTS keys → keys ≡ contenders_from 0 devices
 contenders_exact devices keys sized h = h.exact ∙ ap (contenders_from 0) (take_all SLOTS devices (omega (arith, sized)))
 

@@ -25,7 +25,7 @@ parts_past byte text here = rw here
 abbrev start_len : List ℕ → ℕ
 start_len text = position_or_len (λ byte. not (is_separator byte)) text
 
--- nor do many
+-- leading separators add no parts
 IsSkipped : List ℕ → Type 0
 IsSkipped text = parts (drop (start_len text) text) ≡ parts text
 

@@ -145,7 +145,6 @@ no_names tokens front after kinds e is none other names (front', behind, e', is'
 names_long : (tokens : List (List ℕ)) (old new : List Name) → NameEach tokens old new → length new ≡ length old + length (map named tokens)
 names_long tokens old new are = ap length (names_are tokens old new are) ∙ length-append old (map named tokens)
 
--- one name more
 pub name_more : (tokens rest : List (List ℕ)) (token : List ℕ) (name : Name) (old mid new : List Name) (result : Option (Unit {0})) → tokens ≡ token ∷ rest → IsNamed token name
     → list_any (λ other. is_same other name) old ≡ false → mid ≡ old ++ name ∷ [] → GoOn rest mid new result → GoOn tokens old new result
 name_more tokens rest token name old mid new None e is once put none = λ all are few.

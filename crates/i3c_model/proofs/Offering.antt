@@ -126,7 +126,7 @@ module _ (old : State) (to : ℕ) (cuts : CutList) (choice : Choice) (header : �
     settled : MatchOption (of_served served) ⊤ (IsTaken (MayStandFor Comes of_request) choice)
     settled = subst (λ o. MatchOption o ⊤ (IsTaken (MayStandFor Comes of_request) choice)) (sym (stands_none old (By 27) served old (serves (By 27)))) tt
 
-    -- it is granted
+    -- the role is granted
     module _ (heir : ℕ) (is_heir : IsHeir old to (By 27) heir) (new : State) (left : new ≡ emptied (By 27) (handed heir to old)) where
       granted_frame : Frame old refuse_all cuts served (header_bits served + 27) (Hands to) new
       granted_frame = frame 27 (Hands to) (handed heir to old) new (heir, is_heir.0, is_heir.1, is_heir.2, refl) left
@@ -143,7 +143,7 @@ module _ (old : State) (to : ℕ) (cuts : CutList) (choice : Choice) (header : �
       pub granted_as : HandsAsChosen old to cuts choice new
       granted_as = (Heard, (served, granted_frame), taken_heard (MayHandBy old to cuts) choice (λ c l. some (lost_needs l.0 l.1)) (λ c l. some (none_later (silent_needs l.0 l.1))))
 
-    -- nobody takes it
+    -- nobody takes the role
     module _ (bits : ℕ) (none : NoHeir old to (By 27)) (may : MayDecline old to (By 18) choice bits) (new : State) (left : new ≡ emptied (By bits) old) where
       by_bits : NoHeir old to (By bits)
       by_bits = elim may [

@@ -195,14 +195,13 @@ module _ {A B : Type 0} (f : Option A → Option B) where
   filled_keys : (xs : List (Option A)) (n : ℕ) (m : BTreeMap ℕ B) → n ≤ 128 → IsFilled f xs n m → IsKeyedBelow ADDRESSES m
   filled_keys xs n m most h k some = elim (cases_lt k n) [ inl l ↦ omega arith | inr l ↦ absurd (false≢true (subst IsSome (h.above k l) some)) ]
 
--- all of them
+-- the targets of all places
 pub targets_all : (lvrs : List (Option Lvr)) (n : ℕ) (m : BTreeMap ℕ LegacyTarget) → 128 ≤ n → n ≤ 128 → IsFilled (option_map legacy_target_of) lvrs n m → AreTargets lvrs m
 targets_all lvrs n m past most h = (
   filled_keys (option_map legacy_target_of) lvrs n m most h,
   places_are ADDRESSES m (legacy_targets_of lvrs) (length-map lvrs (option_map legacy_target_of) ∙ h.long (omega arith)) (λ k l. get_or-map (option_map legacy_target_of) lvrs k None ∙ sym (h.below k (omega arith))),
 )
 
--- the same place
 abbrev pub same_place : Option Identity → Option Identity
 same_place place = place
 

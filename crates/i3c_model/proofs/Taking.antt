@@ -63,7 +63,7 @@ taken_silent L Heard own none = let no = none heard≢silent in record { chosen 
 taken_silent L Lost own none = let no = none lost≢silent in record { chosen = λ h. absurd (no.1 h); first = λ h other k. after_both L other no.0 no.1 k }
 taken_silent L Silent own none = record { chosen = λ h. refl; first = λ h. absurd (h own) }
 
--- both questions
+-- the choice in both questions
 pub follows : (Comes : Reply → State → Type 0) (choice : Choice) (reply : Reply) → MatchOption (stands_for of_request reply) ⊤ (IsTaken (MayStandFor Comes of_request) choice)
     → MatchOption (stands_for of_own_part reply) ⊤ (IsTaken (MayStandFor Comes of_own_part) choice) → Follows Comes choice reply
 follows Comes choice reply h k of_request = h
@@ -305,7 +305,7 @@ module _ (old : State) (to : Option ℕ) (f : KindSet → KindSet) (policy : Fix
       (λ l. never_silent l.2.0.served (sym (ap (stands_for of_request) l.2.1) ∙ l.3)))
       (own_taken answer refl to refl)
 
--- rounds
+-- the choices of a round
 heard_round : (old new : State) (cuts : CutList) (answer : RoundReply) → Rounds old cuts answer new → of_round answer ≡ Some Heard → AnyHears old × (¬ AllHearersLost old (lost_by cuts 73))
 heard_round old new cuts (RoundReply.Assigned a i) h e =
     let c = h.1.0 in ((c.0, c.1, c.2), λ all. false≢true (sym c.3 ∙ all c.0 c.1 c.2))

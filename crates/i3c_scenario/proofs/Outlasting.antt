@@ -38,7 +38,7 @@ pub still_tested : (st : State) (names : Names) (before : Before) (all : List La
 still_tested st names before all one still new holds same so_far more =
     more ∙ ap (λ l. l ++ lasts_if holds one []) so_far ∙ ap (λ h. still_lasting st names before all ++ lasts_if h one []) same ∙ sym (still_more st names before all one)
 
--- what was told
+-- the text that the tests told
 pub told_tested : (st : State) (names : Names) (before : Before) (all : List Lasting) (one : Lasting) (old text new : List ℕ) (holds : Bool)
     → holds ≡ is_met st names before one.facts → text ≡ old ++ lasting_text st names before all → new ≡ text ++ lasting_line st names before one holds → new ≡ old ++ lasting_text st names before (all ++ one ∷ [])
 told_tested st names before all one old text new holds same so_far more =

@@ -80,7 +80,7 @@ unread_part known now left old new held from to room so_far kept =
       out = (puts_whole old new (lines_out so_far.runs.lines) so_far.runs.out, (so_far.rest, so_far.runs.one, subst (Consumes known left) so_far.runs.same consumed));
     }
 
--- nothing was read
+-- nothing was read yet
 pub none_so_far : (known old : Option (List ℕ)) (held : List ℕ) (at : Progress) → held ≡ [] → ReadSoFar known known old old held at at 1048576
 none_so_far known old held at none =
     record { read = []; rest = []; consumed = none_read known [] refl; few = omega arith; runs = no_line [] (written old) at no_feed_in_none; begun = none }
@@ -122,7 +122,7 @@ part_run known left old new from fault begun part = record {
   out = part.out;
 }
 
--- a piece more
+-- one piece more was read
 pub more_so_far : (known now next old mid new : Option (List ℕ)) (held held2 chunk : List ℕ) (from c1 c2 : Progress) (left count : ℕ)
     → (so_far : ReadSoFar known now old mid held from c1 left) → count ≤ left → count ≤ length chunk → Consumes now next (take count chunk)
     → (rest : List ℕ) → RunsTo (so_far.rest ++ take count chunk) rest (written mid) (written new) c1 c2 → held2 ≡ take 257 rest → ReadSoFar known next old new held2 from c2 (left - count)

@@ -138,7 +138,7 @@ frame_booked books old new event reply was g frame steady =
     (ap (λ (b : BooksValue). b.active) was ∙ sym (grown_active old new event reply g steady.0))
     (ap (λ (b : BooksValue). b.session) was ∙ sym (ap sessions_in steady.1))
 
--- a refused one
+-- a refused event
 pub refused_booked : (books : BooksValue) (old new : Log) (event : Event) (reply : Reply) (why : Refusal) → books ≡ books_of old → Grows old event reply new → is_frame event ≡ true → reply ≡ Reply.Refused why → book_frame books ≡ books_of new
 refused_booked books old new event reply why was g frame is = frame_booked books old new event reply was g frame (same_reply reply (Reply.Refused why) old.state.in_session is (refl, refl))
 
@@ -168,7 +168,7 @@ opened_booked books old new cuts reply served was g is =
     (ap (λ (b : BooksValue). b.active) was ∙ sym (grown_active old new (Event.OpenDaa cuts) reply g (ap is_handed is)))
     (ap (λ r. sessions_in (session_after r old.state.in_session)) (sym is))
 
--- an ended one
+-- an ended session
 pub ended_booked : (books : BooksValue) (old new : Log) (reply : Reply) → books ≡ books_of old → Grows old Event.EndDaa reply new → reply ≡ Reply.Ended → record (book_frame books) { session = 0 } ≡ books_of new
 ended_booked books old new reply was g is =
     framed books old new Event.EndDaa reply books.active 0 was g refl

@@ -308,7 +308,6 @@ sound_round old cuts answer new h left sound = record {
   fitting = AllFit-round old cuts answer new h sound.fitting;
 }
 
--- a reset
 pub sound_reset : (st : State) → IsSound st → IsSound (reset st)
 sound_reset st sound = record {
   addresses = Addresses-none_new st (reset st) (NoneNew-reset st) sound.addresses;
@@ -316,7 +315,6 @@ sound_reset st sound = record {
   fitting = AllFit-reset st sound.fitting;
 }
 
--- a list
 pub sound_list : (st : State) → IsSound st → IsSound (list st)
 sound_list st sound = record {
   addresses = Addresses-none_new st (list st) (NoneNew-list st) sound.addresses;

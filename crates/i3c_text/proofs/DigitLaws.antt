@@ -23,7 +23,6 @@ unfolding hex_text
 hex_text_none zero n h = refl
 hex_text_none (suc count) n h = absurd (omega arith)
 
--- one digit more
 pub hex_text_more : (count n value : ℕ) → value < 16 → hex_text (count + 1) (16 * n + value) ≡ hex_text count n ++ digit_glyph true value ∷ []
 unfolding hex_text
 hex_text_more count n value h =
@@ -58,7 +57,7 @@ hex_is (suc count) n h =
       omega (arith, value, before.1, digit.1),
     )
 
--- each is one
+-- each of them is a hex digit
 pub digit_at : (count n i : ℕ) → i < count → IsHexDigit (get_or (hex_text count n) i 0)
 unfolding hex_text
 digit_at zero n i h = absurd (omega arith)

@@ -115,7 +115,7 @@ one_read legacies (Some Awaited.Identity) (Symbol.Identity number) next rest e r
     symbol_read legacies (Some Awaited.Identity) 63 number (bits_of (Symbol.Identity number)) (Symbol.Identity number) next rest refl range range refl refl e
 one_read legacies (Some awaited) symbol next rest e range = cc
 
--- one after another
+-- symbols are read one after another
 wire_read : (legacies : Addresses) (place : Option Awaited) (symbols : List Symbol) → IsWireFrom legacies.0 place symbols → read_from (awaiting legacies place) (flat_map marks_of symbols) ≡ map Reading.Symbol symbols
 wire_read legacies place [] wire = refl
 wire_read legacies place (symbol ∷ rest) wire =

@@ -207,7 +207,7 @@ legacy_written legacies side (byte ∷ bytes) [] h are = absurd h
 abbrev IsWordOf : ℕ → Symbol → Type 0
 IsWordOf byte symbol = (word : Word) × (word.byte ≡ byte) × HasOddParity word × (symbol ≡ Symbol.Word word)
 
--- and to devices
+-- a write to devices
 devices_written : (legacies : ℕ) (place : Awaited) (side : _) (bytes : List ℕ) (words : List Symbol) → TakesWords place
     → AreWritten side bytes words → ((byte : ℕ) (symbol : Symbol) → IsWrittenWord side byte symbol → IsWordOf byte symbol)
     → Leads legacies (Some place) (words ++ Stop ∷ []) None

@@ -23,7 +23,7 @@ use Rattle.i3c_xfer.specs.declared.answers.Write.{Write}
 pub left_there : (st : State) (a : ℕ) (lost : Lost) (devices : List (Option Device)) (active : ℕ) → HasDevices st devices active → SomeLeftIn (with_active devices active) a lost → SomeLeftAt st a lost
 left_there st a lost devices active has some = subst (λ all. SomeLeftIn all a lost) (sym (population_is st devices active has)) some
 
--- nobody is
+-- no device is there
 pub none_there : (st : State) (a : ℕ) (lost : Lost) (devices : List (Option Device)) (active : ℕ) → HasDevices st devices active → ¬ SomeLeftIn (with_active devices active) a lost → ¬ SomeLeftAt st a lost
 none_there st a lost devices active has none some = none (subst (λ all. SomeLeftIn all a lost) (population_is st devices active has) some)
 
