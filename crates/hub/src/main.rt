@@ -1,8 +1,7 @@
-//! A sensor hub of one's own on this library: a bus with a controller and a sensor, whose alarms are served as a policy
-//! says that is written here, and whose wire a tap counts that is written here too.
+//! A sensor hub on this library: a bus with a controller and a sensor. It serves alarms by a policy of its own, and counts
+//! the wire's symbols by a tap of its own.
 //!
-//! `alarm` is what the hub does, `policy` whose requests it accepts, `tap` what it hears of the wire, and `fault` why it
-//! gives up.
+//! `alarm` is the hub's work, `policy` decides on requests, `tap` counts symbols, and `fault` says why the hub gives up.
 #![tactic(auto)]
 
 mod alarm;

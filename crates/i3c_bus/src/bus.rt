@@ -336,9 +336,8 @@ impl Bus {
         i3c_handoff::ask(&mut self.devices, active, slot)
     }
 
-    /// What a slot's device keeps of the list that was sent last, while that is current: one that has an address and can
-    /// be a controller, and isn't the active one (I3C Basic 5.1.9.3.7). It is what its table is made of where it takes the
-    /// role.
+    /// The copy that a slot's device keeps of the last list, while that is current: a device keeps it that has an address and
+    /// can be a controller, and isn't the active one (I3C Basic 5.1.9.3.7). The copy becomes its table if it takes the role.
     pub fn copy(&self, slot: Slot) -> Option<&List>
         ensures { MatchOption result (keeps_copy self.now.state slot ≡ false) (λ list. (keeps_copy self.now.state slot ≡ true) × IsCopyOf self.now.state list.now) }
     {

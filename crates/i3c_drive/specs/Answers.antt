@@ -149,6 +149,6 @@ abbrev pub StandFor : List LineRun → List LineRun → Type 0
 StandFor [] script = script ≡ []
 StandFor (run ∷ rest) script = (one : LineRun) × (more : List LineRun) × (script ≡ one ∷ more) × StandsFor run.line one.line × (one.said ≡ run.said) × (one.refused ≡ run.refused) × StandFor rest more
 
--- Lines that are answered do what the lines that they stand for do in a script
+-- Answered lines have the effect of the script's lines that they mean
 abbrev pub AnsweredLinesLead : Type 0
 AnsweredLinesLead = (form : Form) (number : ℕ) (old : ScriptState) (lines : List LineRun) (new : ScriptState) (answers : List ℕ) → AreAnswered form number old lines new answers → (script : List LineRun) × StandFor lines script × Lead old script new

@@ -152,7 +152,7 @@ pub enum Command {
     },
     /// `show`: the bus as it is.
     Show,
-    /// `show all`: the same, and what each device is, which of its events are enabled, and what it wishes for.
+    /// `show all`: the same, and for each device its identity, its enabled events and its wishes.
     ShowAll,
     /// `show N`: the same as `show`, but of the records only those from this number on.
     ShowFrom(u64),

@@ -74,7 +74,7 @@ ServesAsChosen st policy lost choice Served.Torn = choice ≡ Lost
 ServesAsChosen st policy lost choice (Served.Recorded place) = choice ≡ Lost → (new : State) → ¬ Serves st policy lost Served.Torn new
 ServesAsChosen st policy lost choice _ = ⊤
 
--- a header to one address isn't acknowledged where nobody is there, or where that is chosen and may be
+-- a header to one address isn't acknowledged if nobody is there, or if that is chosen and possible
 abbrev pub AnswersAsChosen : State → Option ℕ → LostDevices → Choice → Answer → Type 0
 AnswersAsChosen st None lost choice answer = ⊤
 AnswersAsChosen st (Some a) lost choice Answer.Done = choice ≡ Silent → ¬ AllLostAt st a lost

@@ -33,8 +33,8 @@ impl Plain {
         })
     }
 
-    // The answer of a command to these, whose header to one address ends with this bit: nobody acknowledges that header
-    // where nobody is there, or where that is chosen and nobody is left.
+    // The answer to a command for these devices; a header to one address ends with this bit. That header isn't acknowledged
+    // if nobody is there, or if that is chosen and nobody is left.
     pub(crate) fn answer_of(
         &self,
         to: &Option<Addr7>,

@@ -13,8 +13,8 @@ pub enum Choice {
     /// What a lost device sent last was heard: an interrupt is recorded, an identity gets its address, a command or a
     /// write to one address is done.
     Heard,
-    /// It was lost on the way: a mandatory byte is torn, an address that is assigned reaches nobody, the byte that takes
-    /// the role breaks off, the data that is read doesn't end.
+    /// It was lost on the way: a mandatory byte is torn, an assigned address reaches nobody, the byte that takes the role
+    /// breaks off, the data of a read doesn't end.
     Lost,
     /// It sent nothing: the header of a round, of a command or a transfer to one address, or of the offer of the role
     /// isn't acknowledged.

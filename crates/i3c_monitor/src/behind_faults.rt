@@ -174,7 +174,7 @@ fn mode_takes(mode: &Mode, round: bool) -> Option<usize>
     }
 }
 
-/// The first word that is read behind one whose T said that it was the last (I3C Basic 5.1.2.3).
+/// The first word behind a read word whose T said 'last' (I3C Basic 5.1.2.3).
 pub(crate) fn ended_fault(spot: Spot, header: &Header, symbols: &[Symbol]) -> Option<LintFault>
     requires { spot.symbol + length symbols.now < usize.MAX }
     ensures { result ≡ ended_fault spot.frame spot.symbol header.now symbols.now }

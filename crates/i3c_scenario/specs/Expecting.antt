@@ -122,7 +122,8 @@ AlwaysAt now (Stage.Running ran) facts said refused new =
     let holds = is_met ran.state now.script.names now.before facts in
     (said ≡ lasting_line ran.state now.script.names now.before one holds) × (refused ≡ None) × (new ≡ lasting_from now one holds)
 
--- what a mark does: expectations are tested, a block's end is the end of those that last, and what says which lines may overlap does nothing
+-- the effect of a mark: expectations are tested, the end of a block ends the lasting ones, and a mark of overlapping lines
+-- does nothing
 abbrev pub MarkDoes : Standing → Mark → List ℕ → Option Refusal → Standing → Type 0
 MarkDoes now (Mark.Expect facts) said refused new = TestsAt now now.script.stage facts said refused new
 MarkDoes now (Mark.Always facts) said refused new = AlwaysAt now now.script.stage facts said refused new

@@ -10,7 +10,7 @@ use Rattle.i3c_scenario.specs.ScriptSteps.{Progress}
 use Rattle.i3c_script.specs.Obeying.{wire_on}
 use Rattle.i3c_scenario.specs.Expecting.{HasBegun}
 
--- what a viewer may be after it was shown a line, what the line printed, and the symbols that it sent
+-- a viewer after it was shown a line, the line's output, and the symbols that it sent
 abbrev pub Views : Type 0 → Type 1
 Views V = V → List ℕ → List ℕ → List Symbol → V → Type 0
 

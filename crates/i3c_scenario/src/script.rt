@@ -37,8 +37,8 @@ pub struct Tally {
 
 /// Runs a script: its lines in order, as they are read; each prints its output. After a refused line the next is run.
 ///
-/// A script has at most 1,048,576 bytes. Where more come, or where the reader fails, each line whose line feed came before
-/// that is run. At the end an open session is ended, and the bus retired.
+/// A script has at most 1,048,576 bytes. If more come, or if the reader fails, the lines that were whole by then are run. At
+/// the end an open session is ended, and the bus retired.
 pub fn run_script<R: Read, W: Write>(
     alloc: Global,
     reader: &mut R,

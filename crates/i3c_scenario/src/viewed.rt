@@ -17,7 +17,7 @@ const KEPT: usize = 256;
 
 /// A viewer is shown each line of a script that runs.
 pub trait Viewer {
-    /// What a viewer may be after it was shown a line, what the line printed, and the symbols that it sent.
+    /// A viewer after it was shown a line, the line's output, and the symbols that it sent.
     ghost view_gives: { Self → List ℕ → List ℕ → List SymbolValue → Self → Type 0 };
 
     /// What a viewer may be where it fails at a line.

@@ -60,7 +60,7 @@ pub enum WatchFault {
 
 /// Runs a script as `run_script` does, and shows more of it. What its lines print is the same.
 ///
-/// A run that is strict ends at the first line that has no form, which isn't run.
+/// A strict run ends at the first line without a form, and doesn't run it.
 pub fn run_watched<R: Read, W: Write, T: Witness>(
     alloc: Global,
     reader: &mut R,

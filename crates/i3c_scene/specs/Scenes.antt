@@ -8,7 +8,7 @@ use Rattle.i3c_lines.specs.Naming.{is_same}
 use Rattle.i3c_script.specs.declared.settings.Settings.{Settings}
 use Rattle.i3c_scene.specs.declared.named.Named.{Named}
 
--- the bus's state, what its lines have set, the cuts that wait for the next frame, and the names that were given
+-- the bus's state, the settings of its lines, the cuts that wait for the next frame, and the names that were given
 pub record Seen : Type 0 where
   pub state : State
   pub settings : Settings

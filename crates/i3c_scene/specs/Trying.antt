@@ -10,7 +10,7 @@ use Rattle.i3c_scene.specs.declared.line.Line.{Line}
 use Rattle.i3c_scene.specs.Going.{Does, cut_in, risked, sends}
 use Rattle.i3c_scene.specs.Scenes.{Seen, place_in}
 
--- the slot of a name's device, where the line sends a frame in which that device may lose power
+-- the slot of a name's device, if the line sends a frame in which that device may lose power
 abbrev pub slot_at_risk : Seen → Bool → Option Name → Option ℕ
 slot_at_risk old sends None = None
 slot_at_risk old false (Some name) = None

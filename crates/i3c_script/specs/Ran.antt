@@ -7,8 +7,8 @@ use Rattle.i3c_frame.specs.declared.symbols.Symbol.{Symbol}
 use Rattle.i3c_script.specs.declared.settings.Settings.{Settings}
 use Rattle.i3c_script.specs.declared.tenures.Tenure.{Tenure}
 
--- the bus's state, what its lines have set, the cuts that wait for the next frame, the last symbols of the wire, and the times of
--- controllers that ended
+-- the bus's state, the settings of its lines, the cuts that wait for the next frame, the last symbols of the wire, and the
+-- tenures that ended
 pub record Ran : Type 0 where
   pub state : State
   pub settings : Settings

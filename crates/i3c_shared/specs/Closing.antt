@@ -38,8 +38,8 @@ pub record TakesLast (old : Log) (run : List Entry) (records : List Record) (wai
 abbrev pub IsCounted : Option HeldValue → List Entry → State → Type 0
 IsCounted role run end = MatchOption role ⊤ (λ held. (held.holder ≡ end.active) × (held.frames ≡ frames_in run))
 
--- a close that is accepted: a role that was handed in is this bus's, and of each port handed in whose ring was here, the raises
--- are all that it posted
+-- an accepted close: the role that was handed in is this bus's, and the raises of each port with its ring here are all that
+-- it posted
 pub record Closes (old : KeptValue) (role : Option HeldValue) (ports : List PortValue) (run : List Entry) (records : List Record) (waiting : List ℕ) : Type 0 where
   pub role_in : is_role_out old role ≡ false
   pub ports_in : NoneMissing old.log.rings ports

@@ -132,8 +132,7 @@ impl Intake {
         self.recorder.reserve(ADDED)
     }
 
-    /// The same with a port in hand, which may be of any ring: what is seen of its slot's ring is all that it posted, if
-    /// that ring is its own.
+    /// The same with a port in hand, which may be of any ring. If its slot's ring is its own, all that it posted is seen.
     fn ready_for(&mut self, port: &mut Port) -> Result<(), OutOfMemory>
         ensures same { Stays self.old.log self.new.log }
         ensures few { AllFew self.new.log.rings }
@@ -503,7 +502,7 @@ fn drain(recorder: &mut Recorder, rings: &mut Rings)
     }
 }
 
-/// Whether what is known of its slot's ring is all that a port posted, where that ring is its own.
+/// Whether all that a port posted is known, if its slot's ring is its own.
 fn covers_one(rings: &mut Rings, port: &mut Port) -> bool
     requires { length rings.old.items ≡ SLOTS }
     ensures rings { rings.new.items ≡ rings.old.items }

@@ -17,7 +17,7 @@ use std::sync::{Mutex, Wait};
 /// Each call is the method of the same name on the state under the lock. `Kept` has the contracts of that; here are those of
 /// the results. The types `L`, `M` and `N` name three ledgers of this bus alone: the active controller's slot, whether a
 /// session is open, and the number of frame events in the run. The shares of all three are in the bus's one role or session,
-/// so that what it counts is what the run has. A call that says that it counts one more has added one frame event to the run
+/// so that it counts the events of the run. A call that says that it counts one more has added one frame event to the run
 /// under the lock.
 pub struct SharedBus<L: Ledger, M: Ledger, N: Ledger> {
     kept: Mutex<Kept<L, M, N>>,

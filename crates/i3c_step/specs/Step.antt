@@ -158,8 +158,8 @@ abbrev pub Announces : State → ℕ → (State → State) → Fixed → CutList
 Announces old bits f policy cuts reply new =
     (served : Served) × (reply ≡ Reply.Framed (record { served = served; answer = Answer.Done })) × Frame old policy cuts served (header_bits served + bits) (Becomes f) new
 
--- a private transfer, or a frame that gives an address or asks for a datum, where its answer says how many bits its own part
--- has, and what this part leaves
+-- a private transfer, or a frame that gives an address or reads a datum: its answer gives the number of bits of its own part,
+-- and its effect
 abbrev pub Transfers : State → (Answer → ℕ) → (Answer → Lost → State → State → Type 0) → Fixed → CutList → Reply → State → Type 0
 Transfers old bits Own policy cuts reply new =
     (framed : Framed) × (reply ≡ Reply.Framed framed) × Frame old policy cuts framed.served (header_bits framed.served + bits framed.answer) (Own framed.answer) new

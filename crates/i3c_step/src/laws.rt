@@ -73,8 +73,8 @@ pub fn sessions_end()
     ensures { SessionsEnd }
 {}
 
-/// Over every legal run: what GETPID, GETBCR and GETDCR read at an address, where nobody is cut, is what the active
-/// controller's table has there.
+/// Over every legal run without cuts: GETPID, GETBCR and GETDCR read at an address what the active controller's table has
+/// there.
 pub fn data_are_of_the_table()
     ensures { DataAreOfTheTable }
 {}

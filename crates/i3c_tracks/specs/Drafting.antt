@@ -1,4 +1,4 @@
--- What the lines that were read come to, with those that are left.
+-- The blocks of the lines that were read, with those that are left.
 use Rattle.std.specs.Prelude.{◌≡◌, ℕ, Bool, true, false, List, [], ◌∷◌, ◌++◌, Option, Some, None, if◌then◌else◌, is_some, option_map}
 use Rattle.std.specs.Global.{Vec}
 use Rattle.i3c_facts.specs.declared.marks.Mark.{Mark}

@@ -278,7 +278,7 @@ impl Body {
         }
     }
 
-    /// This is expected behind the line before, or, where that isn't known, of each state that can be there.
+    /// This is expected behind the previous line, or, if that isn't known, of each state that can be there.
     fn expect(&mut self, expectation: Expectation) -> Result<(), AllocError>
         ensures { OnOk result (Holds self.old (with_expected expectation (option_map step_of self.old.held)) self.new) }
     {

@@ -1,4 +1,4 @@
--- What is read of a capture: the levels that last, what is heard of them, and the symbols of that.
+-- The result of reading a capture: the levels that last, their marks, and the symbols of these.
 use Rattle.std.specs.Prelude.{◌≡◌, ℕ, ◌-◌, nat_lt, Bool, true, false, Option, Some, None, Result, Ok, Err, MatchResult, if◌then◌else◌}
 use Rattle.i3c_base.specs.declared.addresses.Addresses.{Addresses}
 use Rattle.i3c_frame.specs.declared.symbols.Symbol.{Symbol}

@@ -36,7 +36,7 @@ pub fn assignments_are_sent()
     ensures { AssignmentsAreSent }
 {}
 
-/// What a run and one that goes on from it send, one behind the other, is what the whole run sends.
+/// What a run sends, followed by what its continuation sends, is what the whole run sends.
 pub fn runs_go_on()
     ensures { RunsGoOn }
 {}

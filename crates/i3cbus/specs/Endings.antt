@@ -72,13 +72,14 @@ abbrev pub lines_ending : Result Tally Fault → Result Ending Fault
 lines_ending (Ok tally) = Ok (Ending.Ran tally)
 lines_ending (Err fault) = Err fault
 
--- 0 where every order holds, 1 where the file or a limit is refused, 3 where an order breaks an expectation
+-- 0 if every order holds, 1 if the file or a limit is refused, 3 if an order breaks an expectation
 abbrev pub answer_status : Answer → ℕ
 answer_status Answer.Holds = 0
 answer_status Answer.Refused = 1
 answer_status Answer.Breaks = 3
 
--- 0 where each line was done and each expectation met, 1 where a line was refused, 3 where an expectation wasn't met, refused lines or not
+-- 0 if each line was done and each expectation met, 1 if a line was refused, 3 if an expectation wasn't met, refused lines or
+-- not
 abbrev pub tally_status : Tally → ℕ
 tally_status tally = if tally.unmet == 0 then (if tally.refused == 0 then 0 else 1) else 3
 

@@ -40,8 +40,8 @@ enum Measure {
     ButBytes,
 }
 
-/// Whether the plain machine has the results of the bus. Where the bus says that a byte is torn, and that its device doesn't
-/// answer later in the same frame, the plain machine may say the first alone.
+/// Whether the plain machine has the results of the bus. If on the bus a byte is torn and its device doesn't answer later in
+/// the same frame, the plain machine may have the first alone.
 fn agree(ran: &BusRun, plainly: &PlainRun, measure: Measure) -> bool {
     let (records, due) = (ran.records.as_slice(), plainly.plain.records());
     ran.seen == plainly.seen

@@ -6,8 +6,7 @@
 //!
 //! `test_agreement choices FILE` prints the plain machine's replies to the events whose choice a comment says.
 //!
-//! It is a test, and promises nothing. It ends with 0 where they agree, with 1 where they don't, and with 2 where it could
-//! not say.
+//! It is a test, and promises nothing. It ends with 0 if they agree, with 1 if they don't, and with 2 if it could not say.
 #![tactic(auto)]
 
 mod agreeing;

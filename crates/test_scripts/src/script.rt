@@ -125,7 +125,7 @@ fn long_script(rt: &impl Abort, alloc: Global, length: usize) -> Vec<u8> {
     script
 }
 
-// The line that ends with the last byte that a script may have is run, and one that ends later isn't.
+// A line that ends with a script's last allowed byte is run, and one that ends later isn't.
 #[test]
 fn large_scripts(rt: HostRuntime) {
     let mut script = long_script(&rt, rt.alloc(), SCRIPT_LENGTH);
