@@ -254,8 +254,8 @@ abbrev pub length_of : Direction → Device → ℕ
 length_of Direction.Write d = d.most_written
 length_of Direction.Read d = d.most_read
 
--- the least maximum length in these places, from slot s on, among the devices at an address but the active controller; no
--- more than there are registers
+-- the least maximum length in these places, from slot s on, among the devices at an address except the active controller; at
+-- most the number of registers
 abbrev pub least_length_from : ℕ → Direction → ℕ → ℕ → List (Option Device) → ℕ
 least_length_from active way a s [] = REGISTERS
 least_length_from active way a s (None ∷ places) = least_length_from active way a (suc s) places

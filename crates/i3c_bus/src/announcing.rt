@@ -22,7 +22,7 @@ impl Bus {
     ghost use Rattle.i3c_step.specs.Replies.{announced_reply};
 
     /// Clears each address but the active controller's, what is kept for identities, and wishes for the role (RSTDAA, I3C
-    /// Basic 5.1.9.3.3). It serves the first request before.
+    /// Basic 5.1.9.3.3). It serves the first request first.
     #[inline(always)]
     pub fn reset<P: Policy, T: Tap>(
         &mut self,

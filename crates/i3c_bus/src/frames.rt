@@ -71,8 +71,8 @@ impl Bus {
     }
 
     /// Enables kinds of events (ENEC, I3C Basic 5.1.9.3.1): of the devices at an address, or without one of all but the
-    /// active controller. It serves the first request before. It answers `NoAnswer` without a frame where the table has
-    /// no row at the address or it is the active controller's own.
+    /// active controller. It serves the first request first. It answers `NoAnswer`, without a frame, if the table has no row
+    /// at the address or it is the active controller's own.
     pub fn enec<P: Policy, T: Tap>(
         &mut self,
         role: &Role,

@@ -30,8 +30,8 @@ impl Bus {
     ghost use Rattle.i3c_bus.specs.declared.hand.Hand.{Hand};
 
     /// Gives the device at a static address, while it has no dynamic one, this dynamic address (SETDASA, I3C Basic
-    /// 5.1.9.3.10). It serves the first request before. It sends no frame and answers `NoAnswer` if no identity is declared
-    /// at the static address, and `BadAddress` if the new one may not be picked and isn't kept for that identity.
+    /// 5.1.9.3.10). It serves the first request first. It sends no frame and answers `NoAnswer` if no identity is declared at
+    /// the static address, and `BadAddress` if the new one may not be picked and isn't kept for that identity.
     #[inline(always)]
     pub fn set_static<P: Policy, T: Tap>(
         &mut self,
@@ -66,8 +66,8 @@ impl Bus {
     }
 
     /// Gives the device at a dynamic address another one in its place (SETNEWDA, I3C Basic 5.1.9.3.11). It serves the first
-    /// request before. Without a frame it answers `NoAnswer` where the table has no row at the old address or it is the
-    /// active controller's own, and `BadAddress` where the new one may not be picked.
+    /// request first. It sends no frame and answers `NoAnswer` if the table has no row at the old address or it is the active
+    /// controller's own, and `BadAddress` if the new one may not be picked.
     #[inline(always)]
     pub fn set_new<P: Policy, T: Tap>(
         &mut self,

@@ -58,8 +58,8 @@ impl Bus {
     }
 
     /// Writes bytes into the first registers of the devices, as many as their maximum lengths allow, or up to sixteen of the
-    /// legacy target, at an address (private write, I3C Basic 5.1.2.2, 5.1.9.3.5). It serves the first request before. More
-    /// bytes are `TooLong`; `NoAnswer` without a frame is as for `read`.
+    /// legacy target, at an address (private write, I3C Basic 5.1.2.2, 5.1.9.3.5). It serves the first request first. It
+    /// answers `TooLong` for more bytes, and `NoAnswer` as `read` does.
     pub fn write<P: Policy, T: Tap>(
         &mut self,
         role: &Role,

@@ -79,8 +79,7 @@ impl Input {
         Err(ScriptFault::Read)
     }
 
-    /// Puts what is left of the piece behind the line in hand, up to the line's feed. It answers `true` where the feed was
-    /// there.
+    /// Puts the rest of the piece behind the line in hand, up to the line's feed. It answers `true` if the feed was there.
     fn take_front(&mut self) -> bool
         ensures { EndsFront self.old self.new result }
     {

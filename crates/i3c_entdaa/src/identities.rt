@@ -93,7 +93,7 @@ fn read_cut(devices: &Devices, cuts: &Cuts) -> Option<Contested>
     read_contest(devices, cuts)
 }
 
-/// The same, where somebody may hear.
+/// The same with at least one hearer.
 fn read_contest(devices: &Devices, cuts: &Cuts) -> Option<Contested>
     ensures contest { (st : State) → st.devices ≡ devices.now → MatchOption result (AllHearersLost st (lost_by cuts.now 0)) (λ read. IsContest st cuts.now read.bits read.acknowledged) }
     ensures takers { IfSome result (λ read. AreTakers cuts.now devices.now read.bits read.takers) }

@@ -1,4 +1,4 @@
--- Marks and facts as they are printed, and what is there where facts don't hold.
+-- The texts of marks and facts, and of what holds in place of unmet facts.
 use Rattle.std.specs.Prelude.{◌≢◌, ⊤, ℕ, ◌^◌, ◌<◌, Bool, true, false, List, [], ◌∷◌, ◌++◌, Option, Some, None, codes, length}
 use Rattle.std.specs.Fmt.{decimal}
 use Rattle.i3c_base.specs.declared.range.TheConstants.{SLOTS}
@@ -104,7 +104,7 @@ before_text fact Before.Nothing = codes "not " ++ fact_text fact
 before_text fact Before.Done = codes "done"
 before_text fact (Before.Refused why) = codes "refused " ++ refusal_text why
 
--- what is there, where a fact doesn't hold
+-- what holds in place of an unmet fact
 abbrev pub there_text : State → Option Place → (ℕ → Option Name) → Before → Fact → List ℕ
 there_text st place slot_names before (Fact.Active name) = active_text (slot_names st.active)
 there_text st place slot_names before (Fact.At name address) = letters name ++ place_text (device_of st place)
@@ -121,12 +121,12 @@ there_text st place slot_names before Fact.Open = codes "not open"
 there_text st place slot_names before Fact.Done = before_text Fact.Done before
 there_text st place slot_names before (Fact.Refused why) = before_text (Fact.Refused why) before
 
--- what is there, where a claim doesn't hold: a fact that it negates
+-- what holds in place of an unmet claim: a fact that it negates
 abbrev pub unmet_claim : State → Option Place → (ℕ → Option Name) → Before → Fact → Bool → List ℕ
 unmet_claim st place slot_names before fact true = fact_text fact
 unmet_claim st place slot_names before fact false = there_text st place slot_names before fact
 
--- what is there, where none of these claims holds: the first one as it would hold
+-- what holds in place of these claims, if none of them holds: the first one as it would hold
 abbrev pub unmet_text : State → (Name → Option Place) → (ℕ → Option Name) → Before → List Claim → List ℕ
 unmet_text st places slot_names before [] = []
 unmet_text st places slot_names before (claim ∷ claims) = unmet_claim st (place_for places claim.fact) slot_names before claim.fact claim.negated

@@ -21,7 +21,7 @@ use i3c_text::Text;
 use std::alloc::AllocError;
 
 impl Facts {
-    /// Appends what is there, where none of its claims holds: the first one as it would hold.
+    /// Appends what holds in place of its claims, if none of them holds: the first one as it would hold.
     pub fn push_unmet<N: Naming, S: SlotNames>(
         &self,
         bus: &Bus,
@@ -44,7 +44,7 @@ impl Facts {
 }
 
 impl Claim {
-    /// Appends what is there, where it doesn't hold.
+    /// Appends what holds in its place, if it doesn't hold.
     fn push_unmet(
         &self,
         bus: &Bus,
@@ -64,7 +64,7 @@ impl Claim {
 }
 
 impl Fact {
-    /// Appends what is there, where it doesn't hold.
+    /// Appends what holds in its place, if it doesn't hold.
     fn push_there(
         &self,
         bus: &Bus,

@@ -331,7 +331,7 @@ impl PlainDevice {
     }
 }
 
-// What the table keeps of an address that was given.
+// The stored values of an address that was given.
 #[derive(Drop)]
 pub(crate) struct PlainEntry {
     pub(crate) bcr: Bcr,

@@ -10,7 +10,7 @@ use std::marker::Model;
 /// possible is taken in its place; if nothing is open, the choice has no effect.
 #[derive(Clone, Copy, Debug, PartialEq, Eq)]
 pub enum Choice {
-    /// What a lost device sent last was heard: an interrupt is recorded, an identity gets its address, a command or a
+    /// The last signal of a lost device was heard: an interrupt is recorded, an identity gets its address, a command or a
     /// write to one address is done.
     Heard,
     /// It was lost on the way: a mandatory byte is torn, an assigned address reaches nobody, the byte that takes the role
@@ -212,7 +212,7 @@ impl Plain {
         self.devices.get(&slot)
     }
 
-    // What the table keeps of an address, if it was given.
+    // The stored values of an address, if it was given.
     pub(crate) fn entry(&self, address: Addr7) -> Option<&PlainEntry>
         ensures { option_map (λ e. e.now) result ≡ entry_at self.now address }
     {

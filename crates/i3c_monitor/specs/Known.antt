@@ -141,7 +141,7 @@ learned symbol behind (Decoded.Single Direct.Setdasa a (Some byte)) known = give
 learned symbol behind (Decoded.Single Direct.Setnewda a (Some byte)) known = moved a (byte / 2) known
 learned symbol behind decoded known = after_absent symbol (absent decoded) (after_present (present decoded) known)
 
--- the same, where nothing was told
+-- the same without a decoded part
 abbrev pub learned_of : ℕ → List Symbol → Option Decoded → Known → Known
 learned_of symbol behind None known = known
 learned_of symbol behind (Some decoded) known = learned symbol behind decoded known

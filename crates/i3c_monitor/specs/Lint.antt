@@ -64,7 +64,7 @@ told_at legacies mode header symbols number = settled (told (mode_at legacies mo
 abbrev pub fault_at : ℕ → ℕ → Breach → LintFault
 fault_at frame symbol breach = record { frame = frame; symbol = symbol; breach = breach }
 
--- the same, if it is one
+-- the same for an optional one
 abbrev pub fault_if : Bool → ℕ → ℕ → Breach → Option LintFault
 fault_if wrong frame symbol breach = if wrong then Some (fault_at frame symbol breach) else None
 

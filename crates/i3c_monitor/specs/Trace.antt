@@ -11,7 +11,7 @@ use Rattle.i3c_monitor.specs.declared.decoded.Fault.{Fault}
 use Rattle.i3c_monitor.specs.declared.decoded.Decoded.{Decoded}
 use Rattle.i3c_monitor.specs.Told.{told}
 
--- the header that a symbol is, if it is one
+-- the symbol as a header, if it is one
 abbrev pub header_in : Symbol → Option Header
 header_in (Symbol.Header address read ack) = Some (record { address = address; read = read; ack = ack })
 header_in _ = None

@@ -81,7 +81,7 @@ impl Header {
     ghost use Rattle.std.specs.Prelude.{◌≡◌};
     ghost use Rattle.i3c_monitor.specs.Trace.{header_in};
 
-    /// The header that a symbol is, if it is one.
+    /// The symbol as a header, if it is one.
     #[inline(always)]
     pub fn of(symbol: &Symbol) -> Option<Header>
         ensures { result ≡ header_in symbol.now }
@@ -135,7 +135,7 @@ pub(crate) fn read_header(
     }
 }
 
-/// The same, where a refusal is told too: the rest of its frame is skipped.
+/// The same, but a refusal is told too: the rest of its frame is skipped.
 pub(crate) fn settled_header(
     alloc: Global,
     mode: &Mode,

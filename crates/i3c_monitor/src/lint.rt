@@ -182,7 +182,7 @@ pub(crate) fn fault_at(frame: usize, symbol: usize, breach: Breach) -> LintFault
     }
 }
 
-/// The same, if it is one.
+/// The same for an optional one.
 pub(crate) fn fault_if(
     wrong: bool,
     frame: usize,

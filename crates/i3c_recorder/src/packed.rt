@@ -142,7 +142,7 @@ pub(crate) fn short_reply_of(reply: &Reply) -> Option<ShortReply>
     }
 }
 
-/// The entry in short, where it can be kept so.
+/// The entry in short, if it can be kept so.
 pub(crate) fn in_short(entry: &Entry) -> Option<(ShortEntry, ShortReply)>
     ensures { MatchOption result ⊤ (λ short. IsShort short entry.now) }
 {

@@ -8,7 +8,7 @@ use std::marker::Model;
 
 /// The run of a bus as it is kept: its events with their replies, the oldest first.
 ///
-/// An entry takes 64 bytes where nobody is cut and nothing written or read; the rest is stored out of line.
+/// An entry takes 64 bytes if nobody is cut and nothing written or read; any other is stored out of line.
 #[derive(Drop)]
 pub struct Run {
     packed: Vec<Packed>,

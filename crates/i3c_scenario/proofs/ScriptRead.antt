@@ -26,7 +26,7 @@ script_is (Some xs) None read front rest consumed same = absurd consumed
 script_is (Some xs) (Some ys) read front rest consumed same =
     sym (append_assoc front rest (ys ++ 10 ∷ [])) ∙ ap (λ bytes. bytes ++ (ys ++ 10 ∷ [])) (sym same) ∙ sym (append_assoc read ys (10 ∷ [])) ∙ ap (λ bytes. bytes ++ 10 ∷ []) (sym consumed)
 
--- the same where nothing is left
+-- the same when nothing is left
 pub ended_is : (known left : Option (List ℕ)) (read bytes : List ℕ) → Consumes known left read → IsAtEnd left → read ++ 10 ∷ [] ≡ bytes → IfSome known (λ script. bytes ≡ script ++ 10 ∷ [])
 ended_is None left read bytes consumed end same = tt
 ended_is (Some xs) None read bytes consumed end same = absurd consumed

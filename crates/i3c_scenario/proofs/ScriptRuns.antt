@@ -237,7 +237,7 @@ held_runs begun bytes old new from to (Ok done) one two ends =
 held_runs begun bytes old new from to (Err fault) one two ends =
     subst (λ b. RunStops b old new from fault) (append_assoc begun bytes (10 ∷ [])) (line_stops fault (begun ++ bytes) old new from (no_feed_in_both begun bytes one two) (stops_whole fault (begun ++ bytes) old new from ends))
 
--- what a line did that was run
+-- the effect of a line that was run
 pub line_ran : (line text : List ℕ) (outcome : Result (Unit {0}) (Stop Refusal)) (old new : Output) (from to : Progress)
     → LineRuns from.state line text (refusal_in outcome) to.state → Puts old new (text ++ end_text outcome) → to.refused ≡ min (from.refused + refusals outcome) 18446744073709551615 → LineDone line old new from to
 line_ran line text outcome old new from to does out count = record {

@@ -1,4 +1,4 @@
--- What a report says of a bus that was closed.
+-- What a report says of a closed bus.
 use Rattle.std.specs.Prelude.{◌≡◌, ℕ, ◌+◌, ◌≤◌, List, length, sum}
 use Rattle.i3c_base.specs.declared.range.TheConstants.{SLOTS}
 use Rattle.i3c_base.specs.State.{State}

@@ -53,7 +53,7 @@ Outlasts now before after (Err Stop.Memory) (Ok done) new = ⊥
 Outlasts now before after (Err Stop.Memory) (Err (Stop.Refused why)) new = ⊥
 Outlasts now before after (Err Stop.Memory) (Err Stop.Memory) new = ⊤
 
--- a line was run, and what it puts out was put behind and counted
+-- a line was run, and its output was put behind and counted
 pub record LineDone (line : List ℕ) (old new : Output) (from to : Progress) : Type 0 where
   pub said : List ℕ
   pub refused : Option Refusal

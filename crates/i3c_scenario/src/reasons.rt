@@ -16,8 +16,8 @@ const CUTS: &[u8] = b" (docs/FORMATS.md, Cuts)\n";
 /// Names the document about promises.
 const PROMISES: &[u8] = b" (docs/PROMISES.md)\n";
 
-/// What is known of a script before a line, for its explanation: the cuts that wait, and the identity of the device that
-/// was last attached to each slot.
+/// The state of a script before a line, for its explanation: the cuts that wait, and the identity of the device that was last
+/// attached to each slot.
 #[derive(Drop)]
 pub(crate) struct Known {
     cuts: Cuts,

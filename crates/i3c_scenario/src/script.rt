@@ -26,7 +26,7 @@ use std::alloc::{AllocError, Global};
 use std::io::{Read, Write};
 use std::mem;
 
-/// What is known of a script that was run to its end.
+/// The counts of a script that was run to its end.
 #[derive(Clone, Copy, Debug, PartialEq, Eq)]
 pub struct Tally {
     /// How many lines were refused.

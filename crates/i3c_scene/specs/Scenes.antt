@@ -19,7 +19,7 @@ pub record Seen : Type 0 where
 abbrev pub seen : State → Settings → CutList → List Named → Seen
 seen state settings cuts names = record { state = state; settings = settings; cuts = cuts; names = names }
 
--- what a name stands for, if it was given
+-- the place of a name, if it was given
 abbrev pub place_in : List Named → Name → Option Place
 place_in [] name = None
 place_in (named ∷ rest) name = if is_same named.name name then Some named.place else place_in rest name

@@ -35,7 +35,7 @@ behind (suc n) (y ∷ xs) x ys e = behind n xs x ys e
 pub behind_one : {X : Type 0} (n : ℕ) (xs : List X) (x : X) (ys : List X) → drop n xs ≡ x ∷ ys → drop (n + 1) xs ≡ ys
 behind_one n xs x ys e = ap (λ k. drop k xs) (after n) ∙ behind n xs x ys e
 
--- the same where nothing is left
+-- the same when nothing is left
 behind_all : {X : Type 0} (n : ℕ) (xs : List X) → drop n xs ≡ [] → drop (suc n) xs ≡ []
 behind_all zero [] e = refl
 behind_all (suc n) [] e = refl

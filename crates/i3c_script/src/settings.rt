@@ -99,7 +99,7 @@ impl Settings {
         self.accepted_of_some(bus)
     }
 
-    /// The same where devices are excepted.
+    /// The same with excepted devices.
     // kept apart, so that a frame pays for no more than the question whether any is
     #[inline(never)]
     fn accepted_of_some(&self, bus: &Bus) -> Fixed

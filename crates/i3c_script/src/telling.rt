@@ -118,7 +118,7 @@ pub(crate) fn count_from(forgotten: usize, reply: &mut Reply) -> Result<(), Stop
     }
 }
 
-/// The same where some have left.
+/// The same when records have left the log.
 // kept apart, so that a line pays for no more than the question whether any has
 #[inline(never)]
 fn number_from(forgotten: usize, reply: &mut Reply) -> Result<(), AllocError>
@@ -349,7 +349,7 @@ fn show_opened(served: &Served, text: &mut Text) -> Result<(), AllocError>
     text.push(b"open\n")
 }
 
-/// Prints what was served while the role was handed over, and the address of the device that has it.
+/// Prints what was served while the role was handed over, and the address of its holder.
 fn show_handed(subject: Subject, served: &Served, text: &mut Text) -> Result<(), AllocError>
     ensures { OnOk result (text.new ≡ text.old ++ handed_text subject served.now) }
 {

@@ -1,4 +1,4 @@
--- When a bus may be closed, and what it was.
+-- When a bus may be closed, and what is left of it.
 use Rattle.std.specs.Prelude.{◌≡◌, ℕ, ◌<◌, Bool, true, false, ◌||◌, ◌&&◌, List, length, slice_index, Option, is_none, MatchOption, ⊤}
 use Rattle.i3c_base.specs.declared.range.TheConstants.{SLOTS}
 use Rattle.i3c_base.specs.declared.requests.Record.{Record}

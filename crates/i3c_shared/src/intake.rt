@@ -279,8 +279,8 @@ impl Intake {
         take_in(&mut self.rings, slot);
     }
 
-    /// Takes up what is posted, and takes it apart. With all ports in hand whose rings are here, all that was posted is
-    /// taken up. Where there is no memory, it comes back.
+    /// Takes posts up for the last time, and takes the bus apart. With all ports in hand whose rings are here, all posts are
+    /// taken up. Without memory it comes back whole.
     pub(crate) fn retire(self, ports: &mut Vec<Port>) -> Result<Closed, Intake>
         ensures ports { SamePorts ports.old.items ports.new.items }
         ensures closed { IfOk result (λ c. (seen : Seen) × (end : Log) × AllLooked self.log.rings seen × TakesUp self.log seen end × (c.run.entries ≡ end.run) × (c.records ≡ end.state.records) × AreWaiting c.waiting end.state × IsLegalTo end.run end.state) }

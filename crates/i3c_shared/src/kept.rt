@@ -412,7 +412,7 @@ impl<L: Ledger, M: Ledger, N: Ledger> Kept<L, M, N> {
         self.intake.in_session() || role.is_none() && self.parked.is_none()
     }
 
-    /// The same, where nothing is out.
+    /// The same when neither a port nor the role is out.
     fn close_all(
         self,
         role: Option<HeldRole<L, M, N>>,

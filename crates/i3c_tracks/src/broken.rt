@@ -114,7 +114,7 @@ fn push_breaks(number: u64, broken: &[u8], text: &mut Text) -> Result<(), AllocE
     text.push(broken)
 }
 
-/// Appends what is there, and what a reader may do with the script.
+/// Appends what holds in place of the expectation, and what a reader may do with the script.
 fn push_found(found: &[u8], text: &mut Text) -> Result<(), AllocError>
     ensures { OnOk result (text.new ≡ text.old ++ (comment_text found.now ++ comment_text (codes "run this script to see it"))) }
 {

@@ -126,7 +126,8 @@ fn push_parted(lines: &[Vec<u8>], runs: &[Run<'_>], text: &mut Text) -> Result<(
     Ok(())
 }
 
-/// Appends a line if it is one of a block, behind what parts it from the line before. Answers whether the next is the first.
+/// Appends a line if it is one of a block, behind the text that parts it from the line before. Answers whether the next is
+/// the first.
 fn push_parted_run(
     lines: &[Vec<u8>],
     run: &Run<'_>,

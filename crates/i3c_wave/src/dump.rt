@@ -362,7 +362,7 @@ fn level_said(line: Option<Line>, level: Option<bool>) -> Item
     }
 }
 
-/// The line of a name, if it is one's.
+/// The line of a name, if there is one.
 fn line_named(scl: &[u8], sda: &[u8], name: &[u8]) -> Option<Line>
     ensures { result ≡ line_named scl.now sda.now name.now }
 {

@@ -112,7 +112,7 @@ impl Reader {
         Reading::Misread
     }
 
-    /// Begins what comes next.
+    /// Begins the next awaited thing.
     fn await_place(&mut self, place: Option<Awaited>)
         ensures { self.new ≡ awaiting self.old.legacies place }
     {

@@ -121,7 +121,7 @@ static MET: [&str; 18] = [
     "expect waiting 0 or t at 09",
 ];
 
-/// Facts that don't, and what is there.
+/// Facts that don't hold, and what holds in their place.
 static UNMET: [(&str, &str); 22] = [
     ("expect active t", "active hub"),
     ("expect active x", "active hub"),

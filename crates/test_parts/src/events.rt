@@ -104,7 +104,7 @@ fn relength(setting: &mut Setting, words: &mut Words<'_>) -> Answer {
     told_hex(setting.alloc, &heard)
 }
 
-/// How SETMWL or SETMRL is told after the header of its frame.
+/// The symbols of SETMWL or SETMRL after the header of its frame.
 fn trace_of_length(alloc: Global, words: &mut Words<'_>) -> Answer {
     let way = words.named(&WAYS)?;
     let to = words.target()?;
@@ -131,7 +131,7 @@ fn readdress(setting: &mut Setting, call: &str, words: &mut Words<'_>) -> Answer
     told_hex(setting.alloc, &heard)
 }
 
-/// How SETDASA or SETNEWDA is told after the header of its frame: `heard`, or by nobody.
+/// The symbols of SETDASA or SETNEWDA after the header of its frame: `heard`, or by nobody.
 fn trace_of_setting(alloc: Global, words: &mut Words<'_>) -> Answer {
     let sets = words.named(&SETS)?;
     let target = words.address()?;

@@ -63,7 +63,7 @@ fn offered(setting: &Setting, words: &mut Words<'_>) -> Result<Offer, Fault> {
     ))
 }
 
-/// How an offer is told after the header of its frame.
+/// The symbols of an offer after the header of its frame.
 fn told_offer(alloc: Global, words: &mut Words<'_>) -> Answer {
     let address = words.address()?;
     let offer = match words.word()? {

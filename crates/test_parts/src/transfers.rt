@@ -115,7 +115,7 @@ fn legacy_registers(setting: &Setting, words: &mut Words<'_>) -> Answer {
     }
 }
 
-/// How a read is told after the header of its frame.
+/// The symbols of a read after the header of its frame.
 fn trace_of_read(alloc: Global, words: &mut Words<'_>) -> Answer {
     let to = words.address()?;
     let came = read_named(alloc, words)?;
@@ -153,7 +153,7 @@ fn registers(words: &mut Words<'_>) -> Result<[u8; REGISTERS], Fault> {
     Ok(bytes)
 }
 
-/// How a write is told after the header of its frame.
+/// The symbols of a write after the header of its frame.
 fn trace_of_write(alloc: Global, words: &mut Words<'_>) -> Answer {
     let to = words.address()?;
     let wrote = words.named(&WRITES)?;
@@ -196,7 +196,7 @@ fn count_of(words: &mut Words<'_>) -> Result<usize, Fault> {
     Ok(told_count(what, words.named(&BITS)?))
 }
 
-/// How a datum is told after the header of its frame.
+/// The symbols of a datum after the header of its frame.
 fn trace_of_get(alloc: Global, words: &mut Words<'_>) -> Answer {
     let what = words.named(&DATA)?;
     let to = words.address()?;

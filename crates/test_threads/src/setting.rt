@@ -476,7 +476,7 @@ pub(crate) fn closed<L: Ledger, M: Ledger, N: Ledger, R: Abort>(
     }
 }
 
-/// What comes back where a close is refused so: a role if there was one, and as many ports.
+/// What a refused close hands back: a role if there was one, and as many ports.
 pub(crate) fn unclosed<L: Ledger, M: Ledger, N: Ledger, R: Abort>(
     rt: &R,
     bus: SharedBus<L, M, N>,

@@ -95,7 +95,7 @@ fn due(place: usize) -> Entry {
     }
 }
 
-/// What a watched run came to: its report, whether it had all the memory that it asked for, how often a thread waited for
+/// The result of a watched run: its report, whether it had all the memory that it asked for, how often a thread waited for
 /// too long, and how often something was wrong.
 #[derive(Drop)]
 struct Outcome {
