@@ -173,7 +173,7 @@ IsDeclinedPart old cuts to new begun wire =
     (offer : Offer) × IsUntaken offer × ((is_acknowledged offer ≡ true) ↔ SomeTakes old to (lost_by cuts (begun + 18))) × IsReadAs old to cuts (begun + 19) offer
     × (new ≡ emptied (lost_by cuts (begun + offer_bits offer)) old) × IsOfferWire to offer wire
 
--- one that the new active controller took
+-- the wire of an offer that the new active controller took
 abbrev pub IsHandedWire : State → Event → List Symbol → Type 0
 IsHandedWire new (HandOver to cuts) wire = IsOfferWire to (Offer.Taken new.active) wire
 IsHandedWire new _ wire = ⊥

@@ -19,7 +19,7 @@ abbrev pub byte_of : Option ℕ → ℕ
 byte_of None = 128
 byte_of (Some a) = a
 
--- it has seven bits, if it is an address
+-- an optional address has seven bits
 abbrev pub IsSmall : Option ℕ → Type 0
 IsSmall None = Unit {0}
 IsSmall (Some a) = a < 128

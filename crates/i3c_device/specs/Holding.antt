@@ -18,7 +18,7 @@ abbrev pub address_in : Option Device → Option ℕ
 address_in None = None
 address_in (Some d) = d.address
 
--- its maximum length of writes or reads; for an empty slot the number of registers
+-- the maximum length of writes or reads of the device in a slot; for an empty slot the number of registers
 abbrev pub length_in : Direction → Option Device → ℕ
 length_in way None = REGISTERS
 length_in way (Some d) = length_of way d

@@ -6,19 +6,19 @@ use Rattle.i3c_base.specs.Numbers.{KindSet}
 use Rattle.i3c_base.specs.Serve.{is_empty}
 use Rattle.i3c_base.specs.State.{Device}
 
--- to join, where it has no address
+-- the device wishes to join, and has no address
 abbrev pub wishes_join : Device → Bool
 wishes_join d = is_none d.address && d.join_wish
 
--- for the role, where it has one
+-- the device wishes for the role, and has an address
 abbrev pub wishes_role : Device → Bool
 wishes_role d = is_some d.address && d.role_wish
 
--- to interrupt, where it has one and doesn't wish for the role
+-- the device wishes to interrupt, has an address, and doesn't wish for the role
 abbrev pub wishes_interrupt : Device → Bool
 wishes_interrupt d = is_some d.address && (not d.role_wish && not (is_empty d.waiting))
 
--- it drives a request: it wishes for something, and that kind is enabled
+-- the device drives a request: it wishes for something, and that kind is enabled
 abbrev pub asks_some : Device → Bool
 asks_some d = (wishes_join d && d.kinds.join) || ((wishes_role d && d.kinds.role) || (wishes_interrupt d && d.kinds.interrupt))
 

@@ -91,7 +91,7 @@ line_text y width line =
 abbrev pub printed_part : ℕ → List ℕ
 printed_part byte = if byte == 10 then codes "</tspan>" else escaped_byte byte
 
--- what is before a byte that begins a line, or doesn't
+-- the markup before a byte, which begins a line or doesn't
 abbrev pub before_byte : Bool → List ℕ
 before_byte true = codes "<tspan x='0' dy='14'>"
 before_byte false = []

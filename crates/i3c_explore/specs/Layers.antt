@@ -89,7 +89,7 @@ pub record IsBreak {S L : Type 0} (breaks : S → L → ℕ → Type 0) (lines :
 abbrev pub IsTracked : {S L : Type 0} → (S → L → ℕ → S → Type 0) → (ℕ → List L) → ℕ → Node S → List (Node S) → Type 0
 IsTracked {S} {L} steps lines t node layer = (line : L) → IsNextAt lines node.places.items t line → (way : ℕ) → (new : S) × steps node.state line way new × Has layer (advanced t node.places.items) new
 
--- and of each track below a number
+-- the layer has what the next lines of the tracks below a number lead to
 abbrev pub IsExpanded : {S L : Type 0} → (S → L → ℕ → S → Type 0) → (ℕ → List L) → ℕ → Node S → List (Node S) → Type 0
 IsExpanded steps lines count node layer = (t : ℕ) → t < count → IsTracked steps lines t node layer
 

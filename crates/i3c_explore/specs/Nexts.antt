@@ -16,7 +16,7 @@ pub record IsSharedIn {S L : Type 0} (Fits : Node S → List ℕ × List (List �
   pub each : (k : ℕ) → k < last → first ≤ k → (n : Node S) (o : List ℕ × List (List ℕ)) → slice_get layer k ≡ Some n → Contains (by_tracks (ran k) n.places.items count (share k)) o → (j : ℕ) × Contains (now j) o
   pub from : (j : ℕ) (o : List ℕ × List (List ℕ)) → Contains (now j) o → (k : ℕ) × (k < last) × (first ≤ k) × ((n : Node S) × (slice_get layer k ≡ Some n) × Contains (by_tracks (ran k) n.places.items count (share k)) o)
 
--- and this for each way to share them out
+-- the orders of the nodes are shared out to the next ones, for each way to share them
 abbrev pub SharesIn : {S L : Type 0} → (S → L → ℕ → S → Type 0) → List (Vec L) → (ℕ → ℕ → List L) → ℕ → List (Node S) → ℕ → ℕ → List (Node S) → Type 0
 SharesIn {S} {L} steps tracks ran count layer first last next = (starts : List (Node S)) (past : ℕ → List (List (List ℕ))) (share : ℕ → List (List ℕ × List (List ℕ))) → IsShared layer share
     → IsMeant (IsLed steps tracks starts past) layer share → IsSharedIn (IsLed steps tracks starts past) ran count layer first last next share

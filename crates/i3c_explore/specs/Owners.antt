@@ -22,6 +22,6 @@ AreOwned jobs count = (k job : ℕ) → slice_get jobs k ≡ Some job → job < 
 abbrev pub own : {L : Type 0} → List ℕ → ℕ → ℕ → (ℕ → List L) → ℕ → ℕ → List L
 own jobs tracks job lines node track = if takes jobs tracks job node track then lines track else []
 
--- and those that the jobs below a number run
+-- the lines that the jobs below a number run from a node
 abbrev pub own_below : {L : Type 0} → List ℕ → ℕ → ℕ → (ℕ → List L) → ℕ → ℕ → List L
 own_below jobs tracks count lines node track = if nat_le (suc (owner jobs tracks node track)) count then lines track else []

@@ -10,7 +10,7 @@ address_of Join = 0x02
 address_of (Role a) = a
 address_of (Interrupt a) = a
 
--- its RnW bit: an interrupt drives a read, a join and a role request a write
+-- the RnW bit of a request: an interrupt drives a read, a join and a role request a write
 abbrev pub rnw_of : Request → ℕ
 rnw_of Join = 0
 rnw_of (Role a) = 0

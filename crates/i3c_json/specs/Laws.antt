@@ -19,6 +19,6 @@ pub record TellsOutcome (count : ℕ) (refused : Option Refusal) (answered : Dat
   pub ok : get (codes "ok") answered ≡ ok_of refused
   pub why : get (codes "refused") answered ≡ option_map (λ why. text_data (refusal_token why)) refused
 
--- it does so whatever other fields an answer has
+-- An answer's object tells the outcome, whatever other fields it has.
 abbrev pub ObjectsTellOutcomes : Type 0
 ObjectsTellOutcomes = (count : ℕ) (refused : Option Refusal) (said : List ℕ) (added : Option (ℕ × Record)) (asking : Option (List ℕ)) → TellsOutcome count refused (answer_data count refused said added asking)

@@ -61,7 +61,7 @@ WritesLength token most = WritesCount token most × (most ≤ 16)
 abbrev pub WritesIdentity : List ℕ → List ℕ → List ℕ → Identity → Type 0
 WritesIdentity pid bcr dcr identity = Writes 12 pid identity.pid × Writes 2 bcr identity.bcr.0 × Writes 2 dcr identity.dcr.0
 
--- behind its identity: nothing for a device that takes the controller role, or `decline`
+-- the tokens behind an identity: none for a device that takes the controller role, or `decline`
 abbrev pub willing_tokens : Bool → List (List ℕ)
 willing_tokens true = []
 willing_tokens false = codes "decline" ∷ []

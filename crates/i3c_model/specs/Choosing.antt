@@ -80,12 +80,13 @@ AnswersAsChosen st None lost choice answer = ⊤
 AnswersAsChosen st (Some a) lost choice Answer.Done = choice ≡ Silent → ¬ AllLostAt st a lost
 AnswersAsChosen st (Some a) lost choice _ = ¬ (choice ≡ Silent) → ¬ AnyAt st a
 
--- nor is the header of SETDASA
+-- the header of SETDASA isn't acknowledged if nobody is there, or if that is chosen and possible
 abbrev pub TakesAsChosen : State → ℕ → LostDevices → Choice → Answer → Type 0
 TakesAsChosen st f lost choice Answer.Done = choice ≡ Silent → ¬ AllUnaddressedLostAt st f lost
 TakesAsChosen st f lost choice _ = ¬ (choice ≡ Silent) → ¬ AnyUnaddressedAt st f
 
--- nor is the header of a write, where no legacy target is there
+-- the header of a write, without a legacy target there, isn't acknowledged if nobody is there, or if that is chosen and
+-- possible
 abbrev pub WritesAsChosen : State → ℕ → LostDevices → Choice → Answer → Type 0
 WritesAsChosen st a lost choice answer = ((target : LegacyTarget) × (legacy_target_at st a ≡ Some target)) ⊎ AnswersAsChosen st (Some a) lost choice answer
 

@@ -49,7 +49,7 @@ MayWrite st a lost answer =
 abbrev pub read_end : State → ℕ → ℕ
 read_end st a = 9 + 9 * transfer_length st Direction.Read a
 
--- and a read, whose own part begins behind a bit
+-- the answers that a read may have, whose own part begins behind a bit
 abbrev pub MayRead : State → ℕ → CutList → ℕ → Answer → Type 0
 MayRead st a cuts begin (Answer.Bytes bytes) = IsReadOf st a (lost_by cuts (begin + read_end st a)) bytes
 MayRead st a cuts begin Answer.NoEnd = NobodyLeftAt st a (lost_by cuts (begin + read_end st a)) × AnyAt st a

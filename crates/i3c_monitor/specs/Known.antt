@@ -26,7 +26,7 @@ all_nobodys = replicate 128 nobodys
 abbrev pub forgotten : Known
 forgotten = record { shown = false; statuses = all_nobodys }
 
--- it shows that nobody has one
+-- the trace shows that no address has an owner
 abbrev pub cleared : Known
 cleared = record { shown = true; statuses = all_nobodys }
 

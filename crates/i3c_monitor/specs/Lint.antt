@@ -134,7 +134,7 @@ moved_fault known frame number (Decoded.Single Direct.Setnewda a (Some byte)) =
     fault_if (are_others (status_of a known).owner (status_of (byte / 2) known).owner) frame (number + 1) (Breach.Twice (byte / 2))
 moved_fault known frame number _ = None
 
--- nobody acknowledged a header whose answer counts: that of 7E/W doesn't
+-- nobody acknowledged a header whose answer counts, that is, one other than 7E/W
 abbrev pub is_unanswered : Header → Bool
 is_unanswered header = not header.ack && not ((header.address == 0x7E) && not header.read)
 
@@ -231,7 +231,7 @@ is_wrong_address _ = false
 abbrev pub parity_fault : ℕ → ℕ → List Symbol → Option LintFault
 parity_fault frame number symbols = option_map (λ n. fault_at frame (number + (n + 1)) Breach.Parity) (position is_wrong_address symbols)
 
--- those of some faults that are there
+-- the faults among these that are there
 abbrev pub all_found : List (Option LintFault) → List LintFault
 all_found [] = []
 all_found (None ∷ rest) = all_found rest

@@ -88,12 +88,12 @@ abbrev pub lasting_text : State → Names → Before → List Lasting → List �
 lasting_text st names before [] = []
 lasting_text st names before (one ∷ rest) = lasting_line st names before one (is_met st names before one.facts) ++ lasting_text st names before rest
 
--- it lasts on where it holds
+-- the lasting expectations with one more, if it holds
 abbrev pub lasts_if : Bool → Lasting → List Lasting → List Lasting
 lasts_if true one rest = one ∷ rest
 lasts_if false one rest = rest
 
--- those of them that hold
+-- the lasting expectations that hold
 abbrev pub still_lasting : State → Names → Before → List Lasting → List Lasting
 still_lasting st names before [] = []
 still_lasting st names before (one ∷ rest) = lasts_if (is_met st names before one.facts) one (still_lasting st names before rest)

@@ -99,7 +99,7 @@ GoesOutLinted legacies known old new result =
     (λ tally. (lines : List ℕ) × CameToLinted legacies known lines tally.refused × Appends old new lines)
     (λ _. Keeps old new ⊎ ((lines : List ℕ) × (faults : ℕ) × CameToLinted legacies known lines faults × AppendsSome old new lines))
 
--- what goes out where faults are asked for, with the addresses of legacy targets, or aren't
+-- the output with faults, given the addresses of legacy targets, or without
 abbrev pub GoesOutAs : Option Addresses → Option (List ℕ) → Option (List ℕ) → Option (List ℕ) → Result Tally ScriptFault → Type 0
 GoesOutAs None known old new result = GoesOut known old new result
 GoesOutAs (Some legacies) known old new result = GoesOutLinted legacies.0 known old new result

@@ -21,7 +21,7 @@ abbrev pub records_at : Option Tenure → ℕ
 records_at None = 0
 records_at (Some tenure) = tenure.records
 
--- and when the time with this number began
+-- the number of records when the tenure with this number began
 abbrev pub began_at : List Tenure → ℕ → ℕ
 began_at ended zero = 0
 began_at ended (suc k) = records_at (slice_get ended k)

@@ -73,7 +73,7 @@ abbrev pub IsEndOf : PortValue → Option Reading → Type 0
 IsEndOf p None = ⊥
 IsEndOf p (Some c) = IsPair p.producer c
 
--- it is, and what was taken and what is known are all posts
+-- the ring is the port's own, and the items taken and known are all posts
 abbrev pub IsWhole : PortValue → Option Reading → Type 0
 IsWhole p None = ⊥
 IsWhole p (Some c) = received c ++ known_items c ≡ sent p.producer

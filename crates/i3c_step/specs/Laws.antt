@@ -64,7 +64,7 @@ AcceptedInterruptsAreRecorded = (old : State) (event : Event) (reply : Reply) (n
     → Step old event reply new → policy_of event ≡ Some policy → served_of reply ≡ Some served
     → IsFirst old (Request.Interrupt a) → verdict old policy (Request.Interrupt a) ≡ Verdict.Accept → IsRecordedOrTorn old a reply new
 
--- Of a present device's stay, the accepted raises are the recorded ones and then those that wait, in order.
+-- The accepted raises of a present device's stay are the recorded ones and then those that wait, in order.
 abbrev pub RaisesStayInOrder : Type 0
 RaisesStayInOrder = (main : Setup) (board : Board) (start : State) (h : History)
     → IsStart main board start → IsLegal start h → AllDistinct start h
@@ -81,7 +81,7 @@ abbrev pub LateCutsDoNothing : Type 0
 LateCutsDoNothing = (old : State) (event : Event) (reply : Reply) (new : State) (s bit : ℕ)
     → s ≢ old.active → most_bits old event < bit → Step old event reply new ↔ Step old (with_cut event s bit) reply new
 
--- Of two cuts of one slot behind that bit, both allow the same steps, also where the slot is the active controller's.
+-- Two cuts of one slot behind that bit allow the same steps, also if the slot is the active controller's.
 abbrev pub LateCutsAreAlike : Type 0
 LateCutsAreAlike = (old : State) (event : Event) (reply : Reply) (new : State) (s bit other : ℕ)
     → most_bits old event < bit → most_bits old event < other → Step old (with_cut event s bit) reply new ↔ Step old (with_cut event s other) reply new

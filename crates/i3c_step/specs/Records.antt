@@ -32,7 +32,7 @@ pub record IsTornOff (old : State) (a : ℕ) (served : Served) (new : State) : T
   pub due : byte_due (entry_at old a) ≡ true
   pub gone : (s : ℕ) → drives old (Interrupt a) s ≡ true → ¬ IsPresent new s
 
--- it is recorded, or otherwise torn
+-- the interrupt at the address a is recorded, or otherwise torn
 abbrev pub IsRecordedOrTorn : State → ℕ → Reply → State → Type 0
 IsRecordedOrTorn old a reply new = RecordsFront old a reply new ⊎ ((served : Served) × (served_of reply ≡ Some served) × IsTornOff old a served new)
 

@@ -70,7 +70,7 @@ abbrev pub raised_reply : Result ℕ RaiseRefusal → Reply
 raised_reply (Ok number) = Reply.Raised number
 raised_reply (Err why) = Reply.Refused (raise_refusal why)
 
--- of a fault of a frame to nobody in particular
+-- the reply of a fault of a frame to nobody in particular
 abbrev pub frame_fault_reply : FrameFault → Reply
 frame_fault_reply FrameFault.ActiveStays = Reply.Refused Refusal.ActiveStays
 frame_fault_reply FrameFault.OutOfMemory = Reply.OutOfMemory
@@ -80,18 +80,18 @@ abbrev pub served_reply : Result Served FrameFault → Reply
 served_reply (Ok served) = Reply.Served served
 served_reply (Err why) = frame_fault_reply why
 
--- of a fault of a frame to one address, other than a write
+-- the reply of a fault of a frame to one address, other than a write
 abbrev pub target_fault_reply : TargetFault → Reply
 target_fault_reply TargetFault.ActiveStays = Reply.Refused Refusal.ActiveStays
 target_fault_reply (TargetFault.NoAnswer a) = Reply.Refused (Refusal.NoAnswer a)
 target_fault_reply TargetFault.OutOfMemory = Reply.OutOfMemory
 
--- of `enec`, `disec` and `read`
+-- the reply of `enec`, `disec` and `read`
 abbrev pub framed_reply : Result Framed TargetFault → Reply
 framed_reply (Ok framed) = Reply.Framed framed
 framed_reply (Err why) = target_fault_reply why
 
--- of a fault of a private write
+-- the reply of a fault of a private write
 abbrev pub write_fault_reply : WriteFault → Reply
 write_fault_reply WriteFault.ActiveStays = Reply.Refused Refusal.ActiveStays
 write_fault_reply WriteFault.TooLong = Reply.Refused Refusal.TooLong
@@ -103,7 +103,7 @@ abbrev pub wrote_reply : Result Framed WriteFault → Reply
 wrote_reply (Ok framed) = Reply.Framed framed
 wrote_reply (Err why) = write_fault_reply why
 
--- of a fault of a frame that gives an address
+-- the reply of a fault of a frame that gives an address
 abbrev pub set_fault_reply : SetFault → Reply
 set_fault_reply SetFault.ActiveStays = Reply.Refused Refusal.ActiveStays
 set_fault_reply (SetFault.NoAnswer a) = Reply.Refused (Refusal.NoAnswer a)
@@ -120,7 +120,7 @@ abbrev pub announced_reply : Result Framed FrameFault → Reply
 announced_reply (Ok framed) = Reply.Framed framed
 announced_reply (Err why) = frame_fault_reply why
 
--- of `open_daa`, which answers a session, or the role that comes back
+-- the reply of `open_daa`, which answers a session, or the role that comes back
 abbrev pub opened_reply : Result (ℕ × Served) (ℕ × ActiveStays) → Reply
 opened_reply (Ok opened) = Reply.Opened opened.1
 opened_reply (Err refused) = Reply.Refused Refusal.ActiveStays

@@ -22,7 +22,7 @@ abbrev pub is_handed : Reply → Bool
 is_handed (Reply.Handed served) = true
 is_handed _ = false
 
--- to a willing device at the address that the event names, which is the active controller then
+-- the role has moved to a willing device at the address that the event names, which is the active controller then
 abbrev pub HasMoved : State → Event → State → Type 0
 HasMoved old event new = (to : ℕ) × (cuts : CutList) × (event ≡ Event.HandOver to cuts) × IsWillingAt old to new.active
 

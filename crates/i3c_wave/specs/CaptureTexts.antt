@@ -70,11 +70,11 @@ kept symbols (Err fault) = Err fault
 abbrev pub word_ended : List ℕ → List ℕ → Input → Result Input CaptureFault
 word_ended scl sda input = if length input.word == 0 then Ok input else kept input.symbols (word_taken scl sda input.reached input.word)
 
--- behind a space: a line feed ends a line
+-- the words behind a space: a line feed ends a line
 abbrev pub behind : CaptureWords → ℕ → CaptureWords
 behind reached byte = if byte == 10 then record reached { line = min (reached.line + 1) 18446744073709551615 } else reached
 
--- behind the space that ends a word
+-- the state behind the space that ends a word
 abbrev pub parted : ℕ → Result Input CaptureFault → Result Input CaptureFault
 parted byte (Ok input) = Ok (record input { reached = behind input.reached byte })
 parted byte (Err fault) = Err fault

@@ -23,7 +23,7 @@ pub record Heard : Type 0 where
 abbrev pub Hears : Result Heard CaptureFault → Capture → Result (Option Stamped) CaptureFault → Type 0
 Hears outcome capture result = MatchResult result (λ symbol. outcome ≡ Ok (record { capture = capture; symbol = symbol })) (λ fault. outcome ≡ Err fault)
 
--- before the first change: a line without a value is high
+-- a capture before the first change: a line without a value is high
 abbrev pub new_capture : Addresses → Capture
 new_capture legacies = record { time = 0; since = 0; level = high true; edges = None; reader = awaiting legacies None; started = false }
 

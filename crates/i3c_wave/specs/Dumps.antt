@@ -16,7 +16,7 @@ use Rattle.i3c_wave.specs.DumpWords.{code_of, command_of, digits_in, is_same_cod
 abbrev pub Says : Result DumpStep CaptureFault → Dump → Result Item CaptureFault → Type 0
 Says outcome dump result = MatchResult result (λ item. outcome ≡ Ok (record { dump = dump; item = item })) (λ fault. outcome ≡ Err fault)
 
--- before the first word: without a timescale a unit is 1 ns
+-- a dump before the first word: without a timescale a unit is 1 ns
 abbrev pub new_dump : Dump
 new_dump = record { place = Place.Between; scl = None; sda = None; setup = 3 }
 

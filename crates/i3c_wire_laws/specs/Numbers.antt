@@ -50,12 +50,12 @@ abbrev pub EventsSendTheBitsInOrder : Type 0
 EventsSendTheBitsInOrder = (legacies : Addresses) (sda : Bool) (old : State) (event : Event) (reply : Reply) (wire : List Symbol) (new : State)
     → IsSound old → AreLegacies old.legacy legacies.0 → Sends old event reply wire new → clocked_in (high sda) (wire_levels wire) ≡ flat_map bits_of wire
 
--- and they have the numbers that its definition and its cuts have for them
+-- the bits of an event's symbols have the numbers that its definition and its cuts have for them
 abbrev pub EventsSendTheBitsByNumber : Type 0
 EventsSendTheBitsByNumber = (legacies : Addresses) (sda : Bool) (old : State) (event : Event) (reply : Reply) (wire : List Symbol) (new : State)
     → IsSound old → AreLegacies old.legacy legacies.0 → Sends old event reply wire new → BeginsAtBit0 sda wire × IsNumbered sda old event reply new wire
 
--- so are those in what the events of a legal run send, also where a session is open at the end
+-- the bits of a legal run's symbols are clocked in order, also if a session is open at the end
 abbrev pub RunsSendTheBitsInOrder : Type 0
 RunsSendTheBitsInOrder = (legacies : Addresses) (main : Setup) (board : Board) (start : State) (events : List Event) (replies : List Reply) (new : State) (wire : List Symbol)
     → AreLegacies board.legacy legacies.0 → IsStart main board start → IsSent start events replies new wire → clocked_in (high true) (wire_levels wire) ≡ flat_map bits_of wire

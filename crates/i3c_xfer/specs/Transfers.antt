@@ -17,7 +17,7 @@ read_answer to (Read.Legacy bytes) = Answer.Bytes bytes
 read_answer to (Read.Ended bytes) = Answer.Bytes bytes
 read_answer to (Read.Torn bytes) = Answer.NoEnd
 
--- its bits: a header, and after its ACK a word for each byte
+-- the bits of a read: a header, and after its ACK a word for each byte
 abbrev pub bits_of_read : Read → ℕ
 bits_of_read Read.Nobody = 9
 bits_of_read (Read.Legacy bytes) = 153

@@ -38,7 +38,7 @@ AreWritten side _ _ = ⊥
 abbrev pub answered_wire : ℕ → Bool → List Symbol → List Symbol
 answered_wire to read words = Repeated ∷ Header to read true ∷ words ++ Stop ∷ []
 
--- a transfer whose header isn't
+-- a transfer whose header isn't acknowledged
 abbrev pub IsUnansweredWire : ℕ → Bool → List Symbol → Type 0
 IsUnansweredWire to read wire = wire ≡ Repeated ∷ Header to read false ∷ Stop ∷ []
 

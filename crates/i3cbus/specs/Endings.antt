@@ -17,7 +17,7 @@ told_as ScriptFault.Read = Fault.Read
 told_as ScriptFault.Write = Fault.Write
 told_as ScriptFault.TooLarge = Fault.TooLarge
 
--- that of devices on threads
+-- the program's fault for a fault of devices on threads
 abbrev pub stress_told_as : StressFault → Fault
 stress_told_as StressFault.Memory = Fault.Memory
 stress_told_as StressFault.NotBalanced = Fault.NotBalanced
