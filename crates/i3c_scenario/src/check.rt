@@ -59,7 +59,7 @@ impl Check {
     ghost use Rattle.i3c_scenario.specs.Expecting.{IsMarked};
     ghost use Rattle.i3c_scenario.specs.Checks.{ChecksAll, Gives, IsStart, IsToldLine, LineChecked, NameTold, tells};
 
-    /// Before the first line.
+    /// The check before the first line.
     fn new(alloc: Global) -> Check
         ensures start { IsStart result.names }
         ensures told { result.told ≡ 0 }

@@ -33,7 +33,7 @@ impl Settings {
     ghost use Rattle.i3c_script.specs.Accepting.{Accepts, Forgets, at_first};
     ghost use Rattle.i3c_script.specs.Sums.{IsSum};
 
-    /// Those of a new bus: each request is accepted, and no record has left.
+    /// The settings of a new bus: each request is accepted, and no record has left.
     pub fn new() -> Settings
         ensures { result ≡ at_first }
     {

@@ -45,7 +45,7 @@ pub fn late_cuts_do_nothing()
     ensures { LateCutsDoNothing }
 {}
 
-/// Of two cuts of one slot behind that bit, both allow the same steps, also where the slot is the active controller's.
+/// Two cuts of one slot behind that bit allow the same steps, also if the slot is the active controller's.
 pub fn late_cuts_are_alike()
     ensures { LateCutsAreAlike }
 {}

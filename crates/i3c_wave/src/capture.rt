@@ -36,7 +36,7 @@ impl Capture {
     ghost use Rattle.std.specs.Prelude.{◌≡◌, Some, None, if◌then◌else◌};
     ghost use Rattle.i3c_wave.specs.Captures.{Hears, at_time, changed, heard, mark_read, new_capture, read_as, settled, watched};
 
-    /// Before the first change. Legacy targets have these addresses. A line without a value is high.
+    /// A capture before the first change. Legacy targets have these addresses. A line without a value is high.
     pub fn new(legacies: Addresses) -> Capture
         ensures { result ≡ new_capture legacies }
     {

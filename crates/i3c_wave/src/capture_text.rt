@@ -24,7 +24,7 @@ impl CaptureWords {
     ghost use Rattle.i3c_wave.specs.declared.stamped.Stamped.{Stamped as StampedValue};
     ghost use Rattle.i3c_wave.specs.CaptureTexts.{Reads, Takes, behind, closed, input, item_heard, letters_kept, new_reached, part_read, parted, word_ended, word_taken};
 
-    /// Before the first word. Legacy targets have these addresses.
+    /// The words of a capture before the first one. Legacy targets have these addresses.
     pub fn new(legacies: Addresses) -> CaptureWords
         ensures { result ≡ new_reached legacies }
     {

@@ -66,7 +66,7 @@ impl Dump {
     ghost use Rattle.i3c_wave.specs.DumpWords.{code_of, unit_setup};
     ghost use Rattle.i3c_wave.specs.Dumps.{Says, at_place, begun_word, command_said, ended, is_ended, inside, line_of, missing, named, new_dump, scale_word, scaled_by, scaled_unit, value_said, word_said};
 
-    /// Before the first word.
+    /// A dump before the first word.
     pub fn new() -> Dump
         ensures { result ≡ new_dump }
     {

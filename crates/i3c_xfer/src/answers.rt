@@ -64,7 +64,7 @@ impl Read {
         }
     }
 
-    /// Its bits: a header, and after its ACK a word for each byte.
+    /// The bits of a read: a header, and after its ACK a word for each byte.
     pub fn bits(&self) -> u16
         ensures { result ≡ bits_of_read self.now }
     {

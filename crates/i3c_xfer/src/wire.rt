@@ -8,7 +8,7 @@ use i3c_ccc::{Code, byte_of};
 use i3c_frame::{Symbol, Tap};
 use i3c_word::{Word, write_word};
 
-/// Whose bytes pass.
+/// The party whose bytes pass.
 pub(crate) enum Side {
     /// Those of devices: each is a word, with a T.
     Devices,

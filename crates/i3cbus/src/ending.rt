@@ -19,10 +19,10 @@ pub(crate) enum Ending {
 /// The script was run to its end: no line was refused, and each expectation was met.
 const DONE: u8 = 0;
 
-/// It was run to its end: a line was refused, and each expectation was met.
+/// The script was run to its end: a line was refused, and each expectation was met.
 const REFUSED: u8 = 1;
 
-/// It wasn't run to its end.
+/// The script wasn't run to its end.
 const FAULT: u8 = 2;
 
 /// An expectation wasn't met, or an order of lines breaks one.
