@@ -124,7 +124,7 @@ fn gather<W: Write>(dump: &[u8], text: &mut Text, out: &mut W) -> Result<(), Scr
     ensures { PutsOrFails (output (W.contents out.old) text.old) (output (W.contents out.new) text.new) dump.now result }
 {
     match text.push(dump) {
-        Ok(()) => write_gathered_tally(text, out),
+        Ok(()) => write_gathered(text, out),
         Err(_) => Err(ScriptFault::Memory),
     }
 }
